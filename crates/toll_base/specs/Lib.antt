@@ -1,0 +1,11 @@
+pub mod Bytes
+pub mod Values
+pub mod Refusal
+pub mod Words
+pub mod Table
+pub mod Roles
+pub mod Keys
+pub mod Slice
+pub mod SliceRules
+pub mod ActualCounts
+pub mod SliceView

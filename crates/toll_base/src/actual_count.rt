@@ -1,0 +1,90 @@
+//! How many actuals each batch has.
+ghost use Rattle.std.specs.Prelude.{◌≡◌, ℕ, ◌+◌, ◌<◌, ◌≤◌, ◌^◌, if◌then◌else◌, OnOk, OnErr, true, is_some};
+ghost use Rattle.toll_base.specs.Bytes.{Bytes};
+ghost use Rattle.toll_base.specs.SliceRules.{is_actual_of};
+ghost use Rattle.toll_base.specs.ActualCounts.{counted, count_of, HasRowFor, HaveSameBatches};
+
+use crate::bounded::BatchNo;
+use crate::name::Name;
+use crate::rows::Move;
+use crate::table::{Keyed, Table};
+use std::alloc::AllocError;
+
+/// How many actuals a batch has.
+#[derive(Clone, Copy)]
+pub struct ActualCount {
+    pub order: Name,
+    pub number: BatchNo,
+    pub count: u64,
+}
+
+impl Keyed for ActualCount {
+    type Key = (Name, BatchNo);
+
+    ghost key_of = { λ row. (row.order, row.number) };
+
+    fn key(&self) -> (Name, BatchNo) {
+        (self.order, self.number)
+    }
+}
+
+/// The count of this batch.
+pub fn count_in(counts: &Table<ActualCount>, order: &Name, number: BatchNo) -> u64
+    ensures { result ≡ count_of counts.now order.now number }
+{
+    match counts.get(&(*order, number)) {
+        Some(row) => row.count,
+        None => 0,
+    }
+}
+
+/// Gives the batch of an actual a row, of 0 where it has none yet.
+pub fn add_row(counts: &mut Table<ActualCount>, what: &Move) -> Result<(), AllocError>
+    ensures same { (order : Bytes) (number : ℕ) → count_of counts.new order number ≡ count_of counts.old order number }
+    ensures kept { (order : Bytes) (number : ℕ) → is_some (counted counts.old order number) ≡ true → is_some (counted counts.new order number) ≡ true }
+    ensures row { OnOk result (HasRowFor counts.new what.now) }
+{
+    if let Move::Actual { order, number, .. } = what {
+        if counts.get(&(*order, *number)).is_none() {
+            counts.put(ActualCount {
+                order: *order,
+                number: *number,
+                count: 0,
+            })?;
+        }
+    }
+    Ok(())
+}
+
+/// Counts the movement, where it is an actual.
+pub fn add_one(counts: &mut Table<ActualCount>, what: &Move)
+    requires row { HasRowFor counts.old what.now }
+    requires room { (order : Bytes) (number : ℕ) → count_of counts.old order number < 2 ^ 32 }
+    ensures count { (order : Bytes) (number : ℕ) → count_of counts.new order number ≡ (if is_actual_of order number what.now then 1 else 0) + count_of counts.old order number }
+{
+    if let Move::Actual { order, number, .. } = what {
+        let count = count_in(counts, order, *number) + 1;
+        counts.replace(ActualCount {
+            order: *order,
+            number: *number,
+            count,
+        });
+    }
+}
+
+/// Counts the movement no more, where it is an actual.
+pub fn take_one(counts: &mut Table<ActualCount>, what: &Move)
+    requires row { HasRowFor counts.old what.now }
+    requires counted { (order : Bytes) (number : ℕ) → is_actual_of order number what.now ≡ true → 1 ≤ count_of counts.old order number }
+    ensures count { (order : Bytes) (number : ℕ) → (if is_actual_of order number what.now then 1 else 0) + count_of counts.new order number ≡ count_of counts.old order number }
+    ensures same { HaveSameBatches counts.old counts.new }
+{
+    if let Move::Actual { order, number, .. } = what {
+        let count = count_in(counts, order, *number) - 1;
+        counts.replace(ActualCount {
+            order: *order,
+            number: *number,
+            count,
+        });
+    }
+}

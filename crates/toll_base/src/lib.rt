@@ -1,0 +1,43 @@
+//! The ground of the office: values, rows, an owner's rows together, refusals and decisions.
+#![tactic(auto)]
+
+mod actual_count;
+mod bounded;
+mod decimal;
+mod decision;
+mod limits;
+mod lot;
+mod measure;
+mod moves;
+mod name;
+mod owner_key;
+mod refusal;
+mod role;
+mod rows;
+mod slice;
+mod state;
+mod table;
+#[cfg(test)]
+mod tests;
+mod text;
+mod value;
+
+pub use bounded::{Amount, BatchNo, Bounded, Day, Segment};
+pub use decimal::number;
+pub use decision::{Change, Decision};
+pub use limits::Limits;
+pub use lot::{Disposition, Edge, LotId, Origin};
+pub use measure::Measure;
+pub use name::Name;
+pub use owner_key::OwnerKey;
+pub use refusal::Refusal;
+pub use role::Role;
+pub use rows::{
+    BatchRow, LotRow, MaterialRow, Move, MoveRow, OrderRow, OwnerRow, RecipeRow, RequirementRow,
+    ResultRow, Row, SublotRow, TestRow, UnitRow, VoidRow,
+};
+pub use slice::Slice;
+pub use state::State;
+pub use table::{Keyed, Table};
+pub use text::Text;
+pub use value::Value;

@@ -1,0 +1,49 @@
+//! Limits of tests.
+ghost use Rattle.std.specs.Prelude.{◌≡◌, ℤ, ◌≤ℤ◌, ◌↔◌, OnErr, OkIff, IfOk, IsOk, IsTrue};
+
+use crate::refusal::Refusal;
+use crate::value::Value;
+
+/// What the result of a test must be for a lot to be released: from `low` to `high`, both included.
+#[derive(Clone, Copy, Debug, PartialEq, Eq)]
+pub struct Limits {
+    low: Value,
+    high: Value,
+    pub ghost ordered: { low ≤ℤ high },
+}
+
+impl Limits {
+    /// These limits; [`Refusal::BadAmount`] where the low one is above the high one.
+    pub fn new(low: Value, high: Value) -> Result<Self, Refusal>
+        ensures ordered { IsOk result ↔ (low ≤ℤ high) }
+        ensures limits { IfOk result (λ limits. (limits.low ≡ low) × (limits.high ≡ high)) }
+        ensures refusal { OnErr result (result ≡ Err Refusal.BadAmount) }
+    {
+        if low <= high {
+            Ok(Limits { low, high })
+        } else {
+            Err(Refusal::BadAmount)
+        }
+    }
+
+    /// The least value that passes.
+    pub fn low(&self) -> Value
+        ensures { result ≡ self.now.low }
+    {
+        self.low
+    }
+
+    /// The greatest value that passes.
+    pub fn high(&self) -> Value
+        ensures { result ≡ self.now.high }
+    {
+        self.high
+    }
+
+    /// Whether the value passes.
+    pub fn contains(&self, value: Value) -> bool
+        ensures { IsTrue result ↔ ((self.now.low ≤ℤ value) × (value ≤ℤ self.now.high)) }
+    {
+        self.low <= value && value <= self.high
+    }
+}

@@ -1,0 +1,112 @@
+//! The movements of an owner.
+ghost use Rattle.std.specs.Prelude.{◌≡◌, ℕ, ◌+◌, ◌<◌, ◌≤◌, ◌^◌, length, if◌then◌else◌, List, [], OnOk, OnErr, IfOk};
+ghost use Rattle.toll_base.specs.ActualCounts.{count_of, HasRowFor, HasKnown};
+ghost use Rattle.toll_base.specs.Bytes.{Bytes, bytes_cmp};
+ghost use Rattle.toll_base.specs.Table.{row_at, put_row, has_room, IsInKeyOrder};
+ghost use Rattle.toll_base.specs.SliceRules.{count_actuals, is_actual_of};
+ghost use Rattle.toll_base.specs.Words.{is_some_where};
+
+use crate::actual_count::{ActualCount, add_one, add_row, count_in, take_one};
+use crate::bounded::BatchNo;
+use crate::name::Name;
+use crate::rows::{Move, MoveRow};
+use crate::table::Table;
+use std::alloc::{AllocError, Global};
+use std::marker::Model;
+
+/// The movements in the order of their keys, and beside them how many actuals each batch has.
+#[derive(Drop)]
+pub struct Moves {
+    rows: Table<MoveRow>,
+    actuals: Table<ActualCount>,
+}
+
+impl Model for Moves {
+    ghost use Rattle.std.specs.Prelude.{List};
+    ghost use Rattle.toll_base.specs.declared.rows.MoveRow.{MoveRow};
+    ghost use Rattle.toll_base.specs.ActualCounts.{AreCountsOf};
+    ghost use Rattle.toll_base.specs.Bytes.{bytes_cmp};
+    ghost use Rattle.toll_base.specs.Table.{IsInKeyOrder};
+
+    ghost Value = { List MoveRow };
+
+    ghost view = { λ m. m.rows };
+
+    ghost invariant = { λ m. AreCountsOf m.actuals m.rows };
+}
+
+impl Moves {
+    /// No movements. It takes no memory yet.
+    pub fn new(alloc: Global) -> Self
+        ensures { result ≡ [] }
+    {
+        Moves {
+            rows: Table::new(alloc),
+            actuals: Table::new(alloc),
+        }
+    }
+
+    /// The movements in order.
+    pub fn rows(&self) -> &[MoveRow]
+        ensures rows { result.now ≡ self.now }
+        ensures order { IsInKeyOrder bytes_cmp (λ row. row.key) self.now }
+    {
+        self.rows.rows()
+    }
+
+    /// The movement with this key.
+    pub fn get(&self, key: &Name) -> Option<MoveRow>
+        ensures { result ≡ row_at bytes_cmp (λ row. row.key) self.now key.now }
+    {
+        self.rows.get(key)
+    }
+
+    /// Whether the movement's key is there, or there are less movements than this.
+    pub fn has_room(&self, row: &MoveRow, most: usize) -> bool
+        ensures { result ≡ has_room bytes_cmp (λ row. row.key) most self.now row.now }
+    {
+        self.rows.has_room(row, most)
+    }
+
+    /// How many actuals the batch has.
+    pub fn count_actuals(&self, order: &Name, number: BatchNo) -> u64
+        ensures { result ≡ count_actuals order.now number self.now }
+    {
+        count_in(&self.actuals, order, number)
+    }
+
+    /// The same movements once more.
+    pub fn copy(&self, alloc: Global) -> Result<Self, AllocError>
+        ensures { IfOk result (λ copied. copied ≡ self.now) }
+    {
+        let rows = self.rows.copy(alloc)?;
+        let actuals = self.actuals.copy(alloc)?;
+        Ok(Moves { rows, actuals })
+    }
+
+    /// Adds the movement, or puts it in place of the one with its key.
+    pub fn put(&mut self, row: MoveRow) -> Result<(), AllocError>
+        requires { length self.old ≤ 20000 }
+        ensures ok { OnOk result (self.new ≡ put_row bytes_cmp (λ row. row.key) self.old row) }
+        ensures err { OnErr result (self.new ≡ self.old) }
+    {
+        let known = self.rows.get(&row.key);
+        add_row(&mut self.actuals, &row.what)?;
+        self.rows.put(row)?;
+        recount(&mut self.actuals, &known, &row.what);
+        Ok(())
+    }
+}
+
+// Counts a movement that was put, in place of the known one if there is one.
+fn recount(counts: &mut Table<ActualCount>, known: &Option<MoveRow>, what: &Move)
+    requires rows { HasRowFor counts.old what.now }
+    requires known { HasKnown counts.old known.now }
+    requires room { (order : Bytes) (number : ℕ) → count_of counts.old order number < 2 ^ 32 }
+    ensures { (order : Bytes) (number : ℕ) → (if is_some_where (λ row. is_actual_of order number row.what) known.now then 1 else 0) + count_of counts.new order number ≡ (if is_actual_of order number what.now then 1 else 0) + count_of counts.old order number }
+{
+    if let Some(known) = known {
+        take_one(counts, &known.what);
+    }
+    add_one(counts, what);
+}

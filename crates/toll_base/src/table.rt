@@ -1,0 +1,113 @@
+//! Rows in the order of their keys.
+ghost use Rattle.std.specs.Prelude.{◌≡◌, ℕ, List, [], length, is_some, true, OnOk, OnErr, IfOk, MatchResult, vec_len};
+ghost use Rattle.std.specs.List.{HoldsAt};
+ghost use Rattle.std.specs.List.Sorted.{IsPartitionPoint, IsSearchInRange};
+ghost use Rattle.std.specs.declared.cmp.Ordering.TheVariants.{Less, Equal, Greater};
+ghost use Rattle.toll_base.specs.Table.{row_at, put_row, IsInKeyOrder, has_room};
+
+use std::alloc::{AllocError, Global};
+use std::marker::Model;
+
+/// A row of a table, known by its key.
+pub trait Keyed: Copy {
+    type Key: Ord + Copy;
+
+    ghost key_of: { Self → Self.Key };
+
+    /// The key.
+    fn key(&self) -> Self::Key
+        ensures { result ≡ key_of self.now };
+}
+
+/// The rows of one kind, each key once, in the order of the keys. A look-up is a binary search.
+#[derive(Drop)]
+pub struct Table<R: Keyed> {
+    rows: Vec<R>,
+}
+
+impl<R: Keyed> Model for Table<R> {
+    ghost Value = { List R };
+
+    ghost view = { λ t. t.rows.items };
+
+    ghost invariant = { λ t. IsInKeyOrder R.Key.cmp R.key_of t.rows.items };
+}
+
+impl<R: Keyed> Table<R> {
+    /// No rows. It takes no memory yet.
+    pub fn new(alloc: Global) -> Self
+        ensures { result ≡ [] }
+    {
+        Table {
+            rows: Vec::new(alloc),
+        }
+    }
+
+    /// The rows in order.
+    pub fn rows(&self) -> &[R]
+        ensures rows { result.now ≡ self.now }
+        ensures order { IsInKeyOrder R.Key.cmp R.key_of self.now }
+    {
+        &self.rows
+    }
+
+    /// The row with this key.
+    pub fn get(&self, key: &R::Key) -> Option<R>
+        ensures { result ≡ row_at R.Key.cmp R.key_of self.now key.now }
+    {
+        match self.search(key) {
+            Ok(at) => Some(self.rows[at]),
+            Err(_) => None,
+        }
+    }
+
+    /// Whether the row's key is there, or there are less rows than this.
+    pub fn has_room(&self, row: &R, most: usize) -> bool
+        ensures { result ≡ has_room R.Key.cmp R.key_of most self.now row.now }
+    {
+        self.get(&row.key()).is_some() || self.rows.len() < most
+    }
+
+    /// Adds the row, or puts it in place of the one with its key.
+    pub fn put(&mut self, row: R) -> Result<(), AllocError>
+        ensures ok { OnOk result (self.new ≡ put_row R.Key.cmp R.key_of self.old row) }
+        ensures err { OnErr result (self.new ≡ self.old) }
+    {
+        match self.search(&row.key()) {
+            Ok(at) => {
+                self.rows[at] = row;
+                Ok(())
+            }
+            Err(at) => Ok(self.rows.insert(at, row)?),
+        }
+    }
+
+    /// Puts the row in place of the one with its key, which takes no memory.
+    pub fn replace(&mut self, row: R)
+        requires { is_some (row_at R.Key.cmp R.key_of self.old (R.key_of row)) ≡ true }
+        ensures { self.new ≡ put_row R.Key.cmp R.key_of self.old row }
+    {
+        if let Ok(at) = self.search(&row.key()) {
+            self.rows[at] = row;
+        }
+    }
+
+    /// The same rows once more.
+    pub fn copy(&self, alloc: Global) -> Result<Self, AllocError>
+        ensures { IfOk result (λ copied. copied ≡ self.now) }
+    {
+        Ok(Table {
+            rows: self.rows.iter().copied().collect(alloc)?,
+        })
+    }
+
+    // Where the key is, or where it would go.
+    fn search(&self, key: &R::Key) -> Result<usize, usize>
+        ensures bound { IsSearchInRange result (length self.now) }
+        ensures place { MatchResult result
+            (HoldsAt (λ row. R.Key.cmp (R.key_of row) key.now ≡ Equal) self.now)
+            (IsPartitionPoint (λ row. R.Key.cmp (R.key_of row) key.now ≡ Less) (λ row. R.Key.cmp (R.key_of row) key.now ≡ Greater) self.now) }
+    {
+        self.rows.binary_search_by_key(key, |row| row.key())
+    }
+}
