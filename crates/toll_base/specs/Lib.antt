@@ -9,3 +9,4 @@ pub mod Slice
 pub mod SliceRules
 pub mod ActualCounts
 pub mod SliceView
+pub mod Decision

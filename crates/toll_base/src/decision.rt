@@ -1,7 +1,11 @@
 //! Decisions, and the changes that they make.
+ghost use Rattle.std.specs.Prelude.{◌≡◌, [], ◌∷◌, IfOk};
+ghost use Rattle.toll_base.specs.Decision.{IsAccepted};
+
 use crate::name::Name;
 use crate::refusal::Refusal;
 use crate::rows::{OwnerRow, Row, UnitRow};
+use std::alloc::{AllocError, Global};
 
 /// A change of the rows.
 #[derive(Clone, Copy, Debug, PartialEq, Eq)]
@@ -23,4 +27,13 @@ pub enum Decision {
     Repeated,
     /// It is not done.
     Refuse(Refusal),
+}
+
+impl Decision {
+    /// It is done by this change.
+    pub fn accept(alloc: Global, change: Change) -> Result<Self, AllocError>
+        ensures { IfOk result (λ d. IsAccepted (change ∷ []) d) }
+    {
+        Ok(Decision::Accept(vec![in alloc; change]?))
+    }
 }

@@ -1,0 +1,15 @@
+//! The office's desk: owners' requests and the plant's commands, over any keep.
+#![tactic(auto)]
+
+mod over;
+mod owner;
+mod plant;
+mod plant_cmd;
+mod request;
+#[cfg(test)]
+mod tests;
+
+pub use owner::{admit, carry, owner_do, owner_plan};
+pub use plant::plant_do;
+pub use plant_cmd::{PlantCmd, PlantReply};
+pub use request::{Planned, Reply, Request};

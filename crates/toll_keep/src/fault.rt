@@ -1,0 +1,28 @@
+//! Why a keep did not answer.
+use std::alloc::AllocError;
+use thiserror::Error;
+
+/// Why a keep did not answer.
+#[derive(Clone, Copy, Debug, PartialEq, Eq, Error)]
+pub enum KeepFault {
+    /// There was no memory. Nothing changed, and the keep goes on.
+    #[error("Memory")]
+    Memory,
+    /// The disk failed, or refused. A change that it cut off stands whole or not at all, and from
+    /// now on the keep answers [`KeepFault::Closed`].
+    #[error("Disk")]
+    Disk,
+    /// A stored row is no value of its kind, or breaks the rules of its owner's rows. From now on the
+    /// keep answers [`KeepFault::Closed`].
+    #[error("Damaged")]
+    Damaged,
+    /// After a Disk or a Damaged, until the store is opened again.
+    #[error("Closed")]
+    Closed,
+}
+
+impl From<AllocError> for KeepFault {
+    fn from(_: AllocError) -> Self {
+        KeepFault::Memory
+    }
+}
