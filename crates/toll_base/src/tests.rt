@@ -1,19 +1,98 @@
-//! Values that the contracts do not show: texts of refusals, and that ample memory meets no refusal.
+//! Values at their bounds, and slices at their limits.
 use crate::{
-    Amount, BatchNo, Day, Disposition, Limits, LotRow, MaterialRow, Measure, Move, MoveRow, Name,
-    Origin, OwnerKey, Refusal, Row, Segment, Slice, SublotRow, Value, number,
+    Amount, BatchNo, Day, LotId, Measure, Move, MoveRow, Name, OwnerKey, Refusal, Role, Row,
+    Segment, Slice, Value, number,
 };
 use std::alloc::Global;
 use std::test::Fail;
 
 #[test]
-fn reads_names(rt: HostRuntime) {
-    assert_eq!(rt;
-        Name::parse(b"A-1").map(|name| name == Name::house()),
-        Ok(false)
-    );
+fn names_are_read(rt: HostRuntime) {
     assert_eq!(rt; Name::parse(b"HOUSE"), Ok(Name::house()));
+    assert!(rt; Name::parse(b"ABCDEFGHIJKLMN-9").is_ok());
     for bad in [b"".as_slice(), b"-A", b"a", b"A B", b"ABCDEFGHIJKLMNOPQ"] {
         assert_eq!(rt; Name::parse(bad), Err(Refusal::BadName));
     }
+}
+
+#[test]
+fn keys_and_measures_are_read(rt: HostRuntime) {
+    assert!(rt; OwnerKey::parse(b"ACMEKEY1").is_ok());
+    assert_eq!(rt; OwnerKey::parse(b"ACMEKEY"), Err(Refusal::BadName));
+    assert!(rt; Measure::parse(b"kg").is_ok());
+    assert_eq!(rt; Measure::parse(b"kg1"), Err(Refusal::BadName));
+}
+
+#[test]
+fn numbers_are_read(rt: HostRuntime) {
+    let cases = [
+        (b"0".as_slice(), Some(0)),
+        (b"0000000042", Some(42)),
+        (b"9999999999", Some(9_999_999_999)),
+        (b"00000000042", None),
+        (b"+5", None),
+        (b"M5", None),
+        (b"", None),
+    ];
+    for (bytes, read) in cases {
+        assert_eq!(rt; number(bytes), read);
+    }
+}
+
+#[test]
+fn values_have_bounds(rt: HostRuntime) {
+    assert_eq!(rt; Amount::new(0), Err(Refusal::BadAmount));
+    assert!(rt; Amount::new(1_000_000_000).is_ok());
+    assert_eq!(rt; Amount::new(1_000_000_001), Err(Refusal::BadAmount));
+    assert_eq!(rt; Value::new(-1_000_000_001), Err(Refusal::BadAmount));
+    assert_eq!(rt; Refusal::LimitReached.code(), 39);
+    assert_eq!(rt; Refusal::LimitReached.title(), "LimitReached");
+}
+
+// An actual of batch 1 of order O, with this key.
+fn actual(key: Name) -> Result<Row, Refusal> {
+    let name = Name::house();
+    Ok(Row::Move(MoveRow {
+        key,
+        what: Move::Actual {
+            order: name,
+            number: BatchNo::new(1)?,
+            segment: Segment::new(1)?,
+            role: Role::Consumed,
+            material: name,
+            lot: LotId { owner: name, lot: name },
+            sublot: name,
+        },
+        amount: Amount::new(1)?,
+        day: Day::new(0)?,
+    }))
+}
+
+// The name `K` and this number.
+fn key(alloc: Global, n: u64) -> Result<Name, Fail> {
+    let text = format!(in alloc; "K{n}")?;
+    Ok(Name::parse(text.as_bytes())?)
+}
+
+// Puts the actual with this key, where it fits.
+fn put_actual(alloc: Global, slice: &mut Slice, n: u64) -> Result<bool, Fail> {
+    let row = actual(key(alloc, n)?)?;
+    if !slice.fits(&row) {
+        return Ok(false);
+    }
+    slice.put(row)?;
+    Ok(true)
+}
+
+#[test]
+fn a_batch_has_200_actuals(rt: HostRuntime) -> Result<(), Fail> {
+    let mut slice = Slice::new(rt.alloc(), Name::house());
+    for n in 0..200 {
+        let put = put_actual(rt.alloc(), &mut slice, n)?;
+        assert!(rt; put, "actual {n}");
+    }
+    let again = put_actual(rt.alloc(), &mut slice, 7)?;
+    let further = put_actual(rt.alloc(), &mut slice, 200)?;
+    assert!(rt; again && !further);
+    Ok(())
 }

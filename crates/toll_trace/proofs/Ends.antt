@@ -1,0 +1,15 @@
+-- The two ends of an edge, and the edge between two lots.
+use Rattle.std.proofs.Common.{◌≡◌, refl}
+use Rattle.toll_base.specs.declared.lot.LotId.{LotId}
+use Rattle.toll_base.specs.declared.lot.Edge.{Edge}
+use Rattle.toll_trace.specs.declared.way.Way.{Way}
+use Rattle.toll_trace.specs.declared.way.Way.TheVariants.{Back, Forward}
+use Rattle.toll_trace.specs.Chain.{edge_of, ends}
+
+pub ends_of : (way : Way) (a b : LotId) → ends way (edge_of way a b) ≡ (a, b)
+ends_of Back a b = refl
+ends_of Forward a b = refl
+
+pub edge_of_ends : (way : Way) (e : Edge) → edge_of way (ends way e).0 (ends way e).1 ≡ e
+edge_of_ends Back e = refl
+edge_of_ends Forward e = refl

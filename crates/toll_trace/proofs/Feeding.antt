@@ -1,0 +1,152 @@
+-- The edges made from the uses of lots are those that two standing actuals draw.
+use Rattle.std.proofs.Common.{◌≡◌, ℕ, Bool, true, false, Option, Some, None, is_some, List, [], ◌∷◌, map, refl, ap, ◌∙◌, subst, inl, inr}
+use mathlib.Core.Bool.{false≢true}
+use Rattle.std.specs.Prelude.{Contains, filter, if◌then◌else◌}
+use Rattle.std.specs.List.{flat_map}
+use Rattle.std.specs.List.Sorted.{IsStrictlySortedBy, IsPermutation}
+use Rattle.std.specs.Cmp.{IsTotalOrder}
+use Rattle.std.specs.Ordering.{nat_cmp, is_eq, ordering_reverse}
+use Rattle.std.specs.declared.cmp.Ordering.{Ordering}
+use Rattle.std.specs.declared.cmp.Ordering.TheVariants.{Less, Equal, Greater}
+use Rattle.std.proofs.lemmas.Bool.{leb-true, le-leb}
+use Rattle.std.proofs.lemmas.Cmp.{tied_itself, nat_cmp_total, nat_list_cmp_total, then_total, on_total}
+use Rattle.std.proofs.lemmas.List.Sorted.{Contains-permutation, IsPermutation-sym}
+use Rattle.std.proofs.lemmas.Map.Lookups.{CmpEqualImpliesEq, exact_bytes, exact_unsigned, exact_pairs}
+use Rattle.std.proofs.lemmas.Map.Views.{tells_apart}
+use Rattle.toll_base.specs.Bytes.{Bytes, bytes_cmp}
+use Rattle.toll_base.specs.Keys.{batch_cmp}
+use Rattle.toll_base.specs.Roles.{same_role}
+use Rattle.toll_base.specs.Slice.{Slice, void_at}
+use Rattle.toll_base.specs.Table.{row_at, IsInKeyOrder}
+use Rattle.toll_base.specs.declared.lot.LotId.{LotId}
+use Rattle.toll_base.specs.declared.lot.Edge.{Edge}
+use Rattle.toll_base.specs.declared.role.Role.{Role}
+use Rattle.toll_base.specs.declared.role.Role.TheVariants.{Consumed, Produced}
+use Rattle.toll_base.specs.declared.rows.MoveRow.{MoveRow}
+use Rattle.toll_base.specs.declared.rows.VoidRow.{VoidRow}
+use Rattle.toll_base.specs.declared.rows.Move.{Move}
+use Rattle.toll_base.specs.declared.rows.Move.TheVariants.{Receive, Split, Ship, Scrap, Actual}
+use Rattle.toll_trace.specs.declared.edges.Use.{Use}
+use Rattle.toll_trace.specs.InOrder.{IsInOrder}
+use Rattle.toll_trace.specs.Order.{edge_cmp}
+use Rattle.toll_trace.specs.Edges.{IsActual, Stands, IsEdge, AreEdges}
+use Rattle.toll_trace.specs.Uses.{Batch, used_as, use_as, standing_use, uses, is_not_above, edge_between, edges_from}
+use Rattle.toll_trace.proofs.Members.{Contains-none, Contains-here, Contains-later, Contains-cases, Contains-map, Contains-from_map, Contains-filter, Contains-from_filter, Contains-filter_map, Contains-from_filter_map, Contains-flat_map, Contains-from_flat_map, member_of_all, kept_in_order}
+use Rattle.toll_trace.proofs.Orders.{edges_exact}
+
+-- ==== rows by their key
+
+-- a row in a list in key order is the one with its key
+pub row_of_member : {K R : Type 0} (cmp : K → K → Ordering) (key : R → K) → ((k : K) → cmp k k ≡ Equal) → ((a b : K) → cmp a b ≡ Less → cmp b a ≡ Greater) → (rows : List R) (row : R) → IsInKeyOrder cmp key rows → Contains rows row → row_at cmp key rows (key row) ≡ Some row
+unfolding row_at IsStrictlySortedBy
+row_of_member cmp key ties turns [] row order i = absurd (Contains-none row i)
+row_of_member cmp key ties turns (r ∷ rows) row order i = elim (Contains-cases r rows row i) [
+  | inl e ↦ subst (λ z. row_at cmp key (r ∷ rows) (key z) ≡ Some z) e (rw (ties (key r)) refl)
+  | inr j ↦ rw (turns (key r) (key row) (member_of_all (λ k. cmp (key r) k ≡ Less) (map key rows) (key row) order.0 (Contains-map key rows row j))) (row_of_member cmp key ties turns rows row order.1 j)
+]
+
+pub member_of_row : {K R : Type 0} (cmp : K → K → Ordering) (key : R → K) (rows : List R) (k : K) (row : R) → row_at cmp key rows k ≡ Some row → Contains rows row
+unfolding row_at
+member_of_row cmp key [] k row h = cc
+member_of_row cmp key (r ∷ rows) k row h = go (is_eq (cmp k (key r))) h (member_of_row cmp key rows k row)
+  where
+    go : (b : Bool) → (if b then Some r else row_at cmp key rows k) ≡ Some row → (row_at cmp key rows k ≡ Some row → Contains rows row) → Contains (r ∷ rows) row
+    go true h ih = let e : r ≡ row = cc in subst (λ z. Contains (r ∷ rows) z) e (Contains-here r rows)
+    go false h ih = Contains-later r rows row (ih h)
+
+-- ==== what the lists of uses hold
+
+exact_role : (a b : Role) → same_role a b ≡ true → a ≡ b
+exact_role Consumed Consumed h = refl
+exact_role Consumed Produced h = absurd (false≢true h)
+exact_role Produced Consumed h = absurd (false≢true h)
+exact_role Produced Produced h = refl
+
+same_role-refl : (a : Role) → same_role a a ≡ true
+same_role-refl Consumed = refl
+same_role-refl Produced = refl
+
+batches_total : IsTotalOrder batch_cmp
+batches_total = then_total (on_total (λ (b : Batch). b.0) nat_list_cmp_total) (on_total (λ (b : Batch). b.1) nat_cmp_total)
+
+exact_batches : CmpEqualImpliesEq batch_cmp
+exact_batches = exact_pairs bytes_cmp nat_cmp exact_bytes exact_unsigned
+
+some_of : {X : Type 0} (b : Bool) (x y : X) → (if b then Some x else None) ≡ Some y → (b ≡ true) × (x ≡ y)
+some_of true x y h = (refl, (cc))
+some_of false x y h = absurd (cc)
+
+used_is : (role : Role) (row : MoveRow) (what : Move) (u : Batch × Use) → row.what ≡ what → used_as role what ≡ Some u → IsActual u.0.0 u.0.1 u.1.segment role u.1.lot row
+used_is role row (Actual order number segment recorded material lot sublot) u is h =
+    let r = some_of (same_role recorded role) _ u h in
+    record {
+      material = material;
+      sublot = sublot;
+      is = subst (λ (v : Batch × Use). row.what ≡ Actual v.0.0 v.0.1 v.1.segment role material v.1.lot sublot) r.1 (subst (λ as_recorded. row.what ≡ Actual order number segment as_recorded material lot sublot) (exact_role recorded role r.0) is);
+    }
+used_is role row (Receive material lot sublot) u is h = absurd (cc)
+used_is role row (Split lot sublot target) u is h = absurd (cc)
+used_is role row (Ship lot sublot) u is h = absurd (cc)
+used_is role row (Scrap lot sublot) u is h = absurd (cc)
+
+use_stands : (role : Role) (s : Slice) (row : MoveRow) (u : Batch × Use) → standing_use role s row ≡ Some u → (void_at s row.key ≡ None) × (use_as role row ≡ Some u)
+use_stands role s row u h = go (void_at s row.key) refl h
+  where
+    go : (o : Option VoidRow) → void_at s row.key ≡ o → (if is_some o then None else use_as role row) ≡ Some u → (void_at s row.key ≡ None) × (use_as role row ≡ Some u)
+    go None e h = (e, h)
+    go (Some v) e h = absurd (cc)
+
+-- a use in the list is what a standing actual records
+use_recorded : (role : Role) (s : Slice) (u : Batch × Use) → IsInKeyOrder bytes_cmp (λ row. row.key) s.moves → Contains (uses role s) u → (row : MoveRow) × Stands s row × IsActual u.0.0 u.0.1 u.1.segment role u.1.lot row
+use_recorded role s u order i =
+    let row = Contains-from_filter_map (standing_use role s) s.moves u i in
+    let stands = use_stands role s row.0 u row.2 in
+    (row.0, record { recorded = row_of_member bytes_cmp (λ row. row.key) (tied_itself nat_list_cmp_total) (λ a b lt. nat_list_cmp_total.antisymm b a ∙ ap ordering_reverse lt) s.moves row.0 order row.1; not_voided = stands.0 }, used_is role row.0 row.0.what u refl stands.1)
+
+-- what a standing actual records is a use in the list
+use_listed : (role : Role) (s : Slice) (row : MoveRow) (order : Bytes) (number segment : ℕ) (lot : LotId) → Stands s row → IsActual order number segment role lot row → Contains (uses role s) ((order, number), record { segment = segment; lot = lot })
+use_listed role s row order number segment lot stands actual =
+    Contains-filter_map (standing_use role s) s.moves row _ (member_of_row bytes_cmp (λ row. row.key) s.moves row.key row stands.recorded)
+    (ap (λ o. if is_some o then None else use_as role row) stands.not_voided ∙ ap (used_as role) actual.is ∙ ap (λ b. if b then Some ((order, number), record { segment = segment; lot = lot }) else None) (same_role-refl role))
+
+-- ==== the edges
+
+edge_drawn : (s : Slice) (productions : List (Batch × Use)) → IsInKeyOrder bytes_cmp (λ row. row.key) s.moves → IsPermutation (uses Produced s) productions → (e : Edge) → Contains (flat_map (edges_from productions) (uses Consumed s)) e → IsEdge s e
+edge_drawn s productions order moved e i =
+    let c = Contains-from_flat_map (edges_from productions) (uses Consumed s) e i in
+    let p = Contains-from_map (edge_between c.0.1) (filter (is_not_above c.0.1) (filter (λ production. is_eq (batch_cmp production.0 c.0.0)) productions)) e c.2 in
+    let above = Contains-from_filter (is_not_above c.0.1) (filter (λ production. is_eq (batch_cmp production.0 c.0.0)) productions) p.0 p.1 in
+    let batch = Contains-from_filter (λ (production : Batch × Use). is_eq (batch_cmp production.0 c.0.0)) productions p.0 above.0 in
+    let consumption = use_recorded Consumed s c.0 order c.1 in
+    let production = use_recorded Produced s p.0 order (Contains-permutation productions (uses Produced s) p.0 (IsPermutation-sym (uses Produced s) productions moved) batch.0) in
+    let same : p.0.0 ≡ c.0.0 = tells_apart exact_batches p.0.0 c.0.0 batch.1 in
+    subst (IsEdge s) p.2 (record {
+      order = c.0.0.0;
+      number = c.0.0.1;
+      consumption = consumption.0;
+      production = production.0;
+      consumed_in = c.0.1.segment;
+      produced_in = p.0.1.segment;
+      consumption_stands = consumption.1;
+      production_stands = production.1;
+      consumes = consumption.2;
+      produces = subst (λ (b : Batch). IsActual b.0 b.1 p.0.1.segment Produced p.0.1.lot production.0) same production.2;
+      not_above = leb-true _ _ above.1;
+    })
+
+edge_listed : (s : Slice) (productions : List (Batch × Use)) → IsPermutation (uses Produced s) productions → (e : Edge) → IsEdge s e → Contains (flat_map (edges_from productions) (uses Consumed s)) e
+edge_listed s productions moved e fed =
+    let c : Batch × Use = ((fed.order, fed.number), record { segment = fed.consumed_in; lot = e.from }) in
+    let p : Batch × Use = ((fed.order, fed.number), record { segment = fed.produced_in; lot = e.to }) in
+    let listed = Contains-permutation (uses Produced s) productions p moved (use_listed Produced s fed.production fed.order fed.number fed.produced_in e.to fed.production_stands fed.produces) in
+    let of_batch = Contains-filter (λ (production : Batch × Use). is_eq (batch_cmp production.0 c.0)) productions p listed (ap is_eq (tied_itself batches_total c.0)) in
+    let above = Contains-filter (is_not_above c.1) (filter (λ production. is_eq (batch_cmp production.0 c.0)) productions) p of_batch (le-leb _ _ fed.not_above) in
+    Contains-flat_map (edges_from productions) (uses Consumed s) c e (use_listed Consumed s fed.consumption fed.order fed.number fed.consumed_in e.from fed.consumption_stands fed.consumes)
+    (Contains-map (edge_between c.1) (filter (is_not_above c.1) (filter (λ production. is_eq (batch_cmp production.0 c.0)) productions)) p above)
+
+pub edges_are : (s : Slice) (productions : List (Batch × Use)) (sorted : List Edge) → IsInKeyOrder bytes_cmp (λ row. row.key) s.moves → IsPermutation (uses Produced s) productions → IsInOrder edge_cmp (flat_map (edges_from productions) (uses Consumed s)) sorted → AreEdges (IsEdge s) sorted
+edges_are s productions sorted order moved in_order = record {
+  only = λ e i. edge_drawn s productions order moved e (in_order.none_new e i);
+  every = λ e fed. kept_in_order edge_cmp edges_exact _ sorted in_order e (edge_listed s productions moved e fed);
+  ordered = in_order.ordered;
+}

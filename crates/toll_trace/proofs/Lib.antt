@@ -1,0 +1,9 @@
+pub mod Members
+pub mod Orders
+pub mod Ends
+pub mod Levels
+pub mod Rounds
+pub mod Runs
+pub mod Feeding
+pub mod Unique
+pub mod Fronts

@@ -1,0 +1,42 @@
+-- A trace is the only one, and depends on nothing but which lots an edge joins.
+use Rattle.std.proofs.Common.{◌≡◌, ℕ, zero, suc, ◌≤◌, List, sym, ap, ap₂, ◌∙◌, subst, arith}
+use Rattle.std.specs.Prelude.{Contains}
+use Rattle.toll_base.specs.declared.lot.LotId.{LotId}
+use Rattle.toll_base.specs.declared.lot.Edge.{Edge}
+use Rattle.toll_trace.specs.declared.step.Step.{Step}
+use Rattle.toll_trace.specs.Order.{edge_cmp, step_cmp}
+use Rattle.toll_trace.specs.Chain.{IsChain}
+use Rattle.toll_trace.specs.Trace.{IsTrace}
+use Rattle.toll_trace.specs.Edges.{AreEdges}
+use Rattle.toll_trace.proofs.Members.{Contains-from_map, same_sorted}
+use Rattle.toll_trace.proofs.Orders.{edges_total, steps_total}
+
+chain_same : (E F : LotId → LotId → Type 0) → ((a b : LotId) → E a b → F a b) → (a : LotId) (n : ℕ) (b : LotId) → IsChain E a n b → IsChain F a n b
+chain_same E F to a zero b c = c
+chain_same E F to a (suc n) b c = (c.0, chain_same E F to a n c.0 c.1, to c.0 b c.2)
+
+-- where the same lots are joined, the trace is the same
+pub trace_same : (E F : LotId → LotId → Type 0) → ((a b : LotId) → E a b → F a b) → ((a b : LotId) → F a b → E a b) → (a : LotId) (trace : List Step) → IsTrace E a trace → IsTrace F a trace
+trace_same E F to from a trace t = record {
+  only = λ s i. chain_same E F to a s.steps s.lot (t.only s i);
+  fewest = λ s i n c. t.fewest s i n (chain_same F E from a n s.lot c);
+  every = λ b n c. t.every b n (chain_same F E from a n b c);
+  ordered = t.ordered;
+}
+
+pub trace_unique : (E : LotId → LotId → Type 0) (a : LotId) (x y : List Step) → IsTrace E a x → IsTrace E a y → x ≡ y
+trace_unique E a x y tx ty = same_sorted step_cmp steps_total x y tx.ordered ty.ordered (λ s i. also x y tx ty s i) (λ s i. also y x ty tx s i)
+  where
+    also : (v w : List Step) → IsTrace E a v → IsTrace E a w → (s : Step) → Contains v s → Contains w s
+    also v w tv tw s i =
+        let t = Contains-from_map (λ (t : Step). t.lot) w s.lot (tw.every s.lot s.steps (tv.only s i)) in
+        let to_t = subst (λ l. IsChain E a t.0.steps l) t.2 (tw.only t.0 t.1) in
+        let to_s = subst (λ l. IsChain E a s.steps l) (sym t.2) (tv.only s i) in
+        let le = tv.fewest s i t.0.steps to_t in
+        let ge = tw.fewest t.0 t.1 s.steps to_s in
+        let same : t.0.steps ≡ s.steps = omega arith in
+        let is : t.0 ≡ s = ap₂ {C = Step} (λ n l. record { steps = n; lot = l }) same t.2 in
+        subst (Contains w) is t.1
+
+pub edges_unique : (is_edge : Edge → Type 0) (x y : List Edge) → AreEdges is_edge x → AreEdges is_edge y → x ≡ y
+edges_unique is_edge x y ax ay = same_sorted edge_cmp edges_total x y ax.ordered ay.ordered (λ e i. ay.every e (ax.only e i)) (λ e i. ax.every e (ay.only e i))

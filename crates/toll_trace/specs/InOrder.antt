@@ -1,0 +1,11 @@
+-- Lists put in order.
+use Rattle.std.specs.Prelude.{◌≡◌, true, List, Contains, Any}
+use Rattle.std.specs.List.Sorted.{IsStrictlySortedBy}
+use Rattle.std.specs.Ordering.{is_eq}
+use Rattle.std.specs.declared.cmp.Ordering.{Ordering}
+
+-- the same items in order, of those that compare equal only one
+pub record IsInOrder {X : Type 0} (cmp : X → X → Ordering) (items sorted : List X) : Type 0 where
+  pub ordered : IsStrictlySortedBy cmp sorted
+  pub none_new : (x : X) → Contains sorted x → Contains items x
+  pub none_lost : (x : X) → Contains items x → Any (λ y. is_eq (cmp x y) ≡ true) sorted

@@ -1,0 +1,10 @@
+pub mod InOrder
+pub mod Order
+pub mod Chain
+pub mod Trace
+pub mod Search
+pub mod Edges
+pub mod Uses
+pub mod Neighbours
+pub mod Graph
+pub mod Laws

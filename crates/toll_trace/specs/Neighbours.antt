@@ -1,0 +1,16 @@
+-- The neighbours of lots, by a list of pairs of lots that one step joins.
+use Rattle.std.specs.Prelude.{not, List, map, filter}
+use Rattle.std.specs.List.{flat_map}
+use Rattle.std.specs.Ordering.{is_eq}
+use Rattle.toll_base.specs.declared.lot.LotId.{LotId}
+use Rattle.toll_trace.specs.declared.step.Step.{Step}
+use Rattle.toll_trace.specs.Order.{lot_cmp}
+use Rattle.toll_trace.specs.Search.{is_found}
+
+-- the lots that a step comes to from this one
+abbrev pub neighbours : List (LotId × LotId) → LotId → List LotId
+neighbours pairs lot = map (λ pair. pair.1) (filter (λ pair. is_eq (lot_cmp pair.0 lot)) pairs)
+
+-- the lots that a step comes to from the front and that are not found, each as often as a step comes to it
+abbrev pub new_neighbours : List (LotId × LotId) → List Step → List LotId → List LotId
+new_neighbours pairs found front = flat_map (λ lot. filter (λ b. not (is_found found b)) (neighbours pairs lot)) front

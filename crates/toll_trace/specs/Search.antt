@@ -1,0 +1,23 @@
+-- How a search for a trace goes: level by level, a level being the lots of one number of steps.
+use Rattle.std.specs.Prelude.{◌⊎◌, ℕ, Bool, List, Contains}
+use Rattle.std.specs.List.{list_any}
+use Rattle.std.specs.List.Sorted.{IsStrictlySortedBy}
+use Rattle.std.specs.Ordering.{is_eq}
+use Rattle.toll_base.specs.declared.lot.LotId.{LotId}
+use Rattle.toll_trace.specs.declared.step.Step.{Step}
+use Rattle.toll_trace.specs.Order.{lot_cmp}
+use Rattle.toll_trace.specs.Trace.{lots_of}
+
+abbrev pub step_at : ℕ → LotId → Step
+step_at n lot = record { steps = n; lot = lot }
+
+-- the lot is that of a step
+abbrev pub is_found : List Step → LotId → Bool
+is_found found lot = list_any (λ s. is_eq (lot_cmp lot s.lot)) found
+
+-- the lots that one edge leads to from a lot found, and that are not found, in order
+pub record IsLevel (E : LotId → LotId → Type 0) (found : List Step) (lots : List LotId) : Type 0 where
+  pub led_to : (b : LotId) → Contains lots b → (a : LotId) × Contains (lots_of found) a × E a b
+  pub not_found : (b : LotId) → Contains lots b → Contains (lots_of found) b → ⊥
+  pub every : (a b : LotId) → Contains (lots_of found) a → E a b → Contains lots b ⊎ Contains (lots_of found) b
+  pub ordered : IsStrictlySortedBy lot_cmp lots

@@ -1,0 +1,108 @@
+//! The edges between lots.
+ghost use Rattle.std.specs.Prelude.{◌≡◌, ◌++◌, IfOk, OnOk, filter, map};
+ghost use Rattle.std.specs.List.{flat_map};
+ghost use Rattle.toll_base.specs.Bytes.{bytes_cmp};
+ghost use Rattle.toll_base.specs.Table.{IsInKeyOrder};
+ghost use Rattle.toll_trace.specs.Edges.{AreEdges, IsEdge};
+ghost use Rattle.toll_trace.specs.Uses.{use_as, standing_use, uses, is_not_above, edge_between, edges_from};
+
+use crate::index::Index;
+use crate::put_in_order::put_in_order;
+use std::alloc::{AllocError, Global};
+use toll_base::{BatchNo, Edge, LotId, Move, MoveRow, Name, Role, Segment, Slice};
+
+/// A batch within its owner: an order, and the batch's number.
+type Batch = (Name, BatchNo);
+
+/// A segment of a batch uses a lot, to consume it or to produce it.
+#[derive(Clone, Copy)]
+pub(crate) struct Use {
+    segment: Segment,
+    lot: LotId,
+}
+
+/// The pairs of lots such that two standing actuals of one batch of the slice's owner consume the
+/// one and produce the other, the consumption's segment not above the production's: in order, each
+/// once. An actual stands where no void has its key.
+pub fn edges_of(alloc: Global, slice: &Slice) -> Result<Vec<Edge>, AllocError>
+    ensures { IfOk result (λ edges. AreEdges (IsEdge slice.now) edges.items) }
+{
+    let consumptions = uses(alloc, slice, Role::Consumed)?;
+    let productions = Index::new(uses(alloc, slice, Role::Produced)?);
+    let mut edges = edges_among(alloc, &consumptions, &productions)?;
+    put_in_order(&mut edges);
+    Ok(edges)
+}
+
+/// The edges from what is consumed to what its batch produces, with repeats.
+fn edges_among(
+    alloc: Global,
+    consumptions: &[(Batch, Use)],
+    productions: &Index<Batch, Use>,
+) -> Result<Vec<Edge>, AllocError>
+    ensures { IfOk result (λ edges. edges.items ≡ flat_map (edges_from productions.now) consumptions.now) }
+{
+    let mut edges = Vec::new(alloc);
+    for (batch, consumption) in consumptions {
+        add_edges(&mut edges, consumption, productions.at(batch))?;
+    }
+    Ok(edges)
+}
+
+/// What the standing actuals of this role use, by their batches.
+fn uses(alloc: Global, slice: &Slice, role: Role) -> Result<Vec<(Batch, Use)>, AllocError>
+    ensures found { IfOk result (λ found. found.items ≡ uses role slice.now) }
+    ensures key_order { IsInKeyOrder bytes_cmp (λ row. row.key) slice.now.moves }
+{
+    slice
+        .moves()
+        .iter()
+        .filter_map(|row| standing_use(slice, role, row))
+        .collect(alloc)
+}
+
+/// What the movement uses, where it is an actual of this role and no void has its key.
+fn standing_use(slice: &Slice, role: Role, row: &MoveRow) -> Option<(Batch, Use)>
+    ensures { result ≡ standing_use role slice.now row.now }
+{
+    if slice.is_voided(&row.key) {
+        return None;
+    }
+    use_as(role, row)
+}
+
+/// What the movement uses, where it is an actual of this role.
+fn use_as(role: Role, row: &MoveRow) -> Option<(Batch, Use)>
+    ensures { result ≡ use_as role row.now }
+{
+    match row.what {
+        Move::Actual {
+            order,
+            number,
+            segment,
+            role: recorded,
+            lot,
+            ..
+        } if recorded == role => Some(((order, number), Use { segment, lot })),
+        _ => None,
+    }
+}
+
+/// Adds the edges from what is consumed to what its batch produces in no lower segment.
+fn add_edges(
+    edges: &mut Vec<Edge>,
+    consumption: &Use,
+    productions: &[(Batch, Use)],
+) -> Result<(), AllocError>
+    ensures { OnOk result (edges.new.items ≡ edges.old.items ++ map (edge_between consumption.now) (filter (is_not_above consumption.now) productions.now)) }
+{
+    for (_, production) in productions {
+        if consumption.segment <= production.segment {
+            edges.push(Edge {
+                from: consumption.lot,
+                to: production.lot,
+            })?;
+        }
+    }
+    Ok(())
+}

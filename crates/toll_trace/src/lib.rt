@@ -1,0 +1,24 @@
+//! The genealogy of lots: the edges that recorded consumption draws between them, and traces
+//! along these edges. IEC 62264-2 gives material lots and material actuals; what an edge and a
+//! trace are is this office's own profile.
+#![tactic(auto)]
+
+mod edges;
+mod found;
+mod graph;
+mod index;
+mod laws;
+mod plain;
+mod put_in_order;
+mod step;
+mod way;
+
+pub use edges::edges_of;
+pub use graph::Graph;
+pub use laws::traces_are_unique;
+pub use plain::plain_trace;
+pub use step::Step;
+pub use way::Way;
+
+#[cfg(test)]
+mod tests;
