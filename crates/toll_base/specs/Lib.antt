@@ -10,3 +10,13 @@ pub mod SliceRules
 pub mod ActualCounts
 pub mod SliceView
 pub mod Decision
+pub mod States
+pub mod Command
+pub mod History
+pub mod Work
+pub mod Movements
+pub mod Dispositions
+pub mod Holders
+pub mod Tables
+pub mod Verdict
+pub mod Worked

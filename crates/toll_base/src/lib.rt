@@ -16,11 +16,13 @@ mod role;
 mod rows;
 mod slice;
 mod state;
+mod state_command;
 mod table;
 #[cfg(test)]
 mod tests;
 mod text;
 mod value;
+mod worked;
 
 pub use bounded::{Amount, BatchNo, Bounded, Day, Segment};
 pub use decimal::number;
@@ -38,6 +40,13 @@ pub use rows::{
 };
 pub use slice::Slice;
 pub use state::State;
+pub use state_command::StateCommand;
 pub use table::{Keyed, Table};
 pub use text::Text;
 pub use value::Value;
+pub use worked::{
+    a_held_unit_is_busy, a_release_needs_the_latest_results, actuals_are_voided,
+    batches_go_through_their_states, orders_are_cancelled_before_they_start,
+    refusals_of_the_plants_commands, setups_are_accepted, stock_is_used_up,
+    sublots_are_split_scrapped_and_shipped,
+};

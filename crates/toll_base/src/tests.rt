@@ -60,7 +60,10 @@ fn actual(key: Name) -> Result<Row, Refusal> {
             segment: Segment::new(1)?,
             role: Role::Consumed,
             material: name,
-            lot: LotId { owner: name, lot: name },
+            lot: LotId {
+                owner: name,
+                lot: name,
+            },
             sublot: name,
         },
         amount: Amount::new(1)?,

@@ -1,6 +1,5 @@
 -- The next level, by the neighbours of the last level alone.
-use Rattle.std.proofs.Common.{◌≡◌, ◌⊎◌, ℕ, ◌+◌, ◌<◌, Bool, true, false, not, List, [], ◌∷◌, ◌++◌, map, length, take, get_or, refl, sym, ap, ◌∙◌, subst, inl, inr}
-use mathlib.Core.Bool.{false≢true}
+use Rattle.std.proofs.Common.{◌≡◌, ◌⊎◌, ℕ, ◌+◌, ◌<◌, false, not, List, [], ◌∷◌, ◌++◌, map, length, take, get_or, sym, ap, ◌∙◌, subst, inl, inr}
 use Rattle.std.specs.Prelude.{Contains, filter}
 use Rattle.std.specs.List.{flat_map}
 use Rattle.std.specs.List.Sorted.{IsPermutation}
@@ -24,8 +23,8 @@ use Rattle.toll_trace.specs.Neighbours.{neighbours, new_neighbours}
 use Rattle.toll_trace.specs.Order.{lot_cmp}
 use Rattle.toll_trace.specs.Search.{step_at, is_found, IsLevel}
 use Rattle.toll_trace.specs.Trace.{lots_of, IsTrace}
-use Rattle.toll_trace.proofs.Levels.{lots_more, found_lot, lot_is_found, not_found_lot, level_of}
-use Rattle.toll_trace.proofs.Members.{Contains-none, Contains-here, Contains-cases, Contains-map, Contains-from_map, Contains-filter, Contains-from_filter, Contains-flat_map, Contains-from_flat_map}
+use Rattle.toll_trace.proofs.Levels.{lots_more, not_found_lot, level_of}
+use Rattle.toll_trace.proofs.Members.{Contains-map, Contains-from_map, Contains-filter, Contains-from_filter, Contains-flat_map, Contains-from_flat_map}
 use Rattle.toll_trace.proofs.Orders.{lots_total, lots_exact}
 use Rattle.toll_trace.proofs.Ends.{ends_of, edge_of_ends}
 use Rattle.toll_trace.proofs.Unique.{trace_same}

@@ -1,13 +1,14 @@
--- A trace is the only one, and depends on nothing but which lots an edge joins.
-use Rattle.std.proofs.Common.{◌≡◌, ℕ, zero, suc, ◌≤◌, List, sym, ap, ap₂, ◌∙◌, subst, arith}
+-- A trace is the only one, and depends on nothing but which lots an edge joins; and so are the edges of movements.
+use Rattle.std.proofs.Common.{◌≡◌, ℕ, zero, suc, List, sym, ap₂, subst, arith}
 use Rattle.std.specs.Prelude.{Contains}
 use Rattle.toll_base.specs.declared.lot.LotId.{LotId}
 use Rattle.toll_base.specs.declared.lot.Edge.{Edge}
+use Rattle.toll_base.specs.declared.rows.MoveRow.{MoveRow}
 use Rattle.toll_trace.specs.declared.step.Step.{Step}
 use Rattle.toll_trace.specs.Order.{edge_cmp, step_cmp}
 use Rattle.toll_trace.specs.Chain.{IsChain}
 use Rattle.toll_trace.specs.Trace.{IsTrace}
-use Rattle.toll_trace.specs.Edges.{AreEdges}
+use Rattle.toll_trace.specs.Edges.{IsFed, AreEdges}
 use Rattle.toll_trace.proofs.Members.{Contains-from_map, same_sorted}
 use Rattle.toll_trace.proofs.Orders.{edges_total, steps_total}
 
@@ -37,6 +38,29 @@ trace_unique E a x y tx ty = same_sorted step_cmp steps_total x y tx.ordered ty.
         let same : t.0.steps ≡ s.steps = omega arith in
         let is : t.0 ≡ s = ap₂ {C = Step} (λ n l. record { steps = n; lot = l }) same t.2 in
         subst (Contains w) is t.1
+
+-- movements that stand in the one sense and in the other draw the same edges
+pub fed_same : (S T : MoveRow → Type 0) → ((row : MoveRow) → S row → T row) → (e : Edge) → IsFed S e → IsFed T e
+fed_same S T to e fed = record {
+  order = fed.order;
+  number = fed.number;
+  consumption = fed.consumption;
+  production = fed.production;
+  consumed_in = fed.consumed_in;
+  produced_in = fed.produced_in;
+  consumption_stands = to fed.consumption fed.consumption_stands;
+  production_stands = to fed.production fed.production_stands;
+  consumes = fed.consumes;
+  produces = fed.produces;
+  not_above = fed.not_above;
+}
+
+pub edges_same : (P Q : Edge → Type 0) → ((e : Edge) → P e → Q e) → ((e : Edge) → Q e → P e) → (edges : List Edge) → AreEdges P edges → AreEdges Q edges
+edges_same P Q to from edges are = record {
+  only = λ e i. to e (are.only e i);
+  every = λ e q. are.every e (from e q);
+  ordered = are.ordered;
+}
 
 pub edges_unique : (is_edge : Edge → Type 0) (x y : List Edge) → AreEdges is_edge x → AreEdges is_edge y → x ≡ y
 edges_unique is_edge x y ax ay = same_sorted edge_cmp edges_total x y ax.ordered ay.ordered (λ e i. ay.every e (ax.only e i)) (λ e i. ax.every e (ay.only e i))

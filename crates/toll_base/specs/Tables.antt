@@ -1,0 +1,165 @@
+-- An owner's tables: those that a history gives, and those of a slice.
+use Rattle.std.specs.Prelude.{◌≡◌, ℕ, ◌+◌, ℤ, Bool, not, ◌&&◌, ◌==◌, if◌then◌else◌, Option, Some, None, is_some, List, [], ◌∷◌, length}
+use Rattle.std.specs.List.{list_any}
+use Rattle.std.specs.Option.{option_map}
+use Rattle.toll_base.specs.Bytes.{Bytes, same_bytes}
+use Rattle.toll_base.specs.Keys.{RequirementKey}
+use Rattle.toll_base.specs.Words.{count, is_some_where, where_so}
+use Rattle.toll_base.specs.Slice.{Slice, material_at, test_at, recipe_at, requirement_at, order_at, batch_at, lot_at, sublot_at, move_at, result_at, void_at}
+use Rattle.toll_base.specs.SliceRules.{count_actuals}
+use Rattle.toll_base.specs.History.{History, acts}
+use Rattle.toll_base.specs.Work.{material_of, count_materials, test_of, count_tests, recipe_of, count_recipes, recipe_used, requirement_of, count_requirements, order_of, count_orders, batch_of, count_opened}
+use Rattle.toll_base.specs.Movements.{lot_id, lot_made, sublot_known, stock, movement_of, count_movements, voided_in, count_actuals_of, count_lots, count_sublots, material_used}
+use Rattle.toll_base.specs.Dispositions.{disposition_of, result_of, count_results, count_results_of, is_outside, tests_open}
+use Rattle.toll_base.specs.declared.rows.MaterialRow.{MaterialRow}
+use Rattle.toll_base.specs.declared.rows.TestRow.{TestRow}
+use Rattle.toll_base.specs.declared.rows.RecipeRow.{RecipeRow}
+use Rattle.toll_base.specs.declared.rows.RequirementRow.{RequirementRow}
+use Rattle.toll_base.specs.declared.rows.OrderRow.{OrderRow}
+use Rattle.toll_base.specs.declared.rows.BatchRow.{BatchRow}
+use Rattle.toll_base.specs.declared.rows.LotRow.{LotRow}
+use Rattle.toll_base.specs.declared.rows.SublotRow.{SublotRow}
+use Rattle.toll_base.specs.declared.rows.MoveRow.{MoveRow}
+use Rattle.toll_base.specs.declared.rows.ResultRow.{ResultRow}
+
+-- an owner's tables: what each has at a key, how many rows it has, and what a decision asks besides
+pub record Tables : Type 0 where
+  pub material : Bytes → Option MaterialRow
+  pub materials : ℕ
+  pub test : Bytes × Bytes → Option TestRow
+  pub tests : ℕ
+  pub recipe : Bytes → Option RecipeRow
+  pub recipes : ℕ
+  pub requirement : RequirementKey → Option RequirementRow
+  pub requirements : ℕ
+  pub order : Bytes → Option OrderRow
+  pub orders : ℕ
+  pub batch : Bytes × ℕ → Option BatchRow
+  pub lot : Bytes → Option LotRow
+  pub lots : ℕ
+  pub sublot : Bytes × Bytes → Option SublotRow
+  pub sublots : ℕ
+  pub movement : Bytes → Option MoveRow
+  pub movements : ℕ
+  pub result : Bytes × Bytes × ℕ → Option ResultRow
+  pub results : ℕ
+  pub voided : Bytes → Bool
+  -- how many batches of the order there are, and how many actuals of the batch
+  pub opened : Bytes → ℕ
+  pub actuals : Bytes → ℕ → ℕ
+  -- an order names the recipe; a lot is of the material; a test of the lot's material is open
+  pub recipe_used : Bytes → Bool
+  pub material_used : Bytes → Bool
+  pub tests_open : Bytes → Bool
+
+-- ---- as a history gives them
+
+-- a lot of the owner: by its first movement, and its disposition
+abbrev pub lot_row : History → Bytes → Bytes → Option LotRow
+lot_row H o l = option_map (λ made. record { lot = l; material = made.material; origin = made.origin; disposition = disposition_of (acts o H) made.material l }) (lot_made H (lot_id o l))
+
+-- a sublot of the owner, and its stock
+abbrev pub sublot_row : History → Bytes → Bytes × Bytes → Option SublotRow
+sublot_row H o k = where_so (sublot_known H (lot_id o k.0) k.1) (record { lot = k.0; sublot = k.1; amount = stock H (lot_id o k.0) k.1 })
+
+-- the tables that a history gives to an owner
+abbrev pub tables_given : History → Bytes → Tables
+tables_given H o = record {
+  material = material_of (acts o H);
+  materials = count_materials (acts o H);
+  test = test_of (acts o H);
+  tests = count_tests (acts o H);
+  recipe = recipe_of (acts o H);
+  recipes = count_recipes (acts o H);
+  requirement = requirement_of (acts o H);
+  requirements = count_requirements (acts o H);
+  order = order_of (acts o H);
+  orders = count_orders (acts o H);
+  batch = batch_of (acts o H);
+  lot = lot_row H o;
+  lots = count_lots H o;
+  sublot = sublot_row H o;
+  sublots = count_sublots H o;
+  movement = movement_of (acts o H);
+  movements = count_movements (acts o H);
+  result = result_of (acts o H);
+  results = count_results (acts o H);
+  voided = voided_in (acts o H);
+  opened = count_opened (acts o H);
+  actuals = count_actuals_of (acts o H);
+  recipe_used = recipe_used (acts o H);
+  material_used = material_used H o;
+  tests_open = tests_open H o;
+}
+
+-- ---- as a slice has them
+
+-- the number of the latest result of the lot's test, which is how many there are
+abbrev pub count_results_in : Slice → Bytes → Bytes → ℕ
+count_results_in s lot test = count (λ row. same_bytes row.lot lot && same_bytes row.test test) s.results
+
+-- the test's latest result in the slice is there, and within its limits
+abbrev pub passes_in : Slice → Bytes → TestRow → Bool
+passes_in s lot row = is_some_where (λ result. not (is_outside row.limits result.value)) (result_at s (lot, row.test, count_results_in s lot row.test))
+
+-- a test of the lot's material is open in the slice
+abbrev pub tests_open_in : Slice → Bytes → Bool
+tests_open_in s lot = is_some_where (λ known. list_any (λ row. same_bytes row.material known.material && not (passes_in s lot row)) s.tests) (lot_at s lot)
+
+-- the tables of a slice
+abbrev pub tables_of : Slice → Tables
+tables_of s = record {
+  material = material_at s;
+  materials = length s.materials;
+  test = test_at s;
+  tests = length s.tests;
+  recipe = recipe_at s;
+  recipes = length s.recipes;
+  requirement = requirement_at s;
+  requirements = length s.requirements;
+  order = order_at s;
+  orders = length s.orders;
+  batch = batch_at s;
+  lot = lot_at s;
+  lots = length s.lots;
+  sublot = sublot_at s;
+  sublots = length s.sublots;
+  movement = move_at s;
+  movements = length s.moves;
+  result = result_at s;
+  results = length s.results;
+  voided = λ key. is_some (void_at s key);
+  opened = λ order. count (λ row. same_bytes row.order order) s.batches;
+  actuals = λ order number. count_actuals order number s.moves;
+  recipe_used = λ recipe. list_any (λ row. same_bytes row.recipe recipe) s.orders;
+  material_used = λ material. list_any (λ row. same_bytes row.material material) s.lots;
+  tests_open = tests_open_in s;
+}
+
+-- the slice has exactly the rows that the history gives to its owner
+pub record IsRowsOf (H : History) (s : Slice) : Type 0 where
+  pub material : (k : Bytes) → material_at s k ≡ material_of (acts s.owner H) k
+  pub materials : length s.materials ≡ count_materials (acts s.owner H)
+  pub test : (k : Bytes × Bytes) → test_at s k ≡ test_of (acts s.owner H) k
+  pub tests : length s.tests ≡ count_tests (acts s.owner H)
+  pub recipe : (k : Bytes) → recipe_at s k ≡ recipe_of (acts s.owner H) k
+  pub recipes : length s.recipes ≡ count_recipes (acts s.owner H)
+  pub requirement : (k : RequirementKey) → requirement_at s k ≡ requirement_of (acts s.owner H) k
+  pub requirements : length s.requirements ≡ count_requirements (acts s.owner H)
+  pub order : (k : Bytes) → order_at s k ≡ order_of (acts s.owner H) k
+  pub orders : length s.orders ≡ count_orders (acts s.owner H)
+  pub batch : (k : Bytes × ℕ) → batch_at s k ≡ batch_of (acts s.owner H) k
+  pub lot : (k : Bytes) → lot_at s k ≡ lot_row H s.owner k
+  pub lots : length s.lots ≡ count_lots H s.owner
+  pub sublot : (k : Bytes × Bytes) → sublot_at s k ≡ sublot_row H s.owner k
+  pub sublots : length s.sublots ≡ count_sublots H s.owner
+  pub movement : (k : Bytes) → move_at s k ≡ movement_of (acts s.owner H) k
+  pub movements : length s.moves ≡ count_movements (acts s.owner H)
+  pub result : (k : Bytes × Bytes × ℕ) → result_at s k ≡ result_of (acts s.owner H) k
+  pub results : length s.results ≡ count_results (acts s.owner H)
+  pub voided : (k : Bytes) → is_some (void_at s k) ≡ voided_in (acts s.owner H) k
+  pub opened : (order : Bytes) → count (λ row. same_bytes row.order order) s.batches ≡ count_opened (acts s.owner H) order
+  pub actuals : (order : Bytes) (number : ℕ) → count_actuals order number s.moves ≡ count_actuals_of (acts s.owner H) order number
+  pub recipe_used : (recipe : Bytes) → list_any (λ row. same_bytes row.recipe recipe) s.orders ≡ recipe_used (acts s.owner H) recipe
+  pub material_used : (material : Bytes) → list_any (λ row. same_bytes row.material material) s.lots ≡ material_used H s.owner material
+  pub tests_open : (lot : Bytes) → tests_open_in s lot ≡ tests_open H s.owner lot
