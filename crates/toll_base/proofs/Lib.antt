@@ -6,3 +6,7 @@ pub mod PutRules
 pub mod ActualCountLemmas
 pub mod PutOrNot
 pub mod SliceFits
+pub mod Accepted
+pub mod Own
+pub mod Crossing
+pub mod OwnTables

@@ -1,7 +1,7 @@
 -- Texts that compare alike are one, and so are keys made of them.
 use Rattle.std.proofs.Common.{◌≡◌, ℕ, true, ◌&&◌, ◌==◌, refl, ap, ◌∙◌, arith}
 use mathlib.Core.Bool.{false≢true}
-use Rattle.std.specs.Cmp.{IsTotalOrder}
+use Rattle.std.specs.Cmp.{IsTotalOrder, eq_by_cmp_equiv}
 use Rattle.std.specs.Cmp.Lexicographic.{nat_list_cmp_total}
 use Rattle.std.specs.FinMap.{slice_cmp-IsAntisymmetric, nat_cmp-IsAntisymmetric}
 use Rattle.std.specs.Ordering.{is_eq, ordering_then, nat_cmp}
@@ -56,3 +56,6 @@ requirement_cmp_total = then_total (then_total (then_total (then_total (on_total
 -- a batch ties with one of the same order and number
 pub same_batch : (k l : Bytes × ℕ) → is_eq (batch_cmp k l) ≡ (same_bytes k.0 l.0 && k.1 == l.1)
 same_batch k l = is_eq-then (bytes_cmp k.0 l.0) (nat_cmp k.1 l.1) ∙ ap (λ b. same_bytes k.0 l.0 && b) (is_eq-nat_cmp k.1 l.1)
+
+pub same_bytes-symm : (a b : Bytes) → same_bytes a b ≡ same_bytes b a
+same_bytes-symm a b = (eq_by_cmp_equiv nat_list_cmp_total).symm a b

@@ -92,6 +92,13 @@ tables_given H o = record {
   tests_open = tests_open H o;
 }
 
+-- a sublot, and tables, with the amounts left out
+abbrev pub without_amount : Option SublotRow → Option SublotRow
+without_amount row = option_map {T = SublotRow} (λ row. record row { amount = 0 }) row
+
+abbrev pub without_amounts : Tables → Tables
+without_amounts t = record t { sublot = λ k. without_amount (t.sublot k) }
+
 -- ---- as a slice has them
 
 -- the number of the latest result of the lot's test, which is how many there are
