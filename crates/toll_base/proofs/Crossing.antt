@@ -96,12 +96,12 @@ and_false : (a b c : Bool) → a ≡ false → (a && b && c) ≡ false
 and_false true b c h = absurd (false≢true (sym h))
 and_false false b c h = refl
 
-and_false_two : (a b : Bool) → a ≡ false → (a && b) ≡ false
+pub and_false_two : (a b : Bool) → a ≡ false → (a && b) ≡ false
 and_false_two true b h = absurd (false≢true (sym h))
 and_false_two false b h = refl
 
 -- a lot of another owner is not the same
-not_same_lot : (id : LotId) (o l : Bytes) → same_bytes id.owner o ≡ false → same_lot id (lot_id o l) ≡ false
+pub not_same_lot : (id : LotId) (o l : Bytes) → same_bytes id.owner o ≡ false → same_lot id (lot_id o l) ≡ false
 not_same_lot id o l other = and_false_two (same_bytes id.owner o) (same_bytes id.lot l) other
 
 pub brings_not : (id : LotId) (sub p : Bytes) (what : Move) → crosses_by p what ≡ false → same_bytes id.owner p ≡ false → brings_into id sub p what ≡ false
@@ -114,7 +114,7 @@ brings_not id sub p (Ship lot sublot) h other = refl
 brings_not id sub p (Scrap lot sublot) h other = refl
 
 -- a name that is neither of two is not one that is one of them
-neither : (a b c x : Bytes) → not (same_bytes x b || same_bytes x c) ≡ false → same_bytes a b ≡ false → same_bytes a c ≡ false → same_bytes a x ≡ false
+pub neither : (a b c x : Bytes) → not (same_bytes x b || same_bytes x c) ≡ false → same_bytes a b ≡ false → same_bytes a c ≡ false → same_bytes a x ≡ false
 neither a b c x h not_b not_c =
     elim (same_bytes x b) as (λ r. same_bytes x b ≡ r → not (r || same_bytes x c) ≡ false → same_bytes a x ≡ false) [
       | true ↦ λ is h. subst (λ q. same_bytes a q ≡ false) (sym (same_bytes-exact x b is)) not_b

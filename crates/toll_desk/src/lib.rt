@@ -1,6 +1,7 @@
 //! The office's desk: owners' requests and the plant's commands, over any keep.
 #![tactic(auto)]
 
+mod isolation;
 mod over;
 mod owner;
 mod plant;
@@ -9,6 +10,7 @@ mod request;
 #[cfg(test)]
 mod tests;
 
+pub use isolation::replies_come_from_the_owners_part;
 pub use owner::{admit, carry, owner_do, owner_plan};
 pub use plant::plant_do;
 pub use plant_cmd::{PlantCmd, PlantReply};

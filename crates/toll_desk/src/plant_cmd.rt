@@ -7,7 +7,10 @@ use toll_keep::KeepFault;
 pub enum PlantCmd {
     /// Adds an owner with its key: [`Refusal::OwnerExists`] where there is one of this name, HOUSE
     /// included, then [`Refusal::LimitReached`] at 64 owners besides HOUSE.
-    OwnerAdd { owner: Name, key: OwnerKey },
+    OwnerAdd {
+        owner: Name,
+        key: OwnerKey,
+    },
     /// Adds a recipe: [`Refusal::UnknownOwner`], then as [`toll_work::add_recipe`] says.
     RecipeAdd {
         owner: Name,

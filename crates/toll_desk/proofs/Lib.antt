@@ -1,0 +1,2 @@
+pub mod OwnAmounts
+pub mod OwnReplies

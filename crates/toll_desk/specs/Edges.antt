@@ -1,0 +1,32 @@
+-- Genealogy over a history.
+use Rattle.std.specs.Prelude.{◌≡◌, ℕ, Bool, false, List, Contains, Some, None}
+use Rattle.toll_base.specs.Bytes.{Bytes}
+use Rattle.toll_base.specs.History.{History, acts}
+use Rattle.toll_base.specs.Command.{Action, Record}
+use Rattle.toll_base.specs.Movements.{voided_in}
+use Rattle.toll_base.specs.declared.lot.LotId.{LotId}
+use Rattle.toll_base.specs.declared.lot.Edge.{Edge}
+use Rattle.toll_base.specs.declared.rows.MoveRow.{MoveRow}
+use Rattle.toll_trace.specs.declared.way.Way.{Way}
+use Rattle.toll_trace.specs.Edges.{IsDrawn}
+use Rattle.toll_trace.specs.Chain.{edge_of}
+
+-- of an owner's own actions: the movement was recorded, and its key isn't voided
+pub record WasDone (own : List Action) (row : MoveRow) : Type 0 where
+  pub recorded : Contains own (Record row)
+  pub not_voided : voided_in own row.key ≡ false
+
+-- an edge of a batch of the owner whose actions these are
+abbrev pub IsOwnEdge : List Action → Edge → Type 0
+IsOwnEdge own e = IsDrawn (WasDone own) e
+
+-- an edge of a batch of any owner
+abbrev pub IsPlantEdge : History → Edge → Type 0
+IsPlantEdge H e = (o : Bytes) × IsOwnEdge (acts o H) e
+
+-- the lots joined by an owner's edges, and by all
+abbrev pub IsOwnJoined : List Action → Way → LotId → LotId → Type 0
+IsOwnJoined own way a b = IsOwnEdge own (edge_of way a b)
+
+abbrev pub IsPlantJoined : History → Way → LotId → LotId → Type 0
+IsPlantJoined H way a b = IsPlantEdge H (edge_of way a b)

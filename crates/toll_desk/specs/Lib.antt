@@ -1,0 +1,5 @@
+pub mod Given
+pub mod Told
+pub mod Edges
+pub mod Replies
+pub mod PlantAnswers

@@ -1,0 +1,55 @@
+-- What owners ask, and what they are told.
+use Rattle.std.specs.Prelude.{ℕ, List}
+use Rattle.toll_base.specs.Bytes.{Bytes}
+use Rattle.toll_base.specs.declared.refusal.Refusal.{Refusal}
+use Rattle.toll_base.specs.declared.rows.OrderRow.{OrderRow}
+use Rattle.toll_base.specs.declared.rows.BatchRow.{BatchRow}
+use Rattle.toll_base.specs.declared.rows.RequirementRow.{RequirementRow}
+use Rattle.toll_base.specs.declared.rows.LotRow.{LotRow}
+use Rattle.toll_base.specs.declared.rows.ResultRow.{ResultRow}
+use Rattle.toll_base.specs.declared.rows.SublotRow.{SublotRow}
+use Rattle.toll_trace.specs.declared.step.Step.{Step}
+
+-- an owner's request
+pub data Asked : Type 0 where
+  AskOrders : Asked
+  AskOrder : (order : Bytes) → Asked
+  AskPlace : (order recipe : Bytes) (batches : ℕ) → Asked
+  AskCancel : (order : Bytes) → Asked
+  AskBatch : (order : Bytes) (number : ℕ) → Asked
+  AskStock : Asked
+  AskLot : (lot : Bytes) → Asked
+  AskRelease : (lot : Bytes) → Asked
+  AskReject : (lot : Bytes) → Asked
+  AskBack : (lot : Bytes) → Asked
+  AskForward : (lot : Bytes) → Asked
+  AskHouseForward : (lot : Bytes) → Asked
+
+-- a requirement of a batch's recipe, and how much of it the batch did
+pub record RequirementLine : Type 0 where
+  pub row : RequirementRow
+  pub actual : ℕ
+
+-- a lot, the measure of its material, and how much is on hand
+pub record StockLine : Type 0 where
+  pub row : LotRow
+  pub measure : Bytes
+  pub amount : ℕ
+
+-- a lot with its results and its sublots
+pub record LotView : Type 0 where
+  pub row : LotRow
+  pub measure : Bytes
+  pub results : List ResultRow
+  pub sublots : List SublotRow
+
+-- what an owner is told
+pub data Told : Type 0 where
+  TellForbidden : Told
+  TellOrders : (orders : List OrderRow) → Told
+  TellOrder : (order : OrderRow) → Told
+  TellBatch : (batch : BatchRow) (lines : List RequirementLine) → Told
+  TellStock : (lines : List StockLine) → Told
+  TellLot : (view : LotView) → Told
+  TellTrace : (trace : List Step) → Told
+  TellRefused : (why : Refusal) → Told
