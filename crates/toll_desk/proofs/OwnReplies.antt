@@ -1,5 +1,5 @@
 -- An owner's replies come from the owner's part of a history.
-use Rattle.std.proofs.Common.{◌≡◌, ℕ, Bool, true, false, not, ◌&&◌, ◌||◌, cond, Option, Some, None, is_some, List, [], ◌∷◌, MatchBool, refl, sym, ap, subst, ◌∙◌}
+use Rattle.std.proofs.Common.{◌≡◌, ℕ, Bool, true, false, not, ◌&&◌, ◌||◌, cond, Option, Some, None, is_some, List, [], ◌∷◌, MatchBool, ◌↔◌, refl, sym, ap, subst, ◌∙◌}
 use Rattle.std.specs.List.{list_any}
 use Rattle.std.specs.Option.{option_map, option_map_or, option_and_then}
 use Rattle.toll_base.specs.Bytes.{Bytes, same_bytes}
@@ -162,3 +162,6 @@ module _ (o : Bytes) (not_house : same_bytes o house_name ≡ false) where
     unfolding after_reply
     after_reply-part key q =
         (λ i. cond (has_key-part key H i) (after_answer-part q i) (part o H)) ∙ sym (part_by (has_key o key H) (after_answer o H q) H)
+
+    pub reply-both_ways : (key : Bytes) (q : Asked) (r : Told) → IsReply o key (part o H) q r ↔ IsReply o key H q r
+    reply-both_ways key q r = ((λ over_part. coe 0 1 (i. reply-part key q r i) over_part), (λ over_all. coe 1 0 (i. reply-part key q r i) over_all))
