@@ -5,7 +5,7 @@ use crate::holder::Holder;
 use crate::keep::Keep;
 use std::alloc::Global;
 use toll_base::{Change, Edge, Name, OwnerRow, Slice, Table, UnitRow};
-use toll_trace::edges_of;
+use toll_trace::{edges_of, put_in_order};
 
 /// Rows in lists. It answers no fault but [`KeepFault::Memory`].
 #[derive(Drop)]
@@ -71,8 +71,7 @@ impl Keep for MemKeep {
         for slice in &self.slices {
             edges.extend_from_slice(&edges_of(alloc, slice)?)?;
         }
-        edges.sort_unstable();
-        edges.dedup();
+        put_in_order(&mut edges);
         Ok(edges)
     }
 }

@@ -4,6 +4,6 @@ pub mod Ends
 pub mod Levels
 pub mod Rounds
 pub mod Runs
-pub mod Feeding
+pub mod Drawn
 pub mod Unique
 pub mod Fronts

@@ -8,7 +8,7 @@ use Rattle.toll_trace.specs.declared.step.Step.{Step}
 use Rattle.toll_trace.specs.Order.{edge_cmp, step_cmp}
 use Rattle.toll_trace.specs.Chain.{IsChain}
 use Rattle.toll_trace.specs.Trace.{IsTrace}
-use Rattle.toll_trace.specs.Edges.{IsFed, AreEdges}
+use Rattle.toll_trace.specs.Edges.{IsDrawn, AreEdges}
 use Rattle.toll_trace.proofs.Members.{Contains-from_map, same_sorted}
 use Rattle.toll_trace.proofs.Orders.{edges_total, steps_total}
 
@@ -40,8 +40,8 @@ trace_unique E a x y tx ty = same_sorted step_cmp steps_total x y tx.ordered ty.
         subst (Contains w) is t.1
 
 -- movements that stand in the one sense and in the other draw the same edges
-pub fed_same : (S T : MoveRow → Type 0) → ((row : MoveRow) → S row → T row) → (e : Edge) → IsFed S e → IsFed T e
-fed_same S T to e fed = record {
+pub drawn_same : (S T : MoveRow → Type 0) → ((row : MoveRow) → S row → T row) → (e : Edge) → IsDrawn S e → IsDrawn T e
+drawn_same S T to e fed = record {
   order = fed.order;
   number = fed.number;
   consumption = fed.consumption;

@@ -1,5 +1,5 @@
 -- Edges of genealogy: which lots went into which.
-use Rattle.std.specs.Prelude.{◌≡◌, ℕ, ◌≤◌, Some, None, List, Contains}
+use Rattle.std.specs.Prelude.{◌≡◌, ℕ, ◌≤◌, false, Some, is_some, List, Contains}
 use Rattle.std.specs.List.Sorted.{IsStrictlySortedBy}
 use Rattle.toll_base.specs.Bytes.{Bytes}
 use Rattle.toll_base.specs.Slice.{Slice, move_at, void_at}
@@ -17,9 +17,9 @@ pub record IsActual (order : Bytes) (number segment : ℕ) (role : Role) (lot : 
   pub sublot : Bytes
   pub is : row.what ≡ Actual order number segment role material lot sublot
 
--- among the movements that stand, two actuals of one batch consume the lot that the edge leads from and produce
--- the one that it leads to, the consumption's segment not above the production's
-pub record IsFed (stands : MoveRow → Type 0) (e : Edge) : Type 0 where
+-- of the movements that stand, two actuals draw the edge: in one batch, one consumes the lot that the edge leads from
+-- and the other produces the lot that it leads to, and the consumption's segment is not above the production's
+pub record IsDrawn (stands : MoveRow → Type 0) (e : Edge) : Type 0 where
   pub order : Bytes
   pub number : ℕ
   pub consumption : MoveRow
@@ -35,10 +35,11 @@ pub record IsFed (stands : MoveRow → Type 0) (e : Edge) : Type 0 where
 -- the slice has the movement, and no void of its key
 pub record Stands (s : Slice) (row : MoveRow) : Type 0 where
   pub recorded : move_at s row.key ≡ Some row
-  pub not_voided : void_at s row.key ≡ None
+  pub not_voided : is_some (void_at s row.key) ≡ false
 
+-- actuals that stand in the slice draw the edge
 abbrev pub IsEdge : Slice → Edge → Type 0
-IsEdge s e = IsFed (Stands s) e
+IsEdge s e = IsDrawn (Stands s) e
 
 -- the edges are just these, in order, each once
 pub record AreEdges (is_edge : Edge → Type 0) (edges : List Edge) : Type 0 where

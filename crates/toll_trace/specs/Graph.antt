@@ -13,6 +13,7 @@ pub record IsGraphOf (edges : List Edge) (graph : Graph) : Type 0 where
   pub forward : IsPermutation (map (ends Forward) edges) graph.forward
   pub back : IsPermutation (map (ends Back) edges) graph.back
 
+-- the graph's index for that way: the lot that each step leaves, with the one that it comes to
 abbrev pub index_of : Way → Graph → List (LotId × LotId)
 index_of Back graph = graph.back
 index_of Forward graph = graph.forward

@@ -8,6 +8,7 @@ use Rattle.toll_trace.specs.declared.step.Step.{Step}
 use Rattle.toll_trace.specs.Order.{lot_cmp}
 use Rattle.toll_trace.specs.Trace.{lots_of}
 
+-- the lot, after so many steps
 abbrev pub step_at : ℕ → LotId → Step
 step_at n lot = record { steps = n; lot = lot }
 

@@ -6,6 +6,7 @@ use Rattle.toll_trace.specs.declared.step.Step.{Step}
 use Rattle.toll_trace.specs.Order.{step_cmp}
 use Rattle.toll_trace.specs.Chain.{IsChain}
 
+-- the lots of the steps, in their order
 abbrev pub lots_of : List Step → List LotId
 lots_of steps = map (λ s. s.lot) steps
 

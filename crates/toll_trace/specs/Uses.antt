@@ -17,25 +17,24 @@ use Rattle.toll_trace.specs.declared.edges.Use.{Use}
 abbrev pub Batch : Type 0
 Batch = Bytes × ℕ
 
-abbrev pub used_as : Role → Move → Option (Batch × Use)
-used_as role (Actual order number segment recorded material lot sublot) = if same_role recorded role then Some ((order, number), record { segment = segment; lot = lot }) else None
-used_as role _ = None
+-- what is used, with the batch that uses it, where an actual of this role is recorded
+abbrev pub use_as : Role → Move → Option (Batch × Use)
+use_as role (Actual order number segment recorded material lot sublot) = if same_role recorded role then Some ((order, number), record { segment = segment; lot = lot }) else None
+use_as role _ = None
 
--- what the movement uses, where it is an actual of this role
-abbrev pub use_as : Role → MoveRow → Option (Batch × Use)
-use_as role row = used_as role row.what
-
--- the same, where no void has its key
+-- what the movement uses, where no void has its key
 abbrev pub standing_use : Role → Slice → MoveRow → Option (Batch × Use)
-standing_use role s row = if is_some (void_at s row.key) then None else use_as role row
+standing_use role s row = if is_some (void_at s row.key) then None else use_as role row.what
 
 -- what the standing actuals of this role use
 abbrev pub uses : Role → Slice → List (Batch × Use)
 uses role s = filter_map (standing_use role s) s.moves
 
+-- the consumption's segment is not above the production's
 abbrev pub is_not_above : Use → Batch × Use → Bool
 is_not_above consumption production = nat_le consumption.segment production.1.segment
 
+-- from the lot consumed to the lot produced
 abbrev pub edge_between : Use → Batch × Use → Edge
 edge_between consumption production = record { from = consumption.lot; to = production.1.lot }
 

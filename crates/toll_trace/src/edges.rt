@@ -6,8 +6,8 @@ ghost use Rattle.toll_base.specs.Table.{IsInKeyOrder};
 ghost use Rattle.toll_trace.specs.Edges.{AreEdges, IsEdge};
 ghost use Rattle.toll_trace.specs.Uses.{use_as, standing_use, uses, is_not_above, edge_between, edges_from};
 
+use crate::in_order::put_in_order;
 use crate::index::Index;
-use crate::put_in_order::put_in_order;
 use std::alloc::{AllocError, Global};
 use toll_base::{BatchNo, Edge, LotId, Move, MoveRow, Name, Role, Segment, Slice};
 
@@ -16,7 +16,7 @@ type Batch = (Name, BatchNo);
 
 /// A segment of a batch uses a lot, to consume it or to produce it.
 #[derive(Clone, Copy)]
-pub(crate) struct Use {
+struct Use {
     segment: Segment,
     lot: LotId,
 }
@@ -68,14 +68,14 @@ fn standing_use(slice: &Slice, role: Role, row: &MoveRow) -> Option<(Batch, Use)
     if slice.is_voided(&row.key) {
         return None;
     }
-    use_as(role, row)
+    use_as(role, &row.what)
 }
 
-/// What the movement uses, where it is an actual of this role.
-fn use_as(role: Role, row: &MoveRow) -> Option<(Batch, Use)>
-    ensures { result ≡ use_as role row.now }
+/// What is used, with the batch that uses it, where an actual of this role is recorded.
+fn use_as(role: Role, what: &Move) -> Option<(Batch, Use)>
+    ensures { result ≡ use_as role what.now }
 {
-    match row.what {
+    match *what {
         Move::Actual {
             order,
             number,

@@ -9,8 +9,8 @@ ghost use Rattle.toll_trace.specs.Search.{is_found};
 ghost use Rattle.toll_trace.specs.Trace.{IsTrace};
 
 use crate::found::Found;
+use crate::in_order::put_in_order;
 use crate::index::Index;
-use crate::put_in_order::put_in_order;
 use crate::step::Step;
 use crate::way::Way;
 use std::alloc::{AllocError, Global};

@@ -6,15 +6,16 @@
 mod edges;
 mod found;
 mod graph;
+mod in_order;
 mod index;
 mod laws;
 mod plain;
-mod put_in_order;
 mod step;
 mod way;
 
 pub use edges::edges_of;
 pub use graph::Graph;
+pub use in_order::put_in_order;
 pub use laws::traces_are_unique;
 pub use plain::plain_trace;
 pub use step::Step;

@@ -5,7 +5,7 @@ ghost use Rattle.toll_trace.specs.Search.{IsLevel};
 ghost use Rattle.toll_trace.specs.Trace.{IsTrace};
 
 use crate::found::Found;
-use crate::put_in_order::put_in_order;
+use crate::in_order::put_in_order;
 use crate::step::Step;
 use crate::way::Way;
 use std::alloc::{AllocError, Global};

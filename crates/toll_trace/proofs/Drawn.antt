@@ -1,5 +1,5 @@
 -- The edges made from the uses of lots are those that two standing actuals draw.
-use Rattle.std.proofs.Common.{◌≡◌, ℕ, Bool, true, false, Option, Some, None, is_some, List, [], ◌∷◌, map, refl, ap, ◌∙◌, subst, inl, inr}
+use Rattle.std.proofs.Common.{◌≡◌, ℕ, Bool, true, false, Some, None, is_some, List, [], ◌∷◌, map, refl, ap, ◌∙◌, subst, inl, inr}
 use mathlib.Core.Bool.{false≢true}
 use Rattle.std.specs.Prelude.{Contains, filter, if◌then◌else◌}
 use Rattle.std.specs.List.{flat_map}
@@ -23,14 +23,13 @@ use Rattle.toll_base.specs.declared.lot.Edge.{Edge}
 use Rattle.toll_base.specs.declared.role.Role.{Role}
 use Rattle.toll_base.specs.declared.role.Role.TheVariants.{Consumed, Produced}
 use Rattle.toll_base.specs.declared.rows.MoveRow.{MoveRow}
-use Rattle.toll_base.specs.declared.rows.VoidRow.{VoidRow}
 use Rattle.toll_base.specs.declared.rows.Move.{Move}
 use Rattle.toll_base.specs.declared.rows.Move.TheVariants.{Receive, Split, Ship, Scrap, Actual}
 use Rattle.toll_trace.specs.declared.edges.Use.{Use}
 use Rattle.toll_trace.specs.InOrder.{IsInOrder}
 use Rattle.toll_trace.specs.Order.{edge_cmp}
 use Rattle.toll_trace.specs.Edges.{IsActual, Stands, IsEdge, AreEdges}
-use Rattle.toll_trace.specs.Uses.{Batch, used_as, use_as, standing_use, uses, is_not_above, edge_between, edges_from}
+use Rattle.toll_trace.specs.Uses.{Batch, use_as, standing_use, uses, is_not_above, edge_between, edges_from}
 use Rattle.toll_trace.proofs.Members.{Contains-none, Contains-here, Contains-later, Contains-cases, Contains-map, Contains-from_map, Contains-filter, Contains-from_filter, Contains-filter_map, Contains-from_filter_map, Contains-flat_map, Contains-from_flat_map, member_of_all, kept_in_order}
 use Rattle.toll_trace.proofs.Orders.{edges_exact}
 
@@ -76,7 +75,7 @@ some_of : {X : Type 0} (b : Bool) (x y : X) → (if b then Some x else None) ≡
 some_of true x y h = (refl, (cc))
 some_of false x y h = absurd (cc)
 
-used_is : (role : Role) (row : MoveRow) (what : Move) (u : Batch × Use) → row.what ≡ what → used_as role what ≡ Some u → IsActual u.0.0 u.0.1 u.1.segment role u.1.lot row
+used_is : (role : Role) (row : MoveRow) (what : Move) (u : Batch × Use) → row.what ≡ what → use_as role what ≡ Some u → IsActual u.0.0 u.0.1 u.1.segment role u.1.lot row
 used_is role row (Actual order number segment recorded material lot sublot) u is h =
     let r = some_of (same_role recorded role) _ u h in
     record {
@@ -89,12 +88,12 @@ used_is role row (Split lot sublot target) u is h = absurd (cc)
 used_is role row (Ship lot sublot) u is h = absurd (cc)
 used_is role row (Scrap lot sublot) u is h = absurd (cc)
 
-use_stands : (role : Role) (s : Slice) (row : MoveRow) (u : Batch × Use) → standing_use role s row ≡ Some u → (void_at s row.key ≡ None) × (use_as role row ≡ Some u)
-use_stands role s row u h = go (void_at s row.key) refl h
+use_stands : (role : Role) (s : Slice) (row : MoveRow) (u : Batch × Use) → standing_use role s row ≡ Some u → (is_some (void_at s row.key) ≡ false) × (use_as role row.what ≡ Some u)
+use_stands role s row u h = go (is_some (void_at s row.key)) refl h
   where
-    go : (o : Option VoidRow) → void_at s row.key ≡ o → (if is_some o then None else use_as role row) ≡ Some u → (void_at s row.key ≡ None) × (use_as role row ≡ Some u)
-    go None e h = (e, h)
-    go (Some v) e h = absurd (cc)
+    go : (voided : Bool) → is_some (void_at s row.key) ≡ voided → (if voided then None else use_as role row.what) ≡ Some u → (is_some (void_at s row.key) ≡ false) × (use_as role row.what ≡ Some u)
+    go false e h = (e, h)
+    go true e h = absurd (cc)
 
 -- a use in the list is what a standing actual records
 use_recorded : (role : Role) (s : Slice) (u : Batch × Use) → IsInKeyOrder bytes_cmp (λ row. row.key) s.moves → Contains (uses role s) u → (row : MoveRow) × Stands s row × IsActual u.0.0 u.0.1 u.1.segment role u.1.lot row
@@ -107,7 +106,7 @@ use_recorded role s u order i =
 use_listed : (role : Role) (s : Slice) (row : MoveRow) (order : Bytes) (number segment : ℕ) (lot : LotId) → Stands s row → IsActual order number segment role lot row → Contains (uses role s) ((order, number), record { segment = segment; lot = lot })
 use_listed role s row order number segment lot stands actual =
     Contains-filter_map (standing_use role s) s.moves row _ (member_of_row bytes_cmp (λ row. row.key) s.moves row.key row stands.recorded)
-    (ap (λ o. if is_some o then None else use_as role row) stands.not_voided ∙ ap (used_as role) actual.is ∙ ap (λ b. if b then Some ((order, number), record { segment = segment; lot = lot }) else None) (same_role-refl role))
+    (ap (λ voided. if voided then None else use_as role row.what) stands.not_voided ∙ ap (use_as role) actual.is ∙ ap (λ b. if b then Some ((order, number), record { segment = segment; lot = lot }) else None) (same_role-refl role))
 
 -- ==== the edges
 

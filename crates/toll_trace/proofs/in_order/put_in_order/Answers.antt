@@ -3,7 +3,7 @@ use Rattle.std.specs.Prelude.{Any}
 use Rattle.std.proofs.lemmas.List.Filters.{dedup_is}
 use Rattle.std.proofs.lemmas.List.Kept.{Any-dedup, Contains-from_dedup, IsStrictlySortedBy-dedup}
 use Rattle.std.proofs.lemmas.List.Sorted.{Contains-permutation, IsPermutation-sym}
-use Rattle.toll_trace.proofs.put_in_order.put_in_order.Goals as goal
+use Rattle.toll_trace.proofs.in_order.put_in_order.Goals as goal
 
 pub returns : goal.returns
 returns g c =

@@ -1,8 +1,8 @@
 //! Lists in order, without repeats.
 ghost use Rattle.toll_trace.specs.InOrder.{IsInOrder};
 
-/// Sorts the items, and keeps one of those that compare equal.
-pub(crate) fn put_in_order<T: Ord + Copy>(items: &mut Vec<T>)
+/// Sorts the items, and of those that compare equal keeps one. It takes no memory.
+pub fn put_in_order<T: Ord + Copy>(items: &mut Vec<T>)
     ensures { IsInOrder T.cmp items.old.items items.new.items }
 {
     items.sort_unstable();
