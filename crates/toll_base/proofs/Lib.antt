@@ -10,3 +10,4 @@ pub mod Accepted
 pub mod Own
 pub mod Crossing
 pub mod OwnTables
+pub mod SameRows

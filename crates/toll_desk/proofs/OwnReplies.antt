@@ -23,13 +23,22 @@ use Rattle.toll_trace.specs.declared.way.Way.TheVariants.{Back, Forward}
 use Rattle.toll_desk.specs.Given.{on_hand, actual_of}
 use Rattle.toll_desk.specs.Told.{Asked, AskOrders, AskOrder, AskPlace, AskCancel, AskBatch, AskStock, AskLot, AskRelease, AskReject, AskBack, AskForward, AskHouseForward, Told, TellRefused, TellForbidden}
 use Rattle.toll_desk.specs.Edges.{IsOwnJoined}
-use Rattle.toll_desk.specs.Replies.{has_key, measure_of, stock_line, line_of, results_of_lot, sublots_of_lot, AreOrdersTold, IsStockTold, IsBatchTold, IsLotTold, IsOrderOr, IsLotOr, IsBatchOr, IsTraceOr, IsHouseTraceOr, IsWritten, by, IsOrderAfter, IsLotAfter, IsAnswer, IsReply, after_answer, after_reply}
+use Rattle.toll_desk.specs.Replies.{has_key, measure_of, stock_line, line_of, results_of_lot, sublots_of_lot, AreOrdersTold, IsStockTold, IsBatchTold, IsLotTold, IsOrderOr, IsLotOr, IsBatchOr, IsTraceOr, has_consumed, IsWritten, by, IsOrderAfter, IsLotAfter, IsAnswer, IsReply, after_answer, after_reply}
 use Rattle.toll_desk.proofs.OwnAmounts.{on_hand-part, actual_of-part}
+
+-- a lawful history stays so
+lawful-grown : (H : History) (c : Command) (v : Verdict) → verdict H c ≡ v → IsLawful H → IsValid c.action → IsLawful (grown v H c)
+lawful-grown H c Accepted is lawful valid = (lawful, valid, is)
+lawful-grown H c Repeated is lawful valid = lawful
+lawful-grown H c (Refused why) is lawful valid = lawful
+
+pub lawful-grow : (H : History) (c : Command) → IsLawful H → IsValid c.action → IsLawful (grow H c)
+lawful-grow H c lawful valid = lawful-grown H c (verdict H c) refl lawful valid
 
 module _ (o : Bytes) (not_house : same_bytes o house_name ≡ false) where
   -- ---- over any history
 
-  has_key-part : (key : Bytes) (H : History) → has_key o key (part o H) ≡ has_key o key H
+  pub has_key-part : (key : Bytes) (H : History) → has_key o key (part o H) ≡ has_key o key H
   has_key-part key H i = not (same_bytes o house_name) && is_some_where (same_bytes key) (owner_key (acts-part o H i))
 
   owner_known-part : (H : History) → owner_known (part o H) o ≡ owner_known H o
@@ -42,11 +51,6 @@ module _ (o : Bytes) (not_house : same_bytes o house_name ≡ false) where
   part-grown H action Accepted = part-own o (by o action) H (same_bytes-refl o)
   part-grown H action Repeated = refl
   part-grown H action (Refused why) = refl
-
-  lawful-grown : (H : History) (c : Command) (v : Verdict) → verdict H c ≡ v → IsLawful H → IsValid c.action → IsLawful (grown v H c)
-  lawful-grown H c Accepted is lawful valid = (lawful, valid, is)
-  lawful-grown H c Repeated is lawful valid = lawful
-  lawful-grown H c (Refused why) is lawful valid = lawful
 
   module _ (H : History) (lawful : IsLawful H) where
     -- ---- verdicts on the owner's writing requests
@@ -117,7 +121,7 @@ module _ (o : Bytes) (not_house : same_bytes o house_name ≡ false) where
   -- a lot after a command of the owner
   lot_after-part : (H : History) (lawful : IsLawful H) (action : Action) (lot : Bytes) (r : Told) → IsValid action → verdict (part o H) (by o action) ≡ verdict H (by o action) → IsLotAfter (part o H) o action lot r ≡ IsLotAfter H o action lot r
   lot_after-part H lawful action lot r valid same =
-      let grown_lawful = lawful-grown H (by o action) (verdict H (by o action)) refl lawful valid in
+      let grown_lawful = lawful-grow H (by o action) lawful valid in
       let after = grow H (by o action) in
       written_by H lawful _ _ _ _ r same
       (ap (λ L. IsLotOr L o (lot_row L o lot) r) (grow-part H lawful action same)
@@ -139,7 +143,7 @@ module _ (o : Bytes) (not_house : same_bytes o house_name ≡ false) where
     answer-part (AskReject lot) r = lot_after-part H lawful (Reject lot) lot r tt (reject-part H lawful lot)
     answer-part (AskBack lot) r = λ i. IsTraceOr (IsOwnJoined (acts-part o H i) Back) (lot_id o lot) (is_some (lot_row-part o H lawful lot i)) r
     answer-part (AskForward lot) r = λ i. IsTraceOr (IsOwnJoined (acts-part o H i) Forward) (lot_id o lot) (is_some (lot_row-part o H lawful lot i)) r
-    answer-part (AskHouseForward lot) r = λ i. IsHouseTraceOr (acts-part o H i) (lot_id house_name lot) r
+    answer-part (AskHouseForward lot) r = λ i. IsTraceOr (IsOwnJoined (acts-part o H i) Forward) (lot_id house_name lot) (has_consumed (acts-part o H i) (lot_id house_name lot)) r
 
     -- an owner's reply is the reply over the owner's part
     pub reply-part : (key : Bytes) (q : Asked) (r : Told) → IsReply o key (part o H) q r ≡ IsReply o key H q r

@@ -1,5 +1,5 @@
 -- What an owner is told over a list of commands.
-use Rattle.std.specs.Prelude.{◌≡◌, ℕ, Bool, true, not, ◌&&◌, ◌||◌, if◌then◌else◌, Option, Some, None, is_some, is_none, List, [], ◌∷◌, MatchBool}
+use Rattle.std.specs.Prelude.{◌≡◌, ℕ, Bool, true, false, not, ◌&&◌, ◌||◌, if◌then◌else◌, Option, Some, None, is_some, is_none, List, [], ◌∷◌, MatchBool}
 use Rattle.std.specs.List.{list_any}
 use Rattle.std.specs.Option.{option_map, option_map_or, option_and_then}
 use Rattle.toll_base.specs.Bytes.{Bytes, same_bytes, bytes_cmp}
@@ -9,7 +9,7 @@ use Rattle.toll_base.specs.Keys.{RequirementKey, requirement_cmp, result_cmp, pa
 use Rattle.toll_base.specs.Command.{Action, PlaceOrder, CancelOrder, Release, Reject, Command}
 use Rattle.toll_base.specs.History.{History, acts, owner_key}
 use Rattle.toll_base.specs.Work.{material_of, order_of, batch_of, requirement_of}
-use Rattle.toll_base.specs.Movements.{lot_id}
+use Rattle.toll_base.specs.Movements.{lot_id, same_lot, movement_recorded, voided_in}
 use Rattle.toll_base.specs.Dispositions.{result_of}
 use Rattle.toll_base.specs.Tables.{tables_given, lot_row, sublot_row}
 use Rattle.toll_base.specs.Verdict.{Verdict, Accepted, Repeated, Refused, Checks, first_of, verdict, grow, known_batch_checks}
@@ -22,16 +22,16 @@ use Rattle.toll_base.specs.declared.rows.LotRow.{LotRow}
 use Rattle.toll_base.specs.declared.rows.RequirementRow.{RequirementRow}
 use Rattle.toll_base.specs.declared.rows.ResultRow.{ResultRow}
 use Rattle.toll_base.specs.declared.rows.SublotRow.{SublotRow}
-use Rattle.toll_base.specs.declared.rows.MoveRow.{MoveRow}
+use Rattle.toll_base.specs.declared.rows.Move.{Move}
+use Rattle.toll_base.specs.declared.rows.Move.TheVariants.{Actual}
 use Rattle.toll_base.specs.declared.role.Role.TheVariants.{Consumed}
 use Rattle.toll_trace.specs.declared.way.Way.{Way}
 use Rattle.toll_trace.specs.declared.way.Way.TheVariants.{Back, Forward}
 use Rattle.toll_trace.specs.declared.step.Step.{Step}
-use Rattle.toll_trace.specs.Edges.{IsActual}
 use Rattle.toll_trace.specs.Trace.{IsTrace}
 use Rattle.toll_desk.specs.Given.{AreRowsGiven, on_hand, actual_of}
 use Rattle.toll_desk.specs.Told.{Asked, AskOrders, AskOrder, AskPlace, AskCancel, AskBatch, AskStock, AskLot, AskRelease, AskReject, AskBack, AskForward, AskHouseForward, RequirementLine, StockLine, LotView, Told, TellForbidden, TellOrders, TellOrder, TellBatch, TellStock, TellLot, TellTrace, TellRefused}
-use Rattle.toll_desk.specs.Edges.{IsOwnJoined, WasDone}
+use Rattle.toll_desk.specs.Edges.{IsOwnJoined}
 
 -- ---- admission
 
@@ -110,19 +110,14 @@ IsBatchOr H o _ _ _ r = ⊥
 abbrev pub IsTraceOr : (LotId → LotId → Type 0) → LotId → (known : Bool) → Told → Type 0
 IsTraceOr E a known r = MatchBool known (IsTraceTold E a r) (r ≡ TellRefused UnknownLot)
 
--- an actual among the actions consumed the lot, and stands
-pub record HasConsumed (own : List Action) (lot : LotId) : Type 0 where
-  pub order : Bytes
-  pub number : ℕ
-  pub segment : ℕ
-  pub row : MoveRow
-  pub done : WasDone own row
-  pub consumes : IsActual order number segment Consumed lot row
+-- the movement consumes from the lot
+abbrev pub consumes_lot : LotId → Move → Bool
+consumes_lot id (Actual order number segment Consumed material lot sublot) = same_lot id lot
+consumes_lot id _ = false
 
--- a lot of HOUSE is known to who consumed it
-pub record IsHouseTraceOr (own : List Action) (lot : LotId) (r : Told) : Type 0 where
-  pub known : HasConsumed own lot → IsTraceTold (IsOwnJoined own Forward) lot r
-  pub unknown : (HasConsumed own lot → ⊥) → r ≡ TellRefused UnknownLot
+-- a standing actual among the actions consumed from the lot
+abbrev pub has_consumed : List Action → LotId → Bool
+has_consumed own lot = list_any (λ a. is_some_where (λ row. consumes_lot lot row.what && not (voided_in own row.key)) (movement_recorded a)) own
 
 -- the reply to a request that writes: the refusal, or what it left
 abbrev pub IsWritten : Verdict → Type 0 → Told → Type 0
@@ -152,7 +147,7 @@ IsAnswer o H (AskRelease lot) r = IsLotAfter H o (Release lot) lot r
 IsAnswer o H (AskReject lot) r = IsLotAfter H o (Reject lot) lot r
 IsAnswer o H (AskBack lot) r = IsTraceOr (IsOwnJoined (acts o H) Back) (lot_id o lot) (is_some (lot_row H o lot)) r
 IsAnswer o H (AskForward lot) r = IsTraceOr (IsOwnJoined (acts o H) Forward) (lot_id o lot) (is_some (lot_row H o lot)) r
-IsAnswer o H (AskHouseForward lot) r = IsHouseTraceOr (acts o H) (lot_id house_name lot) r
+IsAnswer o H (AskHouseForward lot) r = IsTraceOr (IsOwnJoined (acts o H) Forward) (lot_id house_name lot) (has_consumed (acts o H) (lot_id house_name lot)) r
 
 -- the reply to who asks as this owner with this key
 unfoldable pub IsReply : Bytes → Bytes → History → Asked → Told → Type 0

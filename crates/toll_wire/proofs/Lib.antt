@@ -1,0 +1,8 @@
+pub mod FieldLemmas
+pub mod Fronts
+pub mod Takes
+pub mod Seeks
+pub mod PlaceLemmas
+pub mod ReplyLemmas
+pub mod Readings
+mod WorkedReplies

@@ -1,0 +1,17 @@
+pub mod Limits
+pub mod Verbs
+pub mod Failures
+pub mod Head
+pub mod Fields
+pub mod Found
+pub mod Arriving
+pub mod Arrived
+pub mod Routes
+pub mod Places
+pub mod Bodies
+pub mod Asking
+pub mod Shown
+pub mod ReplyBodies
+pub mod ReplyTexts
+pub mod OutTexts
+pub mod Telling

@@ -1,0 +1,17 @@
+-- What is sent back.
+use Rattle.std.specs.Prelude.{◌≡◌, Option, Some, None}
+use Rattle.toll_base.specs.Bytes.{Bytes}
+use Rattle.toll_wire.specs.ReplyTexts.{unavailable_text}
+use Rattle.toll_wire.specs.declared.out.Out.{Out}
+use Rattle.toll_wire.specs.declared.out.Out.TheVariants.{Text, Unavailable}
+
+-- the bytes of a reply
+abbrev pub out_bytes : Out → Bytes
+out_bytes (Text text) = text.items
+out_bytes Unavailable = unavailable_text
+
+-- this text, if there is one, or that there was no memory
+abbrev pub IsText : Out → Option Bytes → Type 0
+IsText (Text out) (Some text) = out.items ≡ text
+IsText (Text out) None = ⊥
+IsText Unavailable text = Unit {0}

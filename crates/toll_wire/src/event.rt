@@ -1,0 +1,21 @@
+//! Events, and the answers to them.
+use crate::out::Out;
+use toll_desk::{PlantCmd, PlantReply};
+
+/// What comes to the office.
+#[derive(Debug, Drop)]
+pub enum Event {
+    /// The bytes of an owner's request.
+    Owner(Vec<u8>),
+    /// A command of the plant.
+    Plant(PlantCmd),
+}
+
+/// What an event is answered.
+#[derive(Debug, Drop)]
+pub enum Answer {
+    /// The reply to a request.
+    Bytes(Out),
+    /// The reply to a command of the plant.
+    Plant(PlantReply),
+}

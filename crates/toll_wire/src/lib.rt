@@ -1,0 +1,30 @@
+//! Bytes of requests and replies: what a request asks for, what is sent back, and runs of events.
+#![tactic(auto)]
+
+mod answering;
+mod arrival;
+mod asked;
+mod body;
+mod event;
+mod failure;
+mod field;
+mod head;
+mod out;
+mod place;
+mod reading;
+mod reply;
+mod reply_body;
+mod route;
+mod run;
+mod settled;
+#[cfg(test)]
+mod tests;
+mod verb;
+mod writing;
+
+pub use answering::answer;
+pub use event::{Answer, Event};
+pub use out::Out;
+pub use reading::{ReadFault, read_request};
+pub use run::run_events;
+pub use writing::{WriteFault, write_reply};

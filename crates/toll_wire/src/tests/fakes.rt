@@ -1,0 +1,48 @@
+//! Readers and writers that fail.
+use std::io;
+use std::io::{ErrorKind, Read, Write};
+
+/// Gives these bytes, so many at most with each read, and then fails or ends.
+#[derive(Drop)]
+pub struct Source<'b> {
+    pub bytes: &'b [u8],
+    pub piece: usize,
+    pub fails: bool,
+}
+
+impl Read for Source<'_> {
+    fn read(&mut self, buf: &mut [u8]) -> io::Result<usize> {
+        if self.bytes.is_empty() && self.fails {
+            return Err(io::Error::from(ErrorKind::ConnectionReset));
+        }
+        let n = self.bytes.len().min(buf.len()).min(self.piece);
+        let (given, rest) = self.bytes.split_at(n);
+        buf[..n].copy_from_slice(given);
+        self.bytes = rest;
+        Ok(n)
+    }
+}
+
+/// Takes so many bytes, so many at most with each write, and then fails.
+#[derive(Drop)]
+pub struct Sink {
+    pub taken: Vec<u8>,
+    pub piece: usize,
+    pub room: usize,
+}
+
+impl Write for Sink {
+    fn write(&mut self, buf: &[u8]) -> io::Result<usize> {
+        if self.room == 0 {
+            return Err(io::Error::from(ErrorKind::BrokenPipe));
+        }
+        let n = buf.len().min(self.piece).min(self.room);
+        self.taken.extend_from_slice(&buf[..n])?;
+        self.room -= n;
+        Ok(n)
+    }
+
+    fn flush(&mut self) -> io::Result<()> {
+        Ok(())
+    }
+}

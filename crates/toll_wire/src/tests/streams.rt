@@ -1,0 +1,160 @@
+//! Requests that come in pieces, and streams that fail.
+use crate::tests::answers::{PLACE, PLACED, office};
+use crate::tests::fakes::{Sink, Source};
+use crate::tests::requests::{repeated, request, with_fields};
+use crate::{ReadFault, WriteFault, answer, read_request, write_reply};
+use std::alloc::{AllocError, Global};
+use std::process::Abort;
+use std::test::Fail;
+
+/// A request is answered with this status, as it stands and however it comes.
+fn expect_status(
+    rt: &impl Abort,
+    alloc: Global,
+    bytes: &[u8],
+    status: &str,
+) -> Result<(), ReadFault> {
+    let mut keep = office(rt, alloc);
+    let whole = answer(alloc, &mut keep, bytes);
+    assert_eq!(rt; whole.bytes().get(9..12), Some(status.as_bytes()));
+    for piece in [bytes.len(), 1] {
+        let mut source = Source {
+            bytes,
+            piece,
+            fails: false,
+        };
+        let text = read_request(alloc, &mut source)?;
+        let out = answer(alloc, &mut keep, &text);
+        assert_eq!(rt; out.bytes().get(9..12), Some(status.as_bytes()), "{piece}");
+    }
+    Ok(())
+}
+
+#[test]
+fn a_head_has_limits(rt: HostRuntime) -> Result<(), Fail> {
+    let alloc = rt.alloc();
+    let rows = [
+        ("x: ", "x", 8192 - 84, "\r\n", "200"),
+        ("x: ", "x", 8193 - 84, "\r\n", "400"),
+        ("", "x: y\r\n", 29, "", "200"),
+        ("", "x: y\r\n", 30, "", "400"),
+    ];
+    for (front, part, count, end, status) in rows {
+        let fields = repeated(alloc, front, part, count, end)?;
+        let bytes = with_fields(alloc, "GET /orders HTTP/1.1", fields.as_str(), "")?;
+        expect_status(&rt, alloc, &bytes, status)?;
+    }
+    Ok(())
+}
+
+#[test]
+fn a_body_has_a_limit(rt: HostRuntime) -> Result<(), Fail> {
+    let alloc = rt.alloc();
+    let body = repeated(alloc, "", " ", 4096 - PLACE.len(), PLACE)?;
+    let rows = [
+        ("content-length: 4096\r\n", body.as_str(), "200"),
+        ("content-length: 4097\r\n", body.as_str(), "413"),
+        ("content-length: 10\r\n", "123456789", "400"),
+    ];
+    for (fields, body, status) in rows {
+        let bytes = with_fields(alloc, "POST /orders HTTP/1.1", fields, body)?;
+        expect_status(&rt, alloc, &bytes, status)?;
+    }
+    Ok(())
+}
+
+#[test]
+fn fields_are_checked(rt: HostRuntime) -> Result<(), Fail> {
+    let rows = [
+        ("host: 127.0.0.1\r\n", "400"),
+        ("transfer-encoding: chunked\r\n", "501"),
+        ("content-length: +5\r\n", "400"),
+        ("content-length: 0\r\ncontent-length: 0\r\n", "400"),
+        ("content-length: 999999999999999999999999999999\r\n", "413"),
+    ];
+    for (fields, status) in rows {
+        let bytes = with_fields(rt.alloc(), "GET /orders HTTP/1.1", fields, "")?;
+        expect_status(&rt, rt.alloc(), &bytes, status)?;
+    }
+    Ok(())
+}
+
+#[test]
+fn forms_of_heads_are_told_apart(rt: HostRuntime) -> Result<(), Fail> {
+    let rows = [
+        (
+            "GET /orders HTTP/1.0\r\ntoll-owner: ACME\r\ntoll-key: ACMEKEY1\r\n\r\n",
+            "200",
+        ),
+        (
+            "GET /orders HTTP/1.1\r\nhost: h\r\nTOLL-OWNER: ACME\r\ntoll-key: ACMEKEY1\r\n\r\n",
+            "200",
+        ),
+        (
+            "GET /orders HTTP/1.1\nhost: h\ntoll-owner: ACME\ntoll-key: ACMEKEY1\n\n",
+            "400",
+        ),
+        (
+            "GET /orders HTTP/1.1\r\ntoll-owner: ACME\r\ntoll-key: ACMEKEY1\r\n\r\n",
+            "400",
+        ),
+        (
+            "GET /orders HTTP/1.1\r\nhost: h\r\ntoll-owner: ACME\r\n\r\n",
+            "403",
+        ),
+    ];
+    for (text, status) in rows {
+        expect_status(&rt, rt.alloc(), text.as_bytes(), status)?;
+    }
+    Ok(())
+}
+
+#[test]
+fn a_request_that_came_is_enough(rt: HostRuntime) -> Result<(), Fail> {
+    let whole = request(rt.alloc(), "POST /orders", PLACE)?;
+    let came = read_failing(rt.alloc(), &whole);
+    assert_eq!(rt; came.ok().as_deref(), Some(whole.as_slice()));
+    let Some((_, early)) = whole.split_last() else {
+        panic!(rt; "an empty request");
+    };
+    assert!(rt; matches!(&read_failing(rt.alloc(), early), Err(ReadFault::Io)));
+    Ok(())
+}
+
+/// Reads from a stream that gives these bytes in pieces, and then fails.
+fn read_failing(alloc: Global, bytes: &[u8]) -> Result<Vec<u8>, ReadFault> {
+    let mut source = Source {
+        bytes,
+        piece: 100,
+        fails: true,
+    };
+    read_request(alloc, &mut source)
+}
+
+#[test]
+fn a_writer_that_fails_is_told(rt: HostRuntime) -> Result<(), Fail> {
+    for room in 0..PLACED.len() {
+        let (wrote, taken) = write_to(rt.alloc(), PLACED.len(), room);
+        assert_eq!(rt;
+            wrote,
+            Err(WriteFault {
+                written: room as u64
+            })
+        );
+        assert_eq!(rt; taken.as_slice(), &PLACED[..room]);
+    }
+    let (wrote, taken) = write_to(rt.alloc(), 1, PLACED.len());
+    assert_eq!(rt; wrote, Ok(()));
+    assert_eq!(rt; taken.as_slice(), PLACED);
+    Ok(())
+}
+
+fn write_to(alloc: Global, piece: usize, room: usize) -> (Result<(), WriteFault>, Vec<u8>) {
+    let mut sink = Sink {
+        taken: Vec::new(alloc),
+        piece,
+        room,
+    };
+    let wrote = write_reply(&mut sink, PLACED);
+    (wrote, sink.taken)
+}
