@@ -1,2 +1,4 @@
 pub mod OwnAmounts
 pub mod OwnReplies
+pub mod OneReply
+pub mod OneAnswer

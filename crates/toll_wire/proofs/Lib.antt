@@ -6,3 +6,5 @@ pub mod PlaceLemmas
 pub mod ReplyLemmas
 pub mod Readings
 mod WorkedReplies
+pub mod Private
+pub mod Determined

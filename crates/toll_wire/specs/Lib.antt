@@ -15,3 +15,4 @@ pub mod ReplyBodies
 pub mod ReplyTexts
 pub mod OutTexts
 pub mod Telling
+pub mod Runs

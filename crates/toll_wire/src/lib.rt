@@ -9,6 +9,7 @@ mod event;
 mod failure;
 mod field;
 mod head;
+mod laws;
 mod out;
 mod place;
 mod reading;
@@ -24,6 +25,7 @@ mod writing;
 
 pub use answering::answer;
 pub use event::{Answer, Event};
+pub use laws::{answers_are_determined, runs_are_private, runs_that_agree_tell_the_same};
 pub use out::Out;
 pub use reading::{ReadFault, read_request};
 pub use run::run_events;

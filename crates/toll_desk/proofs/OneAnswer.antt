@@ -1,0 +1,78 @@
+-- Over a list of commands the plant has one answer to a command or a question.
+use Rattle.std.proofs.Common.{◌≡◌, ℕ, Option, Some, None, List, [], ◌∷◌, map, refl, sym, ap, ◌∙◌}
+use Rattle.std.specs.Cmp.Lexicographic.{nat_list_cmp_total}
+use Rattle.toll_base.specs.Bytes.{Bytes, bytes_cmp}
+use Rattle.toll_base.specs.Keys.{pair_cmp}
+use Rattle.toll_base.specs.History.{History, acts}
+use Rattle.toll_base.specs.Work.{order_of, batch_of}
+use Rattle.toll_base.specs.Tables.{tables_given, lot_row, sublot_row}
+use Rattle.toll_base.specs.Verdict.{Verdict, Accepted, Repeated, Refused, first_of, verdict, known_batch_checks}
+use Rattle.toll_base.specs.declared.lot.LotId.{LotId}
+use Rattle.toll_base.proofs.Texts.{pair_cmp_total}
+use Rattle.toll_trace.proofs.Unique.{trace_unique}
+use Rattle.toll_trace.specs.declared.way.Way.{Way}
+use Rattle.toll_trace.specs.declared.way.Way.TheVariants.{Forward}
+use Rattle.toll_trace.specs.declared.step.Step.{Step}
+use Rattle.toll_desk.specs.Edges.{IsPlantJoined}
+use Rattle.toll_desk.specs.PlantAnswers.{PlantAsked, Does, AsksOrders, AsksStock, AsksBatch, AsksTrace, AsksRecall, CannotRead, RecallLine, PlantTold, Judged, ShowsOrders, ShowsStock, ShowsBatch, ShowsTrace, ShowsRecall, recall_line, IsRecall, AreOrdersShown, IsStockShown, IsBatchShown, IsTraceShown, IsRecallShown, IsCheckedOr, owner_checks, lot_checks, IsPlantAnswer}
+use Rattle.toll_desk.proofs.OneReply.{one_list, one_batch_or}
+
+-- a fact of what the plant is told that one answer at most meets
+abbrev IsOneShown : (PlantTold → Type 0) → Type 0
+IsOneShown P = (r r' : PlantTold) → P r → P r' → r ≡ r'
+
+one_shown : (x : PlantTold) → IsOneShown (λ r. r ≡ x)
+one_shown x r r' is is' = is ∙ sym is'
+
+one_checked_or : (v : Verdict) (shown : PlantTold → Type 0) → IsOneShown shown → IsOneShown (λ r. IsCheckedOr v (shown r) r)
+one_checked_or (Refused why) shown one = one_shown _
+one_checked_or Accepted shown one = one
+one_checked_or Repeated shown one = one
+
+somes_one : {X : Type 0} (xs ys : List X) → map (λ x. Some x) xs ≡ map (λ y. Some y) ys → xs ≡ ys
+somes_one [] [] h = refl
+somes_one [] (y ∷ ys) h = (cc)
+somes_one (x ∷ xs) [] h = (cc)
+somes_one (x ∷ xs) (y ∷ ys) h =
+    let head : x ≡ y = (cc) in
+    let tail : map (λ x. Some x) xs ≡ map (λ y. Some y) ys = (cc) in
+    λ i. head i ∷ somes_one xs ys tail i
+
+map_twice : {X Y Z : Type 0} (f : Y → Z) (g : X → Y) (xs : List X) → map (λ x. f (g x)) xs ≡ map f (map g xs)
+map_twice f g [] = refl
+map_twice f g (x ∷ xs) = ap (λ ys. f (g x) ∷ ys) (map_twice f g xs)
+
+module _ (H : History) where
+  pub one_recall : (lot : LotId) (lines lines' : List RecallLine) → IsRecall H lot lines → IsRecall H lot lines' → lines ≡ lines'
+  one_recall lot lines lines' a b =
+      let steps = trace_unique (IsPlantJoined H Forward) lot (map (λ line. line.step) lines) (map (λ line. line.step) lines') a.traced b.traced in
+      somes_one lines lines'
+      (a.each ∙ map_twice (recall_line H) (λ line. line.step) lines ∙ ap (map (recall_line H)) steps ∙ sym (map_twice (recall_line H) (λ line. line.step) lines') ∙ sym b.each)
+
+  one_orders_shown : (o : Bytes) → IsOneShown (AreOrdersShown H o)
+  one_orders_shown o r r' a b = a.shown ∙ ap ShowsOrders (one_list bytes_cmp nat_list_cmp_total (λ row. row.order) (order_of (acts o H)) a.orders b.orders a.given b.given) ∙ sym b.shown
+
+  one_stock_shown : (o : Bytes) → IsOneShown (IsStockShown H o)
+  one_stock_shown o r r' a b =
+      let same_lots = one_list bytes_cmp nat_list_cmp_total (λ row. row.lot) (lot_row H o) a.lots b.lots a.lots_given b.lots_given in
+      let same_sublots = one_list pair_cmp pair_cmp_total (λ row. (row.lot, row.sublot)) (sublot_row H o) a.sublots b.sublots a.sublots_given b.sublots_given in
+      a.shown ∙ (λ i. ShowsStock (same_lots i) (same_sublots i)) ∙ sym b.shown
+
+  one_batch_shown : (o order : Bytes) (number : ℕ) → IsOneShown (IsBatchShown H o order number)
+  one_batch_shown o order number r r' a b =
+      a.shown ∙ ap ShowsBatch (one_batch_or o H (order_of (acts o H) order) (batch_of (acts o H) (order, number)) (first_of (known_batch_checks (tables_given H o) order number)) a.batch b.batch a.told b.told) ∙ sym b.shown
+
+  one_trace_shown : (lot : LotId) (way : Way) → IsOneShown (IsTraceShown H lot way)
+  one_trace_shown lot way r r' a b = a.shown ∙ ap ShowsTrace (trace_unique (IsPlantJoined H way) lot a.trace b.trace a.traced b.traced) ∙ sym b.shown
+
+  one_recall_shown : (lot : LotId) → IsOneShown (IsRecallShown H lot)
+  one_recall_shown lot r r' a b = a.shown ∙ ap ShowsRecall (one_recall lot a.lines b.lines a.recalled b.recalled) ∙ sym b.shown
+
+  pub one_plant_answer : (asked : PlantAsked) → IsOneShown (IsPlantAnswer H asked)
+  one_plant_answer (Does c) = one_shown _
+  one_plant_answer (AsksOrders o) = one_checked_or (first_of (owner_checks H o)) _ (one_orders_shown o)
+  one_plant_answer (AsksStock o) = one_checked_or (first_of (owner_checks H o)) _ (one_stock_shown o)
+  one_plant_answer (AsksBatch o order number) = one_checked_or (first_of (owner_checks H o)) _ (one_checked_or (first_of (known_batch_checks (tables_given H o) order number)) _ (one_batch_shown o order number))
+  one_plant_answer (AsksTrace lot way) = one_checked_or (first_of (lot_checks H lot)) _ (one_trace_shown lot way)
+  one_plant_answer (AsksRecall lot) = one_checked_or (first_of (lot_checks H lot)) _ (one_recall_shown lot)
+  one_plant_answer (CannotRead why) = one_shown _
