@@ -36,7 +36,7 @@ module _ {K R : Type 0} (cmp : K → K → Ordering) (o : IsTotalOrder cmp) (key
 
   -- the heads are one
   same_head : (x y : R) (xs ys : List R) → AllByRecursion (λ k. cmp (key x) k ≡ Less) (map key xs) → AllByRecursion (λ k. cmp (key y) k ≡ Less) (map key ys) →
-    ((k : K) → row_at cmp key (x ∷ xs) k ≡ row_at cmp key (y ∷ ys) k) → x ≡ y
+      ((k : K) → row_at cmp key (x ∷ xs) k ≡ row_at cmp key (y ∷ ys) k) → x ≡ y
   unfolding row_at
   same_head x y xs ys above_x above_y same =
       elim (cmp (key x) (key y)) as (λ r. cmp (key x) (key y) ≡ r → x ≡ y) [
@@ -49,7 +49,7 @@ module _ {K R : Type 0} (cmp : K → K → Ordering) (o : IsTotalOrder cmp) (key
 
   -- beside one head, the tails have the same
   same_tail : (x : R) (xs ys : List R) → AllByRecursion (λ k. cmp (key x) k ≡ Less) (map key xs) → AllByRecursion (λ k. cmp (key x) k ≡ Less) (map key ys) →
-    ((k : K) → row_at cmp key (x ∷ xs) k ≡ row_at cmp key (x ∷ ys) k) → (k : K) → row_at cmp key xs k ≡ row_at cmp key ys k
+      ((k : K) → row_at cmp key (x ∷ xs) k ≡ row_at cmp key (x ∷ ys) k) → (k : K) → row_at cmp key xs k ≡ row_at cmp key ys k
   unfolding row_at
   same_tail x xs ys above_xs above_ys same k =
       elim (cmp k (key x)) as (λ r. cmp k (key x) ≡ r → cond (is_eq r) (Some x) (row_at cmp key xs k) ≡ cond (is_eq r) (Some x) (row_at cmp key ys k) → row_at cmp key xs k ≡ row_at cmp key ys k) [

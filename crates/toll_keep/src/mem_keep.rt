@@ -93,7 +93,10 @@ fn put_plant_rows(
 
 // The owner's batch that holds the unit.
 fn holder_in(slice: &Slice, unit: &Name) -> Option<Holder> {
-    let batch = slice.batches().iter().find(|row| row.unit == *unit && !row.closed)?;
+    let batch = slice
+        .batches()
+        .iter()
+        .find(|row| row.unit == *unit && !row.closed)?;
     Some(Holder {
         owner: *slice.owner(),
         order: batch.order,
