@@ -3,7 +3,7 @@ use crate::{
     Amount, BatchNo, Day, LotId, Measure, Move, MoveRow, Name, OwnerKey, Refusal, Role, Row,
     Segment, Slice, Value, number,
 };
-use std::alloc::Global;
+use std::alloc::{AllocError, Global};
 use std::test::Fail;
 
 #[test]
@@ -49,15 +49,33 @@ fn values_have_bounds(rt: HostRuntime) {
     assert_eq!(rt; Refusal::LimitReached.title(), "LimitReached");
 }
 
-// An actual of batch 1 of order O, with this key.
-fn actual(key: Name) -> Result<Row, Refusal> {
+// The numbers of an actual.
+#[derive(Clone, Copy)]
+struct Numbers {
+    number: BatchNo,
+    segment: Segment,
+    amount: Amount,
+    day: Day,
+}
+
+fn least_numbers() -> Result<Numbers, Refusal> {
+    Ok(Numbers {
+        number: BatchNo::new(1)?,
+        segment: Segment::new(1)?,
+        amount: Amount::new(1)?,
+        day: Day::new(0)?,
+    })
+}
+
+// An actual of one batch, with this key.
+fn actual(key: Name, numbers: Numbers) -> Row {
     let name = Name::house();
-    Ok(Row::Move(MoveRow {
+    Row::Move(MoveRow {
         key,
         what: Move::Actual {
             order: name,
-            number: BatchNo::new(1)?,
-            segment: Segment::new(1)?,
+            number: numbers.number,
+            segment: numbers.segment,
             role: Role::Consumed,
             material: name,
             lot: LotId {
@@ -66,9 +84,9 @@ fn actual(key: Name) -> Result<Row, Refusal> {
             },
             sublot: name,
         },
-        amount: Amount::new(1)?,
-        day: Day::new(0)?,
-    }))
+        amount: numbers.amount,
+        day: numbers.day,
+    })
 }
 
 // The name `K` and this number.
@@ -77,9 +95,8 @@ fn key(alloc: Global, n: u64) -> Result<Name, Fail> {
     Ok(Name::parse(text.as_bytes())?)
 }
 
-// Puts the actual with this key, where it fits.
-fn put_actual(alloc: Global, slice: &mut Slice, n: u64) -> Result<bool, Fail> {
-    let row = actual(key(alloc, n)?)?;
+// Puts the row, where it fits.
+fn put(slice: &mut Slice, row: Row) -> Result<bool, AllocError> {
     if !slice.fits(&row) {
         return Ok(false);
     }
@@ -87,15 +104,24 @@ fn put_actual(alloc: Global, slice: &mut Slice, n: u64) -> Result<bool, Fail> {
     Ok(true)
 }
 
+// How many of the actuals with the keys `K0`, `K1` and so on fit, up to this many.
+fn put_up_to(alloc: Global, slice: &mut Slice, most: u64, numbers: Numbers) -> Result<u64, Fail> {
+    let mut fitting = 0u64;
+    for n in 0..most {
+        let key = key(alloc, n)?;
+        if put(slice, actual(key, numbers))? {
+            fitting = fitting.saturating_add(1);
+        }
+    }
+    Ok(fitting)
+}
+
 #[test]
 fn a_batch_has_200_actuals(rt: HostRuntime) -> Result<(), Fail> {
+    let numbers = least_numbers()?;
     let mut slice = Slice::new(rt.alloc(), Name::house());
-    for n in 0..200 {
-        let put = put_actual(rt.alloc(), &mut slice, n)?;
-        assert!(rt; put, "actual {n}");
-    }
-    let again = put_actual(rt.alloc(), &mut slice, 7)?;
-    let further = put_actual(rt.alloc(), &mut slice, 200)?;
-    assert!(rt; again && !further);
+    let new = put_up_to(rt.alloc(), &mut slice, 201, numbers)?;
+    let known = put_up_to(rt.alloc(), &mut slice, 200, numbers)?;
+    assert_eq!(rt; (new, known), (200, 200));
     Ok(())
 }
