@@ -2,3 +2,5 @@ pub mod OwnAmounts
 pub mod OwnReplies
 pub mod OneReply
 pub mod OneAnswer
+pub mod OwnEdges
+pub mod Recalls

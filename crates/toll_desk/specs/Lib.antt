@@ -3,3 +3,4 @@ pub mod Told
 pub mod Edges
 pub mod Replies
 pub mod PlantAnswers
+pub mod Joints

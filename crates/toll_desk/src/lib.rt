@@ -1,6 +1,7 @@
 //! The office's desk: owners' requests and the plant's commands, over any keep.
 #![tactic(auto)]
 
+mod genealogy;
 mod isolation;
 mod over;
 mod owner;
@@ -10,6 +11,9 @@ mod request;
 #[cfg(test)]
 mod tests;
 
+pub use genealogy::{
+    plants_traces_within_an_owner_are_the_owners, recalls_within_an_owner_are_the_owners,
+};
 pub use isolation::replies_come_from_the_owners_part;
 pub use owner::{admit, carry, owner_do, owner_plan};
 pub use plant::plant_do;
