@@ -7,8 +7,10 @@ use crate::value::Value;
 /// What the result of a test must be for a lot to be released: from `low` to `high`, both included.
 #[derive(Clone, Copy, Debug, PartialEq, Eq)]
 pub struct Limits {
-    low: Value,
-    high: Value,
+    /// The least value that passes.
+    pub low: Value,
+    /// The greatest value that passes.
+    pub high: Value,
     pub ghost ordered: { low ≤ℤ high },
 }
 
@@ -24,20 +26,6 @@ impl Limits {
         } else {
             Err(Refusal::BadAmount)
         }
-    }
-
-    /// The least value that passes.
-    pub fn low(&self) -> Value
-        ensures { result ≡ self.now.low }
-    {
-        self.low
-    }
-
-    /// The greatest value that passes.
-    pub fn high(&self) -> Value
-        ensures { result ≡ self.now.high }
-    {
-        self.high
     }
 
     /// Whether the value passes.

@@ -50,7 +50,7 @@ fn values_have_bounds(rt: HostRuntime) {
 }
 
 // The numbers of an actual.
-#[derive(Clone, Copy)]
+#[derive(Drop)]
 struct Numbers {
     number: BatchNo,
     segment: Segment,
@@ -68,7 +68,7 @@ fn least_numbers() -> Result<Numbers, Refusal> {
 }
 
 // An actual of one batch, with this key.
-fn actual(key: Name, numbers: Numbers) -> Row {
+fn actual(key: Name, numbers: &Numbers) -> Row {
     let name = Name::house();
     Row::Move(MoveRow {
         key,
@@ -105,7 +105,7 @@ fn put(slice: &mut Slice, row: Row) -> Result<bool, AllocError> {
 }
 
 // How many of the actuals with the keys `K0`, `K1` and so on fit, up to this many.
-fn put_up_to(alloc: Global, slice: &mut Slice, most: u64, numbers: Numbers) -> Result<u64, Fail> {
+fn put_up_to(alloc: Global, slice: &mut Slice, most: u64, numbers: &Numbers) -> Result<u64, Fail> {
     let mut fitting = 0u64;
     for n in 0..most {
         let key = key(alloc, n)?;
@@ -120,8 +120,8 @@ fn put_up_to(alloc: Global, slice: &mut Slice, most: u64, numbers: Numbers) -> R
 fn a_batch_has_200_actuals(rt: HostRuntime) -> Result<(), Fail> {
     let numbers = least_numbers()?;
     let mut slice = Slice::new(rt.alloc(), Name::house());
-    let new = put_up_to(rt.alloc(), &mut slice, 201, numbers)?;
-    let known = put_up_to(rt.alloc(), &mut slice, 200, numbers)?;
+    let new = put_up_to(rt.alloc(), &mut slice, 201, &numbers)?;
+    let known = put_up_to(rt.alloc(), &mut slice, 200, &numbers)?;
     assert_eq!(rt; (new, known), (200, 200));
     Ok(())
 }
