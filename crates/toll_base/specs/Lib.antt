@@ -20,3 +20,4 @@ pub mod Holders
 pub mod Tables
 pub mod Verdict
 pub mod Worked
+pub mod Laws

@@ -6,6 +6,7 @@ mod bounded;
 mod decimal;
 mod decision;
 mod isolation;
+mod laws;
 mod limits;
 mod lot;
 mod measure;
@@ -29,6 +30,15 @@ pub use bounded::{Amount, BatchNo, Bounded, Day, Segment};
 pub use decimal::number;
 pub use decision::{Change, Decision};
 pub use isolation::{commands_keep_the_tables_of_others, tables_come_from_the_owners_part};
+pub use laws::{
+    a_lot_has_one_origin, a_void_takes_back_its_movement, amounts_are_bounded,
+    commands_keep_the_sublots_of_others, counts_are_limited, keys_are_unique,
+    known_sublots_are_of_known_lots, lots_are_of_known_materials,
+    material_comes_into_quarantined_lots, material_is_given_from_cleared_lots,
+    movements_keep_to_their_owners_lots, no_stock_is_taken_below_zero,
+    released_lots_pass_their_tests, stock_changes_by_what_is_moved, unknown_lots_are_untouched,
+    voided_keys_are_of_actuals,
+};
 pub use limits::Limits;
 pub use lot::{Disposition, Edge, LotId, Origin};
 pub use measure::Measure;

@@ -1,0 +1,62 @@
+-- Facts of options.
+use Rattle.std.proofs.Common.{◌≡◌, Bool, true, false, ◌&&◌, cond, Option, Some, None, is_some, is_none, refl, sym}
+use mathlib.Core.Bool.{false≢true}
+use Rattle.std.specs.Option.{option_map}
+use Rattle.toll_base.specs.Words.{or_else, where_so}
+
+pub some_of : {X : Type 0} (x : Option X) → is_none x ≡ false → is_some x ≡ true
+some_of None h = absurd (false≢true (sym h))
+some_of (Some x) h = refl
+
+pub none_of : {X : Type 0} (x : Option X) → is_some x ≡ false → x ≡ None
+none_of None h = refl
+none_of (Some x) h = absurd (false≢true (sym h))
+
+-- an option isn't both
+pub not_both : {X Y : Type 0} (x : Option X) (y : X) → x ≡ None → x ≡ Some y → Y
+not_both x y none is = (cc)
+
+pub map_none : {X Y : Type 0} (f : X → Y) (x : Option X) → is_none (option_map f x) ≡ is_none x
+map_none f None = refl
+map_none f (Some x) = refl
+
+-- ---- where a test holds
+
+pub some_where : {X : Type 0} (b : Bool) (x : X) → b ≡ true → is_some (where_so b x) ≡ true
+some_where true x h = refl
+some_where false x h = absurd (false≢true h)
+
+pub true_where : {X : Type 0} (b : Bool) (x : X) → is_none (where_so b x) ≡ false → b ≡ true
+true_where true x h = refl
+true_where false x h = absurd (false≢true (sym h))
+
+pub none_where : {X : Type 0} (b : Bool) (x : X) → b ≡ false → where_so b x ≡ None
+none_where true x h = absurd (false≢true (sym h))
+none_where false x h = refl
+
+-- ---- the first of two
+
+pub first_none : {X : Type 0} (x y : Option X) → or_else x y ≡ None → x ≡ None
+first_none None y h = refl
+first_none (Some x) y h = h
+
+pub some_first : {X : Type 0} (x y : Option X) → is_some x ≡ true → is_some (or_else x y) ≡ true
+some_first None y h = absurd (false≢true h)
+some_first (Some x) y h = refl
+
+pub some_second : {X : Type 0} (x y : Option X) → is_some y ≡ true → is_some (or_else x y) ≡ true
+some_second None y h = h
+some_second (Some x) y h = refl
+
+pub or_else_none : {X : Type 0} (x : Option X) → or_else x None ≡ x
+or_else_none None = refl
+or_else_none (Some x) = refl
+
+pub or_none : {X : Type 0} (b : Bool) (rest : Option X) → or_else (cond b None None) rest ≡ rest
+or_none true rest = refl
+or_none false rest = refl
+
+pub or_else_where : {X : Type 0} (a k : Bool) (x : X) (rest : Option X) → or_else (cond a (where_so k x) None) rest ≡ cond (a && k) (Some x) rest
+or_else_where true true x rest = refl
+or_else_where true false x rest = refl
+or_else_where false k x rest = refl

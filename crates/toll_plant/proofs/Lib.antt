@@ -1,0 +1,7 @@
+pub mod RuleLemmas
+pub mod GrowthLemmas
+pub mod ValueLemmas
+pub mod OfficeLemmas
+pub mod WordLemmas
+pub mod ReadLemmas
+pub mod TableLemmas

@@ -1,0 +1,43 @@
+-- The line that words fit, in the code.
+use Rattle.std.proofs.Common.{◌≡◌, ◌∙◌, ℕ, Bool, true, false, List, [], ◌∷◌, length, map, refl, sym, ap, subst, arith, Option, Some, None}
+use Rattle.std.specs.Prelude.{◌&&◌, ◌==◌, find, option_map, option_and_then, if◌then◌else◌}
+use Rattle.std.specs.Borrow.{Bor}
+use Rattle.std.specs.List.{list_all}
+use Rattle.std.specs.Str.{bytes_eq}
+use Rattle.std.proofs.lemmas.List.{length-map}
+use Rattle.std.proofs.lemmas.Bool.Decides.{nat_tests}
+use Rattle.clap.proofs.WalkLemmas.{find-map}
+use Rattle.toll_base.specs.Bytes.{Bytes}
+use Rattle.toll_plant.specs.Lines.{Line, is_plain, line_of, takes_values}
+use Rattle.toll_plant.specs.Shown.{shown, shown_argument}
+use Rattle.toll_plant.specs.declared.argument.Argument.{Argument as CodeArgument}
+use Rattle.toll_plant.specs.declared.line.Line.{Line as CodeLine}
+
+-- what words make of a line
+abbrev taken : Option Line → List Bytes → Option Line
+taken line values = option_and_then (λ l. if takes_values l values then Some l else None) line
+
+pub line_at : (xs : List CodeLine) (words : List (Bor Bytes)) (name : Bor Bytes) (values : List (Bor Bytes)) (o : Option CodeLine)
+    → words ≡ name ∷ values → o ≡ find (λ l. bytes_eq l.name.now name.now) xs
+    → line_of (map shown xs) (map (λ w. w.now) words) ≡ taken (option_map shown o) (map (λ w. w.now) values)
+line_at xs words name values o whole found =
+    ap (λ ws. line_of (map shown xs) (map (λ w. w.now) ws)) whole
+    ∙ ap (λ l. taken l (map (λ w. w.now) values)) (sym (ap (option_map shown) found ∙ find-map (λ (l : Line). bytes_eq l.name name.now) shown xs))
+
+pub takes_it : (line : CodeLine) (values : List Bytes) → true ≡ takes_values (shown line) values → Some (shown line) ≡ taken (Some (shown line)) values
+takes_it line values takes = rw (← takes) refl
+
+pub takes_not : (line : CodeLine) (values : List Bytes) → false ≡ takes_values (shown line) values → None ≡ taken (Some (shown line)) values
+takes_not line values takes = rw (← takes) refl
+
+all_map : {A B : Type 0} (p : B → Bool) (f : A → B) (xs : List A) → list_all (λ x. p (f x)) xs ≡ list_all p (map f xs)
+all_map p f [] = refl
+all_map p f (x ∷ xs) = ap (λ b. p (f x) && b) (all_map p f xs)
+
+same_number : (m n : ℕ) → m ≡ n → (m == n) ≡ true
+same_number m n e = grind (arith, nat_tests)
+
+pub as_many : (line : CodeLine) (words : List (Bor Bytes)) → length words ≡ length line.values.now
+    → list_all (λ (w : Bor Bytes). is_plain w.now) words ≡ takes_values (shown line) (map (λ w. w.now) words)
+as_many line words same =
+    rw (length-map, length-map, same_number (length words) (length line.values.now) same) (all_map is_plain (λ (w : Bor Bytes). w.now) words)

@@ -1,0 +1,40 @@
+-- The commands, as `clap` is given them.
+use Rattle.std.specs.Prelude.{Bool, true, false, not, ◌&&◌, nat_lt, List, [], ◌∷◌, ◌++◌, map, length, codes}
+use Rattle.std.specs.List.{list_all, list_any}
+use Rattle.std.specs.Str.{bytes_eq}
+use Rattle.clap.specs.Walk.{Rule}
+use Rattle.clap.specs.Simple.{App, Shape, new_rule, new_shape}
+use Rattle.toll_base.specs.Bytes.{Bytes}
+use Rattle.toll_plant.specs.Lines.{Argument, Line}
+
+-- a value is required
+abbrev pub value_rule : Argument → Rule
+value_rule a = record (new_rule a.name) { required = true }
+
+-- a line is a subcommand
+abbrev pub line_shape : Line → Shape
+line_shape l = record (new_shape l.name) { rules = map value_rule l.values }
+
+-- no help and no program's name
+abbrev pub office : List Line → App
+office lines = record {
+  top = record (new_shape (codes "toll")) {
+    is_leaf = false;
+    no_binary_name = true;
+    disable_help_flag = true;
+    disable_help_subcommand = true;
+  };
+  subs = map line_shape lines;
+}
+
+-- no value has a name of those that were seen, or of another
+abbrev pub are_new : List Bytes → List Bytes → Bool
+are_new seen [] = true
+are_new seen (name ∷ names) = not (list_any (λ m. bytes_eq m name) seen) && are_new (seen ++ name ∷ []) names
+
+-- the values of a line have names of their own, and are few
+abbrev pub is_sound : Line → Bool
+is_sound l = are_new [] (map (λ a. a.name) l.values) && nat_lt (length l.values) 100
+
+abbrev pub are_sound : List Line → Bool
+are_sound lines = list_all is_sound lines

@@ -1,0 +1,43 @@
+-- The commands that words ask for.
+use Rattle.std.specs.Prelude.{◌≡◌, List, [], ◌∷◌, drop, Result, Ok, Err, Option, Some, None, option_and_then}
+use Rattle.toll_base.specs.Bytes.{Bytes}
+use Rattle.toll_base.specs.declared.refusal.Refusal.{Refusal}
+use Rattle.toll_desk.specs.declared.plant_cmd.PlantCmd.{PlantCmd}
+use Rattle.toll_desk.specs.declared.plant_cmd.PlantCmd.TheVariants.{Unread}
+use Rattle.toll_plant.specs.Commands.{command_from}
+use Rattle.toll_plant.specs.Lines.{Argument, Line, line_of}
+use Rattle.toll_plant.specs.Readings.{read_as}
+use Rattle.toll_plant.specs.Table.{plant_lines}
+use Rattle.toll_plant.specs.declared.argument.Given.{Given}
+use Rattle.toll_plant.specs.declared.command.CommandName.{CommandName}
+use Rattle.toll_plant.specs.declared.fault.WordsFault.{WordsFault}
+use Rattle.toll_plant.specs.declared.fault.WordsFault.TheVariants.{Memory, Usage}
+
+-- a value in front of those that come behind it: the first that can't be read tells
+abbrev pub in_front : Result Given Refusal → Result (List Given) Refusal → Result (List Given) Refusal
+in_front (Err why) behind = Err why
+in_front (Ok value) (Err why) = Err why
+in_front (Ok value) (Ok values) = Ok (value ∷ values)
+
+-- the values, each read in its way, or the refusal of the first that can't be read
+abbrev pub values_read : List Argument → List Bytes → Result (List Given) Refusal
+values_read [] words = Ok []
+values_read (a ∷ arguments) [] = Ok []
+values_read (a ∷ arguments) (word ∷ words) = in_front (read_as a.reading word) (values_read arguments words)
+
+abbrev pub command_read : CommandName → Result (List Given) Refusal → Option PlantCmd
+command_read name (Err why) = Some (Unread why)
+command_read name (Ok values) = command_from name values
+
+-- the command of a line with these values
+abbrev pub command_with : Line → List Bytes → Option PlantCmd
+command_with line words = command_read line.command (values_read line.values words)
+
+-- the command that the words ask for, if they fit a line
+abbrev pub command_of_words : List Bytes → Option PlantCmd
+command_of_words words = option_and_then (λ line. command_with line (drop 1 words)) (line_of plant_lines words)
+
+-- Usage is answered to words that fit no line alone
+abbrev pub IsUsageOnlyOf : List Bytes → WordsFault → Type 0
+IsUsageOnlyOf words Memory = Unit {0}
+IsUsageOnlyOf words (Usage text) = line_of plant_lines words ≡ None

@@ -1,0 +1,118 @@
+//! The words, as `clap` takes them.
+ghost use Rattle.std.specs.Prelude.{◌≡◌, ◌<◌, IfOk, Some, true, false, is_some, map, length, drop};
+ghost use Rattle.std.specs.List.{list_all};
+ghost use Rattle.clap.specs.Words.{app_of, first_value, found_of, shape_of};
+ghost use Rattle.clap.specs.declared.builder.command.Command.TheViews.{out-Command};
+ghost use Rattle.toll_plant.specs.ClapWords.{are_sound, line_shape, office};
+ghost use Rattle.toll_plant.specs.Lines.{line_of};
+ghost use Rattle.toll_plant.specs.Shown.{shown};
+ghost use Rattle.toll_plant.specs.Words.{IsUsageOnlyOf};
+
+use crate::argument::Argument;
+use crate::fault::WordsFault;
+use crate::line::Line;
+use clap::error::ErrorKind;
+use clap::{Arg, ArgMatches, Command, Error};
+use std::alloc::{AllocError, Global};
+
+/// The values of the words, which fit the line.
+pub fn values_of<'a>(
+    alloc: Global,
+    lines: &'a [Line<'a>],
+    line: &Line<'a>,
+    words: &'a [&'a str],
+) -> Result<Vec<&'a str>, AllocError>
+    requires sound { are_sound (map shown lines.now) ≡ true }
+    requires fits { line_of (map shown lines.now) (map (λ w. w.now) words.now) ≡ Some (shown line.now) }
+    ensures { IfOk result (λ values. map (λ v. v.now) values.items ≡ drop 1 (map (λ w. w.now) words.entry.now)) }
+{
+    let matches = match office(alloc, lines)?.try_get_matches_from(words) {
+        Ok(matches) => matches,
+        Err(why) => match why.kind() {
+            ErrorKind::OutOfMemory => return Err(AllocError),
+            _ => unreachable!(),
+        },
+    };
+    match matches.subcommand() {
+        Some((_, found)) => values_in(alloc, line.values, found),
+        None => unreachable!(),
+    }
+}
+
+// The values that `clap` found, which are there.
+fn values_in<'a>(
+    alloc: Global,
+    arguments: &[Argument<'a>],
+    found: &ArgMatches<'a>,
+) -> Result<Vec<&'a str>, AllocError>
+    requires { list_all (λ a. is_some (first_value (found_of found.now) a.name.now)) arguments.now ≡ true }
+    ensures { IfOk result (λ values. map (λ v. Some v.now) values.items
+        ≡ map (λ a. first_value (found_of found.now) a.name.now) arguments.now) }
+{
+    let mut values = Vec::new(alloc);
+    for argument in arguments {
+        match found.get_str(argument.name) {
+            Some(value) => values.push(value)?,
+            None => unreachable!(),
+        }
+    }
+    Ok(values)
+}
+
+/// What `clap` says of words that are no command.
+pub fn usage_of<'a>(alloc: Global, lines: &'a [Line<'a>], words: &'a [&'a str]) -> WordsFault
+    requires { 0 < length lines.now }
+{
+    match usage_text(alloc, lines, words) {
+        Ok(text) => WordsFault::Usage(text.into_bytes()),
+        Err(AllocError) => WordsFault::Memory,
+    }
+}
+
+// What is wrong with the words, or how commands are written, where `clap` would take them.
+fn usage_text<'a>(
+    alloc: Global,
+    lines: &'a [Line<'a>],
+    words: &'a [&'a str],
+) -> Result<String, AllocError>
+    requires { 0 < length lines.now }
+{
+    match office(alloc, lines)?.try_get_matches_from(words) {
+        Ok(_matches) => office(alloc, lines)?.render_usage(),
+        Err(why) => text_of(alloc, &why),
+    }
+}
+
+fn text_of(alloc: Global, why: &Error) -> Result<String, AllocError> {
+    match why.kind() {
+        ErrorKind::OutOfMemory => Err(AllocError),
+        _ => format!(in alloc; "{why}"),
+    }
+}
+
+// All commands.
+fn office<'a>(alloc: Global, lines: &'a [Line<'a>]) -> Result<Command<'a>, AllocError>
+    requires { 0 < length lines.now }
+    ensures { IfOk result (λ c. app_of c ≡ office (map shown lines.now)) }
+{
+    let mut office = Command::new(alloc, "toll")
+        .no_binary_name(true)
+        .disable_help_flag(true)
+        .disable_help_subcommand(true);
+    for line in lines {
+        office = office.subcommand(line_command(alloc, line)?)?;
+    }
+    Ok(office)
+}
+
+// One command, whose values are required.
+fn line_command<'a>(alloc: Global, line: &Line<'a>) -> Result<Command<'a>, AllocError>
+    ensures shape { IfOk result (λ c. shape_of c ≡ line_shape (shown line.now)) }
+    ensures local { IfOk result (λ c. (out-Command c).has_globals ≡ false) }
+{
+    let mut command = Command::new(alloc, line.name);
+    for value in line.values {
+        command = command.arg(Arg::new(alloc, value.name).required(true))?;
+    }
+    Ok(command)
+}

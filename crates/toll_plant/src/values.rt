@@ -1,0 +1,63 @@
+//! The values of a command, read from left to right.
+ghost use Rattle.std.specs.Prelude.{◌≡◌, IfOk, IfErr, IsSome, Some, Ok, map};
+ghost use Rattle.toll_plant.specs.Shown.{shown, shown_argument};
+ghost use Rattle.toll_plant.specs.Words.{command_with, values_read};
+ghost use Rattle.toll_plant.specs.Unread.{IsUnread};
+
+use crate::argument::{Argument, Given};
+use crate::command::command_from;
+use crate::line::Line;
+use std::alloc::{AllocError, Global};
+use std::convert::AsSlice;
+use thiserror::Error;
+use toll_base::Refusal;
+use toll_desk::PlantCmd;
+
+/// Why values were not read.
+#[derive(Clone, Copy, Debug, PartialEq, Eq, Drop, Error)]
+pub enum Unread {
+    /// There was no memory.
+    #[error("Memory")]
+    Memory,
+    /// The first value that can't be read is refused so.
+    #[error("{0}")]
+    Refused(Refusal),
+}
+
+/// The command of a line with these values.
+pub fn read<S: AsSlice<u8>>(
+    alloc: Global,
+    line: &Line<'_>,
+    words: &[S],
+) -> Result<PlantCmd, AllocError>
+    requires { IsSome (command_with (shown line.now) (map S.items words.now)) }
+    ensures { IfOk result (λ command. command_with (shown line.now) (map S.items words.now) ≡ Some command) }
+{
+    match read_all(alloc, line.values, words) {
+        Ok(values) => match command_from(line.command, &values) {
+            Some(command) => Ok(command),
+            None => unreachable!(),
+        },
+        Err(Unread::Refused(why)) => Ok(PlantCmd::Unread(why)),
+        Err(Unread::Memory) => Err(AllocError),
+    }
+}
+
+// Each value, read in its way.
+fn read_all<S: AsSlice<u8>>(
+    alloc: Global,
+    arguments: &[Argument<'_>],
+    words: &[S],
+) -> Result<Vec<Given>, Unread>
+    ensures values { IfOk result (λ values. values_read (map shown_argument arguments.now) (map S.items words.now) ≡ Ok values.items) }
+    ensures unread { IfErr result (IsUnread (values_read (map shown_argument arguments.now) (map S.items words.now))) }
+{
+    let mut values = Vec::new(alloc);
+    for (argument, word) in arguments.iter().zip(words) {
+        match argument.reading.read(word.as_slice()) {
+            Ok(value) => values.push(value).map_err(|_| Unread::Memory)?,
+            Err(why) => return Err(Unread::Refused(why)),
+        }
+    }
+    Ok(values)
+}

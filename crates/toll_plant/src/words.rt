@@ -1,0 +1,73 @@
+//! Commands from words.
+ghost use Rattle.std.specs.Prelude.{◌≡◌, IfOk, IfErr, Some, find, map, option_map};
+ghost use Rattle.std.specs.List.{list_all};
+ghost use Rattle.std.specs.Str.{bytes_eq};
+ghost use Rattle.toll_plant.specs.Lines.{is_plain, line_of, takes_values};
+ghost use Rattle.toll_plant.specs.Shown.{shown};
+ghost use Rattle.toll_plant.specs.Words.{IsUsageOnlyOf, command_of_words};
+
+use crate::clap_words::{usage_of, values_of};
+use crate::fault::WordsFault;
+use crate::line::{LINES, Line};
+use crate::values::read;
+use std::alloc::Global;
+use toll_desk::PlantCmd;
+
+/// The command that these words ask for: [`PlantCmd::Unread`] with the refusal of the first value,
+/// from left to right, that can't be read.
+///
+/// Words that are a command's name and as many words as it has values are never
+/// [`WordsFault::Usage`], if none of these is empty, begins with `-` or is `help`. All other words
+/// give no command.
+pub fn command_of(alloc: Global, words: &[&str]) -> Result<PlantCmd, WordsFault>
+    ensures command { IfOk result (λ command. command_of_words (map (λ w. w.now) words.entry.now) ≡ Some command) }
+    ensures usage { IfErr result (IsUsageOnlyOf (map (λ w. w.now) words.entry.now)) }
+{
+    match fitting(&LINES, words) {
+        Some(line) => {
+            let values = values_of(alloc, &LINES, line, words)?;
+            Ok(read(alloc, line, values.as_slice())?)
+        }
+        None => Err(usage_of(alloc, &LINES, words)),
+    }
+}
+
+// The line that the words fit.
+fn fitting<'l, 'a>(lines: &'l [Line<'a>], words: &[&str]) -> Option<&'l Line<'a>>
+    ensures { option_map (λ l. shown l.now) result ≡ line_of (map shown lines.entry.now) (map (λ w. w.now) words.entry.now) }
+{
+    match words.split_first() {
+        None => None,
+        Some((name, values)) => match named(lines, name) {
+            None => None,
+            Some(line) if takes(line, values) => Some(line),
+            Some(_) => None,
+        },
+    }
+}
+
+// The line with this name.
+fn named<'l, 'a>(lines: &'l [Line<'a>], name: &str) -> Option<&'l Line<'a>>
+    ensures { option_map (λ l. l.now) result ≡ find (λ l. bytes_eq l.name.now name.now) lines.entry.now }
+{
+    lines.iter().find(|line| line.name == name)
+}
+
+// Whether the words are as many as the line's values, and plain.
+fn takes(line: &Line<'_>, words: &[&str]) -> bool
+    ensures { result ≡ takes_values (shown line.now) (map (λ w. w.now) words.entry.now) }
+{
+    words.len() == line.values.len() && are_plain(words)
+}
+
+fn are_plain(words: &[&str]) -> bool
+    ensures { result ≡ list_all (λ w. is_plain w.now) words.entry.now }
+{
+    words.iter().all(|word| is_plain(word))
+}
+
+fn is_plain(word: &str) -> bool
+    ensures { result ≡ is_plain word.now }
+{
+    !word.is_empty() && !word.starts_with('-') && word != "help"
+}
