@@ -31,4 +31,3 @@ pub mod OpenTests
 pub mod CameIn
 pub mod Unmoved
 pub mod OtherSublots
-pub mod RowsAreTables

@@ -8,7 +8,7 @@ use Rattle.toll_base.specs.Values.{house_name}
 use Rattle.toll_base.specs.Words.{count, is_some_where}
 use Rattle.toll_base.specs.SliceRules.{is_actual_of}
 use Rattle.toll_base.specs.Command.{Action, AddOwner, AddUnit, AddMaterial, AddTest, AddRecipe, Require, PlaceOrder, Record, RecordResult}
-use Rattle.toll_base.specs.History.{History, acts, count_owners, adds_some_unit, count_units}
+use Rattle.toll_base.specs.History.{History, acts, adds_owner, count_owners, adds_some_unit, count_units}
 use Rattle.toll_base.specs.Work.{material_added, test_added, recipe_added, required, order_placed}
 use Rattle.toll_base.specs.Movements.{lot_id, movement_recorded, movements, count_movements, count_actuals_of, first_made, lot_made, makes_lot, makes_sublot, count_lots, count_sublots}
 use Rattle.toll_base.specs.Dispositions.{value_recorded}
@@ -94,20 +94,25 @@ module _ (o : Bytes) where
 
 -- ---- owners and units
 
-owner_step : (H : History) (o : Bytes) (a : Action) → verdict H (by o a) ≡ Accepted → count_owners H ≤ 64 → count_owners (by o a ∷ H) ≤ 64
-owner_step H o (AddOwner key) accepted le = one_more true 64 (count_owners H) le (λ is. (accepted_passes H o (AddOwner key) accepted 1))
-owner_step H o a accepted le = omega arith
+-- a kind of everybody's actions, each of which was accepted while there was room
+module _ (is_kind : Action → Bool) (limit : ℕ) (room : (H : History) (o : Bytes) (a : Action) → verdict H (by o a) ≡ Accepted → is_kind a ≡ true → nat_le limit (count (λ c. is_kind c.action) H) ≡ false) where
+  limited_for_all : (H : History) → IsLawful H → count (λ c. is_kind c.action) H ≤ limit
+  limited_for_all [] lawful = omega arith
+  limited_for_all (c ∷ H) lawful = one_more (is_kind c.action) limit (count (λ c. is_kind c.action) H) (limited_for_all H lawful.0) (room H c.owner c.action lawful.2)
+
+owner_room : (H : History) (o : Bytes) (a : Action) → verdict H (by o a) ≡ Accepted → adds_owner a ≡ true → nat_le 64 (count_owners H) ≡ false
+owner_room H o (AddOwner key) accepted is = accepted_passes H o (AddOwner key) accepted 1
+owner_room H o _ accepted is = absurd (false≢true is)
 
 pub owners_kept : (H : History) → IsLawful H → count_owners H ≤ 64
-owners_kept [] lawful = omega arith
-owners_kept (c ∷ H) lawful = owner_step H c.owner c.action lawful.2 (owners_kept H lawful.0)
+owners_kept = limited_for_all adds_owner 64 owner_room
 
-unit_room : (H : History) (a : Action) → verdict H (by house_name a) ≡ Accepted → adds_some_unit a ≡ true → nat_le 200 (count_units H) ≡ false
-unit_room H (AddUnit unit) accepted is = accepted_passes H house_name (AddUnit unit) accepted 1
-unit_room H _ accepted is = absurd (false≢true is)
+unit_room : (H : History) (o : Bytes) (a : Action) → verdict H (by o a) ≡ Accepted → adds_some_unit a ≡ true → nat_le 200 (count_units H) ≡ false
+unit_room H o (AddUnit unit) accepted is = accepted_passes H o (AddUnit unit) accepted 1
+unit_room H o _ accepted is = absurd (false≢true is)
 
 pub units_kept : (H : History) → IsLawful H → count_units H ≤ 200
-units_kept = limited adds_some_unit 200 house_name unit_room
+units_kept = limited_for_all adds_some_unit 200 unit_room
 
 -- ---- lots and sublots
 

@@ -1,6 +1,15 @@
--- What a decision is.
-use Rattle.std.specs.Prelude.{◌≡◌, List}
+-- What a decision is, and what it owes: it is the verdict, and its changes make the rows of the grown history.
+use Rattle.std.specs.Prelude.{◌≡◌, Bool, true, if◌then◌else◌, List, [], ◌∷◌}
+use Rattle.toll_base.specs.Bytes.{same_bytes}
+use Rattle.toll_base.specs.Values.{house_name}
+use Rattle.toll_base.specs.Command.{Command}
+use Rattle.toll_base.specs.History.{History, owner_known}
+use Rattle.toll_base.specs.Slice.{Slice, with_row}
+use Rattle.toll_base.specs.SliceRules.{KeepsRules}
+use Rattle.toll_base.specs.Tables.{IsRowsOf}
+use Rattle.toll_base.specs.Verdict.{Verdict, Accepted, Repeated as WasRepeated, Refused, verdict, grow, IsLawful, IsValid}
 use Rattle.toll_base.specs.declared.decision.Change.{Change}
+use Rattle.toll_base.specs.declared.decision.Change.TheVariants.{Owner, Unit as UnitAdded, Put}
 use Rattle.toll_base.specs.declared.decision.Decision.{Decision}
 use Rattle.toll_base.specs.declared.decision.Decision.TheVariants.{Accept, Repeated, Refuse}
 
@@ -9,3 +18,36 @@ abbrev pub IsAccepted : List Change → Decision → Type 0
 IsAccepted changes (Accept made) = made.items ≡ changes
 IsAccepted changes Repeated = ⊥
 IsAccepted changes (Refuse why) = ⊥
+
+-- a slice after changes, in order: of the rows that are put, it takes those of its owner
+abbrev pub after_change : Change → Slice → Slice
+after_change (Put owner row) s = if same_bytes owner s.owner then with_row s row else s
+after_change _ s = s
+
+abbrev pub after_changes : List Change → Slice → Slice
+after_changes [] s = s
+after_changes (change ∷ changes) s = after_changes changes (after_change change s)
+
+-- what a decision says, and what it changes
+abbrev pub verdict_of : Decision → Verdict
+verdict_of (Accept changes) = Accepted
+verdict_of Repeated = WasRepeated
+verdict_of (Refuse why) = Refused why
+
+abbrev pub changes_of : Decision → List Change
+changes_of (Accept changes) = changes.items
+changes_of _ = []
+
+-- after each of these changes, in order, the slice keeps its rules
+abbrev pub ChangesKeepRules : List Change → Slice → Type 0
+ChangesKeepRules [] s = Unit {0}
+ChangesKeepRules (change ∷ changes) s = KeepsRules (after_change change s) × ChangesKeepRules changes (after_change change s)
+
+-- over this history the decision is right for the command, whatever slice of it the changes are put into
+pub record IsRightOver (H : History) (c : Command) (d : Decision) : Type 0 where
+  pub verdict_is : verdict_of d ≡ verdict H c
+  pub rows_are : (s : Slice) → IsRowsOf H s → IsRowsOf (grow H c) (after_changes (changes_of d) s)
+
+-- over every lawful history of which the owner's slice has the rows, the decision is right for the command
+unfoldable pub Decides : Command → Slice → Decision → Type 0
+Decides c own d = (H : History) → IsLawful H → IsValid c.action → owner_known H own.owner ≡ true → IsRowsOf H own → IsRightOver H c d

@@ -39,7 +39,7 @@ owner_known H o = same_bytes o house_name || list_any adds_owner (acts o H)
 abbrev pub count_owners : History → ℕ
 count_owners H = count (λ c. adds_owner c.action) H
 
--- ---- units, which concern HOUSE
+-- ---- units, which are the plant's, whoever's command adds them
 
 abbrev pub adds_unit : Bytes → Action → Bool
 adds_unit unit (AddUnit u) = same_bytes u unit
@@ -50,7 +50,8 @@ adds_some_unit (AddUnit u) = true
 adds_some_unit _ = false
 
 abbrev pub unit_known : History → Bytes → Bool
-unit_known H unit = list_any (adds_unit unit) (acts house_name H)
+unit_known H unit = list_any (λ c. adds_unit unit c.action) H
 
+-- how many units were added
 abbrev pub count_units : History → ℕ
-count_units H = count adds_some_unit (acts house_name H)
+count_units H = count (λ c. adds_some_unit c.action) H

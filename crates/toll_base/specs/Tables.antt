@@ -144,29 +144,5 @@ tables_of s = record {
 }
 
 -- the slice has exactly the rows that the history gives to its owner
-pub record IsRowsOf (H : History) (s : Slice) : Type 0 where
-  pub material : (k : Bytes) → material_at s k ≡ material_of (acts s.owner H) k
-  pub materials : length s.materials ≡ count_materials (acts s.owner H)
-  pub test : (k : Bytes × Bytes) → test_at s k ≡ test_of (acts s.owner H) k
-  pub tests : length s.tests ≡ count_tests (acts s.owner H)
-  pub recipe : (k : Bytes) → recipe_at s k ≡ recipe_of (acts s.owner H) k
-  pub recipes : length s.recipes ≡ count_recipes (acts s.owner H)
-  pub requirement : (k : RequirementKey) → requirement_at s k ≡ requirement_of (acts s.owner H) k
-  pub requirements : length s.requirements ≡ count_requirements (acts s.owner H)
-  pub order : (k : Bytes) → order_at s k ≡ order_of (acts s.owner H) k
-  pub orders : length s.orders ≡ count_orders (acts s.owner H)
-  pub batch : (k : Bytes × ℕ) → batch_at s k ≡ batch_of (acts s.owner H) k
-  pub lot : (k : Bytes) → lot_at s k ≡ lot_row H s.owner k
-  pub lots : length s.lots ≡ count_lots H s.owner
-  pub sublot : (k : Bytes × Bytes) → sublot_at s k ≡ sublot_row H s.owner k
-  pub sublots : length s.sublots ≡ count_sublots H s.owner
-  pub movement : (k : Bytes) → move_at s k ≡ movement_of (acts s.owner H) k
-  pub movements : length s.moves ≡ count_movements (acts s.owner H)
-  pub result : (k : Bytes × Bytes × ℕ) → result_at s k ≡ result_of (acts s.owner H) k
-  pub results : length s.results ≡ count_results (acts s.owner H)
-  pub voided : (k : Bytes) → is_some (void_at s k) ≡ voided_in (acts s.owner H) k
-  pub opened : (order : Bytes) → count (λ row. same_bytes row.order order) s.batches ≡ count_opened (acts s.owner H) order
-  pub actuals : (order : Bytes) (number : ℕ) → count_actuals order number s.moves ≡ count_actuals_of (acts s.owner H) order number
-  pub recipe_used : (recipe : Bytes) → list_any (λ row. same_bytes row.recipe recipe) s.orders ≡ recipe_used (acts s.owner H) recipe
-  pub material_used : (material : Bytes) → list_any (λ row. same_bytes row.material material) s.lots ≡ material_used H s.owner material
-  pub tests_open : (lot : Bytes) → tests_open_in s lot ≡ tests_open H s.owner lot
+abbrev pub IsRowsOf : History → Slice → Type 0
+IsRowsOf H s = tables_of s ≡ tables_given H s.owner
