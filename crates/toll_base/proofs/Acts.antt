@@ -3,11 +3,11 @@ use Rattle.std.proofs.Common.{◌≡◌, ◌+◌, Bool, true, false, ◌&&◌, �
 use Rattle.std.specs.List.{list_any}
 use Rattle.toll_base.specs.Bytes.{Bytes, same_bytes}
 use Rattle.toll_base.specs.Words.{first_some, or_else, count}
-use Rattle.toll_base.specs.Command.{Action, Command}
+use Rattle.toll_base.specs.Command.{Action, Command, by}
 use Rattle.toll_base.specs.History.{History, acts}
 use Rattle.toll_base.specs.Verdict.{Accepted, verdict, IsValid, IsLawful}
 use Rattle.toll_base.proofs.Texts.{same_bytes-exact}
-use Rattle.toll_base.proofs.Passed.{by}
+
 
 map-cond : {X Y : Type 0} (f : X → Y) (b : Bool) (x : X) (xs : List X) → map f (cond b (x ∷ xs) xs) ≡ cond b (f x ∷ map f xs) (map f xs)
 map-cond f true x xs = refl

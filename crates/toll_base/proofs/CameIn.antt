@@ -6,7 +6,7 @@ use Rattle.std.specs.Option.{option_map}
 use Rattle.std.proofs.lemmas.Option.{cond_some}
 use Rattle.toll_base.specs.Bytes.{Bytes, same_bytes}
 use Rattle.toll_base.specs.Words.{where_so, is_some_where}
-use Rattle.toll_base.specs.Command.{Action, Record, Void}
+use Rattle.toll_base.specs.Command.{Action, Record, Void, by}
 use Rattle.toll_base.specs.History.{History, acts}
 use Rattle.toll_base.specs.Movements.{Movement, lot_id, same_lot, movement_of, movements, brings_into, stock, sublot_known, voided_in, Made, made_by, lot_made, lot_brought, material_used}
 use Rattle.toll_base.specs.Dispositions.{disposition_of}
@@ -24,7 +24,7 @@ use Rattle.toll_base.specs.declared.rows.Move.{Move}
 use Rattle.toll_base.specs.declared.rows.Move.TheVariants.{Receive, Ship, Actual}
 use Rattle.toll_base.proofs.Bools.{both, and_is}
 use Rattle.toll_base.proofs.Texts.{same_bytes-exact, same_bytes-refl}
-use Rattle.toll_base.proofs.Passed.{by, MoveFits, move_fits}
+use Rattle.toll_base.proofs.Passed.{MoveFits, move_fits}
 use Rattle.toll_base.proofs.Own.{acts-own}
 use Rattle.toll_base.proofs.Moving.{same_lot-exact, crosses_not, tables_for_are, lot_row_none}
 use Rattle.toll_base.proofs.Untouched.{untouched, still_quarantined}

@@ -2,13 +2,13 @@
 use Rattle.std.proofs.Common.{◌≡◌, true, false, cond, Option, Some, None, List, [], ◌∷◌, refl, sym, ap, ◌∙◌}
 use Rattle.toll_base.specs.Bytes.{Bytes, same_bytes}
 use Rattle.toll_base.specs.Words.{or_else, where_so}
-use Rattle.toll_base.specs.Command.{Action, Record}
+use Rattle.toll_base.specs.Command.{Action, Record, by}
 use Rattle.toll_base.specs.History.{History, acts}
 use Rattle.toll_base.specs.Movements.{has_key, movement_of, movement_recorded}
 use Rattle.toll_base.specs.Verdict.{Accepted, verdict}
 use Rattle.toll_base.specs.declared.rows.MoveRow.{MoveRow}
 use Rattle.toll_base.proofs.Options.{none_of, or_none, or_else_where}
-use Rattle.toll_base.proofs.Passed.{by, accepted_passes}
+use Rattle.toll_base.proofs.Passed.{accepted_passes}
 use Rattle.toll_base.proofs.Acts.{first_acts}
 use Rattle.toll_base.proofs.Texts.{same_bytes-symm}
 

@@ -5,7 +5,7 @@ use Rattle.std.specs.List.{AllByRecursion}
 use Rattle.std.proofs.lemmas.Bool.{not-false}
 use Rattle.toll_base.specs.Bytes.{Bytes, same_bytes}
 use Rattle.toll_base.specs.Words.{count, or_else, is_some_where}
-use Rattle.toll_base.specs.Command.{Action, Record, Void}
+use Rattle.toll_base.specs.Command.{Action, Record, Void, by}
 use Rattle.toll_base.specs.History.{History, acts}
 use Rattle.toll_base.specs.Movements.{Movement, has_key, movement_of, movements, voided_in}
 use Rattle.toll_base.specs.Verdict.{Accepted, IsLawful, IsValid, verdict, is_actual}
@@ -14,7 +14,7 @@ use Rattle.toll_base.specs.declared.rows.MoveRow.{MoveRow}
 use Rattle.toll_base.proofs.Bools.{both, and_is}
 use Rattle.toll_base.proofs.Texts.{same_bytes-exact, same_bytes-refl}
 use Rattle.toll_base.proofs.Options.{not_both}
-use Rattle.toll_base.proofs.Passed.{by, accepted_passes}
+use Rattle.toll_base.proofs.Passed.{accepted_passes}
 use Rattle.toll_base.proofs.Acts.{along_acts}
 use Rattle.toll_base.proofs.Found.{movement_of-recorded, movement_of-kept, key_is_new}
 use Rattle.toll_base.proofs.EachMove.{each_move}

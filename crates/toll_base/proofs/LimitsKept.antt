@@ -7,7 +7,7 @@ use Rattle.toll_base.specs.Bytes.{Bytes, same_bytes}
 use Rattle.toll_base.specs.Values.{house_name}
 use Rattle.toll_base.specs.Words.{count, is_some_where}
 use Rattle.toll_base.specs.SliceRules.{is_actual_of}
-use Rattle.toll_base.specs.Command.{Action, AddOwner, AddUnit, AddMaterial, AddTest, AddRecipe, Require, PlaceOrder, Record, RecordResult}
+use Rattle.toll_base.specs.Command.{Action, AddOwner, AddUnit, AddMaterial, AddTest, AddRecipe, Require, PlaceOrder, Record, RecordResult, by}
 use Rattle.toll_base.specs.History.{History, acts, adds_owner, count_owners, adds_some_unit, count_units}
 use Rattle.toll_base.specs.Work.{material_added, test_added, recipe_added, required, order_placed}
 use Rattle.toll_base.specs.Movements.{lot_id, movement_recorded, movements, count_movements, count_actuals_of, first_made, lot_made, makes_lot, makes_sublot, count_lots, count_sublots}
@@ -20,7 +20,7 @@ use Rattle.toll_base.specs.declared.rows.Move.{Move}
 use Rattle.toll_base.specs.declared.rows.Move.TheVariants.{Receive, Split, Ship, Scrap, Actual}
 use Rattle.toll_base.proofs.Bools.{both}
 use Rattle.toll_base.proofs.Texts.{same_bytes-exact, nat_eq-exact, same_bytes-symm}
-use Rattle.toll_base.proofs.Passed.{by, accepted_passes, MoveFits, move_fits}
+use Rattle.toll_base.proofs.Passed.{accepted_passes, MoveFits, move_fits}
 use Rattle.toll_base.proofs.Acts.{along_acts, count_acts}
 use Rattle.toll_base.proofs.Moving.{crosses_not, lot_row_none}
 

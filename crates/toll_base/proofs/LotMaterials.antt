@@ -7,7 +7,7 @@ use Rattle.toll_base.specs.Bytes.{Bytes, same_bytes, bytes_cmp}
 use Rattle.toll_base.specs.Words.{or_else, where_so}
 use Rattle.toll_base.specs.Keys.{RequirementKey}
 use Rattle.toll_base.specs.Roles.{role_cmp}
-use Rattle.toll_base.specs.Command.{Action, Require, Record, Command}
+use Rattle.toll_base.specs.Command.{Action, Require, Record, Command, by}
 use Rattle.toll_base.specs.History.{History, acts}
 use Rattle.toll_base.specs.Work.{material_of, requirement_of, required, same_requirement}
 use Rattle.toll_base.specs.Movements.{lot_id, same_lot, Made, made_by, lot_made}
@@ -23,7 +23,7 @@ use Rattle.toll_base.specs.declared.rows.Move.TheVariants.{Receive, Actual}
 use Rattle.toll_base.proofs.Bools.{both}
 use Rattle.toll_base.proofs.Texts.{same_bytes-exact, is_eq-then}
 use Rattle.toll_base.proofs.Options.{some_of, some_second, or_none}
-use Rattle.toll_base.proofs.Passed.{by, accepted_passes, MoveFits, move_fits}
+use Rattle.toll_base.proofs.Passed.{accepted_passes, MoveFits, move_fits}
 use Rattle.toll_base.proofs.Acts.{first_acts}
 use Rattle.toll_base.proofs.Moving.{same_lot-exact, tables_for_are}
 use Rattle.toll_base.proofs.Lots.{made_in, lot_made-cons}

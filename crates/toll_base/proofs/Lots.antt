@@ -4,7 +4,7 @@ use mathlib.Core.Bool.{false≢true}
 use Rattle.std.proofs.lemmas.Bool.{or_cases, or_right}
 use Rattle.toll_base.specs.Bytes.{Bytes}
 use Rattle.toll_base.specs.Words.{or_else}
-use Rattle.toll_base.specs.Command.{Action, Record}
+use Rattle.toll_base.specs.Command.{Action, Record, by}
 use Rattle.toll_base.specs.History.{History}
 use Rattle.toll_base.specs.Movements.{lot_id, same_lot, movement_recorded, brings_into, sublot_known, Made, made_by, lot_made}
 use Rattle.toll_base.specs.Tables.{lot_row}
@@ -15,7 +15,7 @@ use Rattle.toll_base.specs.declared.rows.Move.{Move}
 use Rattle.toll_base.specs.declared.rows.Move.TheVariants.{Receive, Split, Ship, Scrap, Actual}
 use Rattle.toll_base.proofs.Bools.{both}
 use Rattle.toll_base.proofs.Options.{some_of, some_first, some_second, some_where, or_else_none}
-use Rattle.toll_base.proofs.Passed.{by, MoveFits, move_fits}
+use Rattle.toll_base.proofs.Passed.{MoveFits, move_fits}
 use Rattle.toll_base.proofs.Moving.{same_lot-exact, lot_row_none}
 
 -- ---- one command more

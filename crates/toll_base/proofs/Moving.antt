@@ -7,7 +7,7 @@ use Rattle.std.proofs.lemmas.Bool.Decides.{nat_tests}
 use Rattle.toll_base.specs.Bytes.{Bytes, same_bytes}
 use Rattle.toll_base.specs.Values.{house_name}
 use Rattle.toll_base.specs.Words.{total, where_so, is_some_where}
-use Rattle.toll_base.specs.Command.{Action, Record, Void}
+use Rattle.toll_base.specs.Command.{Action, Record, Void, by}
 use Rattle.toll_base.specs.History.{History, acts}
 use Rattle.toll_base.specs.Movements.{lot_id, same_lot, has_key, movement_of, standing, brings_into, takes_from, brought, stock, sublot_known, lot_made, voided_in}
 use Rattle.toll_base.specs.Tables.{Tables, tables_given, lot_row, sublot_row}
@@ -22,7 +22,7 @@ use Rattle.toll_base.specs.declared.rows.Move.TheVariants.{Receive, Split, Ship,
 use Rattle.toll_base.proofs.Bools.{both}
 use Rattle.toll_base.proofs.Texts.{same_bytes-exact}
 use Rattle.toll_base.proofs.Options.{map_none, true_where}
-use Rattle.toll_base.proofs.Passed.{by, MoveFits, accepted_passes}
+use Rattle.toll_base.proofs.Passed.{MoveFits, accepted_passes}
 
 pub same_lot-exact : (a b : LotId) → same_lot a b ≡ true → a ≡ b
 same_lot-exact a b h = let parts = both (same_bytes a.owner b.owner) (same_bytes a.lot b.lot) h in

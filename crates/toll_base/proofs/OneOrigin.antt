@@ -7,7 +7,7 @@ use Rattle.std.proofs.lemmas.Bool.{not-false}
 use Rattle.std.proofs.lemmas.Option.{cond_some}
 use Rattle.toll_base.specs.Bytes.{Bytes, same_bytes}
 use Rattle.toll_base.specs.Words.{or_else, is_some_where}
-use Rattle.toll_base.specs.Command.{Record}
+use Rattle.toll_base.specs.Command.{Record, by}
 use Rattle.toll_base.specs.History.{History, acts}
 use Rattle.toll_base.specs.Movements.{lot_id, same_lot, movements, Made, made_by, lot_made}
 use Rattle.toll_base.specs.Dispositions.{disposition_of}
@@ -24,7 +24,7 @@ use Rattle.toll_base.specs.declared.rows.Move.{Move}
 use Rattle.toll_base.specs.declared.rows.Move.TheVariants.{Receive, Actual}
 use Rattle.toll_base.proofs.Bools.{both}
 use Rattle.toll_base.proofs.Texts.{same_bytes-exact, nat_eq-exact}
-use Rattle.toll_base.proofs.Passed.{by, MoveFits, move_fits}
+use Rattle.toll_base.proofs.Passed.{MoveFits, move_fits}
 use Rattle.toll_base.proofs.EachMove.{each_move}
 use Rattle.toll_base.proofs.Moving.{same_lot-exact, crosses_not}
 use Rattle.toll_base.proofs.Lots.{lot_made-cons, made_stays}

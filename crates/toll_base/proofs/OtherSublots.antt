@@ -4,7 +4,7 @@ use mathlib.Core.Bool.{false≢true}
 use Rattle.std.proofs.lemmas.Bool.{false_from_ne_true}
 use Rattle.toll_base.specs.Bytes.{Bytes, same_bytes}
 use Rattle.toll_base.specs.Words.{where_so, is_some_where}
-use Rattle.toll_base.specs.Command.{Action, Record, Void}
+use Rattle.toll_base.specs.Command.{Action, Record, Void, by}
 use Rattle.toll_base.specs.History.{History}
 use Rattle.toll_base.specs.Movements.{lot_id, brings_into, takes_from, stock, sublot_known}
 use Rattle.toll_base.specs.Tables.{sublot_row}
@@ -13,7 +13,7 @@ use Rattle.toll_base.specs.Laws.{is_taken_in}
 use Rattle.toll_base.specs.declared.rows.MoveRow.{MoveRow}
 use Rattle.toll_base.specs.declared.rows.Move.{Move}
 use Rattle.toll_base.proofs.Texts.{same_bytes-refl}
-use Rattle.toll_base.proofs.Passed.{by, MoveFits, move_fits}
+use Rattle.toll_base.proofs.Passed.{MoveFits, move_fits}
 use Rattle.toll_base.proofs.Moving.{brings_own, Voidable, void_passes}
 use Rattle.toll_base.proofs.Owned.{found_brings_own}
 use Rattle.toll_base.proofs.StockChanges.{stock-recorded, stock-voided}

@@ -3,13 +3,13 @@ use Rattle.std.proofs.Common.{◌≡◌, true, Some, ◌∷◌}
 use Rattle.std.specs.List.{AllByRecursion}
 use Rattle.std.proofs.lemmas.Bool.{or_left}
 use Rattle.toll_base.specs.Bytes.{Bytes}
-use Rattle.toll_base.specs.Command.{Action, Record}
+use Rattle.toll_base.specs.Command.{Action, Record, by}
 use Rattle.toll_base.specs.History.{History, acts}
 use Rattle.toll_base.specs.Movements.{Movement, movement_of, movements, brings_into, sublot_known}
 use Rattle.toll_base.specs.Verdict.{Accepted, IsLawful, verdict}
 use Rattle.toll_base.specs.declared.lot.LotId.{LotId}
 use Rattle.toll_base.specs.declared.rows.MoveRow.{MoveRow}
-use Rattle.toll_base.proofs.Passed.{by, move_fits}
+use Rattle.toll_base.proofs.Passed.{move_fits}
 use Rattle.toll_base.proofs.EachMove.{each_move, of_found}
 use Rattle.toll_base.proofs.Moving.{brings_own, takes_known, takes_own}
 use Rattle.toll_base.proofs.Lots.{sublot_stays}

@@ -2,16 +2,13 @@
 use Rattle.std.proofs.Common.{◌≡◌, ℕ, suc, false}
 use Rattle.toll_base.specs.Bytes.{Bytes}
 use Rattle.toll_base.specs.Values.{house_name}
-use Rattle.toll_base.specs.Command.{Action, Record, Command}
+use Rattle.toll_base.specs.Command.{Action, Record, Command, by}
 use Rattle.toll_base.specs.History.{History}
 use Rattle.toll_base.specs.Tables.{tables_given}
 use Rattle.toll_base.specs.Verdict.{Accepted, verdict, checks, plant_given, action_checks, movement_checks}
 use Rattle.toll_base.specs.declared.rows.MoveRow.{MoveRow}
 use Rattle.toll_base.specs.declared.rows.Move.{Move}
 use Rattle.toll_base.proofs.Accepted.{applies, none_applies}
-
-abbrev pub by : Bytes → Action → Command
-by o a = record { owner = o; action = a }
 
 -- none of an accepted action's checks applies
 pub accepted_passes : (H : History) (o : Bytes) (a : Action) → verdict H (by o a) ≡ Accepted → (n : ℕ) → applies (action_checks (plant_given H) o (tables_given H o) (tables_given H house_name) a) n ≡ false

@@ -3,14 +3,14 @@ use Rattle.std.proofs.Common.{◌≡◌, ℕ, ◌+◌, Bool, true, false, not, �
 use Rattle.std.proofs.lemmas.Bool.{or_parts}
 use Rattle.toll_base.specs.Bytes.{Bytes, same_bytes}
 use Rattle.toll_base.specs.Words.{total}
-use Rattle.toll_base.specs.Command.{Action, Record, Void}
+use Rattle.toll_base.specs.Command.{Action, Record, Void, by}
 use Rattle.toll_base.specs.History.{History, acts}
 use Rattle.toll_base.specs.Movements.{Movement, has_key, movement_of, movement_recorded, standing, voided_in, voids_key}
 use Rattle.toll_base.specs.Verdict.{Accepted, IsLawful, verdict}
 use Rattle.toll_base.specs.declared.rows.MoveRow.{MoveRow}
 use Rattle.toll_base.proofs.Bools.{both}
 use Rattle.toll_base.proofs.Texts.{same_bytes-exact}
-use Rattle.toll_base.proofs.Passed.{by}
+
 use Rattle.toll_base.proofs.Acts.{any_acts}
 use Rattle.toll_base.proofs.Found.{movement_of-recorded, movement_of-kept, key_found, key_is_new}
 

@@ -3,14 +3,14 @@ use Rattle.std.proofs.Common.{◌≡◌, ℕ, ◌+◌, ◌-◌, ◌*◌, ◌≤�
 use mathlib.Core.Bool.{false≢true}
 use Rattle.std.proofs.lemmas.Bool.{and_from}
 use Rattle.toll_base.specs.Bytes.{Bytes, same_bytes}
-use Rattle.toll_base.specs.Command.{Action, Record, Void}
+use Rattle.toll_base.specs.Command.{Action, Record, Void, by}
 use Rattle.toll_base.specs.History.{History, acts}
 use Rattle.toll_base.specs.Movements.{movement_recorded, count_movements, brings_into, takes_from, brought, taken, stock}
 use Rattle.toll_base.specs.Verdict.{Accepted, IsLawful, IsValid, verdict}
 use Rattle.toll_base.specs.declared.lot.LotId.{LotId}
 use Rattle.toll_base.specs.declared.rows.MoveRow.{MoveRow}
 use Rattle.toll_base.proofs.Texts.{same_bytes-refl}
-use Rattle.toll_base.proofs.Passed.{by, move_fits}
+use Rattle.toll_base.proofs.Passed.{move_fits}
 use Rattle.toll_base.proofs.Acts.{count_acts}
 use Rattle.toll_base.proofs.LimitsKept.{movements_kept}
 use Rattle.toll_base.proofs.StandsOnce.{total_voided}

@@ -1,14 +1,14 @@
 -- What a sublot holds after a movement is recorded or voided.
 use Rattle.std.proofs.Common.{◌≡◌, ℕ, ◌+◌, ◌-◌, ◌≤◌, false, cond, Some, ◌∷◌, arith}
 use Rattle.toll_base.specs.Bytes.{Bytes}
-use Rattle.toll_base.specs.Command.{Record, Void}
+use Rattle.toll_base.specs.Command.{Record, Void, by}
 use Rattle.toll_base.specs.History.{History, acts}
 use Rattle.toll_base.specs.Movements.{movement_of, voided_in, brings_into, takes_from, brought, taken, stock}
 use Rattle.toll_base.specs.Verdict.{IsLawful}
 use Rattle.toll_base.specs.Laws.{coming, going}
 use Rattle.toll_base.specs.declared.lot.LotId.{LotId}
 use Rattle.toll_base.specs.declared.rows.MoveRow.{MoveRow}
-use Rattle.toll_base.proofs.Passed.{by}
+
 use Rattle.toll_base.proofs.StandsOnce.{total_voided}
 use Rattle.toll_base.proofs.Stock.{covered}
 

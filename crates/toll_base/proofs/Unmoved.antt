@@ -2,11 +2,11 @@
 use Rattle.std.proofs.Common.{◌≡◌, false, refl, sym}
 use mathlib.Core.Bool.{false≢true}
 use Rattle.toll_base.specs.Bytes.{Bytes}
-use Rattle.toll_base.specs.Command.{Action, Record, Void}
+use Rattle.toll_base.specs.Command.{Action, Record, Void, by}
 use Rattle.toll_base.specs.History.{History}
 use Rattle.toll_base.specs.Movements.{stock, sublot_known, lot_made, count_lots, count_sublots, material_used}
 use Rattle.toll_base.specs.Laws.{records_or_voids, IsUnmoved}
-use Rattle.toll_base.proofs.Passed.{by}
+
 
 pub unmoved : (H : History) (o : Bytes) (a : Action) → records_or_voids a ≡ false → IsUnmoved H (by o a)
 unfolding stock sublot_known lot_made count_lots count_sublots material_used

@@ -5,7 +5,7 @@ use Rattle.std.specs.List.{list_any}
 use Rattle.std.proofs.lemmas.Bool.{or_parts, or_from, and_right, false_from_ne_true}
 use Rattle.toll_base.specs.Bytes.{Bytes, same_bytes}
 use Rattle.toll_base.specs.Words.{count}
-use Rattle.toll_base.specs.Command.{Action, RecordResult, Release, Reject}
+use Rattle.toll_base.specs.Command.{Action, RecordResult, Release, Reject, by}
 use Rattle.toll_base.specs.History.{History, acts}
 use Rattle.toll_base.specs.Movements.{lot_id, lot_made}
 use Rattle.toll_base.specs.Tables.{lot_row}
@@ -16,7 +16,7 @@ use Rattle.toll_base.specs.declared.lot.Disposition.TheVariants.{Quarantined}
 use Rattle.toll_base.proofs.Bools.{both}
 use Rattle.toll_base.proofs.Texts.{same_bytes-exact}
 use Rattle.toll_base.proofs.Options.{first_none}
-use Rattle.toll_base.proofs.Passed.{by, accepted_passes}
+use Rattle.toll_base.proofs.Passed.{accepted_passes}
 use Rattle.toll_base.proofs.Acts.{any_acts}
 use Rattle.toll_base.proofs.Moving.{lot_row_none}
 use Rattle.toll_base.proofs.Lots.{lot_made-cons}

@@ -31,3 +31,7 @@ pub data Action : Type 0 where
 pub record Command : Type 0 where
   pub owner : Bytes
   pub action : Action
+
+-- this owner's command
+abbrev pub by : Bytes → Action → Command
+by o action = record { owner = o; action = action }

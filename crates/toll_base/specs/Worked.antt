@@ -2,7 +2,7 @@
 use Rattle.std.specs.Prelude.{ℕ, ℤ, pos, negsuc, Bool, true, false, List, [], ◌∷◌, codes}
 use Rattle.toll_base.specs.Bytes.{Bytes}
 use Rattle.toll_base.specs.Values.{house_name}
-use Rattle.toll_base.specs.Command.{Action, AddOwner, AddUnit, AddMaterial, AddTest, AddRecipe, Require, PlaceOrder, CancelOrder, OpenBatch, CommandBatch, CloseBatch, Record, RecordResult, Release, Reject, Void, Command}
+use Rattle.toll_base.specs.Command.{Action, AddOwner, AddUnit, AddMaterial, AddTest, AddRecipe, Require, PlaceOrder, CancelOrder, OpenBatch, CommandBatch, CloseBatch, Record, RecordResult, Release, Reject, Void, Command, by}
 use Rattle.toll_base.specs.History.{History}
 use Rattle.toll_base.specs.Movements.{lot_id}
 use Rattle.toll_base.specs.Verdict.{Verdict, Accepted, verdict, grow}
@@ -33,9 +33,6 @@ acme = codes "ACME"
 
 abbrev pub bolt : Bytes
 bolt = codes "BOLT"
-
-abbrev pub by : Bytes → Action → Command
-by o a = record { owner = o; action = a }
 
 abbrev pub material : Bytes → Bytes → Command
 material o m = by o (AddMaterial (record { material = m; measure = codes "kg" }))

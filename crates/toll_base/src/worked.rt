@@ -3,13 +3,13 @@
 
 ghost use Rattle.std.specs.Prelude.{◌≡◌, pos, negsuc, [], ◌∷◌, codes, Some, None};
 ghost use Rattle.toll_base.specs.Values.{house_name};
-ghost use Rattle.toll_base.specs.Command.{AddOwner, AddUnit, AddRecipe, AddTest, PlaceOrder, CancelOrder, OpenBatch, CommandBatch, CloseBatch, RecordResult, Release, Reject, Void};
+ghost use Rattle.toll_base.specs.Command.{AddOwner, AddUnit, AddRecipe, AddTest, PlaceOrder, CancelOrder, OpenBatch, CommandBatch, CloseBatch, RecordResult, Release, Reject, Void, by};
 ghost use Rattle.toll_base.specs.History.{acts};
 ghost use Rattle.toll_base.specs.Work.{state_of, batch_of};
 ghost use Rattle.toll_base.specs.Movements.{lot_id, stock};
 ghost use Rattle.toll_base.specs.Dispositions.{disposition_of};
 ghost use Rattle.toll_base.specs.Verdict.{Accepted, Repeated, Refused};
-ghost use Rattle.toll_base.specs.Worked.{after, verdicts, all_accepted, states, acme, bolt, by, material, require, receives, moves, actual, setup_one, setup_two, one_batch, one_product, with_two_actuals};
+ghost use Rattle.toll_base.specs.Worked.{after, verdicts, all_accepted, states, acme, bolt, material, require, receives, moves, actual, setup_one, setup_two, one_batch, one_product, with_two_actuals};
 ghost use Rattle.toll_base.specs.declared.refusal.Refusal.TheVariants.{UnknownOwner, OwnerExists, UnitExists, UnitBusy, MaterialInUse, UnknownRecipe, RecipeInUse, OrderCancelled, OrderStarted, NoMoreBatches, BadState, BatchClosed, UnknownLot, NotReleased, NotEnough, SameSublot, KeyConflict, TestsOpen, CrossOwner, UnknownKey, Voided, Rejected as WasRejected};
 ghost use Rattle.toll_base.specs.declared.role.Role.TheVariants.{Consumed, Produced};
 ghost use Rattle.toll_base.specs.declared.rows.Move.TheVariants.{Receive, Split, Ship, Scrap};

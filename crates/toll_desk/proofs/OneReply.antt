@@ -6,7 +6,7 @@ use Rattle.std.specs.declared.cmp.Ordering.{Ordering}
 use Rattle.toll_base.specs.Bytes.{Bytes, bytes_cmp}
 use Rattle.toll_base.specs.Values.{house_name}
 use Rattle.toll_base.specs.Keys.{RequirementKey, requirement_cmp, result_cmp, pair_cmp}
-use Rattle.toll_base.specs.Command.{Action, PlaceOrder, CancelOrder, Release, Reject}
+use Rattle.toll_base.specs.Command.{Action, PlaceOrder, CancelOrder, Release, Reject, by}
 use Rattle.toll_base.specs.History.{History, acts}
 use Rattle.toll_base.specs.Work.{order_of, batch_of}
 use Rattle.toll_base.specs.Movements.{lot_id}
@@ -25,7 +25,7 @@ use Rattle.toll_trace.specs.declared.way.Way.TheVariants.{Back, Forward}
 use Rattle.toll_desk.specs.Given.{AreRowsGiven}
 use Rattle.toll_desk.specs.Told.{Asked, AskOrders, AskOrder, AskPlace, AskCancel, AskBatch, AskStock, AskLot, AskRelease, AskReject, AskBack, AskForward, AskHouseForward, RequirementLine, StockLine, Told, TellOrders, TellBatch, TellStock, TellLot, TellTrace}
 use Rattle.toll_desk.specs.Edges.{IsOwnJoined}
-use Rattle.toll_desk.specs.Replies.{has_key, stock_line, line_of, results_of_lot, sublots_of_lot, measure_of, AreOrdersTold, IsStockTold, IsBatchTold, IsLotTold, IsTraceTold, IsOrderOr, IsLotOr, IsBatchOr, IsTraceOr, has_consumed, IsWritten, by, IsOrderAfter, IsLotAfter, IsAnswer, IsReply}
+use Rattle.toll_desk.specs.Replies.{has_key, stock_line, line_of, results_of_lot, sublots_of_lot, measure_of, AreOrdersTold, IsStockTold, IsBatchTold, IsLotTold, IsTraceTold, IsOrderOr, IsLotOr, IsBatchOr, IsTraceOr, has_consumed, IsWritten, IsOrderAfter, IsLotAfter, IsAnswer, IsReply}
 
 -- a fact of replies that one reply at most meets
 abbrev pub IsOne : (Told → Type 0) → Type 0

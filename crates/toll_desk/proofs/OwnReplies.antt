@@ -5,7 +5,7 @@ use Rattle.std.specs.Option.{option_map, option_map_or, option_and_then}
 use Rattle.toll_base.specs.Bytes.{Bytes, same_bytes}
 use Rattle.toll_base.specs.Values.{house_name}
 use Rattle.toll_base.specs.Words.{where_so, is_some_where}
-use Rattle.toll_base.specs.Command.{Action, PlaceOrder, CancelOrder, Release, Reject, Command}
+use Rattle.toll_base.specs.Command.{Action, PlaceOrder, CancelOrder, Release, Reject, Command, by}
 use Rattle.toll_base.specs.History.{History, part, acts, owner_known, owner_key, adds_owner}
 use Rattle.toll_base.specs.Work.{material_of, order_of, batch_of, requirement_of}
 use Rattle.toll_base.specs.Movements.{lot_id}
@@ -23,7 +23,7 @@ use Rattle.toll_trace.specs.declared.way.Way.TheVariants.{Back, Forward}
 use Rattle.toll_desk.specs.Given.{on_hand, actual_of}
 use Rattle.toll_desk.specs.Told.{Asked, AskOrders, AskOrder, AskPlace, AskCancel, AskBatch, AskStock, AskLot, AskRelease, AskReject, AskBack, AskForward, AskHouseForward, Told, TellRefused, TellForbidden}
 use Rattle.toll_desk.specs.Edges.{IsOwnJoined}
-use Rattle.toll_desk.specs.Replies.{has_key, measure_of, stock_line, line_of, results_of_lot, sublots_of_lot, AreOrdersTold, IsStockTold, IsBatchTold, IsLotTold, IsOrderOr, IsLotOr, IsBatchOr, IsTraceOr, has_consumed, IsWritten, by, IsOrderAfter, IsLotAfter, IsAnswer, IsReply, after_answer, after_reply}
+use Rattle.toll_desk.specs.Replies.{has_key, measure_of, stock_line, line_of, results_of_lot, sublots_of_lot, AreOrdersTold, IsStockTold, IsBatchTold, IsLotTold, IsOrderOr, IsLotOr, IsBatchOr, IsTraceOr, has_consumed, IsWritten, IsOrderAfter, IsLotAfter, IsAnswer, IsReply, after_answer, after_reply}
 use Rattle.toll_desk.proofs.OwnAmounts.{on_hand-part, actual_of-part}
 
 -- a lawful history stays so

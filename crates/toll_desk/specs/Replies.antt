@@ -6,7 +6,7 @@ use Rattle.toll_base.specs.Bytes.{Bytes, same_bytes, bytes_cmp}
 use Rattle.toll_base.specs.Values.{house_name}
 use Rattle.toll_base.specs.Words.{is_some_where, where_so}
 use Rattle.toll_base.specs.Keys.{RequirementKey, requirement_cmp, result_cmp, pair_cmp}
-use Rattle.toll_base.specs.Command.{Action, PlaceOrder, CancelOrder, Release, Reject, Command}
+use Rattle.toll_base.specs.Command.{Action, PlaceOrder, CancelOrder, Release, Reject, Command, by}
 use Rattle.toll_base.specs.History.{History, acts, owner_key}
 use Rattle.toll_base.specs.Work.{material_of, order_of, batch_of, requirement_of}
 use Rattle.toll_base.specs.Movements.{lot_id, same_lot, movement_recorded, voided_in}
@@ -123,9 +123,6 @@ has_consumed own lot = list_any (λ a. is_some_where (λ row. consumes_lot lot r
 abbrev pub IsWritten : Verdict → Type 0 → Told → Type 0
 IsWritten (Refused why) left r = r ≡ TellRefused why
 IsWritten _ left r = left
-
-abbrev pub by : Bytes → Action → Command
-by o action = record { owner = o; action = action }
 
 -- an order after a command about it, and a lot
 abbrev pub IsOrderAfter : History → Bytes → Action → Bytes → Told → Type 0
