@@ -2,8 +2,8 @@
 use Rattle.std.specs.Prelude.{◌≡◌, Option, Some, None}
 use Rattle.toll_base.specs.Bytes.{Bytes}
 use Rattle.toll_wire.specs.ReplyTexts.{unavailable_text}
-use Rattle.toll_wire.specs.declared.out.Out.{Out}
-use Rattle.toll_wire.specs.declared.out.Out.TheVariants.{Text, Unavailable}
+use Rattle.toll_wire.specs.declared.outgoing.Out.{Out}
+use Rattle.toll_wire.specs.declared.outgoing.Out.TheVariants.{Text, Unavailable}
 
 -- the bytes of a reply
 abbrev pub out_bytes : Out → Bytes

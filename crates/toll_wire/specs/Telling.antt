@@ -5,8 +5,8 @@ use Rattle.toll_desk.specs.declared.request.Reply.{Reply}
 use Rattle.toll_wire.specs.declared.failure.Failure.TheVariants.{Forbidden}
 use Rattle.toll_wire.specs.declared.asked.Asks.{Asks}
 use Rattle.toll_wire.specs.declared.asked.Asks.TheVariants.{Failing, For}
-use Rattle.toll_wire.specs.declared.out.Out.{Out}
-use Rattle.toll_wire.specs.declared.out.Out.TheVariants.{Text, Unavailable}
+use Rattle.toll_wire.specs.declared.outgoing.Out.{Out}
+use Rattle.toll_wire.specs.declared.outgoing.Out.TheVariants.{Text, Unavailable}
 use Rattle.toll_wire.specs.declared.event.Event.{Event}
 use Rattle.toll_wire.specs.declared.event.Event.TheVariants.{Owner, Plant as Command}
 use Rattle.toll_wire.specs.declared.event.Answer.{Answer}

@@ -5,7 +5,7 @@ ghost use Rattle.toll_wire.specs.Telling.{AnswersBytes, MayBeServed, Tells};
 
 use crate::asked::{Asked, Asks, read};
 use crate::failure::Failure;
-use crate::out::Out;
+use crate::outgoing::Out;
 use crate::reply::{fail, tell};
 use std::alloc::Global;
 use toll_base::Change;

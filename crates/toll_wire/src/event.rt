@@ -1,5 +1,5 @@
 //! Events, and the answers to them.
-use crate::out::Out;
+use crate::outgoing::Out;
 use toll_desk::{PlantCmd, PlantReply};
 
 /// What comes to the office.

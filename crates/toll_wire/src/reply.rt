@@ -6,7 +6,7 @@ ghost use Rattle.toll_wire.specs.ReplyTexts.{allow_line, content_type, failure_b
 ghost use Rattle.toll_wire.specs.OutTexts.{IsText};
 
 use crate::failure::Failure;
-use crate::out::Out;
+use crate::outgoing::Out;
 use crate::reply_body::{error_body, order_body, orders_body, refusal_body};
 use crate::verb::Verb;
 use http::StatusCode;
