@@ -8,7 +8,6 @@ use Rattle.toll_base.specs.History.{History, acts}
 use Rattle.toll_base.specs.Verdict.{Accepted, verdict, IsValid, IsLawful}
 use Rattle.toll_base.proofs.Texts.{same_bytes-exact}
 
-
 map-cond : {X Y : Type 0} (f : X → Y) (b : Bool) (x : X) (xs : List X) → map f (cond b (x ∷ xs) xs) ≡ cond b (f x ∷ map f xs) (map f xs)
 map-cond f true x xs = refl
 map-cond f false x xs = refl

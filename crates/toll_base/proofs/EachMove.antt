@@ -9,7 +9,6 @@ use Rattle.toll_base.specs.Verdict.{Accepted, IsLawful, IsValid, verdict}
 use Rattle.toll_base.specs.declared.rows.MoveRow.{MoveRow}
 use Rattle.toll_base.proofs.Bools.{both}
 use Rattle.toll_base.proofs.Texts.{same_bytes-exact}
-
 use Rattle.toll_base.proofs.Found.{movement_of-recorded, movement_of-kept}
 
 weaker : {X : Type 0} (P R : X → Type 0) → ((x : X) → P x → R x) → (xs : List X) → AllByRecursion P xs → AllByRecursion R xs

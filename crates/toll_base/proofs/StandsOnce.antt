@@ -10,7 +10,6 @@ use Rattle.toll_base.specs.Verdict.{Accepted, IsLawful, verdict}
 use Rattle.toll_base.specs.declared.rows.MoveRow.{MoveRow}
 use Rattle.toll_base.proofs.Bools.{both}
 use Rattle.toll_base.proofs.Texts.{same_bytes-exact}
-
 use Rattle.toll_base.proofs.Acts.{any_acts}
 use Rattle.toll_base.proofs.Found.{movement_of-recorded, movement_of-kept, key_found, key_is_new}
 

@@ -8,7 +8,6 @@ use Rattle.toll_base.specs.Verdict.{IsLawful}
 use Rattle.toll_base.specs.Laws.{coming, going}
 use Rattle.toll_base.specs.declared.lot.LotId.{LotId}
 use Rattle.toll_base.specs.declared.rows.MoveRow.{MoveRow}
-
 use Rattle.toll_base.proofs.StandsOnce.{total_voided}
 use Rattle.toll_base.proofs.Stock.{covered}
 

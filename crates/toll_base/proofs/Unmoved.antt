@@ -7,7 +7,6 @@ use Rattle.toll_base.specs.History.{History}
 use Rattle.toll_base.specs.Movements.{stock, sublot_known, lot_made, count_lots, count_sublots, material_used}
 use Rattle.toll_base.specs.Laws.{records_or_voids, IsUnmoved}
 
-
 pub unmoved : (H : History) (o : Bytes) (a : Action) → records_or_voids a ≡ false → IsUnmoved H (by o a)
 unfolding stock sublot_known lot_made count_lots count_sublots material_used
 unmoved H o (Record row) none = absurd (false≢true (sym none))
