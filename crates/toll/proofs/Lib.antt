@@ -1,0 +1,4 @@
+pub mod StreamLemmas
+pub mod PieceLemmas
+pub mod LineLemmas
+pub mod RequestLemmas

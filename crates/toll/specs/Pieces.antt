@@ -1,0 +1,11 @@
+-- The pieces of a text.
+use Rattle.std.specs.Prelude.{ℕ, Bool, ◌==◌, List, length}
+use Rattle.std.specs.List.{slice_split}
+use Rattle.toll_base.specs.Bytes.{Bytes}
+
+-- what stands before, between and behind the bytes of this kind
+abbrev pub pieces_at : ℕ → Bytes → List Bytes
+pieces_at byte text = slice_split (λ b. b == byte) text
+
+abbrev pub is_empty : Bytes → Bool
+is_empty text = length text == 0

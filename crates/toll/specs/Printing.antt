@@ -1,0 +1,58 @@
+-- What a script prints of the answers.
+use Rattle.std.specs.Prelude.{ℕ, List, [], ◌∷◌, ◌++◌, take, drop, codes, decimal, flat_map, nat_eq, if◌then◌else◌}
+use Rattle.std.specs.List.{starts_with}
+use Rattle.toll_base.specs.Bytes.{Bytes}
+use Rattle.toll_base.specs.Refusal.{code_of, title_of}
+use Rattle.toll_base.specs.declared.refusal.Refusal.{Refusal}
+use Rattle.toll_desk.specs.declared.plant_cmd.PlantReply.{PlantReply}
+use Rattle.toll_desk.specs.declared.plant_cmd.PlantReply.TheVariants as plant
+use Rattle.toll_keep.specs.declared.fault.KeepFault.{KeepFault}
+use Rattle.toll_keep.specs.declared.fault.KeepFault.TheVariants.{Memory, Disk, Damaged, Closed}
+use Rattle.toll_wire.specs.OutTexts.{out_bytes}
+use Rattle.toll_wire.specs.declared.event.Answer.{Answer}
+use Rattle.toll_wire.specs.declared.event.Answer.TheVariants as answer
+
+-- the three digits behind `HTTP/1.1 `
+abbrev pub status_of : Bytes → Bytes
+status_of reply = take 3 (drop 9 reply)
+
+-- what stands behind the first empty line
+abbrev pub body_of : Bytes → Bytes
+body_of [] = []
+body_of (b ∷ rest) = if starts_with nat_eq (b ∷ rest) (codes "\r\n\r\n") then drop 4 (b ∷ rest) else body_of rest
+
+-- a space and the body, where there is one
+abbrev pub shown_body : Bytes → Bytes
+shown_body [] = []
+shown_body (b ∷ body) = codes " " ++ (b ∷ body)
+
+abbrev pub reply_line : Bytes → Bytes
+reply_line reply = status_of reply ++ (shown_body (body_of reply) ++ codes "\n")
+
+abbrev pub fault_name : KeepFault → Bytes
+fault_name Memory = codes "Memory"
+fault_name Disk = codes "Disk"
+fault_name Damaged = codes "Damaged"
+fault_name Closed = codes "Closed"
+
+abbrev pub refusal_line : Refusal → Bytes
+refusal_line refusal = codes "refused " ++ (decimal (code_of refusal) ++ (codes " " ++ (title_of refusal ++ codes "\n")))
+
+abbrev pub fault_line : KeepFault → Bytes
+fault_line fault = codes "fault " ++ (fault_name fault ++ codes "\n")
+
+-- a text is lines already
+abbrev pub plant_lines : PlantReply → Bytes
+plant_lines plant.Accepted = codes "accepted\n"
+plant_lines plant.Repeated = codes "repeated\n"
+plant_lines (plant.Refused refusal) = refusal_line refusal
+plant_lines (plant.Text lines) = lines.items
+plant_lines (plant.Fault fault) = fault_line fault
+
+abbrev pub answer_lines : Answer → Bytes
+answer_lines (answer.Bytes out) = reply_line (out_bytes out)
+answer_lines (answer.Plant reply) = plant_lines reply
+
+-- the lines of the answers, in order
+abbrev pub printed : List Answer → Bytes
+printed answers = flat_map answer_lines answers

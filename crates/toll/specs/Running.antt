@@ -1,0 +1,57 @@
+-- How a script ends.
+use Rattle.std.specs.Prelude.{◌≡◌, ◌<◌, ℕ, Bool, true, false, List, length, take, Option, Ok, Err}
+use Rattle.std.specs.Io.KnownBytes.{Appends}
+use Rattle.std.specs.List.{AllZip}
+use Rattle.toll_base.specs.Bytes.{Bytes}
+use Rattle.toll_wire.specs.Telling.{AnswersEvent}
+use Rattle.toll_wire.specs.declared.event.Answer.{Answer}
+use Rattle.toll_wire.specs.declared.event.Event.{Event}
+use Rattle.toll.specs.Asked.{deeds_of}
+use Rattle.toll.specs.Inputs.{IsWhole}
+use Rattle.toll.specs.Printing.{printed}
+use Rattle.toll.specs.Script.{script_deeds}
+use Rattle.toll.specs.declared.script.ScriptEnd.{ScriptEnd}
+use Rattle.toll.specs.declared.script.ScriptEnd.TheVariants.{Done, BadLine, TooLong, Memory, ReadFault, WriteFault}
+
+-- the input's events, in order, got these answers
+pub record Runs (input : Bytes) (answers : List Answer) : Type 0 where
+  pub events : List Event
+  pub asked : script_deeds input ≡ Ok (deeds_of events)
+  pub answered : AllZip AnswersEvent events answers
+
+-- a script that was read from one stream was run, and the lines of its answers went to another
+pub record IsRun (unread rest held now_held : Option Bytes) : Type 0 where
+  pub input : Bytes
+  pub whole : IsWhole unread rest input
+  pub answers : List Answer
+  pub runs : Runs input answers
+  pub written : Appends held now_held (printed answers)
+
+-- the same, but only a front of the lines went out
+pub record IsCutShort (unread rest held now_held : Option Bytes) : Type 0 where
+  pub input : Bytes
+  pub whole : IsWhole unread rest input
+  pub answers : List Answer
+  pub runs : Runs input answers
+  pub count : ℕ
+  pub short : count < length (printed answers)
+  pub written : Appends held now_held (take count (printed answers))
+
+-- the line of this number is the first of a script that is bad
+pub record HasBadLine (unread rest : Option Bytes) (number : ℕ) : Type 0 where
+  pub input : Bytes
+  pub whole : IsWhole unread rest input
+  pub bad : script_deeds input ≡ Err number
+
+-- ends at which nothing was written
+abbrev pub is_silent : ScriptEnd → Bool
+is_silent Done = false
+is_silent WriteFault = false
+is_silent _ = true
+
+-- ends at which nothing ran
+abbrev pub is_idle : ScriptEnd → Bool
+is_idle Done = false
+is_idle WriteFault = false
+is_idle Memory = false
+is_idle _ = true

@@ -1,0 +1,5 @@
+//! Scripts, and what they print.
+mod fakes;
+mod faults;
+mod lines;
+mod rows;
