@@ -4,3 +4,4 @@ pub mod OneReply
 pub mod OneAnswer
 pub mod OwnEdges
 pub mod Recalls
+pub mod SliceEdges

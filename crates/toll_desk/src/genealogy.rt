@@ -1,16 +1,26 @@
-//! Genealogy of the plant, cut to one owner's lots.
+//! Genealogy of an owner, and of the plant, cut to one owner's lots.
 ghost use Rattle.std.specs.Prelude.{◌≡◌, ◌↔◌, false, List, map, Contains};
 ghost use Rattle.toll_base.specs.Bytes.{Bytes, same_bytes};
 ghost use Rattle.toll_base.specs.Values.{house_name};
 ghost use Rattle.toll_base.specs.History.{History, acts};
+ghost use Rattle.toll_base.specs.Slice.{Slice};
+ghost use Rattle.toll_base.specs.Tables.{IsRowsOf};
 ghost use Rattle.toll_base.specs.Verdict.{IsLawful};
+ghost use Rattle.toll_base.specs.declared.lot.Edge.{Edge};
 ghost use Rattle.toll_base.specs.declared.lot.LotId.{LotId};
 ghost use Rattle.toll_trace.specs.declared.way.Way.{Way};
 ghost use Rattle.toll_trace.specs.declared.step.Step.{Step};
+ghost use Rattle.toll_trace.specs.Edges.{AreEdges, IsEdge};
 ghost use Rattle.toll_trace.specs.Trace.{IsTrace};
-ghost use Rattle.toll_desk.specs.Edges.{IsOwnJoined, IsPlantJoined};
+ghost use Rattle.toll_desk.specs.Edges.{IsOwnEdge, IsOwnJoined, IsPlantJoined};
 ghost use Rattle.toll_desk.specs.Joints.{AreJoints};
 ghost use Rattle.toll_desk.specs.PlantAnswers.{RecallLine, IsRecall};
+
+/// The edges of a slice, as `toll_trace::edges_of` gives them, are its owner's edges over every lawful
+/// history whose rows the slice has.
+pub fn edges_of_a_slice_are_the_owners()
+    ensures { (H : History) (s : Slice) (edges : List Edge) → IsLawful H → IsRowsOf H s → AreEdges (IsEdge s) edges → AreEdges (IsOwnEdge (acts s.owner H)) edges }
+{}
 
 /// The plant's trace from an owner's lot, back or forward, has at that owner's lots just the steps
 /// that the owner's own trace has there.

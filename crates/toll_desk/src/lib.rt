@@ -12,7 +12,8 @@ mod request;
 mod tests;
 
 pub use genealogy::{
-    plants_traces_within_an_owner_are_the_owners, recalls_within_an_owner_are_the_owners,
+    edges_of_a_slice_are_the_owners, plants_traces_within_an_owner_are_the_owners,
+    recalls_within_an_owner_are_the_owners,
 };
 pub use isolation::replies_come_from_the_owners_part;
 pub use owner::{admit, carry, owner_do, owner_plan};
