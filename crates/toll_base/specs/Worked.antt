@@ -1,5 +1,5 @@
 -- Histories that worked examples begin with, and what is judged along further commands.
-use Rattle.std.specs.Prelude.{ℕ, ℤ, pos, negsuc, Bool, true, false, List, [], ◌∷◌, codes}
+use Rattle.std.specs.Prelude.{ℕ, ℤ, pos, negsuc, Bool, true, false, List, [], ◌∷◌, ◌++◌, codes}
 use Rattle.toll_base.specs.Bytes.{Bytes}
 use Rattle.toll_base.specs.Values.{house_name}
 use Rattle.toll_base.specs.Command.{Action, AddOwner, AddUnit, AddMaterial, AddTest, AddRecipe, Require, PlaceOrder, CancelOrder, OpenBatch, CommandBatch, CloseBatch, Record, RecordResult, Release, Reject, Void, Command, by}
@@ -52,9 +52,9 @@ actual key segment role m lot sublot amount day = moves acme key (Actual (codes 
 
 -- ---- the setups
 
--- ACME's lot A of 100 kg is released, and batch 1 of its order O runs on unit U1
-abbrev pub setup_one : List Command
-setup_one =
+-- what is known before the first setup's material comes
+abbrev pub groundwork : List Command
+groundwork =
     by acme (AddOwner (codes "ACMEKEY1"))
     ∷ by bolt (AddOwner (codes "BOLTKEY1"))
     ∷ by house_name (AddUnit (codes "U1"))
@@ -63,12 +63,25 @@ setup_one =
     ∷ by acme (AddRecipe (record { recipe = codes "R"; segments = 2 }))
     ∷ require acme (codes "R") 1 Consumed acme (codes "M") 100
     ∷ require acme (codes "R") 1 Produced acme (codes "P") 90
-    ∷ receives acme (codes "K1") (codes "M") (codes "A") (codes "S1") 100 10
+    ∷ []
+
+-- the material comes, and the batch starts
+abbrev pub batch_started : List Command
+batch_started =
+    receives acme (codes "K1") (codes "M") (codes "A") (codes "S1") 100 10
     ∷ by acme (PlaceOrder (codes "O") (codes "R") 1)
     ∷ by acme (Release (codes "A"))
     ∷ by acme (OpenBatch (codes "O") (codes "U1"))
     ∷ by acme (CommandBatch (codes "O") 1 Start)
     ∷ []
+
+-- ACME's lot A of 100 kg is released, and batch 1 of its order O runs on unit U1
+abbrev pub setup_one : List Command
+setup_one = groundwork ++ batch_started
+
+-- the same, where the recipe's second segment consumes what the first produces
+abbrev pub product_consumed : History
+product_consumed = after [] (groundwork ++ (require acme (codes "R") 2 Consumed acme (codes "P") 1 ∷ batch_started))
 
 abbrev pub one_batch : History
 one_batch = after [] setup_one
@@ -122,3 +135,21 @@ with_two_actuals =
     ∷ actual (codes "K3") 1 Produced (codes "P") (lot_id acme (codes "P1")) (codes "S1") 50 11
     ∷ moves acme (codes "K4") (Scrap (codes "P1") (codes "S1")) 20 12
     ∷ [])
+
+-- ---- a lot that is tested
+
+-- ACME's lot A passes its one test and is released
+abbrev pub tested_lot : History
+tested_lot =
+    after [] (
+    by acme (AddOwner (codes "ACMEKEY1"))
+    ∷ material acme (codes "M")
+    ∷ by acme (AddTest (record { material = codes "M"; test = codes "PH"; limits = record { low = negsuc 4; high = pos 8; ordered = _ } }))
+    ∷ receives acme (codes "K1") (codes "M") (codes "A") (codes "S") 10 1
+    ∷ by acme (RecordResult (codes "A") (codes "PH") (pos 8) 1)
+    ∷ by acme (Release (codes "A"))
+    ∷ [])
+
+-- and then fails it
+abbrev pub failed_lot : History
+failed_lot = after tested_lot (by acme (RecordResult (codes "A") (codes "PH") (pos 9) 2) ∷ [])

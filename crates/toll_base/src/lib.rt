@@ -57,8 +57,8 @@ pub use table::{Keyed, Table};
 pub use text::Text;
 pub use value::Value;
 pub use worked::{
-    a_held_unit_is_busy, a_release_needs_the_latest_results, actuals_are_voided,
-    batches_go_through_their_states, orders_are_cancelled_before_they_start,
-    refusals_of_the_plants_commands, setups_are_accepted, stock_is_used_up,
-    sublots_are_split_scrapped_and_shipped,
+    a_held_unit_is_busy, a_product_is_consumed_once_released, a_release_needs_the_latest_results,
+    actuals_are_voided, batches_go_through_their_states, dispositions_follow_the_results,
+    orders_are_cancelled_before_they_start, refusals_of_the_plants_commands, setups_are_accepted,
+    stock_is_used_up, sublots_are_split_scrapped_and_shipped,
 };

@@ -9,7 +9,7 @@ ghost use Rattle.toll_base.specs.Work.{state_of, batch_of};
 ghost use Rattle.toll_base.specs.Movements.{lot_id, stock};
 ghost use Rattle.toll_base.specs.Dispositions.{disposition_of};
 ghost use Rattle.toll_base.specs.Verdict.{Accepted, Repeated, Refused};
-ghost use Rattle.toll_base.specs.Worked.{after, verdicts, all_accepted, states, acme, bolt, material, require, receives, moves, actual, setup_one, setup_two, one_batch, one_product, with_two_actuals};
+ghost use Rattle.toll_base.specs.Worked.{after, verdicts, all_accepted, states, acme, bolt, material, require, receives, moves, actual, setup_one, setup_two, product_consumed, tested_lot, failed_lot, one_batch, one_product, with_two_actuals};
 ghost use Rattle.toll_base.specs.declared.refusal.Refusal.TheVariants.{UnknownOwner, OwnerExists, UnitExists, UnitBusy, MaterialInUse, UnknownRecipe, RecipeInUse, OrderCancelled, OrderStarted, NoMoreBatches, BadState, BatchClosed, UnknownLot, NotReleased, NotEnough, SameSublot, KeyConflict, TestsOpen, CrossOwner, UnknownKey, Voided, Rejected as WasRejected};
 ghost use Rattle.toll_base.specs.declared.role.Role.TheVariants.{Consumed, Produced};
 ghost use Rattle.toll_base.specs.declared.rows.Move.TheVariants.{Receive, Split, Ship, Scrap};
@@ -82,6 +82,27 @@ pub fn a_release_needs_the_latest_results()
         ∷ by acme (Reject (codes "A"))
         ∷ by acme (Reject (codes "A"))
         ∷ []) ≡ Accepted ∷ Accepted ∷ Accepted ∷ Accepted ∷ Refused TestsOpen ∷ Accepted ∷ Accepted ∷ Accepted ∷ Refused NotReleased ∷ Accepted ∷ Refused WasRejected ∷ [] }
+{}
+
+/// A lot is released until a result is out of the limits, and rejected for good.
+pub fn dispositions_follow_the_results()
+    ensures before { disposition_of (acts acme one_batch) (codes "P") (codes "P1") ≡ Quarantined }
+    ensures passed { disposition_of (acts acme tested_lot) (codes "M") (codes "A") ≡ Released }
+    ensures failed { disposition_of (acts acme failed_lot) (codes "M") (codes "A") ≡ Quarantined }
+    ensures rejected { disposition_of (acts acme (after failed_lot (by acme (Reject (codes "A")) ∷ []))) (codes "M") (codes "A") ≡ Rejected }
+{}
+
+/// A lot is consumed when it is known and released, and no sooner.
+pub fn a_product_is_consumed_once_released()
+    ensures { verdicts product_consumed (
+        actual (codes "K2") 2 Consumed (codes "P") (lot_id acme (codes "P1")) (codes "S1") 1 11
+        ∷ actual (codes "K3") 1 Produced (codes "P") (lot_id acme (codes "P1")) (codes "S1") 30 11
+        ∷ actual (codes "K2") 2 Consumed (codes "P") (lot_id acme (codes "P1")) (codes "S1") 1 11
+        ∷ actual (codes "K3") 1 Produced (codes "P") (lot_id acme (codes "P1")) (codes "S1") 30 11
+        ∷ by acme (Release (codes "P1"))
+        ∷ actual (codes "K2") 2 Consumed (codes "P") (lot_id acme (codes "P1")) (codes "S1") 1 11
+        ∷ actual (codes "K3") 1 Produced (codes "P") (lot_id acme (codes "P1")) (codes "S1") 30 11
+        ∷ []) ≡ Refused UnknownLot ∷ Accepted ∷ Refused NotReleased ∷ Repeated ∷ Accepted ∷ Accepted ∷ Repeated ∷ [] }
 {}
 
 /// A sublot is split, and scrapped and shipped to its end.

@@ -5,3 +5,5 @@ pub mod OneAnswer
 pub mod OwnEdges
 pub mod Recalls
 pub mod SliceEdges
+pub mod DrawnHere
+pub mod WorkedEdges

@@ -4,3 +4,4 @@ pub mod Edges
 pub mod Replies
 pub mod PlantAnswers
 pub mod Joints
+pub mod Worked

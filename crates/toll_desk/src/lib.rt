@@ -10,6 +10,7 @@ mod plant_cmd;
 mod request;
 #[cfg(test)]
 mod tests;
+mod worked;
 
 pub use genealogy::{
     edges_of_a_slice_are_the_owners, plants_traces_within_an_owner_are_the_owners,
@@ -20,3 +21,7 @@ pub use owner::{admit, carry, owner_do, owner_plan};
 pub use plant::plant_do;
 pub use plant_cmd::{PlantCmd, PlantReply};
 pub use request::{Planned, Reply, Request};
+pub use worked::{
+    edges_of_a_batch, setups_of_genealogy_are_accepted, traces_go_by_the_owners_batches,
+    traces_of_a_batch, traces_of_a_circle,
+};

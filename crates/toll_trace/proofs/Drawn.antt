@@ -28,7 +28,7 @@ use Rattle.toll_base.specs.declared.rows.Move.TheVariants.{Receive, Split, Ship,
 use Rattle.toll_trace.specs.declared.edges.Use.{Use}
 use Rattle.toll_trace.specs.InOrder.{IsInOrder}
 use Rattle.toll_trace.specs.Order.{edge_cmp}
-use Rattle.toll_trace.specs.Edges.{IsActual, Stands, IsEdge, AreEdges}
+use Rattle.toll_trace.specs.Edges.{IsActual, IsDrawn, Stands, IsEdge, AreEdges}
 use Rattle.toll_trace.specs.Uses.{Batch, use_as, standing_use, uses, is_not_above, edge_between, edges_from}
 use Rattle.toll_trace.proofs.Members.{Contains-none, Contains-here, Contains-later, Contains-cases, Contains-map, Contains-from_map, Contains-filter, Contains-from_filter, Contains-filter_map, Contains-from_filter_map, Contains-flat_map, Contains-from_flat_map, member_of_all, kept_in_order}
 use Rattle.toll_trace.proofs.Orders.{edges_exact}
@@ -61,7 +61,7 @@ exact_role Consumed Produced h = absurd (false≢true h)
 exact_role Produced Consumed h = absurd (false≢true h)
 exact_role Produced Produced h = refl
 
-same_role-refl : (a : Role) → same_role a a ≡ true
+pub same_role-refl : (a : Role) → same_role a a ≡ true
 same_role-refl Consumed = refl
 same_role-refl Produced = refl
 
@@ -75,7 +75,7 @@ some_of : {X : Type 0} (b : Bool) (x y : X) → (if b then Some x else None) ≡
 some_of true x y h = (refl, (cc))
 some_of false x y h = absurd (cc)
 
-used_is : (role : Role) (row : MoveRow) (what : Move) (u : Batch × Use) → row.what ≡ what → use_as role what ≡ Some u → IsActual u.0.0 u.0.1 u.1.segment role u.1.lot row
+pub used_is : (role : Role) (row : MoveRow) (what : Move) (u : Batch × Use) → row.what ≡ what → use_as role what ≡ Some u → IsActual u.0.0 u.0.1 u.1.segment role u.1.lot row
 used_is role row (Actual order number segment recorded material lot sublot) u is h =
     let r = some_of (same_role recorded role) _ u h in
     record {
@@ -110,42 +110,56 @@ use_listed role s row order number segment lot stands actual =
 
 -- ==== the edges
 
-edge_drawn : (s : Slice) (productions : List (Batch × Use)) → IsInKeyOrder bytes_cmp (λ row. row.key) s.moves → IsPermutation (uses Produced s) productions → (e : Edge) → Contains (flat_map (edges_from productions) (uses Consumed s)) e → IsEdge s e
-edge_drawn s productions order moved e i =
-    let c = Contains-from_flat_map (edges_from productions) (uses Consumed s) e i in
-    let p = Contains-from_map (edge_between c.0.1) (filter (is_not_above c.0.1) (filter (λ production. is_eq (batch_cmp production.0 c.0.0)) productions)) e c.2 in
-    let above = Contains-from_filter (is_not_above c.0.1) (filter (λ production. is_eq (batch_cmp production.0 c.0.0)) productions) p.0 p.1 in
-    let batch = Contains-from_filter (λ (production : Batch × Use). is_eq (batch_cmp production.0 c.0.0)) productions p.0 above.0 in
-    let consumption = use_recorded Consumed s c.0 order c.1 in
-    let production = use_recorded Produced s p.0 order (Contains-permutation productions (uses Produced s) p.0 (IsPermutation-sym (uses Produced s) productions moved) batch.0) in
-    let same : p.0.0 ≡ c.0.0 = tells_apart exact_batches p.0.0 c.0.0 batch.1 in
-    subst (IsEdge s) p.2 (record {
-      order = c.0.0.0;
-      number = c.0.0.1;
-      consumption = consumption.0;
-      production = production.0;
-      consumed_in = c.0.1.segment;
-      produced_in = p.0.1.segment;
-      consumption_stands = consumption.1;
-      production_stands = production.1;
-      consumes = consumption.2;
-      produces = subst (λ (b : Batch). IsActual b.0 b.1 p.0.1.segment Produced p.0.1.lot production.0) same production.2;
-      not_above = leb-true _ _ above.1;
-    })
+-- actuals that stand, by the lists of what they use
+module _ (stands : MoveRow → Type 0) (consumptions productions : List (Batch × Use)) where
+  pub edge_drawn :
+    ((u : Batch × Use) → Contains consumptions u → (row : MoveRow) × stands row × IsActual u.0.0 u.0.1 u.1.segment Consumed u.1.lot row)
+    → ((u : Batch × Use) → Contains productions u → (row : MoveRow) × stands row × IsActual u.0.0 u.0.1 u.1.segment Produced u.1.lot row)
+    → (e : Edge) → Contains (flat_map (edges_from productions) consumptions) e → IsDrawn stands e
+  edge_drawn consumed produced e i =
+      let c = Contains-from_flat_map (edges_from productions) consumptions e i in
+      let p = Contains-from_map (edge_between c.0.1) (filter (is_not_above c.0.1) (filter (λ production. is_eq (batch_cmp production.0 c.0.0)) productions)) e c.2 in
+      let above = Contains-from_filter (is_not_above c.0.1) (filter (λ production. is_eq (batch_cmp production.0 c.0.0)) productions) p.0 p.1 in
+      let batch = Contains-from_filter (λ (production : Batch × Use). is_eq (batch_cmp production.0 c.0.0)) productions p.0 above.0 in
+      let consumption = consumed c.0 c.1 in
+      let production = produced p.0 batch.0 in
+      let same : p.0.0 ≡ c.0.0 = tells_apart exact_batches p.0.0 c.0.0 batch.1 in
+      subst (IsDrawn stands) p.2 (record {
+        order = c.0.0.0;
+        number = c.0.0.1;
+        consumption = consumption.0;
+        production = production.0;
+        consumed_in = c.0.1.segment;
+        produced_in = p.0.1.segment;
+        consumption_stands = consumption.1;
+        production_stands = production.1;
+        consumes = consumption.2;
+        produces = subst (λ (b : Batch). IsActual b.0 b.1 p.0.1.segment Produced p.0.1.lot production.0) same production.2;
+        not_above = leb-true _ _ above.1;
+      })
 
-edge_listed : (s : Slice) (productions : List (Batch × Use)) → IsPermutation (uses Produced s) productions → (e : Edge) → IsEdge s e → Contains (flat_map (edges_from productions) (uses Consumed s)) e
-edge_listed s productions moved e fed =
-    let c : Batch × Use = ((fed.order, fed.number), record { segment = fed.consumed_in; lot = e.from }) in
-    let p : Batch × Use = ((fed.order, fed.number), record { segment = fed.produced_in; lot = e.to }) in
-    let listed = Contains-permutation (uses Produced s) productions p moved (use_listed Produced s fed.production fed.order fed.number fed.produced_in e.to fed.production_stands fed.produces) in
-    let of_batch = Contains-filter (λ (production : Batch × Use). is_eq (batch_cmp production.0 c.0)) productions p listed (ap is_eq (tied_itself batches_total c.0)) in
-    let above = Contains-filter (is_not_above c.1) (filter (λ production. is_eq (batch_cmp production.0 c.0)) productions) p of_batch (le-leb _ _ fed.not_above) in
-    Contains-flat_map (edges_from productions) (uses Consumed s) c e (use_listed Consumed s fed.consumption fed.order fed.number fed.consumed_in e.from fed.consumption_stands fed.consumes)
-    (Contains-map (edge_between c.1) (filter (is_not_above c.1) (filter (λ production. is_eq (batch_cmp production.0 c.0)) productions)) p above)
+  pub edge_listed :
+    ((row : MoveRow) (order : Bytes) (number segment : ℕ) (lot : LotId) → stands row → IsActual order number segment Consumed lot row → Contains consumptions ((order, number), record { segment = segment; lot = lot }))
+    → ((row : MoveRow) (order : Bytes) (number segment : ℕ) (lot : LotId) → stands row → IsActual order number segment Produced lot row → Contains productions ((order, number), record { segment = segment; lot = lot }))
+    → (e : Edge) → IsDrawn stands e → Contains (flat_map (edges_from productions) consumptions) e
+  edge_listed consumed produced e fed =
+      let c : Batch × Use = ((fed.order, fed.number), record { segment = fed.consumed_in; lot = e.from }) in
+      let p : Batch × Use = ((fed.order, fed.number), record { segment = fed.produced_in; lot = e.to }) in
+      let listed = produced fed.production fed.order fed.number fed.produced_in e.to fed.production_stands fed.produces in
+      let of_batch = Contains-filter (λ (production : Batch × Use). is_eq (batch_cmp production.0 c.0)) productions p listed (ap is_eq (tied_itself batches_total c.0)) in
+      let above = Contains-filter (is_not_above c.1) (filter (λ production. is_eq (batch_cmp production.0 c.0)) productions) p of_batch (le-leb _ _ fed.not_above) in
+      Contains-flat_map (edges_from productions) consumptions c e (consumed fed.consumption fed.order fed.number fed.consumed_in e.from fed.consumption_stands fed.consumes)
+      (Contains-map (edge_between c.1) (filter (is_not_above c.1) (filter (λ production. is_eq (batch_cmp production.0 c.0)) productions)) p above)
 
 pub edges_are : (s : Slice) (productions : List (Batch × Use)) (sorted : List Edge) → IsInKeyOrder bytes_cmp (λ row. row.key) s.moves → IsPermutation (uses Produced s) productions → IsInOrder edge_cmp (flat_map (edges_from productions) (uses Consumed s)) sorted → AreEdges (IsEdge s) sorted
 edges_are s productions sorted order moved in_order = record {
-  only = λ e i. edge_drawn s productions order moved e (in_order.none_new e i);
-  every = λ e fed. kept_in_order edge_cmp edges_exact _ sorted in_order e (edge_listed s productions moved e fed);
+  only = λ e i. edge_drawn (Stands s) (uses Consumed s) productions
+      (λ u i. use_recorded Consumed s u order i)
+      (λ u i. use_recorded Produced s u order (Contains-permutation productions (uses Produced s) u (IsPermutation-sym (uses Produced s) productions moved) i))
+      e (in_order.none_new e i);
+  every = λ e fed. kept_in_order edge_cmp edges_exact _ sorted in_order e (edge_listed (Stands s) (uses Consumed s) productions
+      (use_listed Consumed s)
+      (λ row order number segment lot stands is. Contains-permutation (uses Produced s) productions _ moved (use_listed Produced s row order number segment lot stands is))
+      e fed);
   ordered = in_order.ordered;
 }

@@ -7,3 +7,4 @@ pub mod Runs
 pub mod Drawn
 pub mod Unique
 pub mod Fronts
+pub mod DrawnRows

@@ -1,0 +1,37 @@
+-- The edges that movements of a list draw, as a list.
+use Rattle.std.proofs.Common.{◌≡◌, ℕ, Bool, Option, Some, None, List, refl, ap, ◌∙◌}
+use Rattle.std.specs.Prelude.{Contains, if◌then◌else◌}
+use Rattle.std.specs.List.{filter_map, flat_map}
+use Rattle.toll_base.specs.Bytes.{Bytes}
+use Rattle.toll_base.specs.declared.lot.LotId.{LotId}
+use Rattle.toll_base.specs.declared.lot.Edge.{Edge}
+use Rattle.toll_base.specs.declared.role.Role.{Role}
+use Rattle.toll_base.specs.declared.role.Role.TheVariants.{Consumed, Produced}
+use Rattle.toll_base.specs.declared.rows.MoveRow.{MoveRow}
+use Rattle.toll_trace.specs.declared.edges.Use.{Use}
+use Rattle.toll_trace.specs.Edges.{IsActual, IsDrawn}
+use Rattle.toll_trace.specs.Uses.{Batch, use_as, edges_from}
+use Rattle.toll_trace.proofs.Members.{Contains-filter_map, Contains-from_filter_map}
+use Rattle.toll_trace.proofs.Drawn.{used_is, same_role-refl, edge_drawn, edge_listed}
+
+abbrev used : Role → List MoveRow → List (Batch × Use)
+used role rows = filter_map (λ (row : MoveRow). use_as role row.what) rows
+
+abbrev pub drawn : List MoveRow → List Edge
+drawn rows = flat_map (edges_from (used Produced rows)) (used Consumed rows)
+
+used_listed : (role : Role) (rows : List MoveRow) (row : MoveRow) (order : Bytes) (number segment : ℕ) (lot : LotId) → Contains rows row → IsActual order number segment role lot row → Contains (used role rows) ((order, number), record { segment = segment; lot = lot })
+used_listed role rows row order number segment lot i is =
+    Contains-filter_map (λ (row : MoveRow). use_as role row.what) rows row _ i
+    (ap (use_as role) is.is ∙ ap (λ b. if b then Some ((order, number), record { segment = segment; lot = lot }) else None) (same_role-refl role))
+
+used_recorded : (role : Role) (rows : List MoveRow) (u : Batch × Use) → Contains (used role rows) u → (row : MoveRow) × Contains rows row × IsActual u.0.0 u.0.1 u.1.segment role u.1.lot row
+used_recorded role rows u i =
+    let row = Contains-from_filter_map (λ (row : MoveRow). use_as role row.what) rows u i in
+    (row.0, row.1, used_is role row.0 row.0.what u refl row.2)
+
+pub listed_drawn : (rows : List MoveRow) (e : Edge) → Contains (drawn rows) e → IsDrawn (Contains rows) e
+listed_drawn rows e i = edge_drawn (Contains rows) (used Consumed rows) (used Produced rows) (used_recorded Consumed rows) (used_recorded Produced rows) e i
+
+pub drawn_listed : (rows : List MoveRow) (e : Edge) → IsDrawn (Contains rows) e → Contains (drawn rows) e
+drawn_listed rows e is = edge_listed (Contains rows) (used Consumed rows) (used Produced rows) (used_listed Consumed rows) (used_listed Produced rows) e is
