@@ -1,8 +1,9 @@
 -- The lines of a script, one by one.
-use Rattle.std.proofs.Common.{◌≡◌, ◌∙◌, ℕ, ◌+◌, ◌<◌, Bool, true, false, List, [], ◌∷◌, ◌++◌, length, map, drop, refl, sym, ap, subst, arith, append_assoc, append-nil, Option, None, Some}
-use Rattle.std.specs.Prelude.{Result, Ok, Err, option_map, option_and_then, codes, decimal, if◌then◌else◌}
+use Rattle.std.proofs.Common.{◌≡◌, ◌∙◌, ℕ, ◌+◌, Bool, true, false, List, [], ◌∷◌, ◌++◌, length, drop, refl, sym, ap, subst, arith, append_assoc, append-nil, Option, None, Some}
+use Rattle.std.specs.Prelude.{option_map, option_and_then}
 use Rattle.std.specs.Borrow.{Bor}
 use Rattle.std.specs.Str.{IsUtf8, is_utf8}
+use Rattle.std.proofs.Common.{length-append}
 use Rattle.std.proofs.lemmas.Str.{IsUtf8-from_is_utf8, is_utf8-from_IsUtf8}
 use Rattle.toll_base.specs.Bytes.{Bytes}
 use Rattle.toll_desk.specs.declared.plant_cmd.PlantCmd.{PlantCmd}
@@ -11,8 +12,7 @@ use Rattle.toll_plant.specs.Table.{plant_lines}
 use Rattle.toll_plant.specs.Words.{command_of_words, command_with}
 use Rattle.toll_wire.specs.declared.event.Event.{Event}
 use Rattle.toll.specs.Asked.{Adds, deeds_of, lines_in}
-use Rattle.toll.specs.Pieces.{pieces_at}
-use Rattle.toll.specs.Script.{Asking, Deed, asked_by, asks, asks_if, bad, command, command_asked, deeds_from, nothing, with_line, words_in}
+use Rattle.toll.specs.Script.{Asking, AsksFor, IsFirstBad, NoneBad, asked_by, asks, asks_if, bad, command, command_asked, deeds_in, deeds_of_lines, is_bad, nothing, script_lines, words_in}
 
 -- ---- the words of a command
 
@@ -37,46 +37,69 @@ pub no_command : (line : Bytes) (words : List Bytes) → IsUtf8 line → words �
 no_command line words text same none =
     words_asked line words None text same (ap (option_and_then (λ (l : Line). command_with l (drop 1 words))) none)
 
--- ---- the deeds so far, and those of the lines that are left
-
-abbrev pub behind : List Deed → Result (List Deed) ℕ → Result (List Deed) ℕ
-behind front (Err number) = Err number
-behind front (Ok deeds) = Ok (front ++ deeds)
+-- ---- the lines so far
 
 -- the lines that are left
 abbrev pub left : Option (Bor Bytes) → List Bytes
 left rest = lines_in (option_map (λ t. t.now) rest)
 
-pub none_yet : (all : Result (List Deed) ℕ) → all ≡ behind [] all
-none_yet (Err number) = refl
-none_yet (Ok deeds) = refl
+-- so many lines were read, none of them bad, and these are their events; and these lines are left
+pub record ReadSoFar (text : Bytes) (number : ℕ) (events : List Event) (others : List Bytes) : Type 0 where
+  pub before : List Bytes
+  pub whole : script_lines text ≡ before ++ others
+  pub counted : number ≡ length before
+  pub sound : NoneBad before
+  pub asked : deeds_of events ≡ deeds_of_lines before
 
-one_behind : (front : List Deed) (number : ℕ) (deed : Deed) (others : Result (List Deed) ℕ)
-    → behind front (with_line number (asks deed) others) ≡ behind (front ++ deed ∷ []) others
-one_behind front number deed (Err n) = refl
-one_behind front number deed (Ok deeds) = ap (λ ds. Ok ds) (sym (append_assoc front (deed ∷ []) deeds))
+pub none_read : (text : Bytes) (events : List Event) → events ≡ [] → ReadSoFar text 0 events (script_lines text)
+none_read text events none = record { before = []; whole = refl; counted = refl; sound = tt; asked = ap deeds_of none }
 
-line_added : (asking : Asking) (old new : List Event) (number : ℕ) (others : Result (List Deed) ℕ) → Adds asking old new
-    → behind (deeds_of old) (with_line number asking others) ≡ behind (deeds_of new) others
-line_added nothing old new number others same = ap (λ es. behind (deeds_of es) others) (sym same)
-line_added (asks deed) old new number others more = one_behind (deeds_of old) number deed others ∙ ap (λ ds. behind ds others) (sym more)
-line_added bad old new number others never = absurd never
+none_bad_more : (before : List Bytes) (line : Bytes) → NoneBad before → is_bad (asked_by line) ≡ false → NoneBad (before ++ line ∷ [])
+none_bad_more [] line sound here = (here, tt)
+none_bad_more (l ∷ before) line sound here = (sound.0, none_bad_more before line sound.1 here)
 
-pub line_done : (all : Result (List Deed) ℕ) (old new : List Event) (number : ℕ) (lines line : Bytes) (others : Option (Bor Bytes))
-    → all ≡ behind (deeds_of old) (deeds_from (number + 1) (pieces_at 10 lines)) → pieces_at 10 lines ≡ line ∷ left others
-    → Adds (asked_by line) old new → all ≡ behind (deeds_of new) (deeds_from (number + 1 + 1) (left others))
-line_done all old new number lines line others before pieces adds =
-    before ∙ (ap (λ ls. behind (deeds_of old) (deeds_from (number + 1) ls)) pieces
-    ∙ line_added (asked_by line) old new (number + 1) (deeds_from (number + 1 + 1) (left others)) adds)
+deeds_more : (before : List Bytes) (line : Bytes) → deeds_of_lines (before ++ line ∷ []) ≡ deeds_of_lines before ++ deeds_in (asked_by line)
+deeds_more [] line = append-nil (deeds_in (asked_by line))
+deeds_more (l ∷ before) line =
+    ap (λ ds. deeds_in (asked_by l) ++ ds) (deeds_more before line)
+    ∙ sym (append_assoc (deeds_in (asked_by l)) (deeds_of_lines before) (deeds_in (asked_by line)))
 
-pub line_bad : (all : Result (List Deed) ℕ) (old : List Event) (number : ℕ) (lines line : Bytes) (others : Option (Bor Bytes))
-    → all ≡ behind (deeds_of old) (deeds_from (number + 1) (pieces_at 10 lines)) → pieces_at 10 lines ≡ line ∷ left others
-    → asked_by line ≡ bad → all ≡ Err (number + 1)
-line_bad all old number lines line others before pieces is =
-    before ∙ (ap (λ ls. behind (deeds_of old) (deeds_from (number + 1) ls)) pieces
-    ∙ ap (λ asking. behind (deeds_of old) (with_line (number + 1) asking (deeds_from (number + 1 + 1) (left others)))) is)
+added : (asking : Asking) (old new : List Event) → Adds asking old new → deeds_of new ≡ deeds_of old ++ deeds_in asking
+added nothing old new same = ap deeds_of same ∙ sym (append-nil (deeds_of old))
+added (asks deed) old new more = more
+added bad old new never = absurd never
 
-pub lines_done : (all : Result (List Deed) ℕ) (events : List Event) (number : ℕ) (rest : Option (Bor Bytes))
-    → all ≡ behind (deeds_of events) (deeds_from (number + 1) (left rest)) → ((lines : Bor Bytes) → rest ≡ Some lines → ⊥) → all ≡ Ok (deeds_of events)
-lines_done all events number None before none = before ∙ ap (λ ds. Ok ds) (append-nil (deeds_of events))
-lines_done all events number (Some lines) before none = absurd (none lines refl)
+added_well : (asking : Asking) (old new : List Event) → Adds asking old new → is_bad asking ≡ false
+added_well nothing old new same = refl
+added_well (asks deed) old new more = refl
+added_well bad old new never = absurd never
+
+pub line_done : (text : Bytes) (number : ℕ) (old new : List Event) (lines line : Bytes) (others : Option (Bor Bytes))
+    → ReadSoFar text number old (script_lines lines) → script_lines lines ≡ line ∷ left others → Adds (asked_by line) old new
+    → ReadSoFar text (number + 1) new (left others)
+line_done text number old new lines line others r pieces adds = record {
+  before = r.before ++ line ∷ [];
+  whole = r.whole ∙ (ap (λ ls. r.before ++ ls) pieces ∙ sym (append_assoc r.before (line ∷ []) (left others)));
+  counted = omega (arith, r.counted, length-append r.before (line ∷ []));
+  sound = none_bad_more r.before line r.sound (added_well (asked_by line) old new adds);
+  asked = added (asked_by line) old new adds ∙ (ap (λ ds. ds ++ deeds_in (asked_by line)) r.asked ∙ sym (deeds_more r.before line));
+}
+
+pub line_bad : (text : Bytes) (number : ℕ) (events : List Event) (lines line : Bytes) (others : Option (Bor Bytes))
+    → ReadSoFar text number events (script_lines lines) → script_lines lines ≡ line ∷ left others → asked_by line ≡ bad → IsFirstBad text (number + 1)
+line_bad text number events lines line others r pieces is = record {
+  before = r.before;
+  line = line;
+  behind = left others;
+  whole = r.whole ∙ ap (λ ls. r.before ++ ls) pieces;
+  counted = omega (arith, r.counted);
+  bad_line = is;
+  sound = r.sound;
+}
+
+pub lines_done : (text : Bytes) (number : ℕ) (events : List Event) (rest : Option (Bor Bytes))
+    → ReadSoFar text number events (left rest) → ((lines : Bor Bytes) → rest ≡ Some lines → ⊥) → AsksFor text (deeds_of events)
+lines_done text number events None r none =
+    let all = sym (r.whole ∙ append-nil r.before) in
+    record { sound = subst NoneBad all r.sound; asked = r.asked ∙ ap deeds_of_lines all }
+lines_done text number events (Some lines) r none = absurd (none lines refl)

@@ -1,5 +1,5 @@
 -- The bytes of a request, part by part.
-use Rattle.std.proofs.Common.{◌≡◌, ◌∙◌, ℕ, List, [], ◌∷◌, ◌++◌, length, refl, sym, ap, append_assoc, append-nil}
+use Rattle.std.proofs.Common.{◌≡◌, ◌∙◌, [], ◌++◌, length, ap, append_assoc, append-nil}
 use Rattle.std.specs.Prelude.{codes, decimal}
 use Rattle.toll_base.specs.Bytes.{Bytes}
 use Rattle.toll.specs.Requests.{Request, field, request_text}

@@ -3,8 +3,7 @@ use Rattle.std.specs.Prelude.{◌≡◌, List, [], ◌∷◌, ◌++◌, map, Opt
 use Rattle.toll_base.specs.Bytes.{Bytes}
 use Rattle.toll_wire.specs.declared.event.Event.{Event}
 use Rattle.toll_wire.specs.declared.event.Event.TheVariants.{Owner, Plant}
-use Rattle.toll.specs.Pieces.{pieces_at}
-use Rattle.toll.specs.Script.{Asking, Deed, request, command, nothing, asks, bad, script_deeds}
+use Rattle.toll.specs.Script.{Asking, Deed, request, command, nothing, asks, bad, IsFirstBad, script_lines}
 use Rattle.toll.specs.declared.events.LineFault.{LineFault}
 use Rattle.toll.specs.declared.events.LineFault.TheVariants as line_fault
 use Rattle.toll.specs.declared.events.ScriptFault.{ScriptFault}
@@ -15,6 +14,7 @@ abbrev pub deed_of : Event → Deed
 deed_of (Owner bytes) = request bytes.items
 deed_of (Plant c) = command c
 
+-- events, as deeds
 abbrev pub deeds_of : List Event → List Deed
 deeds_of = map deed_of
 
@@ -43,9 +43,9 @@ Adds bad old new = ⊥
 -- the lines that are left, if there are any
 abbrev pub lines_in : Option Bytes → List Bytes
 lines_in None = []
-lines_in (Some text) = pieces_at 10 text
+lines_in (Some text) = script_lines text
 
 -- the fault is one of a script
 abbrev pub IsFaultOfScript : Bytes → ScriptFault → Type 0
 IsFaultOfScript text script_fault.Memory = Unit {0}
-IsFaultOfScript text (script_fault.BadLine number) = script_deeds text ≡ Err number
+IsFaultOfScript text (script_fault.BadLine number) = IsFirstBad text number

@@ -7,7 +7,7 @@ use Rattle.toll_base.specs.Bytes.{Bytes}
 abbrev pub script_limit : ℕ
 script_limit = 1048576
 
--- the input is all that a reader had left, up to its end, and no longer than a script may be
+-- this input is all that a reader had left, up to its end, and no longer than a script may be
 pub record IsWhole (old new : Option Bytes) (input : Bytes) : Type 0 where
   pub given : Consumes old new input
   pub ended : IsAtEnd new

@@ -7,5 +7,6 @@ use Rattle.toll_base.specs.Bytes.{Bytes}
 abbrev pub pieces_at : ℕ → Bytes → List Bytes
 pieces_at byte text = slice_split (λ b. b == byte) text
 
+-- no bytes at all
 abbrev pub is_empty : Bytes → Bool
 is_empty text = length text == 0

@@ -1,5 +1,5 @@
 -- What a script prints of the answers.
-use Rattle.std.specs.Prelude.{ℕ, List, [], ◌∷◌, ◌++◌, take, drop, codes, decimal, flat_map, nat_eq, if◌then◌else◌}
+use Rattle.std.specs.Prelude.{List, [], ◌∷◌, ◌++◌, take, drop, codes, decimal, flat_map, nat_eq, if◌then◌else◌}
 use Rattle.std.specs.List.{starts_with}
 use Rattle.toll_base.specs.Bytes.{Bytes}
 use Rattle.toll_base.specs.Refusal.{code_of, title_of}
@@ -26,22 +26,26 @@ abbrev pub shown_body : Bytes → Bytes
 shown_body [] = []
 shown_body (b ∷ body) = codes " " ++ (b ∷ body)
 
+-- a reply: its status, and its body
 abbrev pub reply_line : Bytes → Bytes
 reply_line reply = status_of reply ++ (shown_body (body_of reply) ++ codes "\n")
 
+-- the word of a fault
 abbrev pub fault_name : KeepFault → Bytes
 fault_name Memory = codes "Memory"
 fault_name Disk = codes "Disk"
 fault_name Damaged = codes "Damaged"
 fault_name Closed = codes "Closed"
 
+-- a refusal: its number and its word
 abbrev pub refusal_line : Refusal → Bytes
 refusal_line refusal = codes "refused " ++ (decimal (code_of refusal) ++ (codes " " ++ (title_of refusal ++ codes "\n")))
 
+-- a fault of the keep
 abbrev pub fault_line : KeepFault → Bytes
 fault_line fault = codes "fault " ++ (fault_name fault ++ codes "\n")
 
--- a text is lines already
+-- what the plant is answered; a text is lines already
 abbrev pub plant_lines : PlantReply → Bytes
 plant_lines plant.Accepted = codes "accepted\n"
 plant_lines plant.Repeated = codes "repeated\n"
@@ -49,6 +53,7 @@ plant_lines (plant.Refused refusal) = refusal_line refusal
 plant_lines (plant.Text lines) = lines.items
 plant_lines (plant.Fault fault) = fault_line fault
 
+-- an answer
 abbrev pub answer_lines : Answer → Bytes
 answer_lines (answer.Bytes out) = reply_line (out_bytes out)
 answer_lines (answer.Plant reply) = plant_lines reply

@@ -1,5 +1,5 @@
 -- The lines of owners' requests, and the bytes of the requests.
-use Rattle.std.specs.Prelude.{ℕ, ◌==◌, ◌||◌, List, [], ◌∷◌, ◌++◌, length, codes, decimal, Option, Some, None, if◌then◌else◌}
+use Rattle.std.specs.Prelude.{◌||◌, List, [], ◌∷◌, ◌++◌, length, codes, decimal, Option, Some, None, if◌then◌else◌}
 use Rattle.std.specs.List.{join_with_byte}
 use Rattle.std.specs.Str.{bytes_eq}
 use Rattle.toll_base.specs.Bytes.{Bytes}
@@ -13,7 +13,7 @@ pub record Request : Type 0 where
   pub target : Bytes
   pub body : Bytes
 
--- four words that aren't empty, and the rest of the line, spaces and all
+-- the request of a line that was cut at its spaces: four words that aren't empty, and the rest with its spaces
 abbrev pub request_of : List Bytes → Option Request
 request_of (owner ∷ key ∷ method ∷ target ∷ body) =
     if is_empty owner || (is_empty key || (is_empty method || is_empty target)) then None

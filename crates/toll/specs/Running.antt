@@ -1,5 +1,5 @@
 -- How a script ends.
-use Rattle.std.specs.Prelude.{◌≡◌, ◌<◌, ℕ, Bool, true, false, List, length, take, Option, Ok, Err}
+use Rattle.std.specs.Prelude.{◌<◌, ℕ, Bool, true, false, List, length, take, Option}
 use Rattle.std.specs.Io.KnownBytes.{Appends}
 use Rattle.std.specs.List.{AllZip}
 use Rattle.toll_base.specs.Bytes.{Bytes}
@@ -9,14 +9,14 @@ use Rattle.toll_wire.specs.declared.event.Event.{Event}
 use Rattle.toll.specs.Asked.{deeds_of}
 use Rattle.toll.specs.Inputs.{IsWhole}
 use Rattle.toll.specs.Printing.{printed}
-use Rattle.toll.specs.Script.{script_deeds}
+use Rattle.toll.specs.Script.{AsksFor, IsFirstBad}
 use Rattle.toll.specs.declared.script.ScriptEnd.{ScriptEnd}
-use Rattle.toll.specs.declared.script.ScriptEnd.TheVariants.{Done, BadLine, TooLong, Memory, ReadFault, WriteFault}
+use Rattle.toll.specs.declared.script.ScriptEnd.TheVariants.{Done, Memory, WriteFault}
 
 -- the input's events, in order, got these answers
 pub record Runs (input : Bytes) (answers : List Answer) : Type 0 where
   pub events : List Event
-  pub asked : script_deeds input ≡ Ok (deeds_of events)
+  pub asked : AsksFor input (deeds_of events)
   pub answered : AllZip AnswersEvent events answers
 
 -- a script that was read from one stream was run, and the lines of its answers went to another
@@ -41,7 +41,7 @@ pub record IsCutShort (unread rest held now_held : Option Bytes) : Type 0 where
 pub record HasBadLine (unread rest : Option Bytes) (number : ℕ) : Type 0 where
   pub input : Bytes
   pub whole : IsWhole unread rest input
-  pub bad : script_deeds input ≡ Err number
+  pub bad : IsFirstBad input number
 
 -- ends at which nothing was written
 abbrev pub is_silent : ScriptEnd → Bool

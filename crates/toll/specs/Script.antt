@@ -1,5 +1,6 @@
 -- What the lines of a script ask for.
-use Rattle.std.specs.Prelude.{ℕ, ◌+◌, ◌==◌, ◌&&◌, not, List, [], ◌∷◌, filter, option_map, Option, Some, None, Result, Ok, Err, if◌then◌else◌}
+use Rattle.std.specs.Prelude.{◌≡◌, ℕ, Bool, true, false, ◌+◌, ◌==◌, ◌&&◌, not, List, [], ◌∷◌, ◌++◌, length, filter, flat_map, option_map, Option, Some, None, if◌then◌else◌}
+use Rattle.std.specs.List.{AllByRecursion}
 use Rattle.std.specs.Str.{is_utf8}
 use Rattle.toll_base.specs.Bytes.{Bytes}
 use Rattle.toll_desk.specs.declared.plant_cmd.PlantCmd.{PlantCmd}
@@ -18,11 +19,12 @@ pub data Asking : Type 0 where
   asks : Deed → Asking
   bad : Asking
 
+-- a deed, if there is one
 abbrev pub asks_if : Option Deed → Asking
 asks_if None = bad
 asks_if (Some deed) = asks deed
 
--- what stands behind `> `
+-- what stands behind `> ` is the line of a request
 abbrev pub request_asked : Bytes → Asking
 request_asked line = asks_if (option_map (λ r. request (request_text r)) (request_of (pieces_at 32 line)))
 
@@ -30,7 +32,7 @@ request_asked line = asks_if (option_map (λ r. request (request_text r)) (reque
 abbrev pub words_in : Bytes → List Bytes
 words_in line = filter (λ word. not (is_empty word)) (pieces_at 32 line)
 
--- any other line is the words of a command
+-- any other line is the words of a command, and UTF-8
 abbrev pub command_asked : Bytes → Asking
 command_asked line = if is_utf8 line then asks_if (option_map (λ c. command c) (command_of_words (words_in line))) else bad
 
@@ -41,19 +43,39 @@ asked_by (b ∷ []) = if b == 35 then nothing else command_asked (b ∷ [])
 asked_by (b ∷ c ∷ rest) =
     if b == 35 then nothing else (if b == 62 && c == 32 then request_asked rest else command_asked (b ∷ c ∷ rest))
 
--- the deeds behind a line of this number, with what the line asks for
-abbrev pub with_line : ℕ → Asking → Result (List Deed) ℕ → Result (List Deed) ℕ
-with_line number nothing behind = behind
-with_line number bad behind = Err number
-with_line number (asks deed) (Ok deeds) = Ok (deed ∷ deeds)
-with_line number (asks deed) (Err bad_number) = Err bad_number
+-- the line is bad
+abbrev pub is_bad : Asking → Bool
+is_bad bad = true
+is_bad _ = false
 
--- what lines ask for, the first of them with this number; or the number of the first that is bad
-abbrev pub deeds_from : ℕ → List Bytes → Result (List Deed) ℕ
-deeds_from number [] = Ok []
-deeds_from number (line ∷ lines) = with_line number (asked_by line) (deeds_from (number + 1) lines)
+-- the deed, if one is asked for
+abbrev pub deeds_in : Asking → List Deed
+deeds_in (asks deed) = deed ∷ []
+deeds_in _ = []
 
--- what a script asks for, or the number of its first bad line. A line stands before each LF and behind
--- the last, where an empty one asks for nothing.
-abbrev pub script_deeds : Bytes → Result (List Deed) ℕ
-script_deeds text = deeds_from 1 (pieces_at 10 text)
+-- the lines of a script: one before each LF and one behind the last, which asks for nothing where it is empty
+abbrev pub script_lines : Bytes → List Bytes
+script_lines text = pieces_at 10 text
+
+-- none of the lines is bad
+abbrev pub NoneBad : List Bytes → Type 0
+NoneBad lines = AllByRecursion (λ line. is_bad (asked_by line) ≡ false) lines
+
+-- what the lines ask for, in order
+abbrev pub deeds_of_lines : List Bytes → List Deed
+deeds_of_lines lines = flat_map (λ line. deeds_in (asked_by line)) lines
+
+-- no line of the script is bad, and its lines ask for these deeds, in order
+pub record AsksFor (text : Bytes) (deeds : List Deed) : Type 0 where
+  pub sound : NoneBad (script_lines text)
+  pub asked : deeds ≡ deeds_of_lines (script_lines text)
+
+-- the line of this number, counted from 1, is bad, and none before it is
+pub record IsFirstBad (text : Bytes) (number : ℕ) : Type 0 where
+  pub before : List Bytes
+  pub line : Bytes
+  pub behind : List Bytes
+  pub whole : script_lines text ≡ before ++ line ∷ behind
+  pub counted : number ≡ length before + 1
+  pub bad_line : asked_by line ≡ bad
+  pub sound : NoneBad before

@@ -2,5 +2,6 @@
 use Rattle.toll.specs.Requests.{Request}
 use Rattle.toll.specs.declared.request_line.RequestLine.{RequestLine}
 
+-- a request
 abbrev pub shown_request : RequestLine → Request
 shown_request r = record { owner = r.owner.now; key = r.key.now; method = r.method.now; target = r.target.now; body = r.body.now }

@@ -1,7 +1,6 @@
 //! The events of a script.
 ghost use Rattle.std.specs.Prelude.{◌≡◌, ◌∷◌, ◌<◌, ◌≤◌, IfOk, IfErr, IfSome, OnOk, Ok, Err, map, length, option_map};
-ghost use Rattle.toll.specs.Pieces.{pieces_at};
-ghost use Rattle.toll.specs.Script.{script_deeds, asked_by, request_asked, command_asked, words_in};
+ghost use Rattle.toll.specs.Script.{AsksFor, script_lines, asked_by, request_asked, command_asked, words_in};
 ghost use Rattle.toll.specs.Asked.{deeds_of, IsFaultOf, GivesEvent, Gives, Adds, lines_in, IsFaultOfScript};
 
 use crate::cutting::cut;
@@ -33,7 +32,7 @@ enum LineFault {
 
 /// The events of the lines of a script, in order.
 pub fn events_of(alloc: Global, text: &[u8]) -> Result<Vec<Event>, ScriptFault>
-    ensures events { IfOk result (λ events. script_deeds text.now ≡ Ok (deeds_of events.items)) }
+    ensures events { IfOk result (λ events. AsksFor text.now (deeds_of events.items)) }
     ensures fault { IfErr result (IsFaultOfScript text.now) }
 {
     let mut events = Vec::new(alloc);
@@ -53,7 +52,7 @@ pub fn events_of(alloc: Global, text: &[u8]) -> Result<Vec<Event>, ScriptFault>
 
 // The first line, and those behind it.
 fn first_line(lines: &[u8]) -> (&[u8], Option<&[u8]>)
-    ensures pieces { pieces_at 10 lines.now ≡ result.0.now ∷ lines_in (option_map (λ t. t.now) result.1) }
+    ensures pieces { script_lines lines.now ≡ result.0.now ∷ lines_in (option_map (λ t. t.now) result.1) }
     ensures shorter { IfSome result.1 (λ others. length others.now < length lines.now) }
 {
     match cut(lines, b'\n') {

@@ -18,7 +18,7 @@ pub enum InputFault {
     /// There was no memory.
     #[error("Memory")]
     Memory,
-    /// The input has more bytes than a script may have, of which one was read.
+    /// The input has more bytes than a script may have. One byte more than that was read.
     #[error("too long")]
     TooLong,
     /// A read failed.

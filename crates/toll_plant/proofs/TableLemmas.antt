@@ -1,6 +1,6 @@
 -- Each line of the table makes a command of its values.
-use Rattle.std.proofs.Common.{◌≡◌, ◌∙◌, ℕ, Bool, true, false, cond, List, [], ◌∷◌, length, map, drop, refl, sym, ap, subst, arith, Option, Some, None}
-use Rattle.std.specs.Prelude.{◌&&◌, ◌==◌, IsSome, Result, Ok, Err, find, nat_le, if◌then◌else◌, option_and_then}
+use Rattle.std.proofs.Common.{◌≡◌, ℕ, Bool, true, false, cond, List, [], ◌∷◌, length, drop, refl, subst, arith, Option, Some, None}
+use Rattle.std.specs.Prelude.{◌&&◌, ◌==◌, IsSome, Result, Ok, Err, find, nat_le, if◌then◌else◌}
 use Rattle.std.specs.List.{AllByRecursion}
 use Rattle.std.specs.Str.{bytes_eq}
 use Rattle.toll_base.specs.Bytes.{Bytes}
@@ -8,7 +8,7 @@ use Rattle.toll_base.specs.Values.{is_name, is_owner_key, number_of}
 use Rattle.toll_base.specs.declared.refusal.Refusal.{Refusal}
 use Rattle.toll_base.specs.declared.refusal.Refusal.TheVariants.{BadName, BadAmount}
 use Rattle.toll_plant.specs.Commands.{command_from}
-use Rattle.toll_plant.specs.Lines.{Argument, Line, line_named, line_of, takes_values}
+use Rattle.toll_plant.specs.Lines.{Argument, Line, line_named, line_of}
 use Rattle.toll_plant.specs.Readings.{read_as, within}
 use Rattle.toll_plant.specs.Table.{plant_lines}
 use Rattle.toll_plant.specs.Words.{command_read, command_with, in_front, values_read}

@@ -11,11 +11,11 @@ use Rattle.toll_plant.specs.Lines.{Argument, Line}
 abbrev pub value_rule : Argument → Rule
 value_rule a = record (new_rule a.name) { required = true }
 
--- a line is a subcommand
+-- a line is a subcommand with its values
 abbrev pub line_shape : Line → Shape
 line_shape l = record (new_shape l.name) { rules = map value_rule l.values }
 
--- no help and no program's name
+-- all of them are subcommands of one command, which has no help of its own and is given no program's name
 abbrev pub office : List Line → App
 office lines = record {
   top = record (new_shape (codes "toll")) {
@@ -27,7 +27,7 @@ office lines = record {
   subs = map line_shape lines;
 }
 
--- no value has a name of those that were seen, or of another
+-- the names differ from one another and from those that were seen
 abbrev pub are_new : List Bytes → List Bytes → Bool
 are_new seen [] = true
 are_new seen (name ∷ names) = not (list_any (λ m. bytes_eq m name) seen) && are_new (seen ++ name ∷ []) names
@@ -36,5 +36,6 @@ are_new seen (name ∷ names) = not (list_any (λ m. bytes_eq m name) seen) && a
 abbrev pub is_sound : Line → Bool
 is_sound l = are_new [] (map (λ a. a.name) l.values) && nat_lt (length l.values) 100
 
+-- each line is so
 abbrev pub are_sound : List Line → Bool
 are_sound lines = list_all is_sound lines

@@ -1,5 +1,5 @@
 -- How the values of a command are read.
-use Rattle.std.specs.Prelude.{ℕ, List, [], ◌∷◌, Option, Some, None, Result, Ok, Err, if◌then◌else◌, nat_le, ◌&&◌}
+use Rattle.std.specs.Prelude.{ℕ, Option, Some, None, Result, Ok, Err, if◌then◌else◌, nat_le, ◌&&◌}
 use Rattle.toll_base.specs.Bytes.{Bytes}
 use Rattle.toll_base.specs.Values.{is_name, is_owner_key, number_of}
 use Rattle.toll_base.specs.declared.refusal.Refusal.{Refusal}

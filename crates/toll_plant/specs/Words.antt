@@ -25,6 +25,7 @@ values_read [] words = Ok []
 values_read (a ∷ arguments) [] = Ok []
 values_read (a ∷ arguments) (word ∷ words) = in_front (read_as a.reading word) (values_read arguments words)
 
+-- the command of values that were read, or that a value is refused
 abbrev pub command_read : CommandName → Result (List Given) Refusal → Option PlantCmd
 command_read name (Err why) = Some (Unread why)
 command_read name (Ok values) = command_from name values

@@ -1,9 +1,7 @@
--- The events so far are of the lines so far.
-use Rattle.std.proofs.Common.{◌≡◌, ℕ, ◌+◌, ◌≤◌, length, List, Option, Some, None}
+-- The lines so far, and those that are left.
+use Rattle.std.proofs.Common.{ℕ, ◌+◌, ◌≤◌, length, List, Option, Some, None}
 use Rattle.std.specs.Borrow.{Bor}
-use Rattle.toll.specs.Asked.{deeds_of}
-use Rattle.toll.specs.Script.{deeds_from, script_deeds}
-use Rattle.toll.proofs.LineLemmas.{behind, left}
+use Rattle.toll.proofs.LineLemmas.{ReadSoFar, left}
 use Rattle.toll.proofs.events.events_of.Given as goal
 
 -- how many bytes are left, and one for the line behind them
@@ -14,7 +12,7 @@ bytes_left (Some lines) = length lines.now + 1
 abbrev pub invariant-loop-rest : goal.invariant-loop-rest
 invariant-loop-rest l = record {
   counted : l.number + bytes_left l.rest ≤ length l.fn.text + 1;
-  read : script_deeds l.fn.text ≡ behind (deeds_of l.events.items) (deeds_from (l.number + 1) (left l.rest));
+  read : ReadSoFar l.fn.text l.number l.events.items (left l.rest);
 }
 
 abbrev pub decreases-loop-rest : goal.decreases-loop-rest
