@@ -113,9 +113,9 @@ use_listed role s row order number segment lot stands actual =
 -- actuals that stand, by the lists of what they use
 module _ (stands : MoveRow → Type 0) (consumptions productions : List (Batch × Use)) where
   pub edge_drawn :
-    ((u : Batch × Use) → Contains consumptions u → (row : MoveRow) × stands row × IsActual u.0.0 u.0.1 u.1.segment Consumed u.1.lot row)
-    → ((u : Batch × Use) → Contains productions u → (row : MoveRow) × stands row × IsActual u.0.0 u.0.1 u.1.segment Produced u.1.lot row)
-    → (e : Edge) → Contains (flat_map (edges_from productions) consumptions) e → IsDrawn stands e
+      ((u : Batch × Use) → Contains consumptions u → (row : MoveRow) × stands row × IsActual u.0.0 u.0.1 u.1.segment Consumed u.1.lot row)
+      → ((u : Batch × Use) → Contains productions u → (row : MoveRow) × stands row × IsActual u.0.0 u.0.1 u.1.segment Produced u.1.lot row)
+      → (e : Edge) → Contains (flat_map (edges_from productions) consumptions) e → IsDrawn stands e
   edge_drawn consumed produced e i =
       let c = Contains-from_flat_map (edges_from productions) consumptions e i in
       let p = Contains-from_map (edge_between c.0.1) (filter (is_not_above c.0.1) (filter (λ production. is_eq (batch_cmp production.0 c.0.0)) productions)) e c.2 in
@@ -139,9 +139,9 @@ module _ (stands : MoveRow → Type 0) (consumptions productions : List (Batch �
       })
 
   pub edge_listed :
-    ((row : MoveRow) (order : Bytes) (number segment : ℕ) (lot : LotId) → stands row → IsActual order number segment Consumed lot row → Contains consumptions ((order, number), record { segment = segment; lot = lot }))
-    → ((row : MoveRow) (order : Bytes) (number segment : ℕ) (lot : LotId) → stands row → IsActual order number segment Produced lot row → Contains productions ((order, number), record { segment = segment; lot = lot }))
-    → (e : Edge) → IsDrawn stands e → Contains (flat_map (edges_from productions) consumptions) e
+      ((row : MoveRow) (order : Bytes) (number segment : ℕ) (lot : LotId) → stands row → IsActual order number segment Consumed lot row → Contains consumptions ((order, number), record { segment = segment; lot = lot }))
+      → ((row : MoveRow) (order : Bytes) (number segment : ℕ) (lot : LotId) → stands row → IsActual order number segment Produced lot row → Contains productions ((order, number), record { segment = segment; lot = lot }))
+      → (e : Edge) → IsDrawn stands e → Contains (flat_map (edges_from productions) consumptions) e
   edge_listed consumed produced e fed =
       let c : Batch × Use = ((fed.order, fed.number), record { segment = fed.consumed_in; lot = e.from }) in
       let p : Batch × Use = ((fed.order, fed.number), record { segment = fed.produced_in; lot = e.to }) in
