@@ -120,6 +120,18 @@ fn other_replies_and_answers_are_printed(rt: HostRuntime) {
                 "> ACME ACMEKEY1 GET /nowhere",
                 "404 {\"error\":\"NoRoute\"}\n",
             ),
+            (
+                "> ACME ACMEKEY1 GET /lots/abc",
+                "404 {\"error\":\"NoRoute\"}\n",
+            ),
+            (
+                "> ACME ACMEKEY1 GET /batches/O-1/0",
+                "404 {\"error\":\"NoRoute\"}\n",
+            ),
+            (
+                "> ACME ACMEKEY1 POST /orders/O-1",
+                "405 {\"error\":\"MethodNotAllowed\"}\n",
+            ),
             ("> ACME ACMEKEY1 PUT /stock", "501\n"),
             (
                 "> ACME ACMEKEY1 POST /orders {\"order\":\"O-1\"}",
