@@ -29,5 +29,8 @@ pub mod Untouched
 pub mod OneOrigin
 pub mod OpenTests
 pub mod CameIn
+pub mod Decided
+pub mod Grown
+pub mod PutTables
 pub mod Unmoved
 pub mod OtherSublots

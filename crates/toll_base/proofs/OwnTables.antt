@@ -10,8 +10,8 @@ use Rattle.toll_base.specs.Words.{total, or_else, where_so, is_some_where}
 use Rattle.toll_base.specs.History.{History, part, acts}
 use Rattle.toll_base.specs.Movements.{Movement, movements, standing, lot_id, brings_into, takes_from, made_by, first_made, lot_made, sublot_known, stock, brought, taken, makes_lot, makes_sublot, sublot_in, count_making, count_lots, count_sublots, lot_brought, material_used}
 use Rattle.toll_base.specs.Movements.{movement_of, count_movements, voided_in, count_actuals_of}
-use Rattle.toll_base.specs.Work.{material_of, count_materials, test_of, count_tests, recipe_of, count_recipes, recipe_used, requirement_of, count_requirements, order_of, count_orders, batch_of, count_opened}
-use Rattle.toll_base.specs.Dispositions.{disposition_of, result_of, count_results, has_open_test, tests_open}
+use Rattle.toll_base.specs.Work.{material_of, count_materials, test_added, test_of, count_tests, recipe_of, count_recipes, recipe_used, requirement_of, count_requirements, order_of, count_orders, batch_of, count_opened}
+use Rattle.toll_base.specs.Dispositions.{disposition_of, result_of, latest_value, count_results, count_results_of}
 use Rattle.toll_base.specs.Tables.{tables_given, lot_row, sublot_row, without_amount, without_amounts}
 use Rattle.toll_base.specs.declared.rows.SublotRow.{SublotRow}
 use Rattle.toll_base.specs.Roles.{same_role}
@@ -182,10 +182,6 @@ module _ (o : Bytes) where
     pub sublot_row-part : same_bytes o house_name ≡ false → (k : Bytes × Bytes) → sublot_row (part o H) o k ≡ sublot_row H o k
     sublot_row-part not_house k i = where_so (sublot_known-part (lot_id o k.0) (same_bytes-refl o) H lawful k.1 i) (record { lot = k.0; sublot = k.1; amount = stock-part (lot_id o k.0) (same_bytes-refl o) H lawful k.1 not_house i })
 
-    pub tests_open-part : (l : Bytes) → tests_open (part o H) o l ≡ tests_open H o l
-    unfolding tests_open
-    tests_open-part l i = is_some_where (λ made. has_open_test (acts-part o H i) made.material l) (lot_made-part (lot_id o l) (same_bytes-refl o) H lawful i)
-
     -- the tables with these sublots
     tables_with : (sublot sublot' : Bytes × Bytes → Option SublotRow) → sublot ≡ sublot' → record (tables_given (part o H) o) { sublot = sublot } ≡ record (tables_given H o) { sublot = sublot' }
     tables_with sublot sublot' same i = record {
@@ -211,9 +207,11 @@ module _ (o : Bytes) where
       voided = voided_in (acts-part o H i);
       opened = count_opened (acts-part o H i);
       actuals = count_actuals_of (acts-part o H i);
+      results_of = count_results_of (acts-part o H i);
+      latest = latest_value (acts-part o H i);
       recipe_used = recipe_used (acts-part o H i);
       material_used = λ material. material_used-part material i;
-      tests_open = λ l. tests_open-part l i;
+      any_test = λ such. list_any (λ a. is_some_where such (test_added a)) (acts-part o H i);
     }
 
     -- an owner's tables are those of its part

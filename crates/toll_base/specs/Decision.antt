@@ -7,7 +7,7 @@ use Rattle.toll_base.specs.History.{History, owner_known}
 use Rattle.toll_base.specs.Slice.{Slice, with_row}
 use Rattle.toll_base.specs.SliceRules.{KeepsRules}
 use Rattle.toll_base.specs.Tables.{IsRowsOf}
-use Rattle.toll_base.specs.Verdict.{Verdict, Accepted, Repeated as WasRepeated, Refused, verdict, grow, IsLawful, IsValid}
+use Rattle.toll_base.specs.Verdict.{Verdict, Checks, first_of, Accepted, Repeated as WasRepeated, Refused, verdict, grow, IsLawful, IsValid}
 use Rattle.toll_base.specs.declared.decision.Change.{Change}
 use Rattle.toll_base.specs.declared.decision.Change.TheVariants.{Owner, Unit as UnitAdded, Put}
 use Rattle.toll_base.specs.declared.decision.Decision.{Decision}
@@ -38,6 +38,16 @@ abbrev pub changes_of : Decision → List Change
 changes_of (Accept changes) = changes.items
 changes_of _ = []
 
+-- the changes of what is accepted; what is not has none
+abbrev pub changes_if : Verdict → List Change → List Change
+changes_if Accepted changes = changes
+changes_if _ changes = []
+
+-- the decision says what the first check that applies says, and makes these changes where none does
+pub record IsDecided (checks : Checks) (changes : List Change) (d : Decision) : Type 0 where
+  pub says : verdict_of d ≡ first_of checks
+  pub makes : changes_of d ≡ changes_if (first_of checks) changes
+
 -- after each of these changes, in order, the slice keeps its rules
 abbrev pub ChangesKeepRules : List Change → Slice → Type 0
 ChangesKeepRules [] s = Unit {0}
@@ -51,3 +61,11 @@ pub record IsRightOver (H : History) (c : Command) (d : Decision) : Type 0 where
 -- over every lawful history of which the owner's slice has the rows, the decision is right for the command
 unfoldable pub Decides : Command → Slice → Decision → Type 0
 Decides c own d = (H : History) → IsLawful H → IsValid c.action → owner_known H own.owner ≡ true → IsRowsOf H own → IsRightOver H c d
+
+-- the same of a decision that looks at the rows of HOUSE too
+unfoldable pub DecidesWith : Command → (own house : Slice) → Decision → Type 0
+DecidesWith c own house d = (H : History) → IsLawful H → IsValid c.action → owner_known H own.owner ≡ true → IsRowsOf H own → IsRowsOf H house → house.owner ≡ house_name → IsRightOver H c d
+
+-- the decision's changes, in order, leave the slice within its rules, whatever history it has the rows of, or none
+unfoldable pub DecisionKeepsRules : Slice → Decision → Type 0
+DecisionKeepsRules s d = ChangesKeepRules (changes_of d) s

@@ -4,9 +4,7 @@ use Rattle.std.specs.List.{list_any}
 use Rattle.toll_base.specs.Bytes.{Bytes, same_bytes}
 use Rattle.toll_base.specs.Words.{count, first_some, or_else, is_some_where, where_so}
 use Rattle.toll_base.specs.Command.{Action, RecordResult, Release, Reject}
-use Rattle.toll_base.specs.History.{History, acts}
 use Rattle.toll_base.specs.Work.{test_of, test_added}
-use Rattle.toll_base.specs.Movements.{lot_id, lot_made}
 use Rattle.toll_base.specs.declared.limits.Limits.{Limits}
 use Rattle.toll_base.specs.declared.rows.ResultRow.{ResultRow}
 use Rattle.toll_base.specs.declared.rows.TestRow.{TestRow}
@@ -58,10 +56,6 @@ passes own lot row = is_some_where (λ value. not (is_outside row.limits value))
 -- a test of the material has no latest value of the lot within its limits
 abbrev pub has_open_test : List Action → Bytes → Bytes → Bool
 has_open_test own material lot = list_any (λ a. is_some_where (λ row. same_bytes row.material material && not (passes own lot row)) (test_added a)) own
-
--- the lot has an open test of its material
-unfoldable pub tests_open : History → Bytes → Bytes → Bool
-tests_open H o lot = is_some_where (λ made. has_open_test (acts o H) made.material lot) (lot_made H (lot_id o lot))
 
 -- ---- dispositions
 

@@ -8,9 +8,9 @@ use Rattle.toll_base.specs.Words.{count, is_some_where, where_so}
 use Rattle.toll_base.specs.Slice.{Slice, material_at, test_at, recipe_at, requirement_at, order_at, batch_at, lot_at, sublot_at, move_at, result_at, void_at}
 use Rattle.toll_base.specs.SliceRules.{count_actuals}
 use Rattle.toll_base.specs.History.{History, acts}
-use Rattle.toll_base.specs.Work.{material_of, count_materials, test_of, count_tests, recipe_of, count_recipes, recipe_used, requirement_of, count_requirements, order_of, count_orders, batch_of, count_opened}
+use Rattle.toll_base.specs.Work.{material_of, count_materials, test_added, test_of, count_tests, recipe_of, count_recipes, recipe_used, requirement_of, count_requirements, order_of, count_orders, batch_of, count_opened}
 use Rattle.toll_base.specs.Movements.{lot_id, lot_made, sublot_known, stock, movement_of, count_movements, voided_in, count_actuals_of, count_lots, count_sublots, material_used}
-use Rattle.toll_base.specs.Dispositions.{disposition_of, result_of, count_results, count_results_of, is_outside, tests_open}
+use Rattle.toll_base.specs.Dispositions.{disposition_of, result_of, latest_value, count_results, count_results_of}
 use Rattle.toll_base.specs.declared.rows.MaterialRow.{MaterialRow}
 use Rattle.toll_base.specs.declared.rows.TestRow.{TestRow}
 use Rattle.toll_base.specs.declared.rows.RecipeRow.{RecipeRow}
@@ -47,10 +47,13 @@ pub record Tables : Type 0 where
   -- how many batches of the order there are, and how many actuals of the batch
   pub opened : Bytes → ℕ
   pub actuals : Bytes → ℕ → ℕ
-  -- an order names the recipe; a lot is of the material; a test of the lot's material is open
+  -- how many results of the lot's test there are, and the value of the latest
+  pub results_of : (lot test : Bytes) → ℕ
+  pub latest : (lot test : Bytes) → Option ℤ
+  -- an order names the recipe; a lot is of the material; a test of any material is such a one
   pub recipe_used : Bytes → Bool
   pub material_used : Bytes → Bool
-  pub tests_open : Bytes → Bool
+  pub any_test : (TestRow → Bool) → Bool
 
 -- ---- as a history gives them
 
@@ -87,9 +90,11 @@ tables_given H o = record {
   voided = voided_in (acts o H);
   opened = count_opened (acts o H);
   actuals = count_actuals_of (acts o H);
+  results_of = count_results_of (acts o H);
+  latest = latest_value (acts o H);
   recipe_used = recipe_used (acts o H);
   material_used = material_used H o;
-  tests_open = tests_open H o;
+  any_test = λ such. list_any (λ a. is_some_where such (test_added a)) (acts o H);
 }
 
 -- a sublot, and tables, with the amounts left out
@@ -105,13 +110,9 @@ without_amounts t = record t { sublot = λ k. without_amount (t.sublot k) }
 abbrev pub count_results_in : Slice → Bytes → Bytes → ℕ
 count_results_in s lot test = count (λ row. same_bytes row.lot lot && same_bytes row.test test) s.results
 
--- the test's latest result in the slice is there, and within its limits
-abbrev pub passes_in : Slice → Bytes → TestRow → Bool
-passes_in s lot row = is_some_where (λ result. not (is_outside row.limits result.value)) (result_at s (lot, row.test, count_results_in s lot row.test))
-
--- a test of the lot's material is open in the slice
-abbrev pub tests_open_in : Slice → Bytes → Bool
-tests_open_in s lot = is_some_where (λ known. list_any (λ row. same_bytes row.material known.material && not (passes_in s lot row)) s.tests) (lot_at s lot)
+-- the value of the latest result of the lot's test
+abbrev pub latest_in : Slice → Bytes → Bytes → Option ℤ
+latest_in s lot test = option_map (λ row. row.value) (result_at s (lot, test, count_results_in s lot test))
 
 -- the tables of a slice
 abbrev pub tables_of : Slice → Tables
@@ -138,9 +139,11 @@ tables_of s = record {
   voided = λ key. is_some (void_at s key);
   opened = λ order. count (λ row. same_bytes row.order order) s.batches;
   actuals = λ order number. count_actuals order number s.moves;
+  results_of = count_results_in s;
+  latest = latest_in s;
   recipe_used = λ recipe. list_any (λ row. same_bytes row.recipe recipe) s.orders;
   material_used = λ material. list_any (λ row. same_bytes row.material material) s.lots;
-  tests_open = tests_open_in s;
+  any_test = λ such. list_any such s.tests;
 }
 
 -- the slice has exactly the rows that the history gives to its owner

@@ -11,6 +11,7 @@ use Rattle.toll_base.specs.Command.{Action, AddOwner, AddUnit, AddMaterial, AddT
 use Rattle.toll_base.specs.History.{History, owner_known, count_owners, unit_known, count_units}
 use Rattle.toll_base.specs.Movements.{lot_id, same_lot}
 use Rattle.toll_base.specs.Holders.{holder}
+use Rattle.toll_base.specs.Dispositions.{is_outside}
 use Rattle.toll_base.specs.Tables.{Tables, tables_given}
 use Rattle.toll_base.specs.declared.refusal.Refusal.{Refusal}
 use Rattle.toll_base.specs.declared.refusal.Refusal.TheVariants.{UnknownOwner, OwnerExists, UnitExists, UnknownUnit, UnitBusy, MaterialExists, UnknownMaterial, MaterialInUse, TestExists, RecipeExists, UnknownRecipe, RecipeInUse, BadSegment, RequirementExists, OrderExists, UnknownOrder, OrderCancelled, OrderStarted, NoMoreBatches, UnknownBatch, BadState, BatchClosed, BatchIdle, NotInRecipe, UnknownLot, UnknownSublot, WrongMaterial, WrongOrigin, NotReleased, NotQuarantined, NotEnough, SameSublot, KeyConflict, TestsOpen, UnknownTest, CrossOwner, LimitReached, UnknownKey, Voided, Rejected}
@@ -289,11 +290,15 @@ result_checks t lot test =
     ∷ (nat_le 20000 t.results, Some LimitReached)
     ∷ []
 
+-- a test of the lot's material has no latest value within its limits
+abbrev pub tests_open : Tables → (lot : Bytes) → Bool
+tests_open t lot = is_some_where (λ known. t.any_test (λ row. same_bytes row.material known.material && not (is_some_where (λ value. not (is_outside row.limits value)) (t.latest lot row.test)))) (t.lot lot)
+
 abbrev pub release_checks : Tables → (lot : Bytes) → Checks
 release_checks t lot =
     (is_none (t.lot lot), Some UnknownLot)
     ∷ (is_some_where (λ row. not (is_quarantined row.disposition)) (t.lot lot), Some NotQuarantined)
-    ∷ (t.tests_open lot, Some TestsOpen)
+    ∷ (tests_open t lot, Some TestsOpen)
     ∷ []
 
 abbrev pub reject_checks : Tables → (lot : Bytes) → Checks

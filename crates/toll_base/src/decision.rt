@@ -36,4 +36,11 @@ impl Decision {
     {
         Ok(Decision::Accept(vec![in alloc; change]?))
     }
+
+    /// It is done by these changes, in order.
+    pub fn accept_all(alloc: Global, changes: &[Change]) -> Result<Self, AllocError>
+        ensures { IfOk result (IsAccepted changes.now) }
+    {
+        Ok(Decision::Accept(changes.to_vec(alloc)?))
+    }
 }

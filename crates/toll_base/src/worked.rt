@@ -1,5 +1,5 @@
 //! Worked examples: what the definitions say of them, computed.
-#![tactic(auto, unfolding(crate::specs::History::part, crate::specs::History::acts, crate::specs::Movements::stock, crate::specs::Movements::sublot_known, crate::specs::Movements::lot_made, crate::specs::Movements::count_lots, crate::specs::Movements::count_sublots, crate::specs::Movements::material_used, crate::specs::Dispositions::tests_open, crate::specs::Holders::holder, crate::specs::Verdict::checks))]
+#![tactic(auto, unfolding(crate::specs::History::part, crate::specs::History::acts, crate::specs::Movements::stock, crate::specs::Movements::sublot_known, crate::specs::Movements::lot_made, crate::specs::Movements::count_lots, crate::specs::Movements::count_sublots, crate::specs::Movements::material_used, crate::specs::Holders::holder, crate::specs::Verdict::checks))]
 
 ghost use Rattle.std.specs.Prelude.{◌≡◌, pos, negsuc, [], ◌∷◌, codes, Some, None};
 ghost use Rattle.toll_base.specs.Values.{house_name};

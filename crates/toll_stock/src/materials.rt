@@ -1,0 +1,44 @@
+//! Materials.
+ghost use Rattle.std.specs.Prelude.{◌≡◌, [], ◌∷◌, IfOk};
+ghost use Rattle.toll_base.specs.Command.{AddMaterial, by};
+ghost use Rattle.toll_base.specs.Decision.{IsDecided, Decides, DecisionKeepsRules};
+ghost use Rattle.toll_base.specs.SliceRules.{KeepsRules};
+ghost use Rattle.toll_base.specs.Tables.{tables_of};
+ghost use Rattle.toll_base.specs.Verdict.{material_checks};
+ghost use Rattle.toll_base.specs.declared.decision.Change.TheVariants as Change;
+ghost use Rattle.toll_base.specs.declared.rows.Row.TheVariants as Row;
+
+use std::alloc::{AllocError, Global};
+use toll_base::{Change, Decision, MaterialRow, Measure, Name, Refusal, Row, Slice};
+
+const MOST_MATERIALS: usize = 200;
+
+/// Adds a material, whose amounts are in this measure.
+///
+/// [`Refusal::MaterialExists`] where the owner has one of this name, then [`Refusal::LimitReached`]
+/// at 200 materials.
+pub fn add_material(
+    alloc: Global,
+    slice: &Slice,
+    material: Name,
+    measure: Measure,
+) -> Result<Decision, AllocError>
+    ensures decides { IfOk result (Decides (by slice.now.owner (AddMaterial (record { material = material; measure = measure }))) slice.now) }
+    ensures rules { IfOk result (DecisionKeepsRules slice.now) }
+{
+    plan_material(alloc, slice, &MaterialRow { material, measure })
+}
+
+fn plan_material(alloc: Global, slice: &Slice, row: &MaterialRow) -> Result<Decision, AllocError>
+    ensures plan { IfOk result (IsDecided (material_checks (tables_of slice.now) row.now) (Change.Put slice.now.owner (Row.Material row.now) ∷ [])) }
+    ensures kept { KeepsRules slice.now }
+{
+    let owner = *slice.owner();
+    if slice.material(&row.material).is_some() {
+        return Ok(Decision::Refuse(Refusal::MaterialExists));
+    }
+    if slice.materials().len() >= MOST_MATERIALS {
+        return Ok(Decision::Refuse(Refusal::LimitReached));
+    }
+    Decision::accept(alloc, Change::Put(owner, Row::Material(*row)))
+}

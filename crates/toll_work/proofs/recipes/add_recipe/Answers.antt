@@ -1,0 +1,9 @@
+use Rattle.std.proofs.lemmas.Result.{IfOk-weaker}
+use Rattle.toll_work.proofs.RecipeLaw.{recipe_decided, recipe_keeps}
+use Rattle.toll_work.proofs.recipes.add_recipe.Goals as goal
+
+pub returns-clause-decides : goal.returns-clause-decides
+returns-clause-decides c = IfOk-weaker _ _ _ (λ d. recipe_decided _ _ d) c.plan_recipe.ensures.plan
+
+pub returns-clause-rules : goal.returns-clause-rules
+returns-clause-rules c = IfOk-weaker _ _ _ (λ d decided. recipe_keeps _ _ d decided c.plan_recipe.ensures.kept) c.plan_recipe.ensures.plan
