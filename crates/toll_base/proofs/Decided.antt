@@ -106,7 +106,7 @@ Grows a rows = (H : History) (s : Slice) → IsLawful H → IsValid a → verdic
 
 -- the action leaves the tables of others as they are
 abbrev pub LeavesOthers : Action → Type 0
-LeavesOthers a = (H : History) (o p : Bytes) → IsLawful H → verdict H (by o a) ≡ Accepted → same_bytes o p ≡ false → tables_given (by o a ∷ H) p ≡ tables_given H p
+LeavesOthers a = (H : History) (o p : Bytes) → IsLawful H → IsValid a → verdict H (by o a) ≡ Accepted → same_bytes o p ≡ false → tables_given (by o a ∷ H) p ≡ tables_given H p
 
 -- where an owner's action changes nobody's rows but the owner's
 module _ (a : Action) (rows : Tables → List Row) (grows : Grows a rows) (leaves : LeavesOthers a) where
@@ -121,7 +121,7 @@ module _ (a : Action) (rows : Tables → List Row) (grows : Grows a rows) (leave
             subst (IsRowsOf (by o a ∷ H)) (sym (after_put o (rows t) s own))
             (coe 1 0 (i. IsRowsOf (by (e i) a ∷ H) (put_rows (rows (same i)) s)) done)
         | false ↦ λ other.
-            subst (IsRowsOf (by o a ∷ H)) (sym (after_put_other o (rows t) s other)) (there ∙ sym (leaves H o s.owner lawful accepted other))
+            subst (IsRowsOf (by o a ∷ H)) (sym (after_put_other o (rows t) s other)) (there ∙ sym (leaves H o s.owner lawful valid accepted other))
       ] refl
 
   -- a decision by checks that say the verdict is what it owes

@@ -32,5 +32,7 @@ pub mod CameIn
 pub mod Decided
 pub mod Grown
 pub mod PutTables
+pub mod PutMoves
+pub mod Recorded
 pub mod Unmoved
 pub mod OtherSublots

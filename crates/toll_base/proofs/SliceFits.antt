@@ -1,12 +1,13 @@
 -- The test of a row is exactly whether the rules hold after it is put.
-use Rattle.std.proofs.Common.{◌≡◌, ℕ, ◌+◌, ◌≤◌, Bool, true, false, ◌||◌, is_some, cond, nat_le, nat_lt, refl, ap, ◌∙◌, arith, IsTrue, ◌↔◌}
+use Rattle.std.proofs.Common.{◌≡◌, ℕ, ◌+◌, ◌≤◌, Bool, true, false, ◌||◌, is_some, Some, cond, nat_le, nat_lt, refl, sym, ap, ◌∙◌, arith, IsTrue, ◌↔◌}
 use mathlib.Core.Bool.{false≢true}
 use Rattle.std.specs.Cmp.Lexicographic.{nat_list_cmp_total}
 use Rattle.std.proofs.lemmas.Bool.Decides.{nat_tests}
 use Rattle.toll_base.specs.Bytes.{Bytes, bytes_cmp}
 use Rattle.toll_base.specs.Keys.{pair_cmp, result_cmp, requirement_cmp}
 use Rattle.toll_base.specs.Table.{row_at}
-use Rattle.toll_base.specs.Words.{is_some_where}
+use Rattle.toll_base.specs.Words.{is_some_where, none_or}
+use Rattle.toll_base.specs.declared.rows.SublotRow.{SublotRow}
 use Rattle.toll_base.specs.Slice.{Slice, empty_slice, with_row, material_at, lot_at, sublot_at, move_at}
 use Rattle.toll_base.specs.SliceRules.{KeepsRules, row_fits, batch_has_room, is_actual_of, count_actuals}
 use Rattle.toll_base.specs.declared.rows.MoveRow.{MoveRow}
@@ -126,3 +127,7 @@ empty_keeps o = record {
 
 pub fits_exact : (s : Slice) (row : Row) → KeepsRules s → IsTrue (row_fits s row) ↔ KeepsRules (with_row s row)
 fits_exact s row keeps = (fits_keeps s keeps row, keeps_fits s row)
+
+-- no more is in a sublot than a slice keeps
+pub amount_bound : (s : Slice) → KeepsRules s → (k : Bytes × Bytes) (row : SublotRow) → sublot_at s k ≡ Some row → row.amount ≤ 20000000000000
+amount_bound s keeps k row found = let h : nat_le row.amount 20000000000000 ≡ true = ap (none_or (λ (r : SublotRow). nat_le r.amount 20000000000000)) (sym found) ∙ keeps.amounts k in grind (arith, nat_tests)

@@ -19,5 +19,6 @@ pub mod Dispositions
 pub mod Holders
 pub mod Tables
 pub mod Verdict
+pub mod Bounds
 pub mod Worked
 pub mod Laws

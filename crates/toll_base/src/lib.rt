@@ -6,6 +6,7 @@ mod bounded;
 mod decimal;
 mod decision;
 mod isolation;
+mod known;
 mod laws;
 mod limits;
 mod lot;

@@ -131,6 +131,76 @@ pub enum Move {
     },
 }
 
+impl Move {
+    ghost use Rattle.std.specs.Prelude.{◌≡◌};
+    ghost use Rattle.toll_base.specs.Verdict.{same_what};
+
+    /// Whether kind and fields are equal.
+    pub fn is_same(&self, other: &Move) -> bool
+        ensures { result ≡ same_what self.now other.now }
+    {
+        match (self, other) {
+            (
+                Move::Receive {
+                    material,
+                    lot,
+                    sublot,
+                },
+                Move::Receive {
+                    material: m,
+                    lot: l,
+                    sublot: s,
+                },
+            ) => *material == *m && *lot == *l && *sublot == *s,
+            (
+                Move::Split {
+                    lot,
+                    sublot,
+                    target,
+                },
+                Move::Split {
+                    lot: l,
+                    sublot: s,
+                    target: t,
+                },
+            ) => { *lot == *l && *sublot == *s && *target == *t }
+            (Move::Ship { lot, sublot }, Move::Ship { lot: l, sublot: s })
+            | (Move::Scrap { lot, sublot }, Move::Scrap { lot: l, sublot: s }) => {
+                *lot == *l && *sublot == *s
+            }
+            (
+                Move::Actual {
+                    order,
+                    number,
+                    segment,
+                    role,
+                    material,
+                    lot,
+                    sublot,
+                },
+                Move::Actual {
+                    order: o,
+                    number: n,
+                    segment: g,
+                    role: r,
+                    material: m,
+                    lot: l,
+                    sublot: s,
+                },
+            ) => {
+                *order == *o
+                    && *number == *n
+                    && *segment == *g
+                    && *role == *r
+                    && *material == *m
+                    && lot.is_same(l)
+                    && *sublot == *s
+            }
+            _ => false,
+        }
+    }
+}
+
 /// A movement of material, known by its key. It stands in the rows of the owner that it concerns,
 /// which for an actual is the batch's owner, also where the lot is HOUSE's.
 #[derive(Clone, Copy, Debug, PartialEq, Eq)]
@@ -144,6 +214,17 @@ pub struct MoveRow {
 impl MoveRow {
     ghost use Rattle.std.specs.Prelude.{◌≡◌};
     ghost use Rattle.toll_base.specs.SliceRules.{is_actual_of};
+    ghost use Rattle.toll_base.specs.Verdict.{same_movement};
+
+    /// Whether key, kind, fields, amount and day are equal.
+    pub fn is_same(&self, other: &MoveRow) -> bool
+        ensures { result ≡ same_movement self.now other.now }
+    {
+        self.key == other.key
+            && self.what.is_same(&other.what)
+            && self.amount == other.amount
+            && self.day == other.day
+    }
 
     /// Whether it is an actual of this batch.
     pub fn is_actual_of(&self, order: &Name, number: BatchNo) -> bool

@@ -44,7 +44,7 @@ grows row H s lawful valid accepted there =
 module _ (own : Slice) (row : MaterialRow) (d : Decision) (decided : IsDecided (material_checks (tables_of own) row) (Put own.owner (Material row) ∷ []) d) where
   pub material_decided : Decides (by own.owner (AddMaterial row)) own d
   material_decided =
-      decides (AddMaterial row) (λ t. Material row ∷ []) (grows row) (λ H o p lawful accepted other. tables-others H o (AddMaterial row) refl p other)
+      decides (AddMaterial row) (λ t. Material row ∷ []) (grows row) (λ H o p lawful valid accepted other. tables-others H o (AddMaterial row) refl p other)
       own d _ decided (λ H lawful valid known there. verdict_is H own.owner (AddMaterial row) (tables_of own) _ known there refl)
 
   pub material_keeps : KeepsRules own → DecisionKeepsRules own d

@@ -44,7 +44,7 @@ grows row H s lawful valid accepted there =
 module _ (own : Slice) (row : RecipeRow) (d : Decision) (decided : IsDecided (recipe_checks (tables_of own) row) (Put own.owner (Recipe row) ∷ []) d) where
   pub recipe_decided : Decides (by own.owner (AddRecipe row)) own d
   recipe_decided =
-      decides (AddRecipe row) (λ t. Recipe row ∷ []) (grows row) (λ H o p lawful accepted other. tables-others H o (AddRecipe row) refl p other)
+      decides (AddRecipe row) (λ t. Recipe row ∷ []) (grows row) (λ H o p lawful valid accepted other. tables-others H o (AddRecipe row) refl p other)
       own d _ decided (λ H lawful valid known there. verdict_is H own.owner (AddRecipe row) (tables_of own) _ known there refl)
 
   pub recipe_keeps : KeepsRules own → DecisionKeepsRules own d
