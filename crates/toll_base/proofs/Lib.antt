@@ -34,5 +34,6 @@ pub mod Grown
 pub mod PutTables
 pub mod PutMoves
 pub mod Recorded
+pub mod Room
 pub mod Unmoved
 pub mod OtherSublots

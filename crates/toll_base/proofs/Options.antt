@@ -1,8 +1,9 @@
 -- Facts of options.
-use Rattle.std.proofs.Common.{◌≡◌, Bool, true, false, ◌&&◌, cond, Option, Some, None, is_some, is_none, refl, sym}
+use Rattle.std.proofs.Common.{◌≡◌, Bool, true, false, not, ◌&&◌, cond, Option, Some, None, is_some, is_none, refl, sym, ap, ◌∙◌}
+use Rattle.std.proofs.lemmas.Bool.{not-false}
 use mathlib.Core.Bool.{false≢true}
 use Rattle.std.specs.Option.{option_map}
-use Rattle.toll_base.specs.Words.{or_else, where_so}
+use Rattle.toll_base.specs.Words.{or_else, where_so, is_some_where}
 
 pub some_of : {X : Type 0} (x : Option X) → is_none x ≡ false → is_some x ≡ true
 some_of None h = absurd (false≢true (sym h))
@@ -60,3 +61,7 @@ pub or_else_where : {X : Type 0} (a k : Bool) (x : X) (rest : Option X) → or_e
 or_else_where true true x rest = refl
 or_else_where true false x rest = refl
 or_else_where false k x rest = refl
+
+-- what there is passes, where it isn't so that it fails
+pub known_passes : {X : Type 0} (p : X → Bool) (x : Option X) → is_some_where (λ y. not (p y)) x ≡ false → (y : X) → x ≡ Some y → p y ≡ true
+known_passes p x h y found = not-false (p y) (ap (is_some_where (λ z. not (p z))) (sym found) ∙ h)

@@ -1,5 +1,5 @@
 -- What a decision is, and what it owes: it is the verdict, and its changes make the rows of the grown history.
-use Rattle.std.specs.Prelude.{◌≡◌, Bool, true, if◌then◌else◌, List, [], ◌∷◌}
+use Rattle.std.specs.Prelude.{◌≡◌, Bool, true, if◌then◌else◌, List, [], ◌∷◌, Result, Ok, Err}
 use Rattle.toll_base.specs.Bytes.{same_bytes}
 use Rattle.toll_base.specs.Values.{house_name}
 use Rattle.toll_base.specs.Command.{Command}
@@ -8,6 +8,7 @@ use Rattle.toll_base.specs.Slice.{Slice, with_row}
 use Rattle.toll_base.specs.SliceRules.{KeepsRules}
 use Rattle.toll_base.specs.Tables.{IsRowsOf}
 use Rattle.toll_base.specs.Verdict.{Verdict, Checks, first_of, Accepted, Repeated as WasRepeated, Refused, verdict, grow, IsLawful, IsValid}
+use Rattle.toll_base.specs.declared.refusal.Refusal.{Refusal}
 use Rattle.toll_base.specs.declared.decision.Change.{Change}
 use Rattle.toll_base.specs.declared.decision.Change.TheVariants.{Owner, Unit as UnitAdded, Put}
 use Rattle.toll_base.specs.declared.decision.Decision.{Decision}
@@ -37,6 +38,11 @@ verdict_of (Refuse why) = Refused why
 abbrev pub changes_of : Decision → List Change
 changes_of (Accept changes) = changes.items
 changes_of _ = []
+
+-- what a check says: nothing, or why it refuses
+abbrev pub said : {X : Type 0} → Result X Refusal → Verdict
+said (Ok x) = Accepted
+said (Err why) = Refused why
 
 -- the changes of what is accepted; what is not has none
 abbrev pub changes_if : Verdict → List Change → List Change

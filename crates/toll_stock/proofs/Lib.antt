@@ -1,1 +1,2 @@
 pub mod MaterialLaw
+pub mod ReceiptLaw

@@ -2,7 +2,9 @@
 #![tactic(auto)]
 
 mod materials;
+mod receipts;
 #[cfg(test)]
 mod tests;
 
 pub use materials::add_material;
+pub use receipts::receive;

@@ -1,0 +1,86 @@
+-- What a receipt owes.
+use Rattle.std.proofs.Common.{◌≡◌, ℕ, ◌+◌, not, ◌&&◌, Some, is_some, is_none, List, [], ◌∷◌, ◌++◌, length, false, refl, sym, ap, ◌∙◌}
+use Rattle.std.proofs.lemmas.Bool.{or_parts}
+use Rattle.toll_base.specs.Bounds.{sublot_bounds}
+use Rattle.toll_base.specs.Bytes.{Bytes, same_bytes}
+use Rattle.toll_base.specs.Command.{Record, by}
+use Rattle.toll_base.specs.History.{History, acts}
+use Rattle.toll_base.specs.Movements.{lot_id, count_movements}
+use Rattle.toll_base.specs.Slice.{Slice, lot_at}
+use Rattle.toll_base.specs.SliceRules.{KeepsRules}
+use Rattle.toll_base.specs.Words.{where_so, is_some_where}
+use Rattle.toll_base.specs.Tables.{Tables, tables_of, tables_given, IsRowsOf}
+use Rattle.toll_base.specs.Decision.{IsDecided, Decides, DecisionKeepsRules}
+use Rattle.toll_base.specs.Verdict.{Accepted, Checks, first_of, key_checks, receive_checks, amount_in, verdict, IsLawful, IsValid}
+use Rattle.toll_base.specs.declared.decision.Change.TheVariants.{Put}
+use Rattle.toll_base.specs.declared.decision.Decision.{Decision}
+use Rattle.toll_base.specs.declared.lot.Disposition.TheVariants.{Quarantined}
+use Rattle.toll_base.specs.declared.lot.Origin.TheVariants.{Receipts}
+use Rattle.toll_base.specs.declared.rows.LotRow.{LotRow}
+use Rattle.toll_base.specs.declared.rows.MoveRow.{MoveRow}
+use Rattle.toll_base.specs.declared.rows.Move.TheVariants.{Receive}
+use Rattle.toll_base.specs.declared.rows.SublotRow.{SublotRow}
+use Rattle.toll_base.specs.declared.rows.Row.{Row}
+use Rattle.toll_base.specs.declared.rows.Row.TheVariants.{Lot, Sublot, Move}
+use Rattle.toll_base.proofs.Accepted.{none_applies}
+use Rattle.toll_base.proofs.Decided.{verdict_is, Grows, LeavesOthers, decides, keeps_rules}
+use Rattle.toll_base.proofs.Options.{known_passes}
+use Rattle.toll_base.proofs.Passed.{accepted_passes, move_fits}
+use Rattle.toll_base.proofs.PutMoves.{with_move, with_lot, with_sublot, put_came}
+use Rattle.toll_base.proofs.Recorded.{came_in, tables-untaken}
+use Rattle.toll_base.proofs.Room.{unbounded, sublot_room, came_fit}
+use Rattle.toll_base.proofs.Texts.{same_bytes-exact, same_bytes-refl}
+
+module _ (key material lot sublot : Bytes) (amount day : ℕ) where
+  abbrev receipt : MoveRow
+  receipt = record { key = key; what = Receive material lot sublot; amount = amount; day = day }
+
+  abbrev received : LotRow
+  received = record { lot = lot; material = material; origin = Receipts; disposition = Quarantined }
+
+  abbrev holding : Tables → SublotRow
+  holding t = record { lot = lot; sublot = sublot; amount = amount_in t lot sublot + amount }
+
+  abbrev rows : Tables → List Row
+  rows t = Move receipt ∷ Lot received ∷ Sublot (holding t) ∷ []
+
+  grows : Grows (Record receipt) rows
+  grows H s lawful valid accepted there =
+      put_came s receipt received (holding (tables_of s))
+      (ap (λ (t : Tables). is_some (t.movement key)) there ∙ accepted_passes H s.owner (Record receipt) accepted 2)
+      (λ old found. same_bytes-exact old.material material
+      (known_passes (λ (row : LotRow). same_bytes row.material material) (lot_at s lot) (ap (λ (t : Tables). is_some_where (λ row. not (same_bytes row.material material)) (t.lot lot)) there ∙ move_fits H s.owner receipt accepted 2) old found))
+      ∙ (λ i. with_sublot (holding (there i)) (with_lot received (with_move receipt (there i))))
+      ∙ sym (came_in H s.owner receipt lawful valid accepted lot material Receipts sublot
+      (λ l. ap (λ b. where_so (b && same_bytes l lot) (record { material = material; origin = Receipts })) (same_bytes-refl s.owner))
+      refl refl
+      (λ k. ap (λ b. (b && same_bytes k.0 lot) && same_bytes k.1 sublot) (same_bytes-refl s.owner))
+      (λ k. refl))
+
+  leaves : LeavesOthers (Record receipt)
+  leaves H o p lawful valid accepted other = tables-untaken H o receipt lawful valid accepted p other (λ k. refl)
+
+  abbrev checks : Tables → Checks
+  checks t = key_checks t receipt ++ receive_checks t material lot
+
+  -- over a lawful history there is room for what is accepted
+  has_room : (H : History) (o : Bytes) → IsLawful H → IsValid (Record receipt) → verdict H (by o (Record receipt)) ≡ Accepted → first_of (sublot_bounds (tables_given H o) lot sublot amount) ≡ Accepted
+  has_room H o lawful valid accepted =
+      sublot_room H o receipt lawful valid accepted (or_parts _ _ (move_fits H o receipt accepted 4)).0 lot sublot
+      (λ i. (same_bytes-refl o i && same_bytes-refl lot i) && same_bytes-refl sublot i) refl
+
+  module _ (own : Slice) (d : Decision) (decided : IsDecided (checks (tables_of own) ++ sublot_bounds (tables_of own) lot sublot amount) (Put own.owner (Move receipt) ∷ Put own.owner (Lot received) ∷ Put own.owner (Sublot (holding (tables_of own))) ∷ []) d) where
+    pub receipt_decided : Decides (by own.owner (Record receipt)) own d
+    receipt_decided =
+        decides (Record receipt) rows grows leaves own d _ decided
+        (λ H lawful valid known there.
+        let is = verdict_is H own.owner (Record receipt) (tables_of own) _ known there refl in
+        unbounded (checks (tables_of own)) (sublot_bounds (tables_of own) lot sublot amount) (λ passed. ap (λ t. first_of (sublot_bounds t lot sublot amount)) there ∙ has_room H own.owner lawful valid (sym is ∙ passed)) ∙ is)
+
+    pub receipt_keeps : KeepsRules own → DecisionKeepsRules own d
+    receipt_keeps keeps =
+        keeps_rules own (rows (tables_of own)) d _ decided keeps
+        (λ accepted.
+        let pass = none_applies (checks (tables_of own) ++ sublot_bounds (tables_of own) lot sublot amount) accepted in
+        let full = or_parts _ _ (pass 7) in
+        came_fit own receipt received (holding (tables_of own)) refl full.0 refl full.1 (pass 3) (pass 8) (pass 9))

@@ -1,0 +1,9 @@
+use Rattle.std.proofs.lemmas.Result.{IfOk-weaker}
+use Rattle.toll_stock.proofs.ReceiptLaw.{receipt_decided, receipt_keeps}
+use Rattle.toll_stock.proofs.receipts.receive.Goals as goal
+
+pub returns-clause-decides : goal.returns-clause-decides
+returns-clause-decides c = IfOk-weaker _ _ _ (λ d. receipt_decided c.args.key c.args.material c.args.lot c.args.sublot c.args.amount c.args.day _ d) c.plan_receipt.ensures.plan
+
+pub returns-clause-rules : goal.returns-clause-rules
+returns-clause-rules c = IfOk-weaker _ _ _ (λ d decided. receipt_keeps c.args.key c.args.material c.args.lot c.args.sublot c.args.amount c.args.day _ d decided c.plan_receipt.ensures.kept) c.plan_receipt.ensures.plan
