@@ -1,5 +1,5 @@
 -- What an accepted command says: none of its checks applies.
-use Rattle.std.proofs.Common.{◌≡◌, ℕ, zero, suc, Bool, true, false, Option, Some, None, List, [], ◌∷◌, cond, refl}
+use Rattle.std.proofs.Common.{◌≡◌, ℕ, zero, suc, Bool, true, false, Option, Some, None, List, [], ◌∷◌, ◌++◌, cond, refl}
 use Rattle.toll_base.specs.Verdict.{Verdict, Accepted, Checks, first_of, stopped}
 use Rattle.toll_base.specs.declared.refusal.Refusal.{Refusal}
 
@@ -26,3 +26,8 @@ none_applies (check ∷ more) h (suc n) = none_applies more (first_passes check.
 -- and the rest of it accepts
 pub rest_accepts : (b : Bool) (why : Option Refusal) (more : Checks) → first_of ((b, why) ∷ more) ≡ Accepted → first_of more ≡ Accepted
 rest_accepts b why more h = (first_passes b (stopped why) (first_of more) (stopped_not why) h).1
+
+-- where a list accepts, what follows in it accepts
+pub rest_accept : (checks more : Checks) → first_of (checks ++ more) ≡ Accepted → first_of more ≡ Accepted
+rest_accept [] more h = h
+rest_accept (check ∷ checks) more h = rest_accept checks more (first_passes check.0 (stopped check.1) (first_of (checks ++ more)) (stopped_not check.1) h).1

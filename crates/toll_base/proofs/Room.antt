@@ -2,9 +2,11 @@
 use Rattle.std.proofs.Common.{◌≡◌, ℕ, ◌+◌, ◌-◌, ◌≤◌, Bool, true, false, not, ◌&&◌, ◌||◌, cond, nat_le, nat_lt, length, Option, Some, None, is_some, is_none, List, [], ◌∷◌, ◌++◌, refl, sym, ap, subst, ◌∙◌, arith}
 use mathlib.Core.Bool.{false≢true}
 use Rattle.std.specs.Cmp.Lexicographic.{nat_list_cmp_total}
-use Rattle.std.proofs.lemmas.Bool.{or_right}
+use Rattle.std.proofs.lemmas.Bool.{or_left, or_right}
+use Rattle.std.specs.Option.{option_map_or}
 use Rattle.std.proofs.lemmas.Bool.Decides.{nat_tests}
 use Rattle.toll_base.specs.Bytes.{Bytes, bytes_cmp}
+use Rattle.toll_base.specs.Keys.{pair_cmp}
 use Rattle.toll_base.specs.Bounds.{sublot_bounds}
 use Rattle.toll_base.specs.Command.{Record, by}
 use Rattle.toll_base.specs.History.{History, acts}
@@ -26,7 +28,9 @@ use Rattle.toll_base.proofs.Options.{some_of}
 use Rattle.toll_base.proofs.Decided.{less_of, RowsFit}
 use Rattle.toll_base.proofs.LimitsKept.{sublots_of_moves}
 use Rattle.toll_base.proofs.Moving.{held_is}
-use Rattle.toll_base.proofs.PutRules.{put_there}
+use Rattle.toll_base.proofs.PutRules.{put_there, still_there}
+use Rattle.toll_base.proofs.SliceFits.{amount_bound}
+use Rattle.toll_base.proofs.Texts.{pair_cmp_total}
 use Rattle.toll_base.proofs.Stock.{stock_bounded}
 use Rattle.toll_base.proofs.StockChanges.{stock-recorded}
 
@@ -103,3 +107,36 @@ module _ (s : Slice) where
       sublot_room_after =
           and_is _ _ (and_is _ _ (room_of (sublot_at s (sublot.lot, sublot.sublot)) 20000 (length s.sublots) sublots) (at_most sublot.amount 20000000000000 amount))
           (ap (λ k. is_some (lot_at (with_row (with_row s (Move row)) (Lot lot)) k)) same ∙ ap is_some (put_there bytes_cmp nat_list_cmp_total (λ r. r.lot) s.lots lot))
+
+  less_over : (n amount : ℕ) → n ≤ 20000000000000 → nat_lt 20000000000000 (n - amount) ≡ false
+  less_over n amount le = not_over (n - amount) 20000000000000 (let l = le in omega arith)
+
+  held_bound : KeepsRules s → (lot sub : Bytes) → amount_in (tables_of s) lot sub ≤ 20000000000000
+  held_bound keeps lot sub =
+      elim (sublot_at s (lot, sub)) as (λ x. sublot_at s (lot, sub) ≡ x → option_map_or (λ (row : SublotRow). row.amount) x 0 ≤ 20000000000000) [
+        | None ↦ λ none. omega arith
+        | Some row ↦ λ found. amount_bound s keeps (lot, sub) row found
+      ] refl
+
+  -- the rows of a movement from a known sublot fit
+  pub went_fit : (row : MoveRow) (lot sub : Bytes) (amount : ℕ) → KeepsRules s →
+      nat_le 20000 (length s.moves) ≡ false → batch_has_room s row.key row.what ≡ true →
+      is_none (lot_at s lot) ≡ false → is_none (sublot_at s (lot, sub)) ≡ false →
+      RowsFit (Move row ∷ Sublot (record { lot = lot; sublot = sub; amount = amount_in (tables_of s) lot sub - amount }) ∷ []) s
+  went_fit row lot sub amount keeps moves batch lot_there sub_there =
+      (move_room row moves batch, (and_is _ _ (and_is _ _ (or_left _ _ (some_of (sublot_at s (lot, sub)) sub_there)) (at_most _ 20000000000000 (less_over (amount_in (tables_of s) lot sub) amount (held_bound keeps lot sub)))) (some_of (lot_at s lot) lot_there), tt))
+
+  -- the rows of a movement from a known sublot to another one of its lot fit
+  pub went_over_fit : (row : MoveRow) (lot sub target : Bytes) (more less : ℕ) → KeepsRules s →
+      nat_le 20000 (length s.moves) ≡ false → batch_has_room s row.key row.what ≡ true →
+      is_none (lot_at s lot) ≡ false → is_none (sublot_at s (lot, sub)) ≡ false →
+      (is_none (sublot_at s (lot, target)) && nat_le 20000 (length s.sublots)) ≡ false → nat_lt 20000000000000 more ≡ false →
+      RowsFit (Move row ∷ Sublot (record { lot = lot; sublot = target; amount = more }) ∷ Sublot (record { lot = lot; sublot = sub; amount = amount_in (tables_of s) lot sub - less }) ∷ []) s
+  went_over_fit row lot sub target more less keeps moves batch lot_there sub_there room small =
+      (move_room row moves batch,
+      (and_is _ _ (and_is _ _ (room_of (sublot_at s (lot, target)) 20000 (length s.sublots) room) (at_most more 20000000000000 small)) (some_of (lot_at s lot) lot_there),
+      (and_is _ _
+      (and_is _ _ (or_left _ _ (still_there pair_cmp pair_cmp_total (λ r. (r.lot, r.sublot)) s.sublots (record { lot = lot; sublot = target; amount = more }) (lot, sub) (some_of (sublot_at s (lot, sub)) sub_there)))
+      (at_most _ 20000000000000 (less_over (amount_in (tables_of s) lot sub) less (held_bound keeps lot sub))))
+      (some_of (lot_at s lot) lot_there),
+      tt)))

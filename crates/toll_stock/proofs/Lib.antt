@@ -1,2 +1,4 @@
 pub mod MaterialLaw
 pub mod ReceiptLaw
+pub mod SplitLaw
+pub mod WithdrawalLaw

@@ -3,8 +3,13 @@
 
 mod materials;
 mod receipts;
+mod splits;
+mod taking;
+mod withdrawals;
 #[cfg(test)]
 mod tests;
 
 pub use materials::add_material;
 pub use receipts::receive;
+pub use splits::split;
+pub use withdrawals::{scrap, ship};

@@ -1,0 +1,81 @@
+-- What a split owes.
+use Rattle.std.proofs.Common.{◌≡◌, ℕ, ◌+◌, ◌-◌, ◌&&◌, Some, is_some, is_none, List, [], ◌∷◌, ◌++◌, false, refl, sym, ap, ◌∙◌}
+use Rattle.toll_base.specs.Bounds.{sublot_bounds}
+use Rattle.toll_base.specs.Bytes.{Bytes, same_bytes}
+use Rattle.toll_base.specs.Command.{Record, by}
+use Rattle.toll_base.specs.History.{History}
+use Rattle.toll_base.specs.Slice.{Slice}
+use Rattle.toll_base.specs.SliceRules.{KeepsRules}
+use Rattle.toll_base.specs.Tables.{Tables, tables_of, tables_given}
+use Rattle.toll_base.specs.Decision.{IsDecided, Decides, DecisionKeepsRules}
+use Rattle.toll_base.specs.Verdict.{Accepted, Checks, first_of, key_checks, split_checks, amount_in, verdict, IsLawful, IsValid}
+use Rattle.toll_base.specs.declared.decision.Change.TheVariants.{Put}
+use Rattle.toll_base.specs.declared.decision.Decision.{Decision}
+use Rattle.toll_base.specs.declared.rows.MoveRow.{MoveRow}
+use Rattle.toll_base.specs.declared.rows.Move.TheVariants.{Split}
+use Rattle.toll_base.specs.declared.rows.SublotRow.{SublotRow}
+use Rattle.toll_base.specs.declared.rows.Row.{Row}
+use Rattle.toll_base.specs.declared.rows.Row.TheVariants.{Sublot, Move}
+use Rattle.toll_base.proofs.Accepted.{none_applies}
+use Rattle.toll_base.proofs.Decided.{verdict_is, Grows, LeavesOthers, decides, keeps_rules}
+use Rattle.toll_base.proofs.Passed.{accepted_passes, move_fits}
+use Rattle.toll_base.proofs.PutMoves.{with_move, with_sublot, put_went_over}
+use Rattle.toll_base.proofs.Recorded.{went_over, tables-untaken}
+use Rattle.toll_base.proofs.Room.{unbounded, sublot_room, went_over_fit}
+use Rattle.toll_base.proofs.Texts.{same_bytes-refl, same_bytes-symm}
+use Rattle.std.proofs.lemmas.Bool.{and_right}
+
+module _ (key lot sublot target : Bytes) (amount day : ℕ) where
+  abbrev parting : MoveRow
+  parting = record { key = key; what = Split lot sublot target; amount = amount; day = day }
+
+  abbrev more : Tables → SublotRow
+  more t = record { lot = lot; sublot = target; amount = amount_in t lot target + amount }
+
+  abbrev less : Tables → SublotRow
+  less t = record { lot = lot; sublot = sublot; amount = amount_in t lot sublot - amount }
+
+  abbrev rows : Tables → List Row
+  rows t = Move parting ∷ Sublot (more t) ∷ Sublot (less t) ∷ []
+
+  grows : Grows (Record parting) rows
+  grows H s lawful valid accepted there =
+      put_went_over s parting (more (tables_of s)) (less (tables_of s))
+      (ap (λ (t : Tables). is_some (t.movement key)) there ∙ accepted_passes H s.owner (Record parting) accepted 2)
+      ∙ (λ i. with_sublot (less (there i)) (with_sublot (more (there i)) (with_move parting (there i))))
+      ∙ sym (went_over H s.owner parting lawful valid accepted lot sublot target
+      ((λ l. refl), refl, refl) refl
+      (move_fits H s.owner parting accepted 0)
+      (move_fits H s.owner parting accepted 2)
+      (λ k. ap (λ b. (b && same_bytes k.0 lot) && same_bytes k.1 target) (same_bytes-refl s.owner))
+      (λ k. ap (λ b. (b && same_bytes k.0 lot) && same_bytes k.1 sublot) (same_bytes-refl s.owner)))
+
+  leaves : LeavesOthers (Record parting)
+  leaves H o p lawful valid accepted other =
+      tables-untaken H o parting lawful valid accepted p other
+      (λ k. ap (λ b. (b && same_bytes k.0 lot) && same_bytes k.1 sublot) (same_bytes-symm p o ∙ other))
+
+  abbrev checks : Tables → Checks
+  checks t = key_checks t parting ++ split_checks t lot sublot target amount
+
+  -- over a lawful history there is room for what is accepted
+  has_room : (H : History) (o : Bytes) → IsLawful H → IsValid (Record parting) → verdict H (by o (Record parting)) ≡ Accepted → first_of (sublot_bounds (tables_given H o) lot target amount) ≡ Accepted
+  has_room H o lawful valid accepted =
+      sublot_room H o parting lawful valid accepted (move_fits H o parting accepted 4) lot target
+      (λ i. (same_bytes-refl o i && same_bytes-refl lot i) && same_bytes-refl target i)
+      (ap (λ b. (same_bytes o o && same_bytes lot lot) && b) (same_bytes-symm target sublot ∙ move_fits H o parting accepted 0) ∙ and_right (same_bytes o o && same_bytes lot lot) false refl)
+
+  module _ (own : Slice) (d : Decision) (decided : IsDecided (checks (tables_of own) ++ sublot_bounds (tables_of own) lot target amount) (Put own.owner (Move parting) ∷ Put own.owner (Sublot (more (tables_of own))) ∷ Put own.owner (Sublot (less (tables_of own))) ∷ []) d) where
+    pub split_decided : Decides (by own.owner (Record parting)) own d
+    split_decided =
+        decides (Record parting) rows grows leaves own d _ decided
+        (λ H lawful valid known there.
+        let is = verdict_is H own.owner (Record parting) (tables_of own) _ known there refl in
+        unbounded (checks (tables_of own)) (sublot_bounds (tables_of own) lot target amount) (λ passed. ap (λ t. first_of (sublot_bounds t lot target amount)) there ∙ has_room H own.owner lawful valid (sym is ∙ passed)) ∙ is)
+
+    pub split_keeps : KeepsRules own → DecisionKeepsRules own d
+    split_keeps keeps =
+        keeps_rules own (rows (tables_of own)) d _ decided keeps
+        (λ accepted.
+        let pass = none_applies (checks (tables_of own) ++ sublot_bounds (tables_of own) lot target amount) accepted in
+        went_over_fit own parting lot sublot target (amount_in (tables_of own) lot target + amount) amount keeps (pass 7) refl (pass 4) (pass 5) (pass 8) (pass 9))

@@ -1,0 +1,9 @@
+use Rattle.std.proofs.lemmas.Result.{IfOk-weaker}
+use Rattle.toll_stock.proofs.SplitLaw.{split_decided, split_keeps}
+use Rattle.toll_stock.proofs.splits.split.Goals as goal
+
+pub returns-clause-decides : goal.returns-clause-decides
+returns-clause-decides c = IfOk-weaker _ _ _ (λ d. split_decided c.args.key c.args.lot c.args.sublot c.args.target c.args.amount c.args.day _ d) c.plan_split.ensures.plan
+
+pub returns-clause-rules : goal.returns-clause-rules
+returns-clause-rules c = IfOk-weaker _ _ _ (λ d decided. split_keeps c.args.key c.args.lot c.args.sublot c.args.target c.args.amount c.args.day _ d decided c.plan_split.ensures.kept) c.plan_split.ensures.plan

@@ -1,0 +1,9 @@
+use Rattle.std.proofs.lemmas.Result.{IfOk-weaker}
+use Rattle.toll_stock.proofs.WithdrawalLaw.{shipment_decided, shipment_keeps}
+use Rattle.toll_stock.proofs.withdrawals.ship.Goals as goal
+
+pub returns-clause-decides : goal.returns-clause-decides
+returns-clause-decides c = IfOk-weaker _ _ _ (λ d. shipment_decided c.args.key c.args.lot c.args.sublot c.args.amount c.args.day _ d) c.plan_shipment.ensures.plan
+
+pub returns-clause-rules : goal.returns-clause-rules
+returns-clause-rules c = IfOk-weaker _ _ _ (λ d decided. shipment_keeps c.args.key c.args.lot c.args.sublot c.args.amount c.args.day _ d decided c.plan_shipment.ensures.kept) c.plan_shipment.ensures.plan

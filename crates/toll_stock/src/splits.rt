@@ -1,0 +1,121 @@
+//! Splits.
+ghost use Rattle.std.specs.Prelude.{◌≡◌, ◌+◌, ◌-◌, [], ◌∷◌, ◌++◌, IfOk};
+ghost use Rattle.toll_base.specs.Bounds.{sublot_bounds};
+ghost use Rattle.toll_base.specs.Command.{Record, by};
+ghost use Rattle.toll_base.specs.Decision.{IsDecided, Decides, DecisionKeepsRules, said};
+ghost use Rattle.toll_base.specs.SliceRules.{KeepsRules};
+ghost use Rattle.toll_base.specs.Tables.{tables_of};
+ghost use Rattle.toll_base.specs.Verdict.{first_of, key_checks, split_checks, amount_in};
+ghost use Rattle.toll_base.specs.declared.decision.Change.TheVariants as Change;
+ghost use Rattle.toll_base.specs.declared.rows.Move.TheVariants as Move;
+ghost use Rattle.toll_base.specs.declared.rows.Row.TheVariants as Row;
+
+use crate::taking::check_taking;
+use std::alloc::{AllocError, Global};
+use toll_base::{
+    Amount, Change, Day, Decision, Move, MoveRow, Name, Refusal, Row, Slice, SublotRow,
+};
+
+/// Moves an amount from a sublot to another one of the same lot, new or known.
+///
+/// A known key with equal content is repeated, or [`Refusal::Voided`], with other content
+/// [`Refusal::KeyConflict`]. Then [`Refusal::SameSublot`], [`Refusal::UnknownLot`],
+/// [`Refusal::UnknownSublot`], [`Refusal::NotEnough`], and [`Refusal::LimitReached`] at 20,000
+/// movements.
+pub fn split(
+    alloc: Global,
+    slice: &Slice,
+    key: Name,
+    lot: Name,
+    sublot: Name,
+    target: Name,
+    amount: Amount,
+    day: Day,
+) -> Result<Decision, AllocError>
+    ensures decides { IfOk result (Decides (by slice.now.owner (Record (record { key = key; what = Move.Split lot sublot target; amount = amount; day = day }))) slice.now) }
+    ensures rules { IfOk result (DecisionKeepsRules slice.now) }
+{
+    let row = MoveRow {
+        key,
+        what: Move::Split {
+            lot,
+            sublot,
+            target,
+        },
+        amount,
+        day,
+    };
+    plan_split(alloc, slice, &row, lot, sublot, target)
+}
+
+fn plan_split(
+    alloc: Global,
+    slice: &Slice,
+    row: &MoveRow,
+    lot: Name,
+    sublot: Name,
+    target: Name,
+) -> Result<Decision, AllocError>
+    ensures plan { IfOk result (IsDecided
+        (key_checks (tables_of slice.now) row.now ++ split_checks (tables_of slice.now) lot sublot target row.now.amount ++ sublot_bounds (tables_of slice.now) lot target row.now.amount)
+        (Change.Put slice.now.owner (Row.Move row.now)
+        ∷ Change.Put slice.now.owner (Row.Sublot (record { lot = lot; sublot = target; amount = amount_in (tables_of slice.now) lot target + row.now.amount }))
+        ∷ Change.Put slice.now.owner (Row.Sublot (record { lot = lot; sublot = sublot; amount = amount_in (tables_of slice.now) lot sublot - row.now.amount }))
+        ∷ [])) }
+    ensures kept { KeepsRules slice.now }
+{
+    let owner = *slice.owner();
+    if let Some(known) = slice.decided(row) {
+        return Ok(known);
+    }
+    if let Err(why) = check_split(slice, &lot, &sublot, &target, row.amount) {
+        return Ok(Decision::Refuse(why));
+    }
+    let to = SublotRow {
+        lot,
+        sublot: target,
+        amount: slice.amount_in(&lot, &target) + row.amount.get(),
+    };
+    let from = SublotRow {
+        lot,
+        sublot,
+        amount: slice
+            .amount_in(&lot, &sublot)
+            .saturating_sub(row.amount.get()),
+    };
+    Decision::accept_all(
+        alloc,
+        &[
+            Change::Put(owner, Row::Move(*row)),
+            Change::Put(owner, Row::Sublot(to)),
+            Change::Put(owner, Row::Sublot(from)),
+        ],
+    )
+}
+
+fn check_split(
+    slice: &Slice,
+    lot: &Name,
+    sublot: &Name,
+    target: &Name,
+    amount: Amount,
+) -> Result<(), Refusal>
+    ensures { said result ≡ first_of (split_checks (tables_of slice.now) lot.now sublot.now target.now amount ++ sublot_bounds (tables_of slice.now) lot.now target.now amount) }
+{
+    if *sublot == *target {
+        return Err(Refusal::SameSublot);
+    }
+    if slice.lot(lot).is_none() {
+        return Err(Refusal::UnknownLot);
+    }
+    if slice.sublot(lot, sublot).is_none() {
+        return Err(Refusal::UnknownSublot);
+    }
+    if let Err(why) = check_taking(slice, lot, sublot, amount) {
+        return Err(why);
+    }
+    if !slice.has_room_in(lot, target, amount) {
+        return Err(Refusal::LimitReached);
+    }
+    Ok(())
+}
