@@ -35,5 +35,6 @@ pub mod PutTables
 pub mod PutMoves
 pub mod Recorded
 pub mod Room
+pub mod Withdrawn
 pub mod Unmoved
 pub mod OtherSublots

@@ -134,64 +134,7 @@ module _ (H : History) (o : Bytes) (row : MoveRow) (lawful : IsLawful H) (valid 
                 ∙ or_else_none (lot_made H (lot_id o l))) i)
           ] refl
 
-  -- ---- sublots
-
-  abbrev held : (lot sub : Bytes) → ℕ
-  held lot sub = amount_in (tables_given H o) lot sub
-
-  abbrev holding : (lot sub : Bytes) → ℕ → SublotRow
-  holding lot sub amount = record { lot = lot; sublot = sub; amount = amount }
-
-  -- what is brought, and what is taken, at the sublots where it is
-  moved_at : (k : Bytes × Bytes) (comes goes : Bool) → brings_into (lot_id o k.0) k.1 o row.what ≡ comes → takes_from (lot_id o k.0) k.1 o row.what ≡ goes →
-      sublot_row (by o (Record row) ∷ H) o k ≡ where_so (comes || sublot_known H (lot_id o k.0) k.1) (holding k.0 k.1 (stock H (lot_id o k.0) k.1 + cond comes row.amount 0 - cond goes row.amount 0))
-  moved_at k comes goes brings takes =
-      sublot_row-recorded H o o row k lawful
-      ∙ (λ i. where_so (brings i || sublot_known H (lot_id o k.0) k.1) (holding k.0 k.1 (stock H (lot_id o k.0) k.1 + cond (brings i) row.amount 0 - cond (takes i) row.amount 0)))
-
-  held_at : (lot sub : Bytes) (k : Bytes × Bytes) → is_at lot sub k ≡ true → stock H (lot_id o k.0) k.1 ≡ held lot sub
-  held_at lot sub k same =
-      let parts = both (same_bytes k.0 lot) (same_bytes k.1 sub) same in
-      (λ i. stock H (lot_id o (same_bytes-exact k.0 lot parts.0 i)) (same_bytes-exact k.1 sub parts.1 i)) ∙ sym (held_is H o lot sub)
-
-  named_at : (lot sub : Bytes) (k : Bytes × Bytes) (n : ℕ) → is_at lot sub k ≡ true → holding k.0 k.1 n ≡ holding lot sub n
-  named_at lot sub k n same =
-      let parts = both (same_bytes k.0 lot) (same_bytes k.1 sub) same in
-      λ i. holding (same_bytes-exact k.0 lot parts.0 i) (same_bytes-exact k.1 sub parts.1 i) n
-
-  known_at : (lot sub : Bytes) (k : Bytes × Bytes) → is_none (sublot_row H o (lot, sub)) ≡ false → is_at lot sub k ≡ true → sublot_known H (lot_id o k.0) k.1 ≡ true
-  known_at lot sub k there same =
-      let parts = both (same_bytes k.0 lot) (same_bytes k.1 sub) same in
-      (λ i. sublot_known H (lot_id o (same_bytes-exact k.0 lot parts.0 i)) (same_bytes-exact k.1 sub parts.1 i)) ∙ true_where (sublot_known H (lot_id o lot) sub) _ there
-
-  plain : (n : ℕ) → n + 0 - 0 ≡ n
-  plain n = omega arith
-
-  more_at : (n m amount : ℕ) → n ≡ m → n + amount - 0 ≡ m + amount
-  more_at n m amount is = omega arith
-
-  less_at : (n m amount : ℕ) → n ≡ m → n + 0 - amount ≡ m - amount
-  less_at n m amount is = omega arith
-
-  came_at : (lot sub : Bytes) (k : Bytes × Bytes) → is_at lot sub k ≡ true → brings_into (lot_id o k.0) k.1 o row.what ≡ true → takes_from (lot_id o k.0) k.1 o row.what ≡ false →
-      sublot_row (by o (Record row) ∷ H) o k ≡ Some (holding lot sub (held lot sub + row.amount))
-  came_at lot sub k same brings takes =
-      moved_at k true false brings takes
-      ∙ ap (λ n. Some (holding k.0 k.1 n)) (more_at (stock H (lot_id o k.0) k.1) (held lot sub) row.amount (held_at lot sub k same))
-      ∙ ap Some (named_at lot sub k _ same)
-
-  went_at : (lot sub : Bytes) (k : Bytes × Bytes) → is_none (sublot_row H o (lot, sub)) ≡ false → is_at lot sub k ≡ true → brings_into (lot_id o k.0) k.1 o row.what ≡ false → takes_from (lot_id o k.0) k.1 o row.what ≡ true →
-      sublot_row (by o (Record row) ∷ H) o k ≡ Some (holding lot sub (held lot sub - row.amount))
-  went_at lot sub k there same brings takes =
-      moved_at k false true brings takes
-      ∙ ap (λ b. where_so b (holding k.0 k.1 (stock H (lot_id o k.0) k.1 + 0 - row.amount))) (known_at lot sub k there same)
-      ∙ ap (λ n. Some (holding k.0 k.1 n)) (less_at (stock H (lot_id o k.0) k.1) (held lot sub) row.amount (held_at lot sub k same))
-      ∙ ap Some (named_at lot sub k _ same)
-
-  stayed_at : (k : Bytes × Bytes) → brings_into (lot_id o k.0) k.1 o row.what ≡ false → takes_from (lot_id o k.0) k.1 o row.what ≡ false → sublot_row (by o (Record row) ∷ H) o k ≡ sublot_row H o k
-  stayed_at k brings takes =
-      moved_at k false false brings takes
-      ∙ ap (λ n. where_so (sublot_known H (lot_id o k.0) k.1) (holding k.0 k.1 n)) (plain (stock H (lot_id o k.0) k.1))
+  -- ---- how many sublots there are
 
   -- how many sublots there are, where the movement makes this one if it isn't known
   sublots_more : (lot sub : Bytes) → makes_sublot o row.what (movements H) ≡ not (sublot_in (lot_id o lot) sub (movements H)) → count_sublots (by o (Record row) ∷ H) o ≡ more (is_none (sublot_row H o (lot, sub))) (count_sublots H o)
@@ -204,48 +147,109 @@ module _ (H : History) (o : Bytes) (row : MoveRow) (lawful : IsLawful H) (valid 
   unfolding count_sublots
   sublots_same none = none_more (same_bytes o o) (makes_sublot o row.what (movements H)) (count_sublots H o) none
 
-  abbrev BringsAt : (lot sub : Bytes) → Type 0
-  BringsAt lot sub = (k : Bytes × Bytes) → brings_into (lot_id o k.0) k.1 o row.what ≡ is_at lot sub k
+  -- ---- sublots
 
-  abbrev TakesAt : (lot sub : Bytes) → Type 0
-  TakesAt lot sub = (k : Bytes × Bytes) → takes_from (lot_id o k.0) k.1 o row.what ≡ is_at lot sub k
+  abbrev holding : (lot sub : Bytes) → ℕ → SublotRow
+  holding lot sub amount = record { lot = lot; sublot = sub; amount = amount }
 
-  abbrev BringsNone : Type 0
-  BringsNone = (k : Bytes × Bytes) → brings_into (lot_id o k.0) k.1 o row.what ≡ false
+  -- those of this owner, whoever moves
+  module _ (p : Bytes) where
+    abbrev held : (lot sub : Bytes) → ℕ
+    held lot sub = amount_in (tables_given H p) lot sub
 
-  abbrev TakesNone : Type 0
-  TakesNone = (k : Bytes × Bytes) → takes_from (lot_id o k.0) k.1 o row.what ≡ false
+    -- what is brought, and what is taken, at the sublots where it is
+    moved_at : (k : Bytes × Bytes) (comes goes : Bool) → brings_into (lot_id p k.0) k.1 o row.what ≡ comes → takes_from (lot_id p k.0) k.1 o row.what ≡ goes →
+        sublot_row (by o (Record row) ∷ H) p k ≡ where_so (comes || sublot_known H (lot_id p k.0) k.1) (holding k.0 k.1 (stock H (lot_id p k.0) k.1 + cond comes row.amount 0 - cond goes row.amount 0))
+    moved_at k comes goes brings takes =
+        sublot_row-recorded H o p row k lawful
+        ∙ (λ i. where_so (brings i || sublot_known H (lot_id p k.0) k.1) (holding k.0 k.1 (stock H (lot_id p k.0) k.1 + cond (brings i) row.amount 0 - cond (takes i) row.amount 0)))
 
-  -- what comes into one sublot
-  pub sublots_in : (lot sub : Bytes) → BringsAt lot sub → TakesNone → (k : Bytes × Bytes) → sublot_row (by o (Record row) ∷ H) o k ≡ cond (is_at lot sub k) (Some (holding lot sub (held lot sub + row.amount))) (sublot_row H o k)
-  sublots_in lot sub brings takes k =
-      elim (is_at lot sub k) as (λ b. is_at lot sub k ≡ b → sublot_row (by o (Record row) ∷ H) o k ≡ cond b (Some (holding lot sub (held lot sub + row.amount))) (sublot_row H o k)) [
-        | true ↦ λ same. came_at lot sub k same (brings k ∙ same) (takes k)
-        | false ↦ λ other. stayed_at k (brings k ∙ other) (takes k)
-      ] refl
+    held_at : (lot sub : Bytes) (k : Bytes × Bytes) → is_at lot sub k ≡ true → stock H (lot_id p k.0) k.1 ≡ held lot sub
+    held_at lot sub k same =
+        let parts = both (same_bytes k.0 lot) (same_bytes k.1 sub) same in
+        (λ i. stock H (lot_id p (same_bytes-exact k.0 lot parts.0 i)) (same_bytes-exact k.1 sub parts.1 i)) ∙ sym (held_is H p lot sub)
 
-  -- what goes from one known sublot
-  pub sublots_from : (lot sub : Bytes) → is_none (sublot_row H o (lot, sub)) ≡ false → BringsNone → TakesAt lot sub → (k : Bytes × Bytes) → sublot_row (by o (Record row) ∷ H) o k ≡ cond (is_at lot sub k) (Some (holding lot sub (held lot sub - row.amount))) (sublot_row H o k)
-  sublots_from lot sub there brings takes k =
-      elim (is_at lot sub k) as (λ b. is_at lot sub k ≡ b → sublot_row (by o (Record row) ∷ H) o k ≡ cond b (Some (holding lot sub (held lot sub - row.amount))) (sublot_row H o k)) [
-        | true ↦ λ same. went_at lot sub k there same (brings k) (takes k ∙ same)
-        | false ↦ λ other. stayed_at k (brings k) (takes k ∙ other)
-      ] refl
+    named_at : (lot sub : Bytes) (k : Bytes × Bytes) (n : ℕ) → is_at lot sub k ≡ true → holding k.0 k.1 n ≡ holding lot sub n
+    named_at lot sub k n same =
+        let parts = both (same_bytes k.0 lot) (same_bytes k.1 sub) same in
+        λ i. holding (same_bytes-exact k.0 lot parts.0 i) (same_bytes-exact k.1 sub parts.1 i) n
 
-  -- what goes from one known sublot to another of its lot
-  pub sublots_between : (lot sub target : Bytes) → same_bytes sub target ≡ false → is_none (sublot_row H o (lot, sub)) ≡ false → BringsAt lot target → TakesAt lot sub → (k : Bytes × Bytes) →
-      sublot_row (by o (Record row) ∷ H) o k ≡ cond (is_at lot sub k) (Some (holding lot sub (held lot sub - row.amount))) (cond (is_at lot target k) (Some (holding lot target (held lot target + row.amount))) (sublot_row H o k))
-  sublots_between lot sub target apart there brings takes k =
-      elim (is_at lot sub k) as (λ b. is_at lot sub k ≡ b → sublot_row (by o (Record row) ∷ H) o k ≡ cond b (Some (holding lot sub (held lot sub - row.amount))) (cond (is_at lot target k) (Some (holding lot target (held lot target + row.amount))) (sublot_row H o k))) [
-        | true ↦ λ same. went_at lot sub k there same (brings k ∙ not_target lot sub target k apart same) (takes k ∙ same)
-        | false ↦ λ other. elim (is_at lot target k) as (λ b. is_at lot target k ≡ b → sublot_row (by o (Record row) ∷ H) o k ≡ cond b (Some (holding lot target (held lot target + row.amount))) (sublot_row H o k)) [
-          | true ↦ λ same. came_at lot target k same (brings k ∙ same) (takes k ∙ other)
-          | false ↦ λ neither. stayed_at k (brings k ∙ neither) (takes k ∙ other)
+    known_at : (lot sub : Bytes) (k : Bytes × Bytes) → is_none (sublot_row H p (lot, sub)) ≡ false → is_at lot sub k ≡ true → sublot_known H (lot_id p k.0) k.1 ≡ true
+    known_at lot sub k there same =
+        let parts = both (same_bytes k.0 lot) (same_bytes k.1 sub) same in
+        (λ i. sublot_known H (lot_id p (same_bytes-exact k.0 lot parts.0 i)) (same_bytes-exact k.1 sub parts.1 i)) ∙ true_where (sublot_known H (lot_id p lot) sub) _ there
+
+    plain : (n : ℕ) → n + 0 - 0 ≡ n
+    plain n = omega arith
+
+    more_at : (n m amount : ℕ) → n ≡ m → n + amount - 0 ≡ m + amount
+    more_at n m amount is = omega arith
+
+    less_at : (n m amount : ℕ) → n ≡ m → n + 0 - amount ≡ m - amount
+    less_at n m amount is = omega arith
+
+    came_at : (lot sub : Bytes) (k : Bytes × Bytes) → is_at lot sub k ≡ true → brings_into (lot_id p k.0) k.1 o row.what ≡ true → takes_from (lot_id p k.0) k.1 o row.what ≡ false →
+        sublot_row (by o (Record row) ∷ H) p k ≡ Some (holding lot sub (held lot sub + row.amount))
+    came_at lot sub k same brings takes =
+        moved_at k true false brings takes
+        ∙ ap (λ n. Some (holding k.0 k.1 n)) (more_at (stock H (lot_id p k.0) k.1) (held lot sub) row.amount (held_at lot sub k same))
+        ∙ ap Some (named_at lot sub k _ same)
+
+    went_at : (lot sub : Bytes) (k : Bytes × Bytes) → is_none (sublot_row H p (lot, sub)) ≡ false → is_at lot sub k ≡ true → brings_into (lot_id p k.0) k.1 o row.what ≡ false → takes_from (lot_id p k.0) k.1 o row.what ≡ true →
+        sublot_row (by o (Record row) ∷ H) p k ≡ Some (holding lot sub (held lot sub - row.amount))
+    went_at lot sub k there same brings takes =
+        moved_at k false true brings takes
+        ∙ ap (λ b. where_so b (holding k.0 k.1 (stock H (lot_id p k.0) k.1 + 0 - row.amount))) (known_at lot sub k there same)
+        ∙ ap (λ n. Some (holding k.0 k.1 n)) (less_at (stock H (lot_id p k.0) k.1) (held lot sub) row.amount (held_at lot sub k same))
+        ∙ ap Some (named_at lot sub k _ same)
+
+    stayed_at : (k : Bytes × Bytes) → brings_into (lot_id p k.0) k.1 o row.what ≡ false → takes_from (lot_id p k.0) k.1 o row.what ≡ false → sublot_row (by o (Record row) ∷ H) p k ≡ sublot_row H p k
+    stayed_at k brings takes =
+        moved_at k false false brings takes
+        ∙ ap (λ n. where_so (sublot_known H (lot_id p k.0) k.1) (holding k.0 k.1 n)) (plain (stock H (lot_id p k.0) k.1))
+
+    abbrev BringsAt : (lot sub : Bytes) → Type 0
+    BringsAt lot sub = (k : Bytes × Bytes) → brings_into (lot_id p k.0) k.1 o row.what ≡ is_at lot sub k
+
+    abbrev TakesAt : (lot sub : Bytes) → Type 0
+    TakesAt lot sub = (k : Bytes × Bytes) → takes_from (lot_id p k.0) k.1 o row.what ≡ is_at lot sub k
+
+    abbrev BringsNone : Type 0
+    BringsNone = (k : Bytes × Bytes) → brings_into (lot_id p k.0) k.1 o row.what ≡ false
+
+    abbrev TakesNone : Type 0
+    TakesNone = (k : Bytes × Bytes) → takes_from (lot_id p k.0) k.1 o row.what ≡ false
+
+    -- what comes into one sublot
+    pub sublots_in : (lot sub : Bytes) → BringsAt lot sub → TakesNone → (k : Bytes × Bytes) → sublot_row (by o (Record row) ∷ H) p k ≡ cond (is_at lot sub k) (Some (holding lot sub (held lot sub + row.amount))) (sublot_row H p k)
+    sublots_in lot sub brings takes k =
+        elim (is_at lot sub k) as (λ b. is_at lot sub k ≡ b → sublot_row (by o (Record row) ∷ H) p k ≡ cond b (Some (holding lot sub (held lot sub + row.amount))) (sublot_row H p k)) [
+          | true ↦ λ same. came_at lot sub k same (brings k ∙ same) (takes k)
+          | false ↦ λ other. stayed_at k (brings k ∙ other) (takes k)
         ] refl
-      ] refl
-    where
-      not_target : (lot sub target : Bytes) (k : Bytes × Bytes) → same_bytes sub target ≡ false → is_at lot sub k ≡ true → is_at lot target k ≡ false
-      not_target lot sub target k apart same = ap (λ x. same_bytes k.0 lot && same_bytes x target) (same_bytes-exact k.1 sub (both (same_bytes k.0 lot) (same_bytes k.1 sub) same).1) ∙ ap (λ b. same_bytes k.0 lot && b) apart ∙ and_right (same_bytes k.0 lot) false refl
+
+    -- what goes from one known sublot
+    pub sublots_from : (lot sub : Bytes) → is_none (sublot_row H p (lot, sub)) ≡ false → BringsNone → TakesAt lot sub → (k : Bytes × Bytes) → sublot_row (by o (Record row) ∷ H) p k ≡ cond (is_at lot sub k) (Some (holding lot sub (held lot sub - row.amount))) (sublot_row H p k)
+    sublots_from lot sub there brings takes k =
+        elim (is_at lot sub k) as (λ b. is_at lot sub k ≡ b → sublot_row (by o (Record row) ∷ H) p k ≡ cond b (Some (holding lot sub (held lot sub - row.amount))) (sublot_row H p k)) [
+          | true ↦ λ same. went_at lot sub k there same (brings k) (takes k ∙ same)
+          | false ↦ λ other. stayed_at k (brings k) (takes k ∙ other)
+        ] refl
+
+    -- what goes from one known sublot to another of its lot
+    pub sublots_between : (lot sub target : Bytes) → same_bytes sub target ≡ false → is_none (sublot_row H p (lot, sub)) ≡ false → BringsAt lot target → TakesAt lot sub → (k : Bytes × Bytes) →
+        sublot_row (by o (Record row) ∷ H) p k ≡ cond (is_at lot sub k) (Some (holding lot sub (held lot sub - row.amount))) (cond (is_at lot target k) (Some (holding lot target (held lot target + row.amount))) (sublot_row H p k))
+    sublots_between lot sub target apart there brings takes k =
+        elim (is_at lot sub k) as (λ b. is_at lot sub k ≡ b → sublot_row (by o (Record row) ∷ H) p k ≡ cond b (Some (holding lot sub (held lot sub - row.amount))) (cond (is_at lot target k) (Some (holding lot target (held lot target + row.amount))) (sublot_row H p k))) [
+          | true ↦ λ same. went_at lot sub k there same (brings k ∙ not_target lot sub target k apart same) (takes k ∙ same)
+          | false ↦ λ other. elim (is_at lot target k) as (λ b. is_at lot target k ≡ b → sublot_row (by o (Record row) ∷ H) p k ≡ cond b (Some (holding lot target (held lot target + row.amount))) (sublot_row H p k)) [
+            | true ↦ λ same. came_at lot target k same (brings k ∙ same) (takes k ∙ other)
+            | false ↦ λ neither. stayed_at k (brings k ∙ neither) (takes k ∙ other)
+          ] refl
+        ] refl
+      where
+        not_target : (lot sub target : Bytes) (k : Bytes × Bytes) → same_bytes sub target ≡ false → is_at lot sub k ≡ true → is_at lot target k ≡ false
+        not_target lot sub target k apart same = ap (λ x. same_bytes k.0 lot && same_bytes x target) (same_bytes-exact k.1 sub (both (same_bytes k.0 lot) (same_bytes k.1 sub) same).1) ∙ ap (λ b. same_bytes k.0 lot && b) apart ∙ and_right (same_bytes k.0 lot) false refl
 
   -- ---- the owner's tables after each kind of movement
 
@@ -253,38 +257,48 @@ module _ (H : History) (o : Bytes) (row : MoveRow) (lawful : IsLawful H) (valid 
       ((l : Bytes) → made_by (lot_id o l) o row.what ≡ where_so (same_bytes l lot) (record { material = material; origin = origin })) →
       makes_lot o row.what (movements H) ≡ is_none (first_made (lot_id o lot) (movements H)) →
       makes_sublot o row.what (movements H) ≡ not (sublot_in (lot_id o lot) sub (movements H)) →
-      BringsAt lot sub → TakesNone →
-      tables_given (by o (Record row) ∷ H) o ≡ with_sublot (holding lot sub (held lot sub + row.amount)) (with_lot (quarantined lot material origin) (with_move row (tables_given H o)))
+      BringsAt o lot sub → TakesNone o →
+      tables_given (by o (Record row) ∷ H) o ≡ with_sublot (holding lot sub (held o lot sub + row.amount)) (with_lot (quarantined lot material origin) (with_move row (tables_given H o)))
   came_in lot material origin sub makes new new_sub brings takes =
       lot_more lot material origin makes new
       ∙ (λ i. record (with_lot (quarantined lot material origin) (with_move row (tables_given H o))) {
-        sublot = λ k. sublots_in lot sub brings takes k i;
+        sublot = λ k. sublots_in o lot sub brings takes k i;
         sublots = sublots_more lot sub new_sub i;
       })
 
   abbrev MakesNoLot : Type 0
   MakesNoLot = ((l : Bytes) → made_by (lot_id o l) o row.what ≡ None) × (makes_lot o row.what (movements H) ≡ false) × (lot_brought o (o, row) ≡ None)
 
-  pub went_out : (lot sub : Bytes) → MakesNoLot → makes_sublot o row.what (movements H) ≡ false → is_none (sublot_row H o (lot, sub)) ≡ false → BringsNone → TakesAt lot sub →
-      tables_given (by o (Record row) ∷ H) o ≡ with_sublot (holding lot sub (held lot sub - row.amount)) (with_move row (tables_given H o))
+  pub went_out : (lot sub : Bytes) → MakesNoLot → makes_sublot o row.what (movements H) ≡ false → is_none (sublot_row H o (lot, sub)) ≡ false → BringsNone o → TakesAt o lot sub →
+      tables_given (by o (Record row) ∷ H) o ≡ with_sublot (holding lot sub (held o lot sub - row.amount)) (with_move row (tables_given H o))
   went_out lot sub makes none there brings takes =
       no_lot_more makes.0 makes.1 makes.2
       ∙ (λ i. record (with_move row (tables_given H o)) {
-        sublot = λ k. sublots_from lot sub there brings takes k i;
+        sublot = λ k. sublots_from o lot sub there brings takes k i;
         sublots = (sublots_same none ∙ sym (ap (λ b. more b (count_sublots H o)) there)) i;
       })
 
-  pub went_over : (lot sub target : Bytes) → MakesNoLot → makes_sublot o row.what (movements H) ≡ not (sublot_in (lot_id o lot) target (movements H)) → same_bytes sub target ≡ false → is_none (sublot_row H o (lot, sub)) ≡ false → BringsAt lot target → TakesAt lot sub →
-      tables_given (by o (Record row) ∷ H) o ≡ with_sublot (holding lot sub (held lot sub - row.amount)) (with_sublot (holding lot target (held lot target + row.amount)) (with_move row (tables_given H o)))
+  pub went_over : (lot sub target : Bytes) → MakesNoLot → makes_sublot o row.what (movements H) ≡ not (sublot_in (lot_id o lot) target (movements H)) → same_bytes sub target ≡ false → is_none (sublot_row H o (lot, sub)) ≡ false → BringsAt o lot target → TakesAt o lot sub →
+      tables_given (by o (Record row) ∷ H) o ≡ with_sublot (holding lot sub (held o lot sub - row.amount)) (with_sublot (holding lot target (held o lot target + row.amount)) (with_move row (tables_given H o)))
   went_over lot sub target makes new apart there brings takes =
       no_lot_more makes.0 makes.1 makes.2
       ∙ (λ i. record (with_move row (tables_given H o)) {
-        sublot = λ k. sublots_between lot sub target apart there brings takes k i;
-        sublots = (sublots_more lot target new ∙ sym (still_known (is_at lot target (lot, sub)) (sublot_row H o (lot, sub)) (holding lot target (held lot target + row.amount)) (more (is_none (sublot_row H o (lot, target))) (count_sublots H o)) there)) i;
+        sublot = λ k. sublots_between o lot sub target apart there brings takes k i;
+        sublots = (sublots_more lot target new ∙ sym (still_known (is_at lot target (lot, sub)) (sublot_row H o (lot, sub)) (holding lot target (held o lot target + row.amount)) (more (is_none (sublot_row H o (lot, target))) (count_sublots H o)) there)) i;
       })
 
   -- a movement that neither brings into the owner's lots nor takes from them
-  pub moved_elsewhere : MakesNoLot → makes_sublot o row.what (movements H) ≡ false → BringsNone → TakesNone → tables_given (by o (Record row) ∷ H) o ≡ with_move row (tables_given H o)
+  pub moved_elsewhere : MakesNoLot → makes_sublot o row.what (movements H) ≡ false → BringsNone o → TakesNone o → tables_given (by o (Record row) ∷ H) o ≡ with_move row (tables_given H o)
   moved_elsewhere makes none brings takes =
       no_lot_more makes.0 makes.1 makes.2
-      ∙ (λ i. record (with_move row (tables_given H o)) { sublot = λ k. stayed_at k (brings k) (takes k) i; sublots = sublots_same none i })
+      ∙ (λ i. record (with_move row (tables_given H o)) { sublot = λ k. stayed_at o k (brings k) (takes k) i; sublots = sublots_same none i })
+
+  -- the tables of another owner, from whose sublot the movement takes
+  pub taken_from_other : (p lot sub : Bytes) → same_bytes o p ≡ false → is_none (sublot_row H p (lot, sub)) ≡ false → BringsNone p → TakesAt p lot sub →
+      tables_given (by o (Record row) ∷ H) p ≡ with_sublot (holding lot sub (held p lot sub - row.amount)) (tables_given H p)
+  taken_from_other p lot sub other there brings takes =
+      others_but_sublots p other
+      ∙ (λ i. record (tables_given H p) {
+        sublot = λ k. sublots_from p lot sub there brings takes k i;
+        sublots = sym (ap (λ b. more b (count_sublots H p)) there) i;
+      })
