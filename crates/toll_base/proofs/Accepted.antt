@@ -1,6 +1,6 @@
 -- What an accepted command says: none of its checks applies.
-use Rattle.std.proofs.Common.{◌≡◌, ℕ, zero, suc, Bool, true, false, Option, Some, None, List, [], ◌∷◌, ◌++◌, cond, refl}
-use Rattle.toll_base.specs.Verdict.{Verdict, Accepted, Checks, first_of, stopped}
+use Rattle.std.proofs.Common.{◌≡◌, ℕ, zero, suc, Bool, true, false, Option, Some, None, List, [], ◌∷◌, ◌++◌, cond, refl, sym, ap, ◌∙◌}
+use Rattle.toll_base.specs.Verdict.{Verdict, Accepted, Repeated, Refused, Checks, first_of, stopped}
 use Rattle.toll_base.specs.declared.refusal.Refusal.{Refusal}
 
 -- whether the check at this place of the list applies
@@ -31,3 +31,31 @@ rest_accepts b why more h = (first_passes b (stopped why) (first_of more) (stopp
 pub rest_accept : (checks more : Checks) → first_of (checks ++ more) ≡ Accepted → first_of more ≡ Accepted
 rest_accept [] more h = h
 rest_accept (check ∷ checks) more h = rest_accept checks more (first_passes check.0 (stopped check.1) (first_of (checks ++ more)) (stopped_not check.1) h).1
+
+-- ---- one list of checks after another
+
+-- what the first of two says, or where it accepts, what the second says
+abbrev pub and_then : Verdict → Verdict → Verdict
+and_then Accepted said = said
+and_then Repeated said = Repeated
+and_then (Refused why) said = Refused why
+
+stops : (why : Option Refusal) (said : Verdict) → and_then (stopped why) said ≡ stopped why
+stops None said = refl
+stops (Some why) said = refl
+
+pub first_then : (checks more : Checks) → first_of (checks ++ more) ≡ and_then (first_of checks) (first_of more)
+first_then [] more = refl
+first_then (check ∷ checks) more =
+    elim check.0 as (λ b. cond b (stopped check.1) (first_of (checks ++ more)) ≡ and_then (cond b (stopped check.1) (first_of checks)) (first_of more)) [
+      | true ↦ sym (stops check.1 (first_of more))
+      | false ↦ first_then checks more
+    ]
+
+-- where the first list refuses, both do
+pub refused_first : (checks more : Checks) (why : Refusal) → Refused why ≡ first_of checks → Refused why ≡ first_of (checks ++ more)
+refused_first checks more why is = ap (λ v. and_then v (first_of more)) is ∙ sym (first_then checks more)
+
+-- where it accepts, both say what the second says
+pub accepted_first : (checks more : Checks) → Accepted ≡ first_of checks → first_of more ≡ first_of (checks ++ more)
+accepted_first checks more is = ap (λ v. and_then v (first_of more)) is ∙ sym (first_then checks more)

@@ -155,3 +155,26 @@ keeps_rules own rows d checks decided keeps fit =
 -- what is not at a limit is below it
 pub less_of : (most n : ℕ) → nat_le most n ≡ false → nat_lt n most ≡ true
 less_of most n h = grind (arith, nat_tests)
+
+-- ---- decisions that change rows of two owners
+
+-- a change of the slice's owner is put into it
+pub taken_in : (o : Bytes) (row : Row) (rest : List Change) (s : Slice) → same_bytes o s.owner ≡ true → after_changes (Put o row ∷ rest) s ≡ after_changes rest (with_row s row)
+taken_in o row rest s own = ap (λ b. after_changes rest (cond b (with_row s row) s)) own
+
+-- and one of another owner isn't
+pub left_out : (o : Bytes) (row : Row) (rest : List Change) (s : Slice) → same_bytes o s.owner ≡ false → after_changes (Put o row ∷ rest) s ≡ after_changes rest s
+left_out o row rest s other = ap (λ b. after_changes rest (cond b (with_row s row) s)) other
+
+pub keeps_put : (o : Bytes) (row : Row) (rest : List Change) (s : Slice) → same_bytes o s.owner ≡ true → KeepsRules s → row_fits s row ≡ true → (KeepsRules (with_row s row) → ChangesKeepRules rest (with_row s row)) → ChangesKeepRules (Put o row ∷ rest) s
+keeps_put o row rest s own keeps fits more =
+    let kept : KeepsRules (with_row s row) = (fits_exact s row keeps).0 fits in
+    subst (λ b. KeepsRules (cond b (with_row s row) s) × ChangesKeepRules rest (cond b (with_row s row) s)) (sym own) (kept, more kept)
+
+pub keeps_skip : (o : Bytes) (row : Row) (rest : List Change) (s : Slice) → same_bytes o s.owner ≡ false → KeepsRules s → ChangesKeepRules rest s → ChangesKeepRules (Put o row ∷ rest) s
+keeps_skip o row rest s other keeps more = subst (λ b. KeepsRules (cond b (with_row s row) s) × ChangesKeepRules rest (cond b (with_row s row) s)) (sym other) (keeps, more)
+
+-- a decision whose changes keep the rules where its checks accept
+pub rules_by : (s : Slice) (changes : List Change) (d : Decision) (checks : Checks) → IsDecided checks changes d → KeepsRules s → (first_of checks ≡ Accepted → ChangesKeepRules changes s) → DecisionKeepsRules s d
+unfolding DecisionKeepsRules
+rules_by s changes d checks decided keeps kept = subst (λ cs. ChangesKeepRules cs s) (sym decided.makes) (rules_if s changes (first_of checks) keeps kept)

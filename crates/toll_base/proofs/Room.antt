@@ -140,3 +140,8 @@ module _ (s : Slice) where
       (at_most _ 20000000000000 (less_over (amount_in (tables_of s) lot sub) less (held_bound keeps lot sub))))
       (some_of (lot_at s lot) lot_there),
       tt)))
+
+  -- a known sublot with less in it fits
+  pub less_fit : (lot sub : Bytes) (amount : ℕ) → KeepsRules s → is_none (lot_at s lot) ≡ false → is_none (sublot_at s (lot, sub)) ≡ false → row_fits s (Sublot (record { lot = lot; sublot = sub; amount = amount_in (tables_of s) lot sub - amount })) ≡ true
+  less_fit lot sub amount keeps lot_there sub_there =
+      and_is _ _ (and_is _ _ (or_left _ _ (some_of (sublot_at s (lot, sub)) sub_there)) (at_most _ 20000000000000 (less_over (amount_in (tables_of s) lot sub) amount (held_bound keeps lot sub)))) (some_of (lot_at s lot) lot_there)

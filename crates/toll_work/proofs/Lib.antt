@@ -1,1 +1,2 @@
+pub mod ConsumptionLaw
 pub mod RecipeLaw

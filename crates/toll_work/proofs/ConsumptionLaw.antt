@@ -1,0 +1,177 @@
+-- What a consumption owes, of a lot of the batch's owner or of HOUSE.
+use Rattle.std.proofs.Common.{◌≡◌, ℕ, ◌-◌, Bool, true, false, not, ◌&&◌, ◌||◌, cond, nat_le, nat_lt, Some, is_some, is_none, List, [], ◌∷◌, ◌++◌, length, refl, sym, ap, subst, ◌∙◌}
+use mathlib.Core.Bool.{false≢true}
+use Rattle.std.proofs.lemmas.Bool.{or_parts, or_left, not-false}
+use Rattle.toll_base.specs.Bytes.{Bytes, same_bytes}
+use Rattle.toll_base.specs.Values.{house_name}
+use Rattle.toll_base.specs.Command.{Record, by}
+use Rattle.toll_base.specs.History.{History, owner_known}
+use Rattle.toll_base.specs.Movements.{lot_id, takes_from}
+use Rattle.toll_base.specs.Slice.{Slice, with_row, lot_at, sublot_at}
+use Rattle.toll_base.specs.SliceRules.{KeepsRules, row_fits, count_actuals}
+use Rattle.toll_base.specs.Tables.{Tables, tables_of, tables_given, sublot_row, IsRowsOf}
+use Rattle.toll_base.specs.Decision.{IsDecided, after_changes, ChangesKeepRules, DecidesWith, DecisionKeepsRules}
+use Rattle.toll_base.specs.Verdict.{Accepted, Checks, first_of, key_checks, actual_checks, consumed_checks, tables_for, crosses, amount_in, verdict, IsLawful, IsValid}
+use Rattle.toll_base.specs.declared.decision.Change.{Change}
+use Rattle.toll_base.specs.declared.decision.Change.TheVariants.{Put}
+use Rattle.toll_base.specs.declared.decision.Decision.{Decision}
+use Rattle.toll_base.specs.declared.lot.LotId.{LotId}
+use Rattle.toll_base.specs.declared.role.Role.TheVariants.{Consumed}
+use Rattle.toll_base.specs.declared.rows.MoveRow.{MoveRow}
+use Rattle.toll_base.specs.declared.rows.Move.TheVariants.{Actual}
+use Rattle.toll_base.specs.declared.rows.SublotRow.{SublotRow}
+use Rattle.toll_base.specs.declared.rows.Row.TheVariants.{Sublot, Move}
+use Rattle.toll_base.proofs.Accepted.{applies, none_applies}
+use Rattle.toll_base.proofs.Decided.{verdict_is, right_over, rules_by, taken_in, left_out, keeps_put, keeps_skip, less_of}
+use Rattle.toll_base.proofs.Moving.{tables_for_are}
+use Rattle.toll_base.proofs.Options.{some_of}
+use Rattle.toll_base.proofs.Passed.{accepted_passes, move_fits}
+use Rattle.toll_base.proofs.PutMoves.{with_move, with_sublot, is_at, put_move, put_sublot, put_went}
+use Rattle.toll_base.proofs.Recorded.{went_out, moved_elsewhere, taken_from_other, tables-untaken}
+use Rattle.toll_base.proofs.Room.{move_room, less_fit}
+use Rattle.toll_base.proofs.Texts.{same_bytes-exact, same_bytes-refl, same_bytes-symm}
+
+module _ (key order : Bytes) (number segment : ℕ) (material : Bytes) (lot : LotId) (sublot : Bytes) (amount day : ℕ) where
+  abbrev consumption : MoveRow
+  consumption = record { key = key; what = Actual order number segment Consumed material lot sublot; amount = amount; day = day }
+
+  -- over the tables of the lot's owner
+  abbrev left : Tables → SublotRow
+  left u = record { lot = lot.lot; sublot = sublot; amount = amount_in u lot.lot sublot - amount }
+
+  abbrev changes : Bytes → Tables → List Change
+  changes o u = Put o (Move consumption) ∷ Put lot.owner (Sublot (left u)) ∷ []
+
+  abbrev checks : Bytes → Tables → Tables → Checks
+  checks o t house = key_checks t consumption ++ actual_checks o t order number segment Consumed material lot ++ consumed_checks t (tables_for o t house lot.owner) order number material lot.lot sublot amount
+
+  takes : (o p : Bytes) (k : Bytes × Bytes) → same_bytes p lot.owner ≡ true → takes_from (lot_id p k.0) k.1 o consumption.what ≡ is_at lot.lot sublot k
+  takes o p k its = ap (λ b. (b && same_bytes k.0 lot.lot) && same_bytes k.1 sublot) its
+
+  takes_none : (o p : Bytes) (k : Bytes × Bytes) → same_bytes p lot.owner ≡ false → takes_from (lot_id p k.0) k.1 o consumption.what ≡ false
+  takes_none o p k its = ap (λ b. (b && same_bytes k.0 lot.lot) && same_bytes k.1 sublot) its
+
+  -- ---- over a lawful history
+
+  module _ (H : History) (o : Bytes) (lawful : IsLawful H) (valid : IsValid (Record consumption)) (accepted : verdict H (by o (Record consumption)) ≡ Accepted) where
+    its_tables : tables_for o (tables_given H o) (tables_given H house_name) lot.owner ≡ tables_given H lot.owner
+    its_tables = tables_for_are H o lot.owner (move_fits H o consumption accepted 5)
+
+    sublot_there : is_none (sublot_row H lot.owner (lot.lot, sublot)) ≡ false
+    sublot_there = ap (λ (u : Tables). is_none (u.sublot (lot.lot, sublot))) (sym its_tables) ∙ move_fits H o consumption accepted 10
+
+    key_new : (s : Slice) → s.owner ≡ o → IsRowsOf H s → is_some ((tables_of s).movement key) ≡ false
+    key_new s e there = ap (λ (t : Tables). is_some (t.movement key)) (there ∙ ap (tables_given H) e) ∙ accepted_passes H o (Record consumption) accepted 2
+
+    -- what is left in the sublot, over tables that are the history's
+    module _ (u : Tables) (is : u ≡ tables_given H lot.owner) (s : Slice) (there : IsRowsOf H s) where
+      abbrev Done : Type 0
+      Done = IsRowsOf (by o (Record consumption) ∷ H) (after_changes (changes o u) s)
+
+      own_and_its : same_bytes o s.owner ≡ true → same_bytes lot.owner s.owner ≡ true → Done
+      own_and_its own its =
+          let e = same_bytes-exact o s.owner own in
+          let mine : lot.owner ≡ o = same_bytes-exact lot.owner s.owner its ∙ sym e in
+          subst (IsRowsOf (by o (Record consumption) ∷ H))
+          (sym (taken_in o (Move consumption) (Put lot.owner (Sublot (left u)) ∷ []) s own ∙ taken_in lot.owner (Sublot (left u)) [] (with_row s (Move consumption)) its))
+          (put_went s consumption (left u) (key_new s (sym e) there)
+          ∙ (λ i. with_sublot (left ((is ∙ ap (tables_given H) mine) i)) (with_move consumption ((there ∙ ap (tables_given H) (sym e)) i)))
+          ∙ sym (went_out H o consumption lawful valid accepted lot.lot sublot ((λ l. refl), refl, refl) refl
+          (ap (λ w. is_none (sublot_row H w (lot.lot, sublot))) (sym mine) ∙ sublot_there)
+          (λ k. refl) (λ k. takes o o k (ap (same_bytes o) mine ∙ same_bytes-refl o)))
+          ∙ ap (tables_given (by o (Record consumption) ∷ H)) e)
+
+      own_alone : same_bytes o s.owner ≡ true → same_bytes lot.owner s.owner ≡ false → Done
+      own_alone own its =
+          let e = same_bytes-exact o s.owner own in
+          subst (IsRowsOf (by o (Record consumption) ∷ H))
+          (sym (taken_in o (Move consumption) (Put lot.owner (Sublot (left u)) ∷ []) s own ∙ left_out lot.owner (Sublot (left u)) [] (with_row s (Move consumption)) its))
+          (put_move s consumption (key_new s (sym e) there)
+          ∙ (λ i. with_move consumption ((there ∙ ap (tables_given H) (sym e)) i))
+          ∙ sym (moved_elsewhere H o consumption lawful valid accepted ((λ l. refl), refl, refl) refl (λ k. refl) (λ k. takes_none o o k (same_bytes-symm o lot.owner ∙ ap (same_bytes lot.owner) e ∙ its)))
+          ∙ ap (tables_given (by o (Record consumption) ∷ H)) e)
+
+      its_alone : same_bytes o s.owner ≡ false → same_bytes lot.owner s.owner ≡ true → Done
+      its_alone other its =
+          let mine = same_bytes-exact lot.owner s.owner its in
+          subst (IsRowsOf (by o (Record consumption) ∷ H))
+          (sym (left_out o (Move consumption) (Put lot.owner (Sublot (left u)) ∷ []) s other ∙ taken_in lot.owner (Sublot (left u)) [] s its))
+          (put_sublot s (left u)
+          ∙ (λ i. with_sublot (left ((is ∙ ap (tables_given H) mine) i)) (there i))
+          ∙ sym (taken_from_other H o consumption lawful valid accepted s.owner lot.lot sublot other
+          (ap (λ w. is_none (sublot_row H w (lot.lot, sublot))) (sym mine) ∙ sublot_there)
+          (λ k. refl) (λ k. takes o s.owner k (same_bytes-symm s.owner lot.owner ∙ its))))
+
+      neither : same_bytes o s.owner ≡ false → same_bytes lot.owner s.owner ≡ false → Done
+      neither other its =
+          subst (IsRowsOf (by o (Record consumption) ∷ H))
+          (sym (left_out o (Move consumption) (Put lot.owner (Sublot (left u)) ∷ []) s other ∙ left_out lot.owner (Sublot (left u)) [] s its))
+          (there ∙ sym (tables-untaken H o consumption lawful valid accepted s.owner other (λ k. takes_none o s.owner k (same_bytes-symm s.owner lot.owner ∙ its))))
+
+      rows_after : Done
+      rows_after =
+          elim (same_bytes o s.owner) as (λ b. same_bytes o s.owner ≡ b → Done) [
+            | true ↦ λ own. elim (same_bytes lot.owner s.owner) as (λ b. same_bytes lot.owner s.owner ≡ b → Done) [ true ↦ own_and_its own | false ↦ own_alone own ] refl
+            | false ↦ λ other. elim (same_bytes lot.owner s.owner) as (λ b. same_bytes lot.owner s.owner ≡ b → Done) [ true ↦ its_alone other | false ↦ neither other ] refl
+          ] refl
+
+  -- ---- the decision
+
+  module _ (own house : Slice) (d : Decision) where
+    abbrev source : Tables
+    source = tables_for own.owner (tables_of own) (tables_of house) lot.owner
+
+    module _ (decided : IsDecided (checks own.owner (tables_of own) (tables_of house)) (changes own.owner source) d) where
+      pub consumption_decided : DecidesWith (by own.owner (Record consumption)) own house d
+      unfolding DecidesWith
+      consumption_decided H lawful valid known there house_there is_house =
+          let houses : tables_of house ≡ tables_given H house_name = house_there ∙ ap (tables_given H) is_house in
+          right_over H (by own.owner (Record consumption)) d _ (changes own.owner source) decided.says decided.makes
+          (verdict_is H own.owner (Record consumption) (tables_of own) (tables_of house) known there houses)
+          (λ accepted s s_there. rows_after H own.owner lawful valid accepted source ((λ i. tables_for own.owner (there i) (houses i) lot.owner) ∙ its_tables H own.owner lawful valid accepted) s s_there)
+
+      -- what an accepted consumption passed
+      module _ (accepted : first_of (checks own.owner (tables_of own) (tables_of house)) ≡ Accepted) where
+        passed : (n : ℕ) → applies (checks own.owner (tables_of own) (tables_of house)) n ≡ false
+        passed n = none_applies (checks own.owner (tables_of own) (tables_of house)) accepted n
+
+        move_fits_own : row_fits own (Move consumption) ≡ true
+        move_fits_own =
+            let full = or_parts _ _ (passed 15) in
+            move_room own consumption full.0 (or_left _ _ (less_of 200 (count_actuals order number own.moves) full.1))
+
+      pub consumption_keeps : KeepsRules own → DecisionKeepsRules own d
+      consumption_keeps keeps =
+          rules_by own (changes own.owner source) d _ decided keeps
+          (λ accepted.
+          keeps_put own.owner (Move consumption) (Put lot.owner (Sublot (left source)) ∷ []) own (same_bytes-refl own.owner) keeps (move_fits_own accepted)
+          (λ kept.
+          elim (same_bytes lot.owner own.owner) as (λ b. same_bytes lot.owner own.owner ≡ b → ChangesKeepRules (Put lot.owner (Sublot (left source)) ∷ []) (with_row own (Move consumption))) [
+            | true ↦ λ its.
+                let e : source ≡ tables_of own = ap (λ b. cond b (tables_of own) (tables_of house)) its in
+                keeps_put lot.owner (Sublot (left source)) [] (with_row own (Move consumption)) its kept
+                (ap (λ u. row_fits (with_row own (Move consumption)) (Sublot (left u))) e
+                ∙ less_fit (with_row own (Move consumption)) lot.lot sublot amount kept
+                (ap (λ (u : Tables). is_none (u.lot lot.lot)) (sym e) ∙ passed accepted 10)
+                (ap (λ (u : Tables). is_none (u.sublot (lot.lot, sublot))) (sym e) ∙ passed accepted 13))
+                (λ kept. tt)
+            | false ↦ λ its. keeps_skip lot.owner (Sublot (left source)) [] (with_row own (Move consumption)) its kept tt
+          ] refl))
+
+      pub consumption_keeps_house : same_bytes own.owner house.owner ≡ false → KeepsRules house → DecisionKeepsRules house d
+      consumption_keeps_house other keeps =
+          rules_by house (changes own.owner source) d _ decided keeps
+          (λ accepted.
+          keeps_skip own.owner (Move consumption) (Put lot.owner (Sublot (left source)) ∷ []) house other keeps
+          (elim (same_bytes lot.owner house.owner) as (λ b. same_bytes lot.owner house.owner ≡ b → ChangesKeepRules (Put lot.owner (Sublot (left source)) ∷ []) house) [
+            | true ↦ λ its.
+                let not_own : same_bytes lot.owner own.owner ≡ false = ap (λ w. same_bytes w own.owner) (same_bytes-exact lot.owner house.owner its) ∙ same_bytes-symm house.owner own.owner ∙ other in
+                let e : source ≡ tables_of house = ap (λ b. cond b (tables_of own) (tables_of house)) not_own in
+                keeps_put lot.owner (Sublot (left source)) [] house its keeps
+                (ap (λ u. row_fits house (Sublot (left u))) e
+                ∙ less_fit house lot.lot sublot amount keeps
+                (ap (λ (u : Tables). is_none (u.lot lot.lot)) (sym e) ∙ passed accepted 10)
+                (ap (λ (u : Tables). is_none (u.sublot (lot.lot, sublot))) (sym e) ∙ passed accepted 13))
+                (λ kept. tt)
+            | false ↦ λ its. keeps_skip lot.owner (Sublot (left source)) [] house its keeps tt
+          ] refl))

@@ -1,0 +1,13 @@
+use Rattle.std.proofs.Common.{◌++◌}
+use Rattle.toll_base.specs.Bounds.{lot_bounds}
+use Rattle.toll_base.specs.Tables.{tables_of}
+use Rattle.toll_base.specs.Verdict.{actual_checks, produced_checks}
+use Rattle.toll_base.specs.declared.role.Role.TheVariants.{Produced}
+use Rattle.toll_base.proofs.Accepted.{refused_first}
+use Rattle.toll_work.proofs.actuals.check_production.Goals as goal
+
+pub returns-in-Err : goal.returns-in-Err
+returns-in-Err c =
+    let used = c.args.used.now in
+    let t = tables_of c.args.own.now in
+    refused_first (actual_checks c.args.own.now.owner t used.order used.number used.segment Produced used.material used.lot) (produced_checks t used.order used.number used.material used.lot.lot ++ lot_bounds t used.material used.lot.lot used.sublot c.args.amount) c.in-Err.why c.in-Err.ensures

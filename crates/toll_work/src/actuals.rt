@@ -1,0 +1,370 @@
+//! Actuals.
+ghost use Rattle.std.specs.Prelude.{◌≡◌, ◌+◌, ◌-◌, true, false, [], ◌∷◌, ◌++◌, nat_lt, is_none, Some, IfOk};
+ghost use Rattle.toll_base.specs.Bounds.{lot_bounds};
+ghost use Rattle.toll_base.specs.Bytes.{same_bytes};
+ghost use Rattle.toll_base.specs.Command.{Record, by};
+ghost use Rattle.toll_base.specs.Decision.{IsDecided, DecidesWith, DecisionKeepsRules, said};
+ghost use Rattle.toll_base.specs.Slice.{recipe_at, requirement_at, batch_at};
+ghost use Rattle.toll_base.specs.SliceRules.{KeepsRules};
+ghost use Rattle.toll_base.specs.Tables.{tables_of};
+ghost use Rattle.toll_base.specs.Verdict.{first_of, key_checks, actual_checks, consumed_checks, produced_checks, open_batch_checks, recipe_of_order, tables_for, amount_in, actuals_full, is_actual};
+ghost use Rattle.toll_base.specs.States.{is_idle};
+ghost use Rattle.toll_base.specs.Words.{is_some_where};
+ghost use Rattle.toll_base.specs.Verdict as verdict;
+ghost use Rattle.toll_base.specs.declared.decision.Change.TheVariants as Change;
+ghost use Rattle.toll_base.specs.declared.lot.Disposition.TheVariants as Disposition;
+ghost use Rattle.toll_base.specs.declared.lot.Origin.TheVariants as Origin;
+ghost use Rattle.toll_base.specs.declared.refusal.Refusal.TheVariants as Refusal;
+ghost use Rattle.toll_base.specs.declared.role.Role.TheVariants as Role;
+ghost use Rattle.toll_base.specs.declared.rows.Row.TheVariants as Row;
+
+use std::alloc::{AllocError, Global};
+use toll_base::{
+    Amount, BatchNo, Change, Decision, Disposition, LotId, LotRow, Move, MoveRow, Name, Origin,
+    Refusal, Role, Row, Segment, Slice, State, SublotRow,
+};
+
+const MOST_MOVEMENTS: usize = 20_000;
+
+const MOST_LOTS: usize = 5_000;
+
+const MOST_ACTUALS: u64 = 200;
+
+/// What a segment of a batch uses.
+#[derive(Clone, Copy)]
+struct Use {
+    order: Name,
+    number: BatchNo,
+    segment: Segment,
+    material: Name,
+    lot: LotId,
+    sublot: Name,
+}
+
+/// Records an actual of a batch of `own`'s owner: it consumes from a sublot of the owner's or of
+/// HOUSE's, or produces into one of the owner's. Where the owner is HOUSE both slices are HOUSE's.
+///
+/// A known key with equal content is repeated, or [`Refusal::Voided`], with other content
+/// [`Refusal::KeyConflict`]. Then [`Refusal::UnknownOrder`], [`Refusal::UnknownBatch`],
+/// [`Refusal::BatchClosed`], [`Refusal::BatchIdle`], [`Refusal::BadSegment`],
+/// [`Refusal::CrossOwner`] and [`Refusal::NotInRecipe`]. A consumption is then refused as
+/// [`Refusal::UnknownLot`], [`Refusal::WrongMaterial`], [`Refusal::NotReleased`],
+/// [`Refusal::UnknownSublot`] or [`Refusal::NotEnough`], a production into a known lot as
+/// [`Refusal::WrongOrigin`], [`Refusal::WrongMaterial`] or [`Refusal::NotQuarantined`]; and
+/// [`Refusal::LimitReached`] at 20,000 movements, 200 actuals of the batch or 5,000 lots.
+pub fn record_actual(
+    alloc: Global,
+    own: &Slice,
+    house: &Slice,
+    row: MoveRow,
+) -> Result<Decision, AllocError>
+    requires { is_actual row.what ≡ true }
+{
+    let what = row.what;
+    match what {
+        Move::Actual {
+            order,
+            number,
+            segment,
+            role,
+            material,
+            lot,
+            sublot,
+        } => {
+            let used = Use {
+                order,
+                number,
+                segment,
+                material,
+                lot,
+                sublot,
+            };
+            match role {
+                Role::Consumed => plan_consumption(alloc, own, house, &row, &used),
+                Role::Produced => plan_production(alloc, own, &row, &used),
+            }
+        }
+        _ => unreachable!(),
+    }
+}
+
+fn plan_consumption(
+    alloc: Global,
+    own: &Slice,
+    house: &Slice,
+    row: &MoveRow,
+    used: &Use,
+) -> Result<Decision, AllocError>
+    ensures plan { IfOk result (IsDecided
+        (key_checks (tables_of own.now) row.now
+        ++ actual_checks own.now.owner (tables_of own.now) used.now.order used.now.number used.now.segment Role.Consumed used.now.material used.now.lot
+        ++ consumed_checks (tables_of own.now) (tables_for own.now.owner (tables_of own.now) (tables_of house.now) used.now.lot.owner) used.now.order used.now.number used.now.material used.now.lot.lot used.now.sublot row.now.amount)
+        (Change.Put own.now.owner (Row.Move row.now)
+        ∷ Change.Put used.now.lot.owner (Row.Sublot (record { lot = used.now.lot.lot; sublot = used.now.sublot; amount = amount_in (tables_for own.now.owner (tables_of own.now) (tables_of house.now) used.now.lot.owner) used.now.lot.lot used.now.sublot - row.now.amount }))
+        ∷ [])) }
+    ensures kept { KeepsRules own.now }
+    ensures house_kept { KeepsRules house.now }
+{
+    let owner = *own.owner();
+    let _house = house.owner();
+    if let Some(known) = own.decided(row) {
+        return Ok(known);
+    }
+    let source = slice_for(own, house, &used.lot.owner);
+    if let Err(why) = check_consumption(own, source, used, row.amount) {
+        return Ok(Decision::Refuse(why));
+    }
+    let left = SublotRow {
+        lot: used.lot.lot,
+        sublot: used.sublot,
+        amount: source
+            .amount_in(&used.lot.lot, &used.sublot)
+            .saturating_sub(row.amount.get()),
+    };
+    Decision::accept_all(
+        alloc,
+        &[
+            Change::Put(owner, Row::Move(*row)),
+            Change::Put(used.lot.owner, Row::Sublot(left)),
+        ],
+    )
+}
+
+fn plan_production(
+    alloc: Global,
+    own: &Slice,
+    row: &MoveRow,
+    used: &Use,
+) -> Result<Decision, AllocError>
+    ensures plan { IfOk result (IsDecided
+        (key_checks (tables_of own.now) row.now
+        ++ actual_checks own.now.owner (tables_of own.now) used.now.order used.now.number used.now.segment Role.Produced used.now.material used.now.lot
+        ++ produced_checks (tables_of own.now) used.now.order used.now.number used.now.material used.now.lot.lot
+        ++ lot_bounds (tables_of own.now) used.now.material used.now.lot.lot used.now.sublot row.now.amount)
+        (Change.Put own.now.owner (Row.Move row.now)
+        ∷ Change.Put own.now.owner (Row.Lot (record { lot = used.now.lot.lot; material = used.now.material; origin = Origin.Batch used.now.order used.now.number; disposition = Disposition.Quarantined }))
+        ∷ Change.Put own.now.owner (Row.Sublot (record { lot = used.now.lot.lot; sublot = used.now.sublot; amount = amount_in (tables_of own.now) used.now.lot.lot used.now.sublot + row.now.amount }))
+        ∷ [])) }
+    ensures kept { KeepsRules own.now }
+{
+    let owner = *own.owner();
+    if let Some(known) = own.decided(row) {
+        return Ok(known);
+    }
+    if let Err(why) = check_production(own, used, row.amount) {
+        return Ok(Decision::Refuse(why));
+    }
+    let lot = LotRow {
+        lot: used.lot.lot,
+        material: used.material,
+        origin: Origin::Batch {
+            order: used.order,
+            number: used.number,
+        },
+        disposition: Disposition::Quarantined,
+    };
+    let sublot = SublotRow {
+        lot: used.lot.lot,
+        sublot: used.sublot,
+        amount: own.amount_in(&used.lot.lot, &used.sublot) + row.amount.get(),
+    };
+    Decision::accept_all(
+        alloc,
+        &[
+            Change::Put(owner, Row::Move(*row)),
+            Change::Put(owner, Row::Lot(lot)),
+            Change::Put(owner, Row::Sublot(sublot)),
+        ],
+    )
+}
+
+// The rows of this owner, which is the owner or HOUSE.
+fn slice_for<'a>(own: &'a Slice, house: &'a Slice, owner: &Name) -> &'a Slice
+    ensures { tables_of result.now ≡ tables_for own.now.owner (tables_of own.now) (tables_of house.now) owner.now }
+{
+    if *owner == *own.owner() {
+        own
+    } else {
+        house
+    }
+}
+
+fn check_consumption(
+    own: &Slice,
+    source: &Slice,
+    used: &Use,
+    amount: Amount,
+) -> Result<(), Refusal>
+    ensures { said result ≡ first_of (actual_checks own.now.owner (tables_of own.now) used.now.order used.now.number used.now.segment Role.Consumed used.now.material used.now.lot
+        ++ consumed_checks (tables_of own.now) (tables_of source.now) used.now.order used.now.number used.now.material used.now.lot.lot used.now.sublot amount) }
+{
+    match check_use(own, used, Role::Consumed) {
+        Err(why) => Err(why),
+        Ok(()) => check_source(own, source, used, amount),
+    }
+}
+
+fn check_production(own: &Slice, used: &Use, amount: Amount) -> Result<(), Refusal>
+    ensures { said result ≡ first_of (actual_checks own.now.owner (tables_of own.now) used.now.order used.now.number used.now.segment Role.Produced used.now.material used.now.lot
+        ++ produced_checks (tables_of own.now) used.now.order used.now.number used.now.material used.now.lot.lot
+        ++ lot_bounds (tables_of own.now) used.now.material used.now.lot.lot used.now.sublot amount) }
+{
+    match check_use(own, used, Role::Produced) {
+        Err(why) => Err(why),
+        Ok(()) => check_target(own, used, amount),
+    }
+}
+
+// Whether the batch takes actuals, and its recipe this one.
+fn check_use(own: &Slice, used: &Use, role: Role) -> Result<(), Refusal>
+    ensures { said result ≡ first_of (actual_checks own.now.owner (tables_of own.now) used.now.order used.now.number used.now.segment role used.now.material used.now.lot) }
+{
+    match check_running(own, &used.order, used.number) {
+        Err(why) => Err(why),
+        Ok(recipe) => check_in_recipe(own, &recipe, used, role),
+    }
+}
+
+// The recipe of the batch, where it takes actuals.
+fn check_running(own: &Slice, order: &Name, number: BatchNo) -> Result<Name, Refusal>
+    ensures checks { said result ≡ first_of (open_batch_checks (tables_of own.now) order.now number ++ (is_some_where (λ row. is_idle row.state) (batch_at own.now (order.now, number)), Some Refusal.BatchIdle) ∷ []) }
+    ensures recipe { IfOk result (λ recipe. recipe ≡ recipe_of_order (tables_of own.now) order.now) }
+{
+    let Some(known) = own.order(order) else {
+        return Err(Refusal::UnknownOrder);
+    };
+    let Some(batch) = own.batch(order, number) else {
+        return Err(Refusal::UnknownBatch);
+    };
+    if batch.closed {
+        return Err(Refusal::BatchClosed);
+    }
+    if matches!(batch.state, State::Idle) {
+        return Err(Refusal::BatchIdle);
+    }
+    Ok(known.recipe)
+}
+
+// Whether the recipe has this use.
+fn check_in_recipe(own: &Slice, recipe: &Name, used: &Use, role: Role) -> Result<(), Refusal>
+    ensures { said result ≡ first_of ((is_some_where (λ row. nat_lt row.segments used.now.segment) (recipe_at own.now recipe.now), Some Refusal.BadSegment)
+        ∷ (verdict.crosses own.now.owner role used.now.lot.owner, Some Refusal.CrossOwner)
+        ∷ (is_none (requirement_at own.now (recipe.now, used.now.segment, role, used.now.lot.owner, used.now.material)), Some Refusal.NotInRecipe)
+        ∷ []) }
+{
+    if is_above(own, recipe, used.segment) {
+        return Err(Refusal::BadSegment);
+    }
+    if crosses(own.owner(), role, &used.lot.owner) {
+        return Err(Refusal::CrossOwner);
+    }
+    let key = (
+        *recipe,
+        used.segment,
+        role,
+        used.lot.owner,
+        used.material,
+    );
+    if own.requirement(&key).is_none() {
+        return Err(Refusal::NotInRecipe);
+    }
+    Ok(())
+}
+
+// Whether the segment is above those of the recipe.
+fn is_above(own: &Slice, recipe: &Name, segment: Segment) -> bool
+    ensures { result ≡ is_some_where (λ row. nat_lt row.segments segment) (recipe_at own.now recipe.now) }
+{
+    match own.recipe(recipe) {
+        Some(row) => row.segments < segment,
+        None => false,
+    }
+}
+
+// Whether the sublot has what is consumed from it.
+fn check_source(
+    own: &Slice,
+    source: &Slice,
+    used: &Use,
+    amount: Amount,
+) -> Result<(), Refusal>
+    ensures { said result ≡ first_of (consumed_checks (tables_of own.now) (tables_of source.now) used.now.order used.now.number used.now.material used.now.lot.lot used.now.sublot amount) }
+{
+    let Some(lot) = source.lot(&used.lot.lot) else {
+        return Err(Refusal::UnknownLot);
+    };
+    if lot.material != used.material {
+        return Err(Refusal::WrongMaterial);
+    }
+    if !matches!(lot.disposition, Disposition::Released) {
+        return Err(Refusal::NotReleased);
+    }
+    if source.sublot(&used.lot.lot, &used.sublot).is_none() {
+        return Err(Refusal::UnknownSublot);
+    }
+    if source.amount_in(&used.lot.lot, &used.sublot) < amount.get() {
+        return Err(Refusal::NotEnough);
+    }
+    if is_full(own, used) {
+        return Err(Refusal::LimitReached);
+    }
+    Ok(())
+}
+
+// Whether the sublot takes what is produced into it.
+fn check_target(own: &Slice, used: &Use, amount: Amount) -> Result<(), Refusal>
+    ensures { said result ≡ first_of (produced_checks (tables_of own.now) used.now.order used.now.number used.now.material used.now.lot.lot
+        ++ lot_bounds (tables_of own.now) used.now.material used.now.lot.lot used.now.sublot amount) }
+{
+    if let Some(lot) = own.lot(&used.lot.lot) {
+        if !is_made_by(&lot.origin, &used.order, used.number) {
+            return Err(Refusal::WrongOrigin);
+        }
+        if lot.material != used.material {
+            return Err(Refusal::WrongMaterial);
+        }
+        if !matches!(lot.disposition, Disposition::Quarantined) {
+            return Err(Refusal::NotQuarantined);
+        }
+    } else if own.lots().len() >= MOST_LOTS {
+        return Err(Refusal::LimitReached);
+    }
+    if is_full(own, used)
+        || own.material(&used.material).is_none()
+        || !own.has_room_in(&used.lot.lot, &used.sublot, amount)
+    {
+        return Err(Refusal::LimitReached);
+    }
+    Ok(())
+}
+
+// Whether one actual more is above a limit.
+fn is_full(own: &Slice, used: &Use) -> bool
+    ensures { result ≡ actuals_full (tables_of own.now) used.now.order used.now.number }
+{
+    own.moves().len() >= MOST_MOVEMENTS
+        || own.count_actuals(&used.order, used.number) >= MOST_ACTUALS
+}
+
+// Whether the lot is of this batch.
+fn is_made_by(origin: &Origin, order: &Name, number: BatchNo) -> bool
+    ensures { result ≡ verdict.is_made_by order.now number origin.now }
+{
+    match origin {
+        Origin::Receipts => false,
+        Origin::Batch {
+            order: of,
+            number: n,
+        } => *of == *order && *n == number,
+    }
+}
+
+// Whether the source is neither the owner nor HOUSE, or isn't the owner where it produces.
+fn crosses(owner: &Name, role: Role, source: &Name) -> bool
+    ensures { result ≡ verdict.crosses owner.now role source.now }
+{
+    match role {
+        Role::Consumed => *source != *owner && *source != Name::house(),
+        Role::Produced => *source != *owner,
+    }
+}
