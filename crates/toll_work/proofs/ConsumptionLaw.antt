@@ -16,6 +16,7 @@ use Rattle.toll_base.specs.declared.decision.Change.{Change}
 use Rattle.toll_base.specs.declared.decision.Change.TheVariants.{Put}
 use Rattle.toll_base.specs.declared.decision.Decision.{Decision}
 use Rattle.toll_base.specs.declared.lot.LotId.{LotId}
+use Rattle.toll_base.specs.declared.role.Role.{Role}
 use Rattle.toll_base.specs.declared.role.Role.TheVariants.{Consumed}
 use Rattle.toll_base.specs.declared.rows.MoveRow.{MoveRow}
 use Rattle.toll_base.specs.declared.rows.Move.TheVariants.{Actual}
@@ -175,3 +176,22 @@ module _ (key order : Bytes) (number segment : ℕ) (material : Bytes) (lot : Lo
                 (λ kept. tt)
             | false ↦ λ its. keeps_skip lot.owner (Sublot (left source)) [] house its keeps tt
           ] refl))
+
+-- a movement that is a consumption, as it says itself
+module _ (row : MoveRow) (order : Bytes) (number segment : ℕ) (role : Role) (material : Bytes) (lot : LotId) (sublot : Bytes) (is : row.what ≡ Actual order number segment role material lot sublot) (consumes : role ≡ Consumed) where
+  as_consumption : row ≡ consumption row.key order number segment material lot sublot row.amount row.day
+  as_consumption i = record { key = row.key; what = (is ∙ ap (λ r. Actual order number segment r material lot sublot) consumes) i; amount = row.amount; day = row.day }
+
+  -- what follows from its decision follows for the movement
+  pub of_consumption : (own house : Slice) (d : Decision) (X : MoveRow → Type 0) →
+      (IsDecided (checks row.key order number segment material lot sublot row.amount row.day own.owner (tables_of own) (tables_of house))
+      (changes row.key order number segment material lot sublot row.amount row.day own.owner (tables_for own.owner (tables_of own) (tables_of house) lot.owner)) d → X (consumption row.key order number segment material lot sublot row.amount row.day)) →
+      IsDecided (key_checks (tables_of own) row ++ actual_checks own.owner (tables_of own) order number segment Consumed material lot ++ consumed_checks (tables_of own) (tables_for own.owner (tables_of own) (tables_of house) lot.owner) order number material lot.lot sublot row.amount)
+      (Put own.owner (Move row) ∷ Put lot.owner (Sublot (record { lot = lot.lot; sublot = sublot; amount = amount_in (tables_for own.owner (tables_of own) (tables_of house) lot.owner) lot.lot sublot - row.amount })) ∷ []) d → X row
+  of_consumption own house d X =
+      subst (λ (r : MoveRow).
+      (IsDecided (checks row.key order number segment material lot sublot row.amount row.day own.owner (tables_of own) (tables_of house))
+      (changes row.key order number segment material lot sublot row.amount row.day own.owner (tables_for own.owner (tables_of own) (tables_of house) lot.owner)) d → X (consumption row.key order number segment material lot sublot row.amount row.day)) →
+      IsDecided (key_checks (tables_of own) r ++ actual_checks own.owner (tables_of own) order number segment Consumed material lot ++ consumed_checks (tables_of own) (tables_for own.owner (tables_of own) (tables_of house) lot.owner) order number material lot.lot sublot r.amount)
+      (Put own.owner (Move r) ∷ Put lot.owner (Sublot (record { lot = lot.lot; sublot = sublot; amount = amount_in (tables_for own.owner (tables_of own) (tables_of house) lot.owner) lot.lot sublot - r.amount })) ∷ []) d → X r)
+      (sym as_consumption) (λ follows. follows)

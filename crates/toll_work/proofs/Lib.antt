@@ -1,2 +1,3 @@
 pub mod ConsumptionLaw
+pub mod ProductionLaw
 pub mod RecipeLaw

@@ -59,7 +59,12 @@ pub fn record_actual(
     row: MoveRow,
 ) -> Result<Decision, AllocError>
     requires { is_actual row.what ≡ true }
+    ensures decides { IfOk result (DecidesWith (by own.now.owner (Record row)) own.now house.now) }
+    ensures rules { IfOk result (DecisionKeepsRules own.now) }
+    ensures house_rules { same_bytes own.now.owner house.now.owner ≡ false → IfOk result (DecisionKeepsRules house.now) }
 {
+    // What its owner keeps holds of HOUSE's slice too.
+    let _house = house.owner();
     let what = row.what;
     match what {
         Move::Actual {
@@ -182,19 +187,10 @@ fn plan_production(
 fn slice_for<'a>(own: &'a Slice, house: &'a Slice, owner: &Name) -> &'a Slice
     ensures { tables_of result.now ≡ tables_for own.now.owner (tables_of own.now) (tables_of house.now) owner.now }
 {
-    if *owner == *own.owner() {
-        own
-    } else {
-        house
-    }
+    if *owner == *own.owner() { own } else { house }
 }
 
-fn check_consumption(
-    own: &Slice,
-    source: &Slice,
-    used: &Use,
-    amount: Amount,
-) -> Result<(), Refusal>
+fn check_consumption(own: &Slice, source: &Slice, used: &Use, amount: Amount) -> Result<(), Refusal>
     ensures { said result ≡ first_of (actual_checks own.now.owner (tables_of own.now) used.now.order used.now.number used.now.segment Role.Consumed used.now.material used.now.lot
         ++ consumed_checks (tables_of own.now) (tables_of source.now) used.now.order used.now.number used.now.material used.now.lot.lot used.now.sublot amount) }
 {
@@ -258,13 +254,7 @@ fn check_in_recipe(own: &Slice, recipe: &Name, used: &Use, role: Role) -> Result
     if crosses(own.owner(), role, &used.lot.owner) {
         return Err(Refusal::CrossOwner);
     }
-    let key = (
-        *recipe,
-        used.segment,
-        role,
-        used.lot.owner,
-        used.material,
-    );
+    let key = (*recipe, used.segment, role, used.lot.owner, used.material);
     if own.requirement(&key).is_none() {
         return Err(Refusal::NotInRecipe);
     }
@@ -282,12 +272,7 @@ fn is_above(own: &Slice, recipe: &Name, segment: Segment) -> bool
 }
 
 // Whether the sublot has what is consumed from it.
-fn check_source(
-    own: &Slice,
-    source: &Slice,
-    used: &Use,
-    amount: Amount,
-) -> Result<(), Refusal>
+fn check_source(own: &Slice, source: &Slice, used: &Use, amount: Amount) -> Result<(), Refusal>
     ensures { said result ≡ first_of (consumed_checks (tables_of own.now) (tables_of source.now) used.now.order used.now.number used.now.material used.now.lot.lot used.now.sublot amount) }
 {
     let Some(lot) = source.lot(&used.lot.lot) else {

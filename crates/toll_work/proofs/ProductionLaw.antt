@@ -1,0 +1,140 @@
+-- What a production owes.
+use Rattle.std.proofs.Common.{◌≡◌, ℕ, ◌+◌, true, false, not, ◌&&◌, cond, Option, Some, None, is_some, is_none, List, [], ◌∷◌, ◌++◌, refl, sym, ap, subst, ◌∙◌}
+use Rattle.std.proofs.lemmas.Bool.{or_parts, or_left, not-false}
+use Rattle.toll_base.specs.Bounds.{lot_bounds, sublot_bounds}
+use Rattle.toll_base.specs.Bytes.{Bytes, same_bytes}
+use Rattle.toll_base.specs.Values.{house_name}
+use Rattle.toll_base.specs.Command.{Record, by}
+use Rattle.toll_base.specs.History.{History, acts}
+use Rattle.toll_base.specs.Movements.{lot_id, made_by, makes_lot, makes_sublot, first_made, sublot_in, movements}
+use Rattle.toll_base.specs.Slice.{Slice, lot_at}
+use Rattle.toll_base.specs.SliceRules.{KeepsRules, count_actuals}
+use Rattle.toll_base.specs.Words.{where_so, is_some_where}
+use Rattle.toll_base.specs.Work.{material_of}
+use Rattle.toll_base.specs.Tables.{Tables, tables_of, tables_given}
+use Rattle.toll_base.specs.Decision.{IsDecided, DecidesWith, DecisionKeepsRules}
+use Rattle.toll_base.specs.Verdict.{Accepted, Checks, first_of, stopped, key_checks, actual_checks, produced_checks, recipe_of_order, amount_in, verdict, IsLawful, IsValid}
+use Rattle.toll_base.specs.declared.decision.Change.TheVariants.{Put}
+use Rattle.toll_base.specs.declared.decision.Decision.{Decision}
+use Rattle.toll_base.specs.declared.lot.Disposition.TheVariants.{Quarantined}
+use Rattle.toll_base.specs.declared.lot.LotId.{LotId}
+use Rattle.toll_base.specs.declared.lot.Origin.TheVariants.{Batch}
+use Rattle.toll_base.specs.declared.refusal.Refusal.TheVariants.{LimitReached}
+use Rattle.toll_base.specs.declared.role.Role.{Role}
+use Rattle.toll_base.specs.declared.role.Role.TheVariants.{Produced}
+use Rattle.toll_base.specs.declared.rows.LotRow.{LotRow}
+use Rattle.toll_base.specs.declared.rows.MoveRow.{MoveRow}
+use Rattle.toll_base.specs.declared.rows.Move.TheVariants.{Actual}
+use Rattle.toll_base.specs.declared.rows.SublotRow.{SublotRow}
+use Rattle.toll_base.specs.declared.rows.Row.{Row}
+use Rattle.toll_base.specs.declared.rows.Row.TheVariants.{Lot, Sublot, Move}
+use Rattle.toll_base.proofs.Accepted.{none_applies}
+use Rattle.toll_base.proofs.Decided.{verdict_is, Grows, LeavesOthers, decides_with, keeps_rules, rules_by, keeps_skip, less_of}
+use Rattle.toll_base.proofs.LotMaterials.{source_material}
+use Rattle.toll_base.proofs.Options.{some_of, known_passes}
+use Rattle.toll_base.proofs.Passed.{accepted_passes, move_fits}
+use Rattle.toll_base.proofs.PutMoves.{with_move, with_lot, with_sublot, put_came}
+use Rattle.toll_base.proofs.Recorded.{came_in, tables-untaken}
+use Rattle.toll_base.proofs.Room.{unbounded, sublot_room, came_fit}
+use Rattle.toll_base.proofs.Texts.{same_bytes-exact, same_bytes-refl, same_bytes-symm}
+
+module _ (key order : Bytes) (number segment : ℕ) (material : Bytes) (lot : LotId) (sublot : Bytes) (amount day : ℕ) where
+  abbrev production : MoveRow
+  production = record { key = key; what = Actual order number segment Produced material lot sublot; amount = amount; day = day }
+
+  abbrev produced : LotRow
+  produced = record { lot = lot.lot; material = material; origin = Batch order number; disposition = Quarantined }
+
+  abbrev holding : Tables → SublotRow
+  holding t = record { lot = lot.lot; sublot = sublot; amount = amount_in t lot.lot sublot + amount }
+
+  abbrev rows : Tables → List Row
+  rows t = Move production ∷ Lot produced ∷ Sublot (holding t) ∷ []
+
+  -- the lot is the batch's owner's
+  its : (H : History) (o : Bytes) → verdict H (by o (Record production)) ≡ Accepted → same_bytes o lot.owner ≡ true
+  its H o accepted = same_bytes-symm o lot.owner ∙ not-false (same_bytes lot.owner o) (move_fits H o production accepted 5)
+
+  its_id : (o : Bytes) → same_bytes o lot.owner ≡ true → lot ≡ lot_id o lot.lot
+  its_id o mine = λ i. record { owner = sym (same_bytes-exact o lot.owner mine) i; lot = lot.lot }
+
+  grows : Grows (Record production) rows
+  grows H s lawful valid accepted there =
+      let mine = its H s.owner accepted in
+      put_came s production produced (holding (tables_of s))
+      (ap (λ (t : Tables). is_some (t.movement key)) there ∙ accepted_passes H s.owner (Record production) accepted 2)
+      (λ old found. same_bytes-exact old.material material
+      (known_passes (λ (row : LotRow). same_bytes row.material material) (lot_at s lot.lot) (ap (λ (t : Tables). is_some_where (λ row. not (same_bytes row.material material)) (t.lot lot.lot)) there ∙ move_fits H s.owner production accepted 8) old found))
+      ∙ (λ i. with_sublot (holding (there i)) (with_lot produced (with_move production (there i))))
+      ∙ sym (came_in H s.owner production lawful valid accepted lot.lot material (Batch order number) sublot
+      (λ l. ap (λ b. where_so (b && same_bytes l lot.lot) (record { material = material; origin = Batch order number })) mine)
+      (ap (λ id. is_none (first_made id (movements H))) (its_id s.owner mine))
+      (ap (λ id. not (sublot_in id sublot (movements H))) (its_id s.owner mine))
+      (λ k. ap (λ b. (b && same_bytes k.0 lot.lot) && same_bytes k.1 sublot) mine)
+      (λ k. refl))
+
+  leaves : LeavesOthers (Record production)
+  leaves H o p lawful valid accepted other = tables-untaken H o production lawful valid accepted p other (λ k. refl)
+
+  abbrev checks : Bytes → Tables → Checks
+  checks o t = key_checks t production ++ actual_checks o t order number segment Produced material lot ++ produced_checks t order number material lot.lot
+
+  -- over a lawful history there is room for what is accepted, and the material is there
+  has_room : (H : History) (o : Bytes) → IsLawful H → IsValid (Record production) → verdict H (by o (Record production)) ≡ Accepted → first_of (lot_bounds (tables_given H o) material lot.lot sublot amount) ≡ Accepted
+  has_room H o lawful valid accepted =
+      let mine = its H o accepted in
+      ap (λ b. cond b (stopped (Some LimitReached)) (first_of (sublot_bounds (tables_given H o) lot.lot sublot amount))) (there mine)
+      ∙ sublot_room H o production lawful valid accepted (or_parts _ _ (or_parts _ _ (move_fits H o production accepted 10)).0).0 lot.lot sublot
+      (λ i. (mine i && same_bytes-refl lot.lot i) && same_bytes-refl sublot i) refl
+    where
+      none_is : {X : Type 0} (x : Option X) → is_some x ≡ true → is_none x ≡ false
+      none_is (Some x) h = refl
+      none_is None h = sym h
+
+      there : same_bytes o lot.owner ≡ true → is_none (material_of (acts o H) material) ≡ false
+      there mine = none_is _ (ap (λ w. is_some (material_of (acts w H) material)) (same_bytes-exact o lot.owner mine)
+          ∙ source_material H o (recipe_of_order (tables_given H o) order, segment, Produced, lot.owner, material) lawful (some_of _ (move_fits H o production accepted 6)))
+
+  module _ (own house : Slice) (d : Decision) (decided : IsDecided (checks own.owner (tables_of own) ++ lot_bounds (tables_of own) material lot.lot sublot amount) (Put own.owner (Move production) ∷ Put own.owner (Lot produced) ∷ Put own.owner (Sublot (holding (tables_of own))) ∷ []) d) where
+    pub production_decided : DecidesWith (by own.owner (Record production)) own house d
+    production_decided =
+        decides_with (Record production) rows grows leaves own house d _ decided
+        (λ H lawful valid known there houses.
+        let is = verdict_is H own.owner (Record production) (tables_of own) (tables_of house) known there houses in
+        unbounded (checks own.owner (tables_of own)) (lot_bounds (tables_of own) material lot.lot sublot amount) (λ passed. ap (λ t. first_of (lot_bounds t material lot.lot sublot amount)) there ∙ has_room H own.owner lawful valid (sym is ∙ passed)) ∙ is)
+
+    pub production_keeps : KeepsRules own → DecisionKeepsRules own d
+    production_keeps keeps =
+        keeps_rules own (rows (tables_of own)) d _ decided keeps
+        (λ accepted.
+        let pass = none_applies (checks own.owner (tables_of own) ++ lot_bounds (tables_of own) material lot.lot sublot amount) accepted in
+        let full = or_parts _ _ (pass 13) in
+        let moves = or_parts _ _ full.0 in
+        came_fit own production produced (holding (tables_of own)) refl moves.0 (or_left _ _ (less_of 200 (count_actuals order number own.moves) moves.1)) full.1 (pass 14) (pass 15) (pass 16))
+
+    pub production_keeps_house : same_bytes own.owner house.owner ≡ false → KeepsRules house → DecisionKeepsRules house d
+    production_keeps_house other keeps =
+        rules_by house (Put own.owner (Move production) ∷ Put own.owner (Lot produced) ∷ Put own.owner (Sublot (holding (tables_of own))) ∷ []) d _ decided keeps
+        (λ accepted.
+        keeps_skip own.owner (Move production) (Put own.owner (Lot produced) ∷ Put own.owner (Sublot (holding (tables_of own))) ∷ []) house other keeps
+        (keeps_skip own.owner (Lot produced) (Put own.owner (Sublot (holding (tables_of own))) ∷ []) house other keeps
+        (keeps_skip own.owner (Sublot (holding (tables_of own))) [] house other keeps tt)))
+
+-- a movement that is a production, as it says itself
+module _ (row : MoveRow) (order : Bytes) (number segment : ℕ) (role : Role) (material : Bytes) (lot : LotId) (sublot : Bytes) (is : row.what ≡ Actual order number segment role material lot sublot) (produces : role ≡ Produced) where
+  pub as_production : row ≡ production row.key order number segment material lot sublot row.amount row.day
+  as_production i = record { key = row.key; what = (is ∙ ap (λ r. Actual order number segment r material lot sublot) produces) i; amount = row.amount; day = row.day }
+
+  -- what follows from its decision follows for the movement
+  pub of_production : (own : Slice) (d : Decision) (X : MoveRow → Type 0) →
+      (IsDecided (checks row.key order number segment material lot sublot row.amount row.day own.owner (tables_of own) ++ lot_bounds (tables_of own) material lot.lot sublot row.amount)
+      (Put own.owner (Move (production row.key order number segment material lot sublot row.amount row.day)) ∷ Put own.owner (Lot (produced row.key order number segment material lot sublot row.amount row.day)) ∷ Put own.owner (Sublot (holding row.key order number segment material lot sublot row.amount row.day (tables_of own))) ∷ []) d → X (production row.key order number segment material lot sublot row.amount row.day)) →
+      IsDecided (key_checks (tables_of own) row ++ actual_checks own.owner (tables_of own) order number segment Produced material lot ++ produced_checks (tables_of own) order number material lot.lot ++ lot_bounds (tables_of own) material lot.lot sublot row.amount)
+      (Put own.owner (Move row) ∷ Put own.owner (Lot (record { lot = lot.lot; material = material; origin = Batch order number; disposition = Quarantined })) ∷ Put own.owner (Sublot (record { lot = lot.lot; sublot = sublot; amount = amount_in (tables_of own) lot.lot sublot + row.amount })) ∷ []) d → X row
+  of_production own d X =
+      subst (λ (r : MoveRow).
+      (IsDecided (checks row.key order number segment material lot sublot row.amount row.day own.owner (tables_of own) ++ lot_bounds (tables_of own) material lot.lot sublot row.amount)
+      (Put own.owner (Move (production row.key order number segment material lot sublot row.amount row.day)) ∷ Put own.owner (Lot (produced row.key order number segment material lot sublot row.amount row.day)) ∷ Put own.owner (Sublot (holding row.key order number segment material lot sublot row.amount row.day (tables_of own))) ∷ []) d → X (production row.key order number segment material lot sublot row.amount row.day)) →
+      IsDecided (key_checks (tables_of own) r ++ actual_checks own.owner (tables_of own) order number segment Produced material lot ++ produced_checks (tables_of own) order number material lot.lot ++ lot_bounds (tables_of own) material lot.lot sublot r.amount)
+      (Put own.owner (Move r) ∷ Put own.owner (Lot (record { lot = lot.lot; material = material; origin = Batch order number; disposition = Quarantined })) ∷ Put own.owner (Sublot (record { lot = lot.lot; sublot = sublot; amount = amount_in (tables_of own) lot.lot sublot + r.amount })) ∷ []) d → X r)
+      (sym as_production) (λ follows. follows)
