@@ -15,7 +15,7 @@ passed_over : {X : Type 0} (b : Bool) (x : X) (rest : Option X) → cond b (Some
 passed_over true x rest h = absurd (false≢true (ap is_some (sym h)))
 passed_over false x rest h = (refl, h)
 
-found_in : {X : Type 0} (p : X → Bool) (xs : List X) (x : X) → find p xs ≡ Some x → Contains xs x × (p x ≡ true)
+pub found_in : {X : Type 0} (p : X → Bool) (xs : List X) (x : X) → find p xs ≡ Some x → Contains xs x × (p x ≡ true)
 found_in p [] x h = absurd (false≢true (ap is_some h))
 found_in p (y ∷ xs) x h =
     elim (p y) as (λ b. p y ≡ b → cond b (Some y) (find p xs) ≡ Some x → Contains (y ∷ xs) x × (p x ≡ true)) [

@@ -1,12 +1,9 @@
-use Rattle.std.proofs.Common.{◌++◌, OnOk, Result, Ok, Err, ap, sym, ◌∙◌}
+use Rattle.std.proofs.Common.{◌++◌, ap, sym, ◌∙◌}
 use Rattle.toll_base.specs.Decision.{after_change}
 use Rattle.toll_keep.specs.Slices.{rows_in}
+use Rattle.toll_keep.proofs.Outcomes.{on_ok}
 use Rattle.toll_keep.proofs.Slicing.{drafted_once}
 use Rattle.toll_keep.proofs.draft.draft.Goals as goal
-
-on_ok : {T E P Q : Type 0} (r : Result T E) → (P → Q) → OnOk r P → OnOk r Q
-on_ok (Ok x) so h = so h
-on_ok (Err e) so h = tt
 
 pub returns-in-Put-clause-made : goal.returns-in-Put-clause-made
 returns-in-Put-clause-made c =

@@ -1,11 +1,8 @@
 use Rattle.std.proofs.Common.{◌≡◌, cond, is_ok, position, Some, None, OnOk, Result, Ok, Err, ap, sym, ◌∙◌}
 use Rattle.toll_keep.specs.Slices.{is_of}
+use Rattle.toll_keep.proofs.Outcomes.{on_ok}
 use Rattle.toll_keep.proofs.Slicing.{draft_over, draft_added}
 use Rattle.toll_keep.proofs.draft.draft_row.Goals as goal
-
-on_ok : {T E P Q : Type 0} (r : Result T E) → (P → Q) → OnOk r P → OnOk r Q
-on_ok (Ok x) so h = so h
-on_ok (Err e) so h = tt
 
 on_pushed : {T E F X : Type 0} (pushed : Result T E) (answer : Result T F) (new with without other : X) → is_ok answer ≡ is_ok pushed → new ≡ cond (is_ok pushed) with without → with ≡ other → OnOk answer (new ≡ other)
 on_pushed pushed (Ok x) new with without other same is e = is ∙ ap (λ b. cond b with without) (sym same) ∙ e
