@@ -1,4 +1,7 @@
 //! Why a keep did not answer.
+ghost use Rattle.std.specs.Prelude.{◌≡◌};
+ghost use Rattle.toll_keep.specs.Fault.{name_of};
+
 use std::alloc::AllocError;
 use thiserror::Error;
 
@@ -21,7 +24,26 @@ pub enum KeepFault {
     Closed,
 }
 
+impl KeepFault {
+    /// The word.
+    pub fn name(&self) -> &'static str
+        ensures { result.now ≡ name_of self.now }
+    {
+        match self {
+            KeepFault::Memory => "Memory",
+            KeepFault::Disk => "Disk",
+            KeepFault::Damaged => "Damaged",
+            KeepFault::Closed => "Closed",
+        }
+    }
+}
+
 impl From<AllocError> for KeepFault {
+    ghost use Rattle.std.specs.Prelude.{◌≡◌};
+    ghost use Rattle.toll_keep.specs.declared.fault.KeepFault.TheVariants.{Memory};
+
+    ghost from_gives = { λ _ fault. fault ≡ Memory };
+
     fn from(_: AllocError) -> Self {
         KeepFault::Memory
     }

@@ -1,4 +1,10 @@
 //! What keeps the rows of the office.
+ghost use Rattle.std.specs.Prelude.{◌≡◌, ◌≢◌, Bool, Err, List, [], ◌∷◌, ◌++◌, IfOk, OnOk, OnErr};
+ghost use Rattle.toll_trace.specs.Edges.{AreEdges, IsEdge};
+ghost use Rattle.toll_keep.specs.Content.{Content, slice_of, after, Fits, ContentKeepsRules};
+ghost use Rattle.toll_keep.specs.Goes.{Goes, Keeps};
+ghost use Rattle.toll_keep.specs.Holding.{IsHolder, IsEdgeOfSome};
+
 use crate::fault::KeepFault;
 use crate::holder::Holder;
 use std::alloc::Global;
@@ -9,28 +15,81 @@ use toll_base::{Change, Edge, Name, OwnerRow, Slice, UnitRow};
 /// A call that answers [`KeepFault::Memory`] changed nothing. After [`KeepFault::Disk`] or
 /// [`KeepFault::Damaged`] every call answers [`KeepFault::Closed`].
 pub trait Keep {
+    // It has the rows of this content.
+    ghost holds: { Self → Content → Type 0 };
+
+    // No wrong answer of its store was taken as true so far.
+    ghost is_honest: { Self → Type 0 };
+
+    // It answered Disk or Damaged, and from then on answers Closed.
+    ghost is_closed: { Self → Bool };
+
+    // Its store has not shut itself.
+    ghost is_live: { Self → Type 0 };
+
+    // What its store met between the one and the other is a cause of Disk.
+    ghost has_cause: { Self → Self → Type 0 };
+
+    // A stop at this moment leaves one of these contents.
+    ghost leaves: { Self → List Content → Type 0 };
+
     /// All rows of an owner: `None` for an unknown one. HOUSE is always known.
-    fn slice(&mut self, alloc: Global, owner: &Name) -> Result<Option<Slice>, KeepFault>;
+    fn slice(&mut self, alloc: Global, owner: &Name) -> Result<Option<Slice>, KeepFault>
+        ensures goes { Goes is_honest is_live is_closed has_cause leaves self.old self.new result }
+        ensures reads { is_honest self.new → (c : Content) → holds self.old c → IfOk result (λ slice. slice ≡ slice_of c owner.now) }
+        ensures keeps { is_honest self.new → Keeps holds is_live leaves self.old self.new }
+        ensures whole { is_honest self.new → (c : Content) → holds self.old c → ContentKeepsRules c → result ≢ Err KeepFault.Damaged };
 
     /// The owners besides HOUSE, in the order of their names.
-    fn owners(&mut self, alloc: Global) -> Result<Vec<OwnerRow>, KeepFault>;
+    fn owners(&mut self, alloc: Global) -> Result<Vec<OwnerRow>, KeepFault>
+        ensures goes { Goes is_honest is_live is_closed has_cause leaves self.old self.new result }
+        ensures reads { is_honest self.new → (c : Content) → holds self.old c → IfOk result (λ rows. rows.items ≡ c.owners) }
+        ensures keeps { is_honest self.new → Keeps holds is_live leaves self.old self.new }
+        ensures whole { is_honest self.new → (c : Content) → holds self.old c → ContentKeepsRules c → result ≢ Err KeepFault.Damaged };
 
     /// The units, in the order of their names.
-    fn units(&mut self, alloc: Global) -> Result<Vec<UnitRow>, KeepFault>;
+    fn units(&mut self, alloc: Global) -> Result<Vec<UnitRow>, KeepFault>
+        ensures goes { Goes is_honest is_live is_closed has_cause leaves self.old self.new result }
+        ensures reads { is_honest self.new → (c : Content) → holds self.old c → IfOk result (λ rows. rows.items ≡ c.units) }
+        ensures keeps { is_honest self.new → Keeps holds is_live leaves self.old self.new }
+        ensures whole { is_honest self.new → (c : Content) → holds self.old c → ContentKeepsRules c → result ≢ Err KeepFault.Damaged };
 
     /// The batch that holds the unit, of any owner: `None` where none does.
-    fn holder(&mut self, alloc: Global, unit: &Name) -> Result<Option<Holder>, KeepFault>;
+    fn holder(&mut self, alloc: Global, unit: &Name) -> Result<Option<Holder>, KeepFault>
+        ensures goes { Goes is_honest is_live is_closed has_cause leaves self.old self.new result }
+        ensures reads { is_honest self.new → (c : Content) → holds self.old c → IfOk result (IsHolder c unit.now) }
+        ensures keeps { is_honest self.new → Keeps holds is_live leaves self.old self.new }
+        ensures whole { is_honest self.new → (c : Content) → holds self.old c → ContentKeepsRules c → result ≢ Err KeepFault.Damaged };
+
+    /// The genealogy of an owner's own batches, in order, each edge once: empty for an unknown owner.
+    fn edges(&mut self, alloc: Global, owner: &Name) -> Result<Vec<Edge>, KeepFault>
+        ensures goes { Goes is_honest is_live is_closed has_cause leaves self.old self.new result }
+        ensures reads { is_honest self.new → (c : Content) → holds self.old c → IfOk result (λ edges. AreEdges (IsEdge (c.rows owner.now)) edges.items) }
+        ensures keeps { is_honest self.new → Keeps holds is_live leaves self.old self.new }
+        ensures whole { is_honest self.new → (c : Content) → holds self.old c → ContentKeepsRules c → result ≢ Err KeepFault.Damaged };
+
+    /// The genealogy of all batches, in order, each edge once.
+    fn all_edges(&mut self, alloc: Global) -> Result<Vec<Edge>, KeepFault>
+        ensures goes { Goes is_honest is_live is_closed has_cause leaves self.old self.new result }
+        ensures reads { is_honest self.new → (c : Content) → holds self.old c → IfOk result (λ edges. AreEdges (IsEdgeOfSome c) edges.items) }
+        ensures keeps { is_honest self.new → Keeps holds is_live leaves self.old self.new }
+        ensures whole { is_honest self.new → (c : Content) → holds self.old c → ContentKeepsRules c → result ≢ Err KeepFault.Damaged };
 
     /// Makes all of these changes, in order, or none.
     ///
     /// The caller sees to it that each row that is put is HOUSE's, or of an owner that is there or
     /// is added before it in the list, and that after each change its owner's rows keep the rules of
-    /// a [`Slice`].
-    fn apply(&mut self, alloc: Global, changes: &[Change]) -> Result<(), KeepFault>;
+    /// a [`Slice`]. A stop during the call leaves the rows as before or as after all changes.
+    fn apply(&mut self, alloc: Global, changes: &[Change]) -> Result<(), KeepFault>
+        ensures goes { Goes is_honest is_live is_closed has_cause leaves self.old self.new result }
+        ensures all { is_honest self.new → (c : Content) → holds self.old c → Fits c changes.now → OnOk result (holds self.new (after changes.now c)) }
+        ensures none { is_honest self.new → (c : Content) → holds self.old c → OnErr result (holds self.new c) }
+        ensures whole { is_honest self.new → (c : Content) → holds self.old c → ContentKeepsRules c → result ≢ Err KeepFault.Damaged }
+        ensures crash { is_honest self.new → is_live self.old → (c : Content) → holds self.old c → Fits c changes.now → leaves self.new (c ∷ after changes.now c ∷ []) };
 
-    /// The genealogy of an owner's own batches, in order, each edge once: empty for an unknown owner.
-    fn edges(&mut self, alloc: Global, owner: &Name) -> Result<Vec<Edge>, KeepFault>;
+    // While the store lives, a stop between two calls leaves the content and nothing else.
+    ghost settled: { (k : Self) (c : Content) → is_honest k → is_live k → holds k c → leaves k (c ∷ []) };
 
-    /// The genealogy of all batches, in order, each edge once.
-    fn all_edges(&mut self, alloc: Global) -> Result<Vec<Edge>, KeepFault>;
+    // One of some contents is one of more.
+    ghost widened: { (k : Self) (cs more : List Content) → leaves k cs → leaves k (cs ++ more) };
 }

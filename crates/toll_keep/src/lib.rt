@@ -2,14 +2,22 @@
 #![tactic(auto)]
 
 mod draft;
+mod everyone;
 mod fault;
 mod holder;
 mod keep;
+mod laws;
 mod mem_keep;
+mod refusing;
 #[cfg(test)]
 mod tests;
 
 pub use fault::KeepFault;
 pub use holder::Holder;
 pub use keep::Keep;
+pub use laws::{
+    changes_that_keep_the_rules_fit, lawful_rows_keep_the_rules, nothing_stands_for_no_commands,
+    owners_are_known_alike, units_are_held_alike,
+};
 pub use mem_keep::MemKeep;
+pub use refusing::Refusing;

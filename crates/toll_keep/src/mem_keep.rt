@@ -1,10 +1,19 @@
 //! A keep of lists in memory.
+ghost use Rattle.std.specs.Prelude.{◌≡◌, ◌⊎◌, false, ⊤, IfOk, OnOk, OnErr, IsOkUnless};
+ghost use Rattle.toll_trace.specs.Edges.{AreEdges, IsEdge};
+ghost use Rattle.toll_keep.specs.Content.{Content, nothing, knows, slice_of, after, after_owners, after_units};
+ghost use Rattle.toll_keep.specs.Goes.{IsAmong};
+ghost use Rattle.toll_keep.specs.Holding.{IsEdgeOfSome};
+ghost use Rattle.toll_keep.specs.Slices.{content_of, rows_in};
+
 use crate::draft::{copy_of, drafted, install};
+use crate::everyone::edges_among;
 use crate::fault::KeepFault;
-use crate::holder::Holder;
+use crate::holder::{Holder, holder_among};
 use crate::keep::Keep;
-use std::alloc::Global;
-use toll_base::{Change, Edge, Name, OwnerRow, Slice, Table, UnitRow};
+use std::alloc::{AllocError, Global};
+use std::marker::Model;
+use toll_base::{Change, Edge, Name, OwnerRow, Row, Slice, Table, UnitRow};
 use toll_trace::{edges_of, put_in_order};
 
 /// Rows in lists. It answers no fault but [`KeepFault::Memory`].
@@ -15,9 +24,21 @@ pub struct MemKeep {
     slices: Vec<Slice>,
 }
 
+impl Model for MemKeep {
+    ghost use Rattle.toll_keep.specs.Slices.{Kept, shown, IsOneEach};
+
+    ghost Value = { Kept };
+
+    ghost view = { shown };
+
+    ghost invariant = { λ k. IsOneEach k.slices.items };
+}
+
 impl MemKeep {
     /// No owners but HOUSE, no units, no rows. It takes no memory yet.
-    pub fn new(alloc: Global) -> Self {
+    pub fn new(alloc: Global) -> Self
+        ensures { content_of result ≡ nothing }
+    {
         MemKeep {
             owners: Table::new(alloc),
             units: Table::new(alloc),
@@ -25,17 +46,70 @@ impl MemKeep {
         }
     }
 
-    fn knows(&self, owner: &Name) -> bool {
+    fn knows(&self, owner: &Name) -> bool
+        ensures { result ≡ knows (content_of self.now) owner.now }
+    {
         *owner == Name::house() || self.owners.get(owner).is_some()
     }
-}
 
-impl Keep for MemKeep {
-    fn slice(&mut self, alloc: Global, owner: &Name) -> Result<Option<Slice>, KeepFault> {
+    fn copied_slice(&self, alloc: Global, owner: &Name) -> Result<Option<Slice>, AllocError>
+        ensures { IfOk result (λ slice. slice ≡ slice_of (content_of self.now) owner.now) }
+    {
         if !self.knows(owner) {
             return Ok(None);
         }
         Ok(Some(copy_of(alloc, &self.slices, owner)?))
+    }
+
+    fn owners_edges(&self, alloc: Global, owner: &Name) -> Result<Vec<Edge>, AllocError>
+        ensures { IfOk result (λ edges. AreEdges (IsEdge (rows_in self.now.slices owner.now)) edges.items) }
+    {
+        edges_of(alloc, &copy_of(alloc, &self.slices, owner)?)
+    }
+
+    fn everyones_edges(&self, alloc: Global) -> Result<Vec<Edge>, AllocError>
+        ensures { IfOk result (λ edges. AreEdges (IsEdgeOfSome (content_of self.now)) edges.items) }
+    {
+        let mut edges = edges_among(alloc, &self.slices)?;
+        put_in_order(&mut edges);
+        Ok(edges)
+    }
+
+    fn change(&mut self, alloc: Global, changes: &[Change]) -> Result<(), KeepFault>
+        ensures all { OnOk result (content_of self.new ≡ after changes.now (content_of self.old)) }
+        ensures none { OnErr result (self.new ≡ self.old) }
+        ensures fault { IsOkUnless result KeepFault.Memory }
+    {
+        let _row: Option<Row> = None;
+        let mut owners = self.owners.copy(alloc)?;
+        let mut units = self.units.copy(alloc)?;
+        put_plant_rows(&mut owners, &mut units, changes)?;
+        let drafts = drafted(alloc, &self.slices, changes)?;
+        self.slices.try_reserve(drafts.len())?;
+        install(&mut self.slices, drafts);
+        self.owners = owners;
+        self.units = units;
+        Ok(())
+    }
+}
+
+impl Keep for MemKeep {
+    ghost use Rattle.std.specs.Prelude.{⊤};
+
+    ghost holds = { λ k c. content_of k ≡ c };
+
+    ghost is_honest = { λ _. ⊤ };
+
+    ghost is_closed = { λ _. false };
+
+    ghost is_live = { λ _. ⊤ };
+
+    ghost has_cause = { λ _ _. ⊥ };
+
+    ghost leaves = { λ k cs. IsAmong (λ c. content_of k ≡ c) cs };
+
+    fn slice(&mut self, alloc: Global, owner: &Name) -> Result<Option<Slice>, KeepFault> {
+        Ok(self.copied_slice(alloc, owner)?)
     }
 
     fn owners(&mut self, alloc: Global) -> Result<Vec<OwnerRow>, KeepFault> {
@@ -47,40 +121,37 @@ impl Keep for MemKeep {
     }
 
     fn holder(&mut self, _alloc: Global, unit: &Name) -> Result<Option<Holder>, KeepFault> {
-        Ok(self.slices.iter().find_map(|slice| holder_in(slice, unit)))
-    }
-
-    fn apply(&mut self, alloc: Global, changes: &[Change]) -> Result<(), KeepFault> {
-        let mut owners = self.owners.copy(alloc)?;
-        let mut units = self.units.copy(alloc)?;
-        put_plant_rows(&mut owners, &mut units, changes)?;
-        let drafts = drafted(alloc, &self.slices, changes)?;
-        self.slices.try_reserve(drafts.len())?;
-        install(&mut self.slices, drafts);
-        self.owners = owners;
-        self.units = units;
-        Ok(())
+        Ok(holder_among(&self.slices, unit))
     }
 
     fn edges(&mut self, alloc: Global, owner: &Name) -> Result<Vec<Edge>, KeepFault> {
-        Ok(edges_of(alloc, &copy_of(alloc, &self.slices, owner)?)?)
+        Ok(self.owners_edges(alloc, owner)?)
     }
 
     fn all_edges(&mut self, alloc: Global) -> Result<Vec<Edge>, KeepFault> {
-        let mut edges = Vec::new(alloc);
-        for slice in &self.slices {
-            edges.extend_from_slice(&edges_of(alloc, slice)?)?;
-        }
-        put_in_order(&mut edges);
-        Ok(edges)
+        Ok(self.everyones_edges(alloc)?)
     }
+
+    fn apply(&mut self, alloc: Global, changes: &[Change]) -> Result<(), KeepFault> {
+        self.change(alloc, changes)
+    }
+
+    ghost use Rattle.std.proofs.Common.{inl};
+    ghost use Rattle.toll_keep.specs.Goes.{among-more};
+
+    ghost settled = { λ k c _ _ held. inl held };
+
+    ghost widened = { λ k cs more. among-more (λ c. content_of k ≡ c) cs more };
 }
 
 fn put_plant_rows(
     owners: &mut Table<OwnerRow>,
     units: &mut Table<UnitRow>,
     changes: &[Change],
-) -> Result<(), KeepFault> {
+) -> Result<(), AllocError>
+    ensures owners { OnOk result (owners.new ≡ after_owners changes.now owners.old) }
+    ensures units { OnOk result (units.new ≡ after_units changes.now units.old) }
+{
     for change in changes {
         match change {
             Change::Owner(row) => owners.put(*row)?,
@@ -89,17 +160,4 @@ fn put_plant_rows(
         }
     }
     Ok(())
-}
-
-// The owner's batch that holds the unit.
-fn holder_in(slice: &Slice, unit: &Name) -> Option<Holder> {
-    let batch = slice
-        .batches()
-        .iter()
-        .find(|row| row.unit == *unit && !row.closed)?;
-    Some(Holder {
-        owner: *slice.owner(),
-        order: batch.order,
-        number: batch.number,
-    })
 }

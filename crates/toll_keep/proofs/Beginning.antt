@@ -1,0 +1,26 @@
+-- No rows at all stand for the history in which nothing was done.
+use Rattle.std.proofs.Common.{[], refl}
+use Rattle.toll_base.specs.Bytes.{Bytes}
+use Rattle.toll_base.specs.Slice.{empty_slice}
+use Rattle.toll_base.specs.Table.{row_at}
+use Rattle.toll_base.specs.History.{acts}
+use Rattle.toll_base.specs.Movements.{stock, sublot_known, lot_made, count_lots, count_sublots, material_used}
+use Rattle.toll_base.specs.Dispositions.{tests_open}
+use Rattle.toll_base.specs.Tables.{IsRowsOf}
+use Rattle.std.specs.List.Sorted.{IsStrictlySortedBy}
+use Rattle.toll_keep.specs.Content.{nothing}
+use Rattle.toll_keep.specs.Standing.{StandsFor}
+
+rows_of_nobody : (o : Bytes) → IsRowsOf [] (empty_slice o)
+unfolding row_at acts stock sublot_known lot_made count_lots count_sublots material_used tests_open
+rows_of_nobody o = refl
+
+pub nothing_stands : StandsFor nothing []
+unfolding row_at acts IsStrictlySortedBy
+nothing_stands = record {
+  owners = record { ordered = tt; each = λ o. refl; all = refl };
+  units = record { ordered = tt; each = λ o. refl; all = refl };
+  own = λ o. refl;
+  known = λ o h. rows_of_nobody o;
+  unknown = λ o h. refl;
+}

@@ -1,0 +1,56 @@
+-- Changes that keep the rules of all rows, and put rows of known owners, fit the content.
+use Rattle.std.proofs.Common.{◌≡◌, Bool, true, false, ◌||◌, List, [], ◌∷◌, cond, refl, ap, subst, ◌∙◌}
+use Rattle.std.specs.Cmp.Lexicographic.{nat_list_cmp_total}
+use Rattle.toll_base.specs.Bytes.{Bytes, bytes_cmp, same_bytes}
+use Rattle.toll_base.specs.Values.{house_name}
+use Rattle.toll_base.specs.Slice.{Slice, with_row}
+use Rattle.toll_base.specs.SliceRules.{KeepsRules}
+use Rattle.toll_base.specs.Decision.{after_change, ChangesKeepRules}
+use Rattle.toll_base.specs.declared.rows.Row.{Row}
+use Rattle.toll_base.specs.declared.decision.Change.{Change}
+use Rattle.toll_base.specs.declared.decision.Change.TheVariants.{Owner, Unit as UnitAdded, Put}
+use Rattle.toll_base.proofs.Texts.{same_bytes-refl}
+use Rattle.toll_base.proofs.PutRules.{still_there}
+use Rattle.toll_keep.specs.Content.{Content, knows, after, Fits, PutsToKnown}
+use Rattle.toll_keep.proofs.Slicing.{owner-with_row}
+
+-- ---- a slice stays its owner's
+
+own_after : (change : Change) (s : Slice) → (after_change change s).owner ≡ s.owner
+own_after (Owner row) s = refl
+own_after (UnitAdded row) s = refl
+own_after (Put o row) s = elim (same_bytes o s.owner) as (λ b. (cond b (with_row s row) s).owner ≡ s.owner) [ true ↦ owner-with_row s row | false ↦ refl ]
+
+-- ---- who is known stays known
+
+or_more : (house before now : Bool) → (before ≡ true → now ≡ true) → (house || before) ≡ true → (house || now) ≡ true
+or_more true before now more h = refl
+or_more false before now more h = more h
+
+known_after : (change : Change) (c : Content) (o : Bytes) → knows c o ≡ true → knows (after (change ∷ []) c) o ≡ true
+known_after (Owner row) c o h = or_more (same_bytes o house_name) _ _ (still_there bytes_cmp nat_list_cmp_total (λ row. row.owner) c.owners row o) h
+known_after (UnitAdded row) c o h = h
+known_after (Put p row) c o h = h
+
+puts_after : (first : Change) (changes : List Change) (c : Content) → PutsToKnown c changes → PutsToKnown (after (first ∷ []) c) changes
+puts_after first [] c puts = tt
+puts_after first (Owner row ∷ changes) c puts = puts_after first changes c puts
+puts_after first (UnitAdded row ∷ changes) c puts = puts_after first changes c puts
+puts_after first (Put o row ∷ changes) c puts = (known_after first c o puts.0, puts_after first changes c puts.1)
+
+-- ---- the changes fit
+
+-- what a put makes of its owner's slice
+put_own : (c : Content) (o : Bytes) (row : Row) → (c.rows o).owner ≡ o → KeepsRules (after_change (Put o row) (c.rows o)) → KeepsRules (with_row (c.rows o) row)
+put_own c o row own keeps =
+    let same : same_bytes o (c.rows o).owner ≡ true = ap (same_bytes o) own ∙ same_bytes-refl o in
+    subst (λ b. KeepsRules (cond b (with_row (c.rows o) row) (c.rows o))) same keeps
+
+pub kept_rules_fit : (c : Content) (changes : List Change) → ((o : Bytes) → (c.rows o).owner ≡ o) → ((o : Bytes) → ChangesKeepRules changes (c.rows o)) → PutsToKnown c changes → Fits c changes
+kept_rules_fit c [] own keeps puts = tt
+kept_rules_fit c (Owner row ∷ changes) own keeps puts = (tt, kept_rules_fit (after (Owner row ∷ []) c) changes own (λ o. (keeps o).1) (puts_after (Owner row) changes c puts))
+kept_rules_fit c (UnitAdded row ∷ changes) own keeps puts = (tt, kept_rules_fit (after (UnitAdded row ∷ []) c) changes own (λ o. (keeps o).1) (puts_after (UnitAdded row) changes c puts))
+kept_rules_fit c (Put p row ∷ changes) own keeps puts = (
+  (puts.0, put_own c p row (own p) (keeps p).0),
+  kept_rules_fit (after (Put p row ∷ []) c) changes (λ o. own_after (Put p row) (c.rows o) ∙ own o) (λ o. (keeps o).1) (puts_after (Put p row) changes c puts.1),
+)

@@ -1,0 +1,27 @@
+-- A content that stands for a history knows the owners that the history knows.
+use Rattle.std.proofs.Common.{◌≡◌, ◌||◌, Option, Some, None, is_some, List, [], ◌∷◌, refl, ap, ◌∙◌}
+use Rattle.std.specs.List.{list_any}
+use Rattle.toll_base.specs.Bytes.{Bytes, same_bytes}
+use Rattle.toll_base.specs.Values.{house_name}
+use Rattle.toll_base.specs.Words.{or_else}
+use Rattle.toll_base.specs.Command.{Action, AddOwner}
+use Rattle.toll_base.specs.History.{History, acts, key_added, adds_owner, owner_key, owner_known}
+use Rattle.toll_keep.specs.Content.{Content, knows}
+use Rattle.toll_keep.specs.Standing.{StandsFor}
+use Rattle.toll_keep.proofs.KeptRules.{some_mapped}
+
+some_else : {X : Type 0} (first second : Option X) → is_some (or_else first second) ≡ (is_some first || is_some second)
+some_else None second = refl
+some_else (Some x) second = refl
+
+key_where_added : (a : Action) → is_some (key_added a) ≡ adds_owner a
+key_where_added (AddOwner key) = refl
+key_where_added _ = refl
+
+keys_where_added : (own : List Action) → is_some (owner_key own) ≡ list_any adds_owner own
+keys_where_added [] = refl
+keys_where_added (a ∷ own) = some_else (key_added a) (owner_key own) ∙ ap (λ b. b || is_some (owner_key own)) (key_where_added a) ∙ ap (λ b. adds_owner a || b) (keys_where_added own)
+
+pub standing_knows : (H : History) (c : Content) → StandsFor c H → (o : Bytes) → knows c o ≡ owner_known H o
+standing_knows H c stands o =
+    ap (λ b. same_bytes o house_name || b) (ap is_some (stands.owners.each o) ∙ some_mapped _ (owner_key (acts o H)) ∙ keys_where_added (acts o H))

@@ -1,0 +1,10 @@
+pub mod Outcomes
+pub mod Slicing
+pub mod Contents
+pub mod Finding
+pub mod AllOwners
+pub mod Fitting
+pub mod Beginning
+pub mod KeptRules
+pub mod Knowing
+pub mod UnitHolders

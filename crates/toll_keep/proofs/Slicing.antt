@@ -1,0 +1,216 @@
+-- What slices in a list have of each owner, and what a put does to it.
+use Rattle.std.proofs.Common.{◌≡◌, ℕ, zero, suc, ◌+◌, ◌<◌, Bool, true, false, not, cond, nat_lt, Some, None, is_some, List, [], ◌∷◌, ◌++◌, length, get_or, set, refl, sym, ap, subst, ◌∙◌, arith}
+use mathlib.Core.Bool.{false≢true}
+use Rattle.std.specs.Prelude.{position}
+use Rattle.std.specs.List.{AllByRecursion, position_or_len}
+use Rattle.std.proofs.lemmas.Bool.Decides.{nat_tests}
+use Rattle.std.proofs.lemmas.List.Quantifiers.{position-Some}
+use Rattle.toll_base.specs.Bytes.{Bytes, same_bytes}
+use Rattle.toll_base.specs.Slice.{Slice, empty_slice, with_row}
+use Rattle.toll_base.specs.Decision.{after_change}
+use Rattle.toll_base.specs.declared.rows.Row.{Row}
+use Rattle.toll_base.specs.declared.rows.Row.TheVariants.{Material, Test, Recipe, Requirement, Order, Batch, Lot, Sublot, Move, Result, Void}
+use Rattle.toll_base.specs.declared.decision.Change.TheVariants.{Put}
+use Rattle.toll_base.proofs.Texts.{same_bytes-exact, same_bytes-refl, same_bytes-symm}
+use Rattle.toll_keep.specs.Slices.{is_of, rows_in, put_slice, put_slices, IsOneEach}
+
+-- ---- the rows of an owner are its own
+
+pub owner-rows_in : (slices : List Slice) (o : Bytes) → (rows_in slices o).owner ≡ o
+owner-rows_in [] o = refl
+owner-rows_in (s ∷ slices) o =
+    elim (is_of o s) as (λ b. is_of o s ≡ b → (cond b s (rows_in slices o)).owner ≡ o) [
+      | true ↦ λ e. same_bytes-exact s.owner o e
+      | false ↦ λ e. owner-rows_in slices o
+    ] refl
+
+pub owner-with_row : (s : Slice) (row : Row) → (with_row s row).owner ≡ s.owner
+owner-with_row s (Material row) = refl
+owner-with_row s (Test row) = refl
+owner-with_row s (Recipe row) = refl
+owner-with_row s (Requirement row) = refl
+owner-with_row s (Order row) = refl
+owner-with_row s (Batch row) = refl
+owner-with_row s (Lot row) = refl
+owner-with_row s (Sublot row) = refl
+owner-with_row s (Move row) = refl
+owner-with_row s (Result row) = refl
+owner-with_row s (Void row) = refl
+
+-- ---- after a put
+
+twice : {X : Type 0} (a b : Bool) (new old rest : X) → b ≡ a → cond a new rest ≡ cond a new (cond b old rest)
+twice true b new old rest same = refl
+twice false b new old rest same = rw same refl
+
+swap : {X : Type 0} (a b : Bool) (x new rest : X) → (a ≡ true → b ≡ true → ⊥) → cond a x (cond b new rest) ≡ cond b new (cond a x rest)
+swap true true x new rest apart = absurd (apart refl refl)
+swap true false x new rest apart = refl
+swap false b x new rest apart = refl
+
+-- the owner that was put for has these rows, each other what it had
+pub rows_in-put_slice : (slices others : List Slice) (new : Slice) (o : Bytes) → rows_in (put_slice slices new ++ others) o ≡ cond (is_of o new) new (rows_in (slices ++ others) o)
+rows_in-put_slice [] others new o = refl
+rows_in-put_slice (s ∷ slices) others new o =
+    elim (is_of new.owner s) as (λ b. is_of new.owner s ≡ b → rows_in (cond b (new ∷ slices) (s ∷ put_slice slices new) ++ others) o ≡ cond (is_of o new) new (cond (is_of o s) s (rows_in (slices ++ others) o))) [
+      | true ↦ λ e. twice (is_of o new) (is_of o s) new s (rows_in (slices ++ others) o) (ap (λ owner. same_bytes owner o) (same_bytes-exact s.owner new.owner e))
+      | false ↦ λ e. ap (cond (is_of o s) s) (rows_in-put_slice slices others new o)
+          ∙ swap (is_of o s) (is_of o new) s new (rows_in (slices ++ others) o)
+          (λ of_s of_new. let same : s.owner ≡ new.owner = same_bytes-exact s.owner o of_s ∙ sym (same_bytes-exact new.owner o of_new) in
+          false≢true (sym e ∙ ap (λ owner. same_bytes owner new.owner) same ∙ same_bytes-refl new.owner))
+    ] refl
+
+none_more : (slices : List Slice) → slices ++ [] ≡ slices
+none_more [] = refl
+none_more (s ∷ slices) = ap (λ rest. s ∷ rest) (none_more slices)
+
+pub rows_in-put : (slices : List Slice) (new : Slice) (o : Bytes) → rows_in (put_slice slices new) o ≡ cond (is_of o new) new (rows_in slices o)
+rows_in-put slices new o =
+    subst (λ xs. rows_in xs o ≡ cond (is_of o new) new (rows_in slices o)) (none_more (put_slice slices new))
+    (rows_in-put_slice slices [] new o ∙ ap (λ xs. cond (is_of o new) new (rows_in xs o)) (none_more slices))
+
+-- after puts, the slices that were put come first
+pub rows_in-put_slices : (slices more : List Slice) (o : Bytes) → rows_in (put_slices slices more) o ≡ rows_in (more ++ slices) o
+rows_in-put_slices slices [] o = refl
+rows_in-put_slices slices (new ∷ more) o = rows_in-put (put_slices slices more) new o ∙ ap (cond (is_of o new) new) (rows_in-put_slices slices more o)
+
+pub put_slices-last : (slices more : List Slice) (new : Slice) → put_slices slices (more ++ new ∷ []) ≡ put_slices (put_slice slices new) more
+put_slices-last slices [] new = refl
+put_slices-last slices (s ∷ more) new = ap (λ xs. put_slice xs s) (put_slices-last slices more new)
+
+-- ---- no owner gets a second slice
+
+all_others : (o : Bytes) (slices : List Slice) (new : Slice) → is_of o new ≡ false → AllByRecursion (λ other. is_of o other ≡ false) slices → AllByRecursion (λ other. is_of o other ≡ false) (put_slice slices new)
+all_others o [] new differs all = (differs, tt)
+all_others o (s ∷ slices) new differs all =
+    elim (is_of new.owner s) as (λ b. AllByRecursion (λ other. is_of o other ≡ false) (cond b (new ∷ slices) (s ∷ put_slice slices new))) [
+      | true ↦ (differs, all.1)
+      | false ↦ (all.0, all_others o slices new differs all.1)
+    ]
+
+pub one_each-put : (slices : List Slice) (new : Slice) → IsOneEach slices → IsOneEach (put_slice slices new)
+one_each-put [] new one = (tt, tt)
+one_each-put (s ∷ slices) new one =
+    elim (is_of new.owner s) as (λ b. is_of new.owner s ≡ b → IsOneEach (cond b (new ∷ slices) (s ∷ put_slice slices new))) [
+      | true ↦ λ e. (subst (λ owner. AllByRecursion (λ other. is_of owner other ≡ false) slices) (same_bytes-exact s.owner new.owner e) one.0, one.1)
+      | false ↦ λ e. (all_others s.owner slices new (same_bytes-symm new.owner s.owner ∙ e) one.0, one_each-put slices new one.1)
+    ] refl
+
+pub one_each-put_slices : (slices more : List Slice) → IsOneEach slices → IsOneEach (put_slices slices more)
+one_each-put_slices slices [] one = one
+one_each-put_slices slices (new ∷ more) one = one_each-put (put_slices slices more) new (one_each-put_slices slices more one)
+
+-- ---- where an owner's slice is
+
+record IsFirstAt (o : Bytes) (slices : List Slice) (at : ℕ) (d : Slice) : Type 0 where
+  inside : at < length slices
+  there : is_of o (get_or slices at d) ≡ true
+  before : (k : ℕ) → k < at → is_of o (get_or slices k d) ≡ false
+
+first_at : (slices : List Slice) (o : Bytes) (at : ℕ) (d : Slice) → position (is_of o) slices ≡ Some at → IsFirstAt o slices at d
+first_at slices o at d h = let found = position-Some (is_of o) slices at d h in record { inside = found.0; there = found.1; before = found.2 }
+
+next_at : (s : Slice) (slices : List Slice) (o : Bytes) (at : ℕ) (d : Slice) → IsFirstAt o (s ∷ slices) (suc at) d → IsFirstAt o slices at d
+next_at s slices o at d first = record { inside = (let lt = first.inside in omega arith); there = first.there; before = λ k lt. first.before (suc k) (omega arith) }
+
+set_first : (slices : List Slice) (new : Slice) (at : ℕ) (d : Slice) → IsFirstAt new.owner slices at d → set slices at new ≡ put_slice slices new
+set_first [] new at d first = let lt = first.inside in absurd (omega arith)
+set_first (s ∷ slices) new zero d first = rw first.there refl
+set_first (s ∷ slices) new (suc at) d first = let differs : is_of new.owner s ≡ false = first.before 0 (omega arith) in rw differs (ap (λ xs. s ∷ xs) (set_first slices new at d (next_at s slices new.owner at d first)))
+
+found_first : (slices : List Slice) (o : Bytes) (at : ℕ) (d : Slice) → IsFirstAt o slices at d → get_or slices at d ≡ rows_in slices o
+found_first [] o at d first = let lt = first.inside in absurd (omega arith)
+found_first (s ∷ slices) o zero d first = let is : is_of o s ≡ true = first.there in rw is refl
+found_first (s ∷ slices) o (suc at) d first = let differs : is_of o s ≡ false = first.before 0 (omega arith) in rw differs (found_first slices o at d (next_at s slices o at d first))
+
+-- a write there is a put
+pub set_there : (slices : List Slice) (new : Slice) (at : ℕ) → position (is_of new.owner) slices ≡ Some at → set slices at new ≡ put_slice slices new
+set_there slices new at h = set_first slices new at new (first_at slices new.owner at new h)
+
+-- what is there are the owner's rows
+pub found_there : (slices : List Slice) (o : Bytes) (at : ℕ) (d : Slice) → position (is_of o) slices ≡ Some at → get_or slices at d ≡ rows_in slices o
+found_there slices o at d h = found_first slices o at d (first_at slices o at d h)
+
+-- ---- where it has none
+
+not_found : {X : Type 0} (b : Bool) (x : X) → cond b (Some x) None ≡ None → b ≡ false
+not_found true x h = absurd (false≢true (ap is_some (sym h)))
+not_found false x h = refl
+
+none_in_front : (b : Bool) (n len : ℕ) → nat_lt (cond (not b) (1 + n) 0) (1 + len) ≡ false → (b ≡ false) × (nat_lt n len ≡ false)
+none_in_front true n len h = absurd (grind (arith, nat_tests))
+none_in_front false n len h = (refl, grind (arith, nat_tests))
+
+absent_next : (p : Slice → Bool) (s : Slice) (slices : List Slice) → position p (s ∷ slices) ≡ None → (p s ≡ false) × (position p slices ≡ None)
+absent_next p s slices h =
+    let test = not_found _ _ h in
+    let parts = none_in_front (p s) (position_or_len p slices) (length slices) (subst (λ n. nat_lt (position_or_len p (s ∷ slices)) n ≡ false) (omega arith) test) in
+    let tail : nat_lt (position_or_len p slices) (length slices) ≡ false = parts.1 in
+    (parts.0, rw tail refl)
+
+-- an append is a put
+pub added_there : (slices : List Slice) (new : Slice) → position (is_of new.owner) slices ≡ None → slices ++ new ∷ [] ≡ put_slice slices new
+added_there [] new h = refl
+added_there (s ∷ slices) new h =
+    let parts = absent_next (is_of new.owner) s slices h in
+    let differs : is_of new.owner s ≡ false = parts.0 in
+    rw differs (ap (λ xs. s ∷ xs) (added_there slices new parts.1))
+
+-- it has no rows
+pub absent_there : (slices : List Slice) (o : Bytes) → position (is_of o) slices ≡ None → rows_in slices o ≡ empty_slice o
+absent_there [] o h = refl
+absent_there (s ∷ slices) o h =
+    let parts = absent_next (is_of o) s slices h in
+    let differs : is_of o s ≡ false = parts.0 in
+    rw differs (absent_there slices o parts.1)
+
+-- ---- drafts before the slices
+
+found_before : (drafts slices : List Slice) (o : Bytes) (at : ℕ) (d : Slice) → IsFirstAt o drafts at d → rows_in (drafts ++ slices) o ≡ rows_in drafts o
+found_before [] slices o at d first = let lt = first.inside in absurd (omega arith)
+found_before (s ∷ drafts) slices o zero d first = let is : is_of o s ≡ true = first.there in rw is refl
+found_before (s ∷ drafts) slices o (suc at) d first = let differs : is_of o s ≡ false = first.before 0 (omega arith) in rw differs (found_before drafts slices o at d (next_at s drafts o at d first))
+
+absent_before : (drafts slices : List Slice) (o : Bytes) → position (is_of o) drafts ≡ None → rows_in (drafts ++ slices) o ≡ rows_in slices o
+absent_before [] slices o h = refl
+absent_before (s ∷ drafts) slices o h =
+    let parts = absent_next (is_of o) s drafts h in
+    let differs : is_of o s ≡ false = parts.0 in
+    rw differs (absent_before drafts slices o parts.1)
+
+module _ (drafts slices : List Slice) (owner : Bytes) (row : Row) where
+  -- the owner's draft with the row
+  abbrev pub next_draft : Slice
+  next_draft = with_row (rows_in (drafts ++ slices) owner) row
+
+  own_draft : next_draft.owner ≡ owner
+  own_draft = owner-with_row (rows_in (drafts ++ slices) owner) row ∙ owner-rows_in (drafts ++ slices) owner
+
+  -- its draft is written over
+  pub draft_over : (at : ℕ) (old new : Slice) → position (is_of owner) drafts ≡ Some at → old ≡ get_or drafts at old → new ≡ with_row old row → set drafts at new ≡ put_slice drafts next_draft
+  draft_over at old new h is made =
+      let same : old ≡ rows_in (drafts ++ slices) owner = is ∙ found_there drafts owner at old h ∙ sym (found_before drafts slices owner at old (first_at drafts owner at old h)) in
+      ap (set drafts at) (made ∙ ap (λ s. with_row s row) same)
+      ∙ set_there drafts next_draft at (subst (λ o. position (is_of o) drafts ≡ Some at) (sym own_draft) h)
+
+  -- or it gets one, which begins as its slice
+  pub draft_added : (old new : Slice) → position (is_of owner) drafts ≡ None → old ≡ rows_in slices owner → new ≡ with_row old row → drafts ++ new ∷ [] ≡ put_slice drafts next_draft
+  draft_added old new h is made =
+      let same : old ≡ rows_in (drafts ++ slices) owner = is ∙ sym (absent_before drafts slices owner h) in
+      ap (λ s. drafts ++ s ∷ []) (made ∙ ap (λ s. with_row s row) same)
+      ∙ added_there drafts next_draft (subst (λ o. position (is_of o) drafts ≡ None) (sym own_draft) h)
+
+-- ---- a draft of a change
+
+pub drafted_once : (drafts slices : List Slice) (owner : Bytes) (row : Row) (o : Bytes) → rows_in (put_slice drafts (with_row (rows_in (drafts ++ slices) owner) row) ++ slices) o ≡ after_change (Put owner row) (rows_in (drafts ++ slices) o)
+drafted_once drafts slices owner row o =
+    let new : Slice = with_row (rows_in (drafts ++ slices) owner) row in
+    let own : new.owner ≡ owner = owner-with_row (rows_in (drafts ++ slices) owner) row ∙ owner-rows_in (drafts ++ slices) owner in
+    rows_in-put_slice drafts slices new o
+    ∙ ap (λ name. cond (same_bytes name o) new (rows_in (drafts ++ slices) o)) own
+    ∙ chosen (same_bytes owner o) refl
+    ∙ ap (λ name. cond (same_bytes owner name) (with_row (rows_in (drafts ++ slices) o) row) (rows_in (drafts ++ slices) o)) (sym (owner-rows_in (drafts ++ slices) o))
+  where
+    chosen : (b : Bool) → same_bytes owner o ≡ b → cond b (with_row (rows_in (drafts ++ slices) owner) row) (rows_in (drafts ++ slices) o) ≡ cond b (with_row (rows_in (drafts ++ slices) o) row) (rows_in (drafts ++ slices) o)
+    chosen true e = ap (λ name. with_row (rows_in (drafts ++ slices) name) row) (same_bytes-exact owner o e)
+    chosen false e = refl

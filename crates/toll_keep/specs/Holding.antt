@@ -1,0 +1,41 @@
+-- The batch that holds a unit, and the edges of all owners, as a content has them.
+use Rattle.std.specs.Prelude.{◌≡◌, ℕ, Bool, true, not, ◌&&◌, Option, Some, None, List, Contains, All, Any}
+use Rattle.toll_base.specs.Bytes.{Bytes, same_bytes}
+use Rattle.toll_base.specs.Words.{is_some_where, none_or}
+use Rattle.toll_base.specs.Slice.{Slice, batch_at}
+use Rattle.toll_base.specs.declared.lot.Edge.{Edge}
+use Rattle.toll_base.specs.declared.rows.BatchRow.{BatchRow}
+use Rattle.toll_trace.specs.Edges.{IsEdge}
+use Rattle.toll_keep.specs.Content.{Content}
+use Rattle.toll_keep.specs.declared.holder.Holder.{Holder}
+
+-- the batch was opened on the unit, and is not closed
+abbrev pub is_on : Bytes → BatchRow → Bool
+is_on unit row = same_bytes row.unit unit && not row.closed
+
+-- the batch holds the unit; where none is named, no batch of any owner does
+abbrev pub IsHolder : Content → Bytes → Option Holder → Type 0
+IsHolder c unit (Some h) = is_some_where (is_on unit) (batch_at (c.rows h.owner) (h.order, h.number)) ≡ true
+IsHolder c unit None = (o : Bytes) (k : Bytes × ℕ) → none_or (λ row. not (is_on unit row)) (batch_at (c.rows o) k) ≡ true
+
+-- the batch of this owner holds the unit; where none is named, none of its batches does
+abbrev pub IsHolderIn : Slice → Bytes → Option Holder → Type 0
+IsHolderIn s unit (Some h) = (h.owner ≡ s.owner) × (is_some_where (is_on unit) (batch_at s (h.order, h.number)) ≡ true)
+IsHolderIn s unit None = (k : Bytes × ℕ) → none_or (λ row. not (is_on unit row)) (batch_at s k) ≡ true
+
+-- one of the slices has the batch that holds the unit; where none is named, none of them has
+abbrev pub IsHolderAmong : List Slice → Bytes → Option Holder → Type 0
+IsHolderAmong slices unit (Some h) = Any (λ s. IsHolderIn s unit (Some h)) slices
+IsHolderAmong slices unit None = All (λ s. IsHolderIn s unit None) slices
+
+-- ---- edges
+
+-- the rows of some owner have the edge
+pub record IsEdgeOfSome (c : Content) (e : Edge) : Type 0 where
+  pub owner : Bytes
+  pub edge : IsEdge (c.rows owner) e
+
+-- the edges are all those of the slices, and no others
+pub record AreGathered (slices : List Slice) (edges : List Edge) : Type 0 where
+  pub only : (e : Edge) → Contains edges e → Any (λ s. IsEdge s e) slices
+  pub every : (s : Slice) (e : Edge) → Contains slices s → IsEdge s e → Contains edges e

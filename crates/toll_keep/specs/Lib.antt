@@ -1,0 +1,6 @@
+pub mod Content
+pub mod Standing
+pub mod Fault
+pub mod Goes
+pub mod Holding
+pub mod Slices

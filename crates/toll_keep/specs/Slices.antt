@@ -1,0 +1,48 @@
+-- Slices in a list, and which rows they have of each owner.
+use Rattle.std.specs.Prelude.{◌≡◌, Bool, false, if◌then◌else◌, List, [], ◌∷◌}
+use Rattle.std.specs.List.{AllByRecursion}
+use Rattle.toll_base.specs.Bytes.{Bytes, same_bytes}
+use Rattle.toll_base.specs.Slice.{Slice, empty_slice}
+use Rattle.toll_base.specs.declared.rows.OwnerRow.{OwnerRow}
+use Rattle.toll_base.specs.declared.rows.UnitRow.{UnitRow}
+use Rattle.toll_keep.specs.Content.{Content}
+use Rattle.toll_keep.specs.declared.mem_keep.MemKeep.TheInside.{Inside}
+
+-- the slice is of this owner
+abbrev pub is_of : Bytes → Slice → Bool
+is_of o s = same_bytes s.owner o
+
+-- the owner's rows: its first slice, or none
+abbrev pub rows_in : List Slice → Bytes → Slice
+rows_in [] o = empty_slice o
+rows_in (s ∷ slices) o = if is_of o s then s else rows_in slices o
+
+-- the slices with this one in place of the first of its owner, or added
+abbrev pub put_slice : List Slice → Slice → List Slice
+put_slice [] new = new ∷ []
+put_slice (s ∷ slices) new = if is_of new.owner s then new ∷ slices else s ∷ put_slice slices new
+
+-- the slices with each of these put, the last one first
+abbrev pub put_slices : List Slice → List Slice → List Slice
+put_slices slices [] = slices
+put_slices slices (new ∷ more) = put_slice (put_slices slices more) new
+
+-- no owner has two slices
+abbrev pub IsOneEach : List Slice → Type 0
+IsOneEach [] = Unit {0}
+IsOneEach (s ∷ slices) = AllByRecursion (λ other. is_of s.owner other ≡ false) slices × IsOneEach slices
+
+-- ---- a keep in memory
+
+-- what it keeps
+pub record Kept : Type 0 where
+  pub owners : List OwnerRow
+  pub units : List UnitRow
+  pub slices : List Slice
+
+-- the content that it has
+abbrev pub content_of : Kept → Content
+content_of k = record { owners = k.owners; units = k.units; rows = rows_in k.slices }
+
+abbrev pub shown : Inside → Kept
+shown k = record { owners = k.owners; units = k.units; slices = k.slices.items }

@@ -1,0 +1,18 @@
+//! The edges of all owners.
+ghost use Rattle.std.specs.Prelude.{IfOk};
+ghost use Rattle.toll_keep.specs.Holding.{AreGathered};
+
+use std::alloc::{AllocError, Global};
+use toll_base::{Edge, Slice};
+use toll_trace::edges_of;
+
+/// The edges of each of these slices, in no order, and with repeats where several have one.
+pub fn edges_among(alloc: Global, slices: &[Slice]) -> Result<Vec<Edge>, AllocError>
+    ensures { IfOk result (λ edges. AreGathered slices.now edges.items) }
+{
+    let mut edges = Vec::new(alloc);
+    for slice in slices {
+        edges.extend_from_slice(&edges_of(alloc, slice)?)?;
+    }
+    Ok(edges)
+}

@@ -1,0 +1,85 @@
+//! A keep that once has no memory.
+ghost use Rattle.std.specs.Prelude.{◌≡◌, true};
+
+use crate::fault::KeepFault;
+use crate::holder::Holder;
+use crate::keep::Keep;
+use std::alloc::Global;
+use toll_base::{Change, Edge, Name, OwnerRow, Slice, UnitRow};
+
+/// A keep around another one, that answers the next `apply` with [`KeepFault::Memory`], and passes on
+/// all else. It is for the tests of what stands on a keep.
+#[derive(Drop)]
+pub struct Refusing<K> {
+    /// The keep that it is around.
+    pub keep: K,
+    /// The next `apply` is refused.
+    pub refuses: bool,
+}
+
+impl<K: Keep> Refusing<K> {
+    /// Around this keep.
+    pub fn new(keep: K) -> Self
+        ensures keep { result.keep ≡ keep }
+        ensures refuses { result.refuses ≡ true }
+    {
+        Refusing {
+            keep,
+            refuses: true,
+        }
+    }
+}
+
+impl<K: Keep> Keep for Refusing<K> {
+    ghost holds = { λ r c. K.holds r.keep c };
+
+    ghost is_honest = { λ r. K.is_honest r.keep };
+
+    ghost is_closed = { λ r. K.is_closed r.keep };
+
+    ghost is_live = { λ r. K.is_live r.keep };
+
+    ghost has_cause = { λ r s. K.has_cause r.keep s.keep };
+
+    ghost leaves = { λ r cs. K.leaves r.keep cs };
+
+    fn slice(&mut self, alloc: Global, owner: &Name) -> Result<Option<Slice>, KeepFault> {
+        self.keep.slice(alloc, owner)
+    }
+
+    fn owners(&mut self, alloc: Global) -> Result<Vec<OwnerRow>, KeepFault> {
+        self.keep.owners(alloc)
+    }
+
+    fn units(&mut self, alloc: Global) -> Result<Vec<UnitRow>, KeepFault> {
+        self.keep.units(alloc)
+    }
+
+    fn holder(&mut self, alloc: Global, unit: &Name) -> Result<Option<Holder>, KeepFault> {
+        self.keep.holder(alloc, unit)
+    }
+
+    fn edges(&mut self, alloc: Global, owner: &Name) -> Result<Vec<Edge>, KeepFault> {
+        self.keep.edges(alloc, owner)
+    }
+
+    fn all_edges(&mut self, alloc: Global) -> Result<Vec<Edge>, KeepFault> {
+        self.keep.all_edges(alloc)
+    }
+
+    // A closed keep answers Closed, and whether it is closed is seen only by asking it.
+    fn apply(&mut self, alloc: Global, changes: &[Change]) -> Result<(), KeepFault> {
+        if !self.refuses {
+            return self.keep.apply(alloc, changes);
+        }
+        self.refuses = false;
+        match self.keep.owners(alloc) {
+            Ok(_) => Err(KeepFault::Memory),
+            Err(fault) => Err(fault),
+        }
+    }
+
+    ghost settled = { λ r c honest live held. K.settled r.keep c honest live held };
+
+    ghost widened = { λ r cs more left. K.widened r.keep cs more left };
+}
