@@ -1,1 +1,3 @@
 pub mod MaterialLaw
+pub mod TestLaw
+pub mod LotLaw

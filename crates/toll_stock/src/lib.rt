@@ -1,8 +1,12 @@
 //! Materials, lots and stock: the decisions on commands about material.
 #![tactic(auto)]
 
+mod dispositions;
+mod material_tests;
 mod materials;
 #[cfg(test)]
 mod tests;
 
+pub use dispositions::{reject, release};
+pub use material_tests::add_test;
 pub use materials::add_material;

@@ -1,0 +1,11 @@
+use Rattle.std.proofs.Common.{◌≡◌, ◌&&◌, arith, sym, ◌∙◌}
+use Rattle.std.proofs.lemmas.Grind.{common_steps}
+use Rattle.std.specs.List.{count_by}
+use Rattle.toll_base.specs.Bytes.{same_bytes}
+use Rattle.toll_base.proofs.PutRules.{count-is}
+use Rattle.toll_stock.proofs.dispositions.count_results.Goals as goal
+
+pub returns : goal.returns
+returns c =
+    let e : c.count.result ≡ count_by (λ row. same_bytes row.lot c.args.lot.now && same_bytes row.test c.args.test.now) c.args.slice.now.results = grind (arith, common_steps) in
+    e ∙ sym (count-is _ _)
