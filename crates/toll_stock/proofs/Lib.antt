@@ -1,3 +1,4 @@
 pub mod MaterialLaw
 pub mod TestLaw
 pub mod LotLaw
+pub mod ResultLaw

@@ -6,16 +6,15 @@ ghost use Rattle.toll_base.specs.Command.{Release, Reject, by};
 ghost use Rattle.toll_base.specs.Decision.{IsDecided, Decides, DecisionKeepsRules};
 ghost use Rattle.toll_base.specs.Dispositions.{is_outside};
 ghost use Rattle.toll_base.specs.SliceRules.{KeepsRules};
-ghost use Rattle.toll_base.specs.Tables.{tables_of, count_results_in, latest_in};
+ghost use Rattle.toll_base.specs.Tables.{tables_of, latest_in};
 ghost use Rattle.toll_base.specs.Verdict.{release_checks, reject_checks, tests_open};
 ghost use Rattle.toll_base.specs.Words.{is_some_where};
 ghost use Rattle.toll_base.specs.declared.decision.Change.TheVariants as Change;
 ghost use Rattle.toll_stock.specs.LotRows.{given_disposition};
 
+use crate::results::{count_results, is_outside};
 use std::alloc::{AllocError, Global};
-use toll_base::{
-    Change, Decision, Disposition, Limits, LotRow, Name, Refusal, Row, Slice, TestRow, Value,
-};
+use toll_base::{Change, Decision, Disposition, LotRow, Name, Refusal, Row, Slice, TestRow};
 
 /// Releases a lot.
 ///
@@ -113,22 +112,4 @@ fn is_passed(slice: &Slice, lot: &Name, test: &TestRow) -> bool
         None => false,
         Some(known) => !is_outside(&test.limits, known.value),
     }
-}
-
-// Whether the value is out of the limits.
-fn is_outside(limits: &Limits, value: Value) -> bool
-    ensures { result ≡ is_outside limits.now value }
-{
-    value < limits.low || limits.high < value
-}
-
-// How many results of the lot's test there are, which is the number of the latest.
-fn count_results(slice: &Slice, lot: &Name, test: &Name) -> u64
-    ensures { result ≡ count_results_in slice.now lot.now test.now }
-{
-    slice
-        .results()
-        .iter()
-        .filter(|row| row.lot == *lot && row.test == *test)
-        .count() as u64
 }

@@ -4,9 +4,11 @@
 mod dispositions;
 mod material_tests;
 mod materials;
+mod results;
 #[cfg(test)]
 mod tests;
 
 pub use dispositions::{reject, release};
 pub use material_tests::add_test;
 pub use materials::add_material;
+pub use results::record_result;
