@@ -2,3 +2,8 @@ pub mod MaterialLaw
 pub mod TestLaw
 pub mod LotLaw
 pub mod ResultLaw
+pub mod OnHand
+pub mod Sums
+pub mod OnHandTotals
+pub mod ShippedTotals
+pub mod TotalsLaw

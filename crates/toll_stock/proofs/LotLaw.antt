@@ -1,19 +1,19 @@
 -- What a decision on the disposition of a lot owes.
-use Rattle.std.proofs.Common.{◌≡◌, Bool, true, false, not, ◌||◌, cond, Option, Some, None, is_some, is_none, List, [], ◌∷◌, map, refl, sym, ap, ◌∙◌}
+use Rattle.std.proofs.Common.{◌≡◌, Bool, true, false, ◌||◌, cond, Option, Some, None, is_some, is_none, List, [], ◌∷◌, map, refl, sym, ap, ◌∙◌}
 use mathlib.Core.Bool.{false≢true}
 use Rattle.std.specs.Cmp.Lexicographic.{nat_list_cmp_total}
 use Rattle.std.specs.List.{list_any}
 use Rattle.std.specs.Option.{option_map}
 use Rattle.std.specs.Ordering.{is_eq}
 use Rattle.std.specs.declared.cmp.Ordering.{Ordering}
-use Rattle.std.proofs.lemmas.Bool.{not-false, or_left}
+use Rattle.std.proofs.lemmas.Bool.{or_left}
 use Rattle.toll_base.specs.Bytes.{Bytes, same_bytes, bytes_cmp}
 use Rattle.toll_base.specs.Command.{Action, Release, Reject, by}
 use Rattle.toll_base.specs.History.{History, acts}
 use Rattle.toll_base.specs.Slice.{Slice, lot_at, material_at, with_row}
 use Rattle.toll_base.specs.SliceRules.{KeepsRules}
 use Rattle.toll_base.specs.Table.{row_at}
-use Rattle.toll_base.specs.Words.{none_or, is_some_where}
+use Rattle.toll_base.specs.Words.{none_or}
 use Rattle.toll_base.specs.Movements.{lot_id, Made, lot_made}
 use Rattle.toll_base.specs.Dispositions.{is_bad, rejects, stays_released, disposition_of}
 use Rattle.toll_base.specs.Tables.{Tables, tables_of, tables_given, lot_row, IsRowsOf}
@@ -31,6 +31,7 @@ use Rattle.toll_base.proofs.Decided.{verdict_is, Grows, put_rows, RowsFit, decid
 use Rattle.toll_base.proofs.Grown.{tables-own, tables-others}
 use Rattle.toll_base.proofs.KeyOrder.{row_at-put_row}
 use Rattle.toll_base.proofs.Moving.{lot_row_none}
+use Rattle.toll_base.proofs.OneOrigin.{at_made}
 use Rattle.toll_base.proofs.PutTables.{length-known, any-known}
 use Rattle.toll_base.proofs.Texts.{same_bytes-exact, same_bytes-refl, same_bytes-symm}
 use Rattle.toll_stock.specs.LotRows.{given_disposition}
@@ -153,14 +154,10 @@ reject_in_history H o lot m = tables-own H o (Reject lot) refl ∙ (λ i. record
   lot = λ k. lots_after H o lot m.made m.is (Reject lot ∷ acts o H) Rejected (rejected_now (acts o H) m.made.material lot) (λ l material. rejected_other (acts o H) material lot l) k i;
 })
 
--- what a check of a lot that was made says of it
-at_made : (H : History) (o lot : Bytes) (m : IsMade H o lot) (p : LotRow → Bool) → is_some_where (λ row. not (p row)) (lot_row H o lot) ≡ false → p (row_made H o lot m.made) ≡ true
-at_made H o lot m p h = not-false _ (ap (λ x. is_some_where (λ row. not (p row)) (option_map (row_made H o lot) x)) (sym m.is) ∙ h)
-
 release_grows : (lot : Bytes) → Grows (Release lot) (λ t. given_disposition (λ row. Released) (t.lot lot))
 release_grows lot H s lawful valid accepted there =
     let m = known_made H s.owner lot (accepted_passes H s.owner (Release lot) accepted 0) in
-    lot_grows H s there lot m Released _ (release_in_history H s.owner lot m (at_made H s.owner lot m (λ row. is_quarantined row.disposition) (accepted_passes H s.owner (Release lot) accepted 1)))
+    lot_grows H s there lot m Released _ (release_in_history H s.owner lot m (at_made H s.owner lot m.made m.is (λ row. is_quarantined row.disposition) (accepted_passes H s.owner (Release lot) accepted 1)))
 
 reject_grows : (lot : Bytes) → Grows (Reject lot) (λ t. given_disposition (λ row. Rejected) (t.lot lot))
 reject_grows lot H s lawful valid accepted there =

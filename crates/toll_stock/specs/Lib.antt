@@ -1,1 +1,2 @@
 pub mod LotRows
+pub mod LotTotals

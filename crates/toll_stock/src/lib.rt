@@ -5,6 +5,7 @@ mod dispositions;
 mod material_tests;
 mod materials;
 mod results;
+mod stock;
 #[cfg(test)]
 mod tests;
 
@@ -12,3 +13,4 @@ pub use dispositions::{reject, release};
 pub use material_tests::add_test;
 pub use materials::add_material;
 pub use results::record_result;
+pub use stock::{Totals, lot_totals, on_hand};
