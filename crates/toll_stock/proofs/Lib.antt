@@ -2,3 +2,11 @@ pub mod MaterialLaw
 pub mod ReceiptLaw
 pub mod SplitLaw
 pub mod WithdrawalLaw
+pub mod TestLaw
+pub mod LotLaw
+pub mod ResultLaw
+pub mod OnHand
+pub mod Sums
+pub mod OnHandTotals
+pub mod ShippedTotals
+pub mod TotalsLaw

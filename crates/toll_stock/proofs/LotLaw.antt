@@ -1,0 +1,180 @@
+-- What a decision on the disposition of a lot owes.
+use Rattle.std.proofs.Common.{◌≡◌, Bool, true, false, ◌||◌, cond, Option, Some, None, is_some, is_none, List, [], ◌∷◌, map, refl, sym, ap, ◌∙◌}
+use mathlib.Core.Bool.{false≢true}
+use Rattle.std.specs.Cmp.Lexicographic.{nat_list_cmp_total}
+use Rattle.std.specs.List.{list_any}
+use Rattle.std.specs.Option.{option_map}
+use Rattle.std.specs.Ordering.{is_eq}
+use Rattle.std.specs.declared.cmp.Ordering.{Ordering}
+use Rattle.std.proofs.lemmas.Bool.{or_left}
+use Rattle.toll_base.specs.Bytes.{Bytes, same_bytes, bytes_cmp}
+use Rattle.toll_base.specs.Command.{Action, Release, Reject, by}
+use Rattle.toll_base.specs.History.{History, acts}
+use Rattle.toll_base.specs.Slice.{Slice, lot_at, material_at, with_row}
+use Rattle.toll_base.specs.SliceRules.{KeepsRules}
+use Rattle.toll_base.specs.Table.{row_at}
+use Rattle.toll_base.specs.Words.{none_or}
+use Rattle.toll_base.specs.Movements.{lot_id, Made, lot_made}
+use Rattle.toll_base.specs.Dispositions.{is_bad, rejects, stays_released, disposition_of}
+use Rattle.toll_base.specs.Tables.{Tables, tables_of, tables_given, lot_row, IsRowsOf}
+use Rattle.toll_base.specs.Decision.{IsDecided, Decides, DecisionKeepsRules}
+use Rattle.toll_base.specs.Verdict.{Checks, is_quarantined, release_checks, reject_checks}
+use Rattle.toll_base.specs.declared.decision.Change.TheVariants.{Put}
+use Rattle.toll_base.specs.declared.decision.Decision.{Decision}
+use Rattle.toll_base.specs.declared.lot.Disposition.{Disposition}
+use Rattle.toll_base.specs.declared.lot.Disposition.TheVariants.{Quarantined, Released, Rejected}
+use Rattle.toll_base.specs.declared.rows.LotRow.{LotRow}
+use Rattle.toll_base.specs.declared.rows.Row.TheVariants.{Lot}
+use Rattle.toll_base.proofs.Bools.{and_is}
+use Rattle.toll_base.proofs.Passed.{accepted_passes}
+use Rattle.toll_base.proofs.Decided.{verdict_is, Grows, put_rows, RowsFit, decides, keeps_rules}
+use Rattle.toll_base.proofs.Grown.{tables-own, tables-others}
+use Rattle.toll_base.proofs.KeyOrder.{row_at-put_row}
+use Rattle.toll_base.proofs.Moving.{lot_row_none}
+use Rattle.toll_base.proofs.OneOrigin.{at_made}
+use Rattle.toll_base.proofs.PutTables.{length-known, any-known}
+use Rattle.toll_base.proofs.Texts.{same_bytes-exact, same_bytes-refl, same_bytes-symm}
+use Rattle.toll_stock.specs.LotRows.{given_disposition}
+
+-- tables with this row of a lot
+abbrev pub with_lot : LotRow → Tables → Tables
+with_lot row t = record t { lot = λ k. cond (same_bytes k row.lot) (Some row) (t.lot k) }
+
+-- a lot's row with another disposition
+abbrev pub disposed : LotRow → Disposition → LotRow
+disposed row d = record row { disposition = d }
+
+-- ---- in the slice
+
+pub in_slice : (s : Slice) (row : LotRow) (d : Disposition) → lot_at s row.lot ≡ Some row → tables_of (with_row s (Lot (disposed row d))) ≡ with_lot (disposed row d) (tables_of s)
+in_slice s row d there i = record (tables_of s) {
+  lot = λ k. row_at-put_row bytes_cmp nat_list_cmp_total (λ x. x.lot) s.lots (disposed row d) k i;
+  lots = length-known bytes_cmp nat_list_cmp_total (λ x. x.lot) s.lots (disposed row d) (ap is_some there) i;
+  material_used = λ material. any-known bytes_cmp (λ x. x.lot) (λ x. same_bytes x.material material) s.lots (disposed row d) row there refl i;
+}
+
+-- a row that is found has the key
+pub found_key : {K R : Type 0} (cmp : K → K → Ordering) (key : R → K) (rows : List R) (k : K) (row : R) → row_at cmp key rows k ≡ Some row → is_eq (cmp k (key row)) ≡ true
+unfolding row_at
+found_key cmp key [] k row is = (cc)
+found_key cmp key (x ∷ xs) k row is =
+    elim (is_eq (cmp k (key x))) as (λ b. is_eq (cmp k (key x)) ≡ b → cond b (Some x) (row_at cmp key xs k) ≡ Some row → is_eq (cmp k (key row)) ≡ true) [
+      | true ↦ λ hit is. let r : x ≡ row = (cc) in ap (λ y. is_eq (cmp k (key y))) (sym r) ∙ hit
+      | false ↦ λ miss is. found_key cmp key xs k row is
+    ] refl is
+
+-- another disposition of a lot fits
+pub rows_fit : (s : Slice) (lot : Bytes) (f : LotRow → Disposition) (x : Option LotRow) → KeepsRules s → lot_at s lot ≡ x → RowsFit (given_disposition f x) s
+rows_fit s lot f None keeps is = tt
+rows_fit s lot f (Some row) keeps is =
+    let e = same_bytes-exact lot row.lot (found_key bytes_cmp (λ x. x.lot) s.lots lot row is) in (
+      and_is _ (is_some (material_at s row.material))
+          (or_left _ _ (ap (λ l. is_some (lot_at s l)) (sym e) ∙ ap is_some is))
+          (ap (none_or (λ (r : LotRow). is_some (material_at s r.material))) (sym is) ∙ keeps.lot_materials lot),
+      tt,
+    )
+
+-- ---- in the history
+
+-- the row of a lot that was made so
+abbrev pub row_made : History → Bytes → Bytes → Made → LotRow
+row_made H o l made = record { lot = l; material = made.material; origin = made.origin; disposition = disposition_of (acts o H) made.material l }
+
+-- a lot that the tables have was made
+pub record IsMade (H : History) (o l : Bytes) : Type 0 where
+  pub made : Made
+  pub is : lot_made H (lot_id o l) ≡ Some made
+
+made_by_some : (H : History) (o l : Bytes) (x : Option Made) → lot_made H (lot_id o l) ≡ x → is_none (lot_row H o l) ≡ false → IsMade H o l
+made_by_some H o l None is there = absurd (false≢true (sym there ∙ lot_row_none H o l ∙ ap is_none is))
+made_by_some H o l (Some made) is there = record { made = made; is = is }
+
+pub known_made : (H : History) (o l : Bytes) → is_none (lot_row H o l) ≡ false → IsMade H o l
+known_made H o l there = made_by_some H o l (lot_made H (lot_id o l)) refl there
+
+-- the row of each lot after an action that changes this lot's disposition and no other's
+module _ (H : History) (o lot : Bytes) (made : Made) (is : lot_made H (lot_id o lot) ≡ Some made) (own : List Action) (d : Disposition) where
+  abbrev row_after : Bytes → Made → LotRow
+  row_after l m = record { lot = l; material = m.material; origin = m.origin; disposition = disposition_of own m.material l }
+
+  pub lots_after : disposition_of own made.material lot ≡ d → ((l material : Bytes) → same_bytes lot l ≡ false → disposition_of own material l ≡ disposition_of (acts o H) material l) →
+      (k : Bytes) → option_map (row_after k) (lot_made H (lot_id o k)) ≡ cond (same_bytes k lot) (Some (disposed (row_made H o lot made) d)) (lot_row H o k)
+  lots_after this others k =
+      elim (same_bytes k lot) as (λ b. same_bytes k lot ≡ b → option_map (row_after k) (lot_made H (lot_id o k)) ≡ cond b (Some (disposed (row_made H o lot made) d)) (lot_row H o k)) [
+        | true ↦ λ same.
+            ap (λ l. option_map (row_after l) (lot_made H (lot_id o l))) (same_bytes-exact k lot same)
+            ∙ ap (option_map (row_after lot)) is
+            ∙ ap (λ e. Some (disposed (row_made H o lot made) e)) this
+        | false ↦ λ other. other_lot k (lot_made H (lot_id o k)) (λ material. others k material (same_bytes-symm lot k ∙ other))
+      ] refl
+    where
+      other_lot : (l : Bytes) (x : Option Made) → ((material : Bytes) → disposition_of own material l ≡ disposition_of (acts o H) material l) → option_map (row_after l) x ≡ option_map (row_made H o l) x
+      other_lot l None same = refl
+      other_lot l (Some m) same = ap (λ e. Some (disposed (row_made H o l m) e)) (same m.material)
+
+-- ---- a release and a rejection
+
+-- a lot that is quarantined was not rejected
+not_rejected : (gone stays : Bool) → is_quarantined (cond gone Rejected (cond stays Released Quarantined)) ≡ true → gone ≡ false
+not_rejected true stays h = absurd (false≢true h)
+not_rejected false stays h = refl
+
+released_now : (own : List Action) (material lot : Bytes) → is_quarantined (disposition_of own material lot) ≡ true → disposition_of (Release lot ∷ own) material lot ≡ Released
+released_now own material lot was =
+    (λ i. cond (not_rejected (list_any (rejects lot) own) _ was i) Rejected (cond (same_bytes-refl lot i || stays_released (is_bad own material) lot own) Released Quarantined))
+
+released_other : (own : List Action) (material lot l : Bytes) → same_bytes lot l ≡ false → disposition_of (Release lot ∷ own) material l ≡ disposition_of own material l
+released_other own material lot l other = ap (λ b. cond (list_any (rejects l) own) Rejected (cond (b || stays_released (is_bad own material) l own) Released Quarantined)) other
+
+rejected_now : (own : List Action) (material lot : Bytes) → disposition_of (Reject lot ∷ own) material lot ≡ Rejected
+rejected_now own material lot = ap (λ b. cond (b || list_any (rejects lot) own) Rejected (cond (stays_released (is_bad own material) lot own) Released Quarantined)) (same_bytes-refl lot)
+
+rejected_other : (own : List Action) (material lot l : Bytes) → same_bytes lot l ≡ false → disposition_of (Reject lot ∷ own) material l ≡ disposition_of own material l
+rejected_other own material lot l other = ap (λ b. cond (b || list_any (rejects l) own) Rejected (cond (stays_released (is_bad own material) l own) Released Quarantined)) other
+
+-- where the history's tables differ by the lot alone, the slice's do
+module _ (H : History) (s : Slice) (there : IsRowsOf H s) (lot : Bytes) (m : IsMade H s.owner lot) where
+  pub found_lot : lot_at s lot ≡ Some (row_made H s.owner lot m.made)
+  found_lot = ap (λ (t : Tables). t.lot lot) there ∙ ap (option_map (row_made H s.owner lot)) m.is
+
+  lot_grows : (d : Disposition) (after : Tables) → after ≡ with_lot (disposed (row_made H s.owner lot m.made) d) (tables_given H s.owner) → tables_of (put_rows (given_disposition (λ row. d) (lot_at s lot)) s) ≡ after
+  lot_grows d after is =
+      ap (λ x. tables_of (put_rows (given_disposition (λ row. d) x) s)) found_lot
+      ∙ in_slice s (row_made H s.owner lot m.made) d found_lot
+      ∙ ap (with_lot (disposed (row_made H s.owner lot m.made) d)) there
+      ∙ sym is
+
+release_in_history : (H : History) (o lot : Bytes) (m : IsMade H o lot) → is_quarantined (disposition_of (acts o H) m.made.material lot) ≡ true → tables_given (by o (Release lot) ∷ H) o ≡ with_lot (disposed (row_made H o lot m.made) Released) (tables_given H o)
+release_in_history H o lot m was = tables-own H o (Release lot) refl ∙ (λ i. record (tables_given H o) {
+  lot = λ k. lots_after H o lot m.made m.is (Release lot ∷ acts o H) Released (released_now (acts o H) m.made.material lot was) (λ l material. released_other (acts o H) material lot l) k i;
+})
+
+reject_in_history : (H : History) (o lot : Bytes) (m : IsMade H o lot) → tables_given (by o (Reject lot) ∷ H) o ≡ with_lot (disposed (row_made H o lot m.made) Rejected) (tables_given H o)
+reject_in_history H o lot m = tables-own H o (Reject lot) refl ∙ (λ i. record (tables_given H o) {
+  lot = λ k. lots_after H o lot m.made m.is (Reject lot ∷ acts o H) Rejected (rejected_now (acts o H) m.made.material lot) (λ l material. rejected_other (acts o H) material lot l) k i;
+})
+
+release_grows : (lot : Bytes) → Grows (Release lot) (λ t. given_disposition (λ row. Released) (t.lot lot))
+release_grows lot H s lawful valid accepted there =
+    let m = known_made H s.owner lot (accepted_passes H s.owner (Release lot) accepted 0) in
+    lot_grows H s there lot m Released _ (release_in_history H s.owner lot m (at_made H s.owner lot m.made m.is (λ row. is_quarantined row.disposition) (accepted_passes H s.owner (Release lot) accepted 1)))
+
+reject_grows : (lot : Bytes) → Grows (Reject lot) (λ t. given_disposition (λ row. Rejected) (t.lot lot))
+reject_grows lot H s lawful valid accepted there =
+    let m = known_made H s.owner lot (accepted_passes H s.owner (Reject lot) accepted 0) in
+    lot_grows H s there lot m Rejected _ (reject_in_history H s.owner lot m)
+
+module _ (own : Slice) (lot : Bytes) (d : Decision) where
+  pub release_decided : IsDecided (release_checks (tables_of own) lot) (map (Put own.owner) (given_disposition (λ row. Released) (lot_at own lot))) d → Decides (by own.owner (Release lot)) own d
+  release_decided decided =
+      decides (Release lot) (λ t. given_disposition (λ row. Released) (t.lot lot)) (release_grows lot) (λ H o p lawful accepted other. tables-others H o (Release lot) refl p other)
+      own d _ decided (λ H lawful valid known there. verdict_is H own.owner (Release lot) (tables_of own) _ known there refl)
+
+  pub reject_decided : IsDecided (reject_checks (tables_of own) lot) (map (Put own.owner) (given_disposition (λ row. Rejected) (lot_at own lot))) d → Decides (by own.owner (Reject lot)) own d
+  reject_decided decided =
+      decides (Reject lot) (λ t. given_disposition (λ row. Rejected) (t.lot lot)) (reject_grows lot) (λ H o p lawful accepted other. tables-others H o (Reject lot) refl p other)
+      own d _ decided (λ H lawful valid known there. verdict_is H own.owner (Reject lot) (tables_of own) _ known there refl)
+
+  -- whatever the checks are
+  pub lot_keeps : (f : LotRow → Disposition) (checks : Checks) → IsDecided checks (map (Put own.owner) (given_disposition f (lot_at own lot))) d → KeepsRules own → DecisionKeepsRules own d
+  lot_keeps f checks decided keeps = keeps_rules own (given_disposition f (lot_at own lot)) d checks decided keeps (λ accepted. rows_fit own lot f (lot_at own lot) keeps refl)

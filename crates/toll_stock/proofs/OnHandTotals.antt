@@ -1,0 +1,238 @@
+-- What is in the sublots of a lot is what its standing movements received and produced, less what they used up.
+use Rattle.std.proofs.Common.{◌≡◌, ℕ, ◌+◌, ◌-◌, ◌≤◌, Bool, true, false, not, ◌&&◌, cond, Option, Some, None, is_some, List, [], ◌∷◌, ◌++◌, filter, refl, sym, ap, ◌∙◌, arith}
+use mathlib.Core.Bool.{false≢true}
+use Rattle.std.specs.List.{AllByRecursion}
+use Rattle.std.specs.Option.{option_map_or}
+use Rattle.std.specs.Ordering.{is_eq}
+use Rattle.std.proofs.lemmas.Option.{cond_some}
+use Rattle.toll_base.specs.Bytes.{Bytes, same_bytes, bytes_cmp}
+use Rattle.toll_base.specs.Keys.{pair_cmp}
+use Rattle.toll_base.specs.Table.{IsInKeyOrder, row_at}
+use Rattle.toll_base.specs.Words.{total, is_some_where}
+use Rattle.toll_base.specs.Command.{Action, Record, Void}
+use Rattle.toll_base.specs.History.{History}
+use Rattle.toll_base.specs.Laws.{BringsOwn, TakesKnown}
+use Rattle.toll_base.specs.Movements.{lot_id, same_lot, Movement, has_key, moved_by, movements, standing_after, standing, brings_into, takes_from, brought, taken, stock, sublot_known}
+use Rattle.toll_base.specs.Slice.{Slice, sublot_at}
+use Rattle.toll_base.specs.Tables.{Tables, IsRowsOf, sublot_row}
+use Rattle.toll_base.specs.Verdict.{IsLawful}
+use Rattle.toll_base.specs.declared.lot.LotId.{LotId}
+use Rattle.toll_base.specs.declared.role.Role.TheVariants.{Consumed, Produced}
+use Rattle.toll_base.specs.declared.rows.Move.{Move}
+use Rattle.toll_base.specs.declared.rows.Move.TheVariants.{Receive, Split, Ship, Scrap, Actual}
+use Rattle.toll_base.specs.declared.rows.SublotRow.{SublotRow}
+use Rattle.toll_base.proofs.Bools.{both, and_is}
+use Rattle.toll_base.proofs.Options.{some_where}
+use Rattle.toll_base.proofs.Owned.{all_bring_own, all_take_known}
+use Rattle.toll_base.proofs.Stock.{covered}
+use Rattle.toll_base.proofs.Texts.{same_bytes-exact, same_bytes-refl, same_bytes-symm, is_eq-then, pair_cmp_total}
+use Rattle.toll_stock.specs.LotTotals.{adds_to, uses_up, received_or_produced, consumed_shipped_or_scrapped, on_hand_in}
+use Rattle.toll_stock.proofs.Sums.{total-along, total-each, total-plus, total-zero, total-swapped, cond-total, cond_zero, along, each_found, total_at}
+
+-- ---- the sublots that a movement brings into and takes from
+
+abbrev Place : Type 0
+Place = LotId × Bytes
+
+-- the sublot that a movement of this owner brings into
+abbrev goes_to : Bytes → Move → Option Place
+goes_to o (Receive material lot sublot) = Some (lot_id o lot, sublot)
+goes_to o (Split lot sublot target) = Some (lot_id o lot, target)
+goes_to o (Actual order number segment Produced material lot sublot) = Some (lot, sublot)
+goes_to o _ = None
+
+-- the sublot that it takes from
+abbrev comes_from : Bytes → Move → Option Place
+comes_from o (Split lot sublot target) = Some (lot_id o lot, sublot)
+comes_from o (Ship lot sublot) = Some (lot_id o lot, sublot)
+comes_from o (Scrap lot sublot) = Some (lot_id o lot, sublot)
+comes_from o (Actual order number segment Consumed material lot sublot) = Some (lot, sublot)
+comes_from o _ = None
+
+abbrev is_at : LotId → Bytes → Option Place → Bool
+is_at id sub place = is_some_where (λ p. same_lot id p.0 && same_bytes sub p.1) place
+
+abbrev is_in : LotId → Option Place → Bool
+is_in id place = is_some_where (λ p. same_lot id p.0) place
+
+brings-goes_to : (id : LotId) (sub o : Bytes) (what : Move) → brings_into id sub o what ≡ is_at id sub (goes_to o what)
+brings-goes_to id sub o (Receive material lot sublot) = refl
+brings-goes_to id sub o (Split lot sublot target) = refl
+brings-goes_to id sub o (Ship lot sublot) = refl
+brings-goes_to id sub o (Scrap lot sublot) = refl
+brings-goes_to id sub o (Actual order number segment Consumed material lot sublot) = refl
+brings-goes_to id sub o (Actual order number segment Produced material lot sublot) = refl
+
+takes-comes_from : (id : LotId) (sub o : Bytes) (what : Move) → takes_from id sub o what ≡ is_at id sub (comes_from o what)
+takes-comes_from id sub o (Receive material lot sublot) = refl
+takes-comes_from id sub o (Split lot sublot target) = refl
+takes-comes_from id sub o (Ship lot sublot) = refl
+takes-comes_from id sub o (Scrap lot sublot) = refl
+takes-comes_from id sub o (Actual order number segment Consumed material lot sublot) = refl
+takes-comes_from id sub o (Actual order number segment Produced material lot sublot) = refl
+
+-- ---- what holds of each movement holds of those that stand
+
+filtered : {X : Type 0} (P : X → Type 0) (p : X → Bool) (xs : List X) → AllByRecursion P xs → AllByRecursion P (filter p xs)
+filtered P p [] h = tt
+filtered P p (x ∷ xs) h =
+    elim (p x) as (λ b. AllByRecursion P (cond b (x ∷ filter p xs) (filter p xs))) [
+      | true ↦ (h.0, filtered P p xs h.1)
+      | false ↦ filtered P p xs h.1
+    ]
+
+standing_step : (P : Movement → Type 0) (o : Bytes) (a : Action) (ms older : List Movement) → AllByRecursion P (moved_by o a ++ ms) → (AllByRecursion P ms → AllByRecursion P older) → AllByRecursion P (standing_after o a older)
+standing_step P o (Record row) ms older each before = (each.0, before each.1)
+standing_step P o (Void key) ms older each before = filtered P (λ m. not (has_key o key m)) older (before each)
+standing_step P o a ms older each before = before each
+
+pub each_standing : (P : Movement → Type 0) (H : History) → AllByRecursion P (movements H) → AllByRecursion P (standing H)
+each_standing P [] each = tt
+each_standing P (c ∷ H) each = standing_step P c.owner c.action (movements H) (standing H) each (each_standing P H)
+
+-- ---- the sums over the sublots of a lot
+
+module _ (rows : List SublotRow) (ordered : IsInKeyOrder pair_cmp (λ row. (row.lot, row.sublot)) rows) (o lot : Bytes) where
+  -- a sublot of the lot is there
+  abbrev HasSublot : Bytes → Type 0
+  HasSublot sub = is_some (row_at pair_cmp (λ (row : SublotRow). (row.lot, row.sublot)) rows (lot, sub)) ≡ true
+
+  -- the sublot is there, if it is the lot's
+  abbrev HasPlace : Option Place → Type 0
+  HasPlace None = Unit {0}
+  HasPlace (Some p) = same_lot (lot_id o lot) p.0 ≡ true → HasSublot p.1
+
+  all_of_it : {X : Type 0} (x : Option X) (n : ℕ) → is_some x ≡ true → option_map_or (λ _. n) x 0 ≡ n
+  all_of_it None n h = absurd (false≢true h)
+  all_of_it (Some x) n h = refl
+
+  chosen : (a b : Bool) (n : ℕ) → cond a (cond (a && b) n 0) 0 ≡ cond (a && b) n 0
+  chosen true b n = refl
+  chosen false b n = refl
+
+  -- the place is found among the lot's sublots once
+  once_in : (place : Option Place) (n : ℕ) → HasPlace place → total (λ row. cond (same_bytes row.lot lot) (cond (is_at (lot_id o row.lot) row.sublot place) n 0) 0) rows ≡ cond (is_in (lot_id o lot) place) n 0
+  once_in None n there = total-each _ (λ row. 0) rows (λ row. cond_zero (same_bytes row.lot lot)) ∙ total-zero rows
+  once_in (Some p) n there =
+      elim (same_lot (lot_id o lot) p.0) as (λ b. same_lot (lot_id o lot) p.0 ≡ b → total (λ row. cond (same_bytes row.lot lot) (cond (same_lot (lot_id o row.lot) p.0 && same_bytes row.sublot p.1) n 0) 0) rows ≡ cond b n 0) [
+        | true ↦ λ here.
+            let parts = both (same_bytes o p.0.owner) (same_bytes lot p.0.lot) here in
+            let e = same_bytes-exact lot p.0.lot parts.1 in
+            total-each _ (λ row. cond (is_eq (pair_cmp (lot, p.1) (row.lot, row.sublot))) n 0) rows (λ row.
+            (λ i. cond (same_bytes row.lot lot) (cond ((parts.0 i && same_bytes row.lot (sym e i)) && same_bytes row.sublot p.1) n 0) 0)
+            ∙ chosen (same_bytes row.lot lot) (same_bytes row.sublot p.1) n
+            ∙ (λ i. cond (same_bytes-symm row.lot lot i && same_bytes-symm row.sublot p.1 i) n 0)
+            ∙ ap (λ b. cond b n 0) (sym (is_eq-then (bytes_cmp lot row.lot) (bytes_cmp p.1 row.sublot))))
+            ∙ total_at pair_cmp pair_cmp_total (λ row. (row.lot, row.sublot)) (λ _. n) rows (lot, p.1) ordered
+            ∙ all_of_it _ n (there here)
+        | false ↦ λ elsewhere.
+            total-each _ (λ row. 0) rows (λ row.
+            elim (same_bytes row.lot lot) as (λ b. same_bytes row.lot lot ≡ b → cond b (cond (same_lot (lot_id o row.lot) p.0 && same_bytes row.sublot p.1) n 0) 0 ≡ 0) [
+              | true ↦ λ same. ap (λ l. cond (same_lot (lot_id o l) p.0 && same_bytes row.sublot p.1) n 0) (same_bytes-exact row.lot lot same) ∙ ap (λ b. cond (b && same_bytes row.sublot p.1) n 0) elsewhere
+              | false ↦ λ other. refl
+            ] refl)
+            ∙ total-zero rows
+      ] refl
+
+  -- so the sum over the sublots of what movements move at each is the sum of what they move in the lot
+  moved_in : (place : Movement → Option Place) (ms : List Movement) → AllByRecursion (λ m. HasPlace (place m)) ms →
+      total (λ row. cond (same_bytes row.lot lot) (total (λ m. cond (is_at (lot_id o row.lot) row.sublot (place m)) m.1.amount 0) ms) 0) rows ≡ total (λ m. cond (is_in (lot_id o lot) (place m)) m.1.amount 0) ms
+  moved_in place ms there =
+      total-each _ (λ row. total (λ m. cond (same_bytes row.lot lot) (cond (is_at (lot_id o row.lot) row.sublot (place m)) m.1.amount 0) 0) ms) rows (λ row. cond-total (same_bytes row.lot lot) (λ m. cond (is_at (lot_id o row.lot) row.sublot (place m)) m.1.amount 0) ms)
+      ∙ total-swapped (λ row m. cond (same_bytes row.lot lot) (cond (is_at (lot_id o row.lot) row.sublot (place m)) m.1.amount 0) 0) rows ms
+      ∙ total-along _ (λ m. cond (is_in (lot_id o lot) (place m)) m.1.amount 0) ms (along _ _ (λ m has. once_in (place m) m.1.amount has) ms there)
+
+-- ---- a split is in both sums
+
+abbrev splits : LotId → Bytes → Move → Bool
+splits id o (Split lot sublot target) = same_lot id (lot_id o lot)
+splits id o _ = false
+
+into_lot : (id : LotId) (o : Bytes) (what : Move) (n : ℕ) → cond (is_in id (goes_to o what)) n 0 ≡ cond (adds_to id o what) n 0 + cond (splits id o what) n 0
+into_lot id o (Receive material lot sublot) n = omega arith
+into_lot id o (Split lot sublot target) n = omega arith
+into_lot id o (Ship lot sublot) n = refl
+into_lot id o (Scrap lot sublot) n = refl
+into_lot id o (Actual order number segment Consumed material lot sublot) n = refl
+into_lot id o (Actual order number segment Produced material lot sublot) n = omega arith
+
+out_of_lot : (id : LotId) (o : Bytes) (what : Move) (n : ℕ) → cond (is_in id (comes_from o what)) n 0 ≡ cond (uses_up id o what) n 0 + cond (splits id o what) n 0
+out_of_lot id o (Receive material lot sublot) n = refl
+out_of_lot id o (Split lot sublot target) n = omega arith
+out_of_lot id o (Ship lot sublot) n = omega arith
+out_of_lot id o (Scrap lot sublot) n = omega arith
+out_of_lot id o (Actual order number segment Consumed material lot sublot) n = omega arith
+out_of_lot id o (Actual order number segment Produced material lot sublot) n = refl
+
+-- ---- a slice that has a history's rows
+
+module _ (H : History) (lawful : IsLawful H) (s : Slice) (there : IsRowsOf H s) (ordered : IsInKeyOrder pair_cmp (λ row. (row.lot, row.sublot)) s.sublots) (lot : Bytes) where
+  abbrev id : LotId
+  id = lot_id s.owner lot
+
+  has_known : (sub : Bytes) → sublot_known H id sub ≡ true → is_some (sublot_at s (lot, sub)) ≡ true
+  has_known sub known = ap (λ (t : Tables). is_some (t.sublot (lot, sub))) there ∙ some_where (sublot_known H id sub) _ known
+
+  at_itself : (p : Place) → same_lot id p.0 ≡ true → is_at id p.1 (Some p) ≡ true
+  at_itself p here = and_is _ _ here (same_bytes-refl p.1)
+
+  has_goes_to : (m : Movement) → BringsOwn H m → (place : Option Place) → goes_to m.0 m.1.what ≡ place → HasPlace s.sublots ordered s.owner lot place
+  has_goes_to m brings None is = tt
+  has_goes_to m brings (Some p) is = λ here. has_known p.1 (brings id p.1 (brings-goes_to id p.1 m.0 m.1.what ∙ ap (is_at id p.1) is ∙ at_itself p here)).1
+
+  has_comes_from : (m : Movement) → TakesKnown H m → (place : Option Place) → comes_from m.0 m.1.what ≡ place → HasPlace s.sublots ordered s.owner lot place
+  has_comes_from m takes None is = tt
+  has_comes_from m takes (Some p) is = λ here. has_known p.1 (takes id p.1 (takes-comes_from id p.1 m.0 m.1.what ∙ ap (is_at id p.1) is ∙ at_itself p here)).0
+
+  -- what was brought into the lot's sublots, and what was taken from them
+  abbrev all_brought : ℕ
+  all_brought = total (λ row. cond (same_bytes row.lot lot) (brought H (lot_id s.owner row.lot) row.sublot) 0) s.sublots
+
+  abbrev all_taken : ℕ
+  all_taken = total (λ row. cond (same_bytes row.lot lot) (taken H (lot_id s.owner row.lot) row.sublot) 0) s.sublots
+
+  brought_is : all_brought ≡ total (λ m. cond (is_in id (goes_to m.0 m.1.what)) m.1.amount 0) (standing H)
+  brought_is =
+      total-each _ (λ row. cond (same_bytes row.lot lot) (total (λ m. cond (is_at (lot_id s.owner row.lot) row.sublot (goes_to m.0 m.1.what)) m.1.amount 0) (standing H)) 0) s.sublots
+      (λ row. ap (λ n. cond (same_bytes row.lot lot) n 0) (total-each _ _ (standing H) (λ m. ap (λ b. cond b m.1.amount 0) (brings-goes_to (lot_id s.owner row.lot) row.sublot m.0 m.1.what))))
+      ∙ moved_in s.sublots ordered s.owner lot (λ m. goes_to m.0 m.1.what) (standing H)
+      (along _ _ (λ m brings. has_goes_to m brings (goes_to m.0 m.1.what) refl) (standing H) (each_standing (BringsOwn H) H (all_bring_own H lawful)))
+
+  taken_is : all_taken ≡ total (λ m. cond (is_in id (comes_from m.0 m.1.what)) m.1.amount 0) (standing H)
+  taken_is =
+      total-each _ (λ row. cond (same_bytes row.lot lot) (total (λ m. cond (is_at (lot_id s.owner row.lot) row.sublot (comes_from m.0 m.1.what)) m.1.amount 0) (standing H)) 0) s.sublots
+      (λ row. ap (λ n. cond (same_bytes row.lot lot) n 0) (total-each _ _ (standing H) (λ m. ap (λ b. cond b m.1.amount 0) (takes-comes_from (lot_id s.owner row.lot) row.sublot m.0 m.1.what))))
+      ∙ moved_in s.sublots ordered s.owner lot (λ m. comes_from m.0 m.1.what) (standing H)
+      (along _ _ (λ m takes. has_comes_from m takes (comes_from m.0 m.1.what) refl) (standing H) (each_standing (TakesKnown H) H (all_take_known H lawful)))
+
+  -- what is in a sublot, with what was taken, is what was brought
+  left : (b : Bool) (held came went : ℕ) → held ≡ came - went → went ≤ came → cond b held 0 + cond b went 0 ≡ cond b came 0
+  left true held came went is le = omega arith
+  left false held came went is le = refl
+
+  held_is : (row : SublotRow) → sublot_at s (row.lot, row.sublot) ≡ Some row → row.amount ≡ brought H (lot_id s.owner row.lot) row.sublot - taken H (lot_id s.owner row.lot) row.sublot
+  unfolding stock
+  held_is row found =
+      let given : sublot_row H s.owner (row.lot, row.sublot) ≡ Some row = sym (ap (λ (t : Tables). t.sublot (row.lot, row.sublot)) there) ∙ found in
+      sym (ap (λ (r : SublotRow). r.amount) (cond_some (sublot_known H (lot_id s.owner row.lot) row.sublot) _ row given).1)
+
+  held_and_taken : on_hand_in s lot + all_taken ≡ all_brought
+  held_and_taken =
+      sym (total-plus (λ row. cond (same_bytes row.lot lot) row.amount 0) (λ row. cond (same_bytes row.lot lot) (taken H (lot_id s.owner row.lot) row.sublot) 0) s.sublots)
+      ∙ total-along _ (λ row. cond (same_bytes row.lot lot) (brought H (lot_id s.owner row.lot) row.sublot) 0) s.sublots
+      (along _ _ (λ row found. left (same_bytes row.lot lot) row.amount _ _ (held_is row found) (covered H (lot_id s.owner row.lot) row.sublot lawful)) s.sublots
+      (each_found pair_cmp pair_cmp_total (λ row. (row.lot, row.sublot)) s.sublots ordered))
+
+  pub on_hand_is : on_hand_in s lot ≡ received_or_produced H id - consumed_shipped_or_scrapped H id
+  on_hand_is =
+      let split = total (λ (m : Movement). cond (splits id m.0 m.1.what) m.1.amount 0) (standing H) in
+      let came : total (λ m. cond (is_in id (goes_to m.0 m.1.what)) m.1.amount 0) (standing H) ≡ received_or_produced H id + split =
+      total-each _ (λ m. cond (adds_to id m.0 m.1.what) m.1.amount 0 + cond (splits id m.0 m.1.what) m.1.amount 0) (standing H) (λ m. into_lot id m.0 m.1.what m.1.amount)
+      ∙ total-plus (λ m. cond (adds_to id m.0 m.1.what) m.1.amount 0) (λ m. cond (splits id m.0 m.1.what) m.1.amount 0) (standing H) in
+      let went : total (λ m. cond (is_in id (comes_from m.0 m.1.what)) m.1.amount 0) (standing H) ≡ consumed_shipped_or_scrapped H id + split =
+      total-each _ (λ m. cond (uses_up id m.0 m.1.what) m.1.amount 0 + cond (splits id m.0 m.1.what) m.1.amount 0) (standing H) (λ m. out_of_lot id m.0 m.1.what m.1.amount)
+      ∙ total-plus (λ m. cond (uses_up id m.0 m.1.what) m.1.amount 0) (λ m. cond (splits id m.0 m.1.what) m.1.amount 0) (standing H) in
+      less (on_hand_in s lot) all_taken all_brought (received_or_produced H id) (consumed_shipped_or_scrapped H id) split held_and_taken (brought_is ∙ came) (taken_is ∙ went)
+    where
+      less : (held went came adds uses split : ℕ) → held + went ≡ came → came ≡ adds + split → went ≡ uses + split → held ≡ adds - uses
+      less held went came adds uses split a b c = omega arith

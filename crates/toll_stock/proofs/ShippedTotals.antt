@@ -1,0 +1,96 @@
+-- What the shipments of a slice took of a lot is what its standing shipments took.
+use Rattle.std.proofs.Common.{◌≡◌, ℕ, Bool, true, false, ◌&&◌, cond, Some, refl, sym, ap, ◌∙◌, arith}
+use mathlib.Core.Bool.{false≢true}
+use Rattle.std.specs.Cmp.Lexicographic.{nat_list_cmp_total}
+use Rattle.std.specs.Option.{option_map_or}
+use Rattle.std.proofs.lemmas.Bool.{false_from_ne_true}
+use Rattle.toll_base.specs.Bytes.{Bytes, same_bytes, bytes_cmp}
+use Rattle.toll_base.specs.Table.{IsInKeyOrder}
+use Rattle.toll_base.specs.Words.{total, is_some_where}
+use Rattle.toll_base.specs.History.{History, acts}
+use Rattle.toll_base.specs.Movements.{lot_id, Movement, has_key, movement_of, standing, voided_in}
+use Rattle.toll_base.specs.Slice.{Slice, move_at}
+use Rattle.toll_base.specs.Tables.{Tables, IsRowsOf}
+use Rattle.toll_base.specs.Verdict.{IsLawful, is_actual}
+use Rattle.toll_base.specs.declared.rows.Move.{Move}
+use Rattle.toll_base.specs.declared.rows.Move.TheVariants.{Receive, Split, Ship, Scrap, Actual}
+use Rattle.toll_base.specs.declared.rows.MoveRow.{MoveRow}
+use Rattle.toll_base.proofs.KeysOnce.{all_found, void_of_actual}
+use Rattle.toll_base.proofs.StandsOnce.{stands_once}
+use Rattle.toll_base.proofs.Texts.{same_bytes-exact, same_bytes-refl, same_bytes-symm}
+use Rattle.toll_stock.specs.LotTotals.{ships, shipped, is_shipment_of, shipped_in}
+use Rattle.toll_stock.proofs.Sums.{total-along, total-each, total-zero, total-swapped, cond-total, cond_zero, along, each_found, total_at}
+use Rattle.toll_stock.proofs.OnHandTotals.{each_standing}
+
+-- what a movement takes of the lot as a shipment
+abbrev shipment : Bytes → MoveRow → ℕ
+shipment lot row = cond (is_shipment_of lot row.what) row.amount 0
+
+-- an actual is no shipment, so that a shipment stands for good
+not_actual : (lot : Bytes) (what : Move) → is_shipment_of lot what ≡ true → is_actual what ≡ false
+not_actual lot (Ship l sublot) is = refl
+not_actual lot (Receive material l sublot) is = absurd (false≢true is)
+not_actual lot (Split l sublot target) is = absurd (false≢true is)
+not_actual lot (Scrap l sublot) is = absurd (false≢true is)
+not_actual lot (Actual order number segment role material l sublot) is = absurd (false≢true is)
+
+and_false : (b : Bool) → false ≡ (b && false)
+and_false true = refl
+and_false false = refl
+
+-- a shipment of an owner's lot is the owner's
+ships_own : (o lot w : Bytes) (what : Move) → ships (lot_id o lot) w what ≡ (same_bytes o w && is_shipment_of lot what)
+ships_own o lot w (Ship l sublot) = ap (λ b. same_bytes o w && b) (same_bytes-symm lot l)
+ships_own o lot w _ = and_false (same_bytes o w)
+
+module _ (H : History) (lawful : IsLawful H) (s : Slice) (there : IsRowsOf H s) (ordered : IsInKeyOrder bytes_cmp (λ row. row.key) s.moves) (lot : Bytes) where
+  given : (key : Bytes) → move_at s key ≡ movement_of (acts s.owner H) key
+  given key = ap (λ (t : Tables). t.movement key) there
+
+  -- a shipment is not voided
+  stays : (row : MoveRow) → movement_of (acts s.owner H) row.key ≡ Some row → is_shipment_of lot row.what ≡ true → voided_in (acts s.owner H) row.key ≡ false
+  stays row found is = false_from_ne_true _ (λ voided. false≢true (
+      sym (not_actual lot row.what is)
+      ∙ sym (ap (is_some_where (λ (r : MoveRow). is_actual r.what)) found)
+      ∙ void_of_actual s.owner row.key H lawful voided))
+
+  -- so it stands once
+  twice : (b : Bool) (n : ℕ) → cond b 0 (cond b n 0) ≡ 0
+  twice true n = refl
+  twice false n = refl
+
+  stands : (row : MoveRow) → move_at s row.key ≡ Some row → shipment lot row ≡ total (λ m. cond (has_key s.owner row.key m) (shipment lot row) 0) (standing H)
+  stands row found =
+      elim (is_shipment_of lot row.what) as (λ b. is_shipment_of lot row.what ≡ b → cond b row.amount 0 ≡ total (λ m. cond (has_key s.owner row.key m) (cond b row.amount 0) 0) (standing H)) [
+        | true ↦ λ is.
+            let known : movement_of (acts s.owner H) row.key ≡ Some row = sym (given row.key) ∙ found in
+            let once = (stands_once H s.owner row.key lawful).once row known (stays row known is) (λ m. cond (has_key s.owner row.key m) row.amount 0) in
+            let rest : total (λ x. cond (has_key s.owner row.key x) 0 (cond (has_key s.owner row.key x) row.amount 0)) (standing H) ≡ 0 = total-each _ (λ x. 0) (standing H) (λ x. twice (has_key s.owner row.key x) row.amount) ∙ total-zero (standing H) in
+            let own : cond (has_key s.owner row.key (s.owner, row)) row.amount 0 ≡ row.amount = λ i. cond (same_bytes-refl s.owner i && same_bytes-refl row.key i) row.amount 0 in
+            omega (arith, once, rest, own)
+        | false ↦ λ other. sym (total-each _ (λ m. 0) (standing H) (λ m. cond_zero (has_key s.owner row.key m)) ∙ total-zero (standing H))
+      ] refl
+
+  -- a standing movement takes of the lot what the row with its key does
+  both_ways : (a b : Bool) (n : ℕ) → cond (a && b) n 0 ≡ cond a (cond b n 0) 0
+  both_ways true b n = refl
+  both_ways false b n = refl
+
+  taken_by : (m : Movement) → movement_of (acts m.0 H) m.1.key ≡ Some m.1 → total (λ row. cond (has_key s.owner row.key m) (shipment lot row) 0) s.moves ≡ cond (ships (lot_id s.owner lot) m.0 m.1.what) m.1.amount 0
+  taken_by m found =
+      total-each _ (λ row. cond (same_bytes s.owner m.0) (cond (same_bytes m.1.key row.key) (shipment lot row) 0) 0) s.moves
+      (λ row. ap (λ b. cond (same_bytes s.owner m.0 && b) (shipment lot row) 0) (same_bytes-symm row.key m.1.key) ∙ both_ways (same_bytes s.owner m.0) (same_bytes m.1.key row.key) (shipment lot row))
+      ∙ sym (cond-total (same_bytes s.owner m.0) (λ row. cond (same_bytes m.1.key row.key) (shipment lot row) 0) s.moves)
+      ∙ ap (λ n. cond (same_bytes s.owner m.0) n 0) (total_at bytes_cmp nat_list_cmp_total (λ row. row.key) (shipment lot) s.moves m.1.key ordered)
+      ∙ elim (same_bytes s.owner m.0) as (λ b. same_bytes s.owner m.0 ≡ b → cond b (option_map_or (shipment lot) (move_at s m.1.key) 0) 0 ≡ cond (b && is_shipment_of lot m.1.what) m.1.amount 0) [
+        | true ↦ λ own. ap (λ x. option_map_or (shipment lot) x 0) (given m.1.key ∙ ap (λ w. movement_of (acts w H) m.1.key) (same_bytes-exact s.owner m.0 own) ∙ found)
+        | false ↦ λ other. refl
+      ] refl
+      ∙ sym (ap (λ b. cond b m.1.amount 0) (ships_own s.owner lot m.0 m.1.what))
+
+  pub shipped_is : shipped_in s lot ≡ shipped H (lot_id s.owner lot)
+  shipped_is =
+      total-along _ (λ row. total (λ m. cond (has_key s.owner row.key m) (shipment lot row) 0) (standing H)) s.moves (along _ _ stands s.moves (each_found bytes_cmp nat_list_cmp_total (λ row. row.key) s.moves ordered))
+      ∙ total-swapped (λ row m. cond (has_key s.owner row.key m) (shipment lot row) 0) s.moves (standing H)
+      ∙ total-along _ (λ m. cond (ships (lot_id s.owner lot) m.0 m.1.what) m.1.amount 0) (standing H)
+      (along _ _ taken_by (standing H) (each_standing (λ m. movement_of (acts m.0 H) m.1.key ≡ Some m.1) H (all_found H lawful)))

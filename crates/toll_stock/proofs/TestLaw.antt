@@ -1,0 +1,94 @@
+-- What the adding of a test owes.
+use Rattle.std.proofs.Common.{◌≡◌, false, ◌&&◌, ◌||◌, suc, cond, Some, None, is_some, [], ◌∷◌, length, refl, sym, ap, ◌∙◌}
+use mathlib.Core.Bool.{false≢true}
+use Rattle.std.specs.List.{list_any}
+use Rattle.std.specs.Option.{option_map}
+use Rattle.std.specs.Ordering.{is_eq}
+use Rattle.std.proofs.lemmas.Bool.{or_right, false_from_ne_true}
+use Rattle.toll_base.specs.Bytes.{Bytes, same_bytes, bytes_cmp}
+use Rattle.toll_base.specs.Keys.{pair_cmp}
+use Rattle.toll_base.specs.Command.{AddTest, by}
+use Rattle.toll_base.specs.History.{History, acts}
+use Rattle.toll_base.specs.Slice.{Slice, test_at, with_row}
+use Rattle.toll_base.specs.SliceRules.{KeepsRules}
+use Rattle.toll_base.specs.Work.{test_of}
+use Rattle.toll_base.specs.Words.{or_else, where_so, is_some_where}
+use Rattle.toll_base.specs.Movements.{lot_id, Made, lot_made, material_used}
+use Rattle.toll_base.specs.Dispositions.{is_outside, is_bad, rejects, stays_released, disposition_of}
+use Rattle.toll_base.specs.Tables.{Tables, tables_of, tables_given, lot_row}
+use Rattle.toll_base.specs.Decision.{IsDecided, Decides, DecisionKeepsRules}
+use Rattle.toll_base.specs.Verdict.{Accepted, test_checks, verdict}
+use Rattle.toll_base.specs.declared.decision.Change.TheVariants.{Put}
+use Rattle.toll_base.specs.declared.decision.Decision.{Decision}
+use Rattle.toll_base.specs.declared.lot.Disposition.{Disposition}
+use Rattle.toll_base.specs.declared.lot.Disposition.TheVariants.{Quarantined, Released, Rejected}
+use Rattle.toll_base.specs.declared.rows.LotRow.{LotRow}
+use Rattle.toll_base.specs.declared.rows.TestRow.{TestRow}
+use Rattle.toll_base.specs.declared.rows.Row.TheVariants.{Test}
+use Rattle.toll_base.proofs.Accepted.{none_applies}
+use Rattle.toll_base.proofs.Passed.{accepted_passes}
+use Rattle.toll_base.proofs.Decided.{verdict_is, Grows, decides, keeps_rules, less_of}
+use Rattle.toll_base.proofs.Grown.{tables-own, tables-others, put_first}
+use Rattle.toll_base.proofs.KeyOrder.{row_at-put_row}
+use Rattle.toll_base.proofs.OpenTests.{is_used}
+use Rattle.toll_base.proofs.PutTables.{length-new, any-new}
+use Rattle.toll_base.proofs.Texts.{same_bytes-exact, pair_cmp_total, is_eq-then}
+
+-- tables with one test more
+abbrev with_test : TestRow → Tables → Tables
+with_test row t = record t {
+  test = λ k. cond (is_eq (pair_cmp k (row.material, row.test))) (Some row) (t.test k);
+  tests = suc t.tests;
+  any_test = λ such. such row || t.any_test such;
+}
+
+in_slice : (s : Slice) (row : TestRow) → is_some (test_at s (row.material, row.test)) ≡ false → tables_of (with_row s (Test row)) ≡ with_test row (tables_of s)
+in_slice s row absent i = record (tables_of s) {
+  test = λ k. row_at-put_row pair_cmp pair_cmp_total (λ x. (x.material, x.test)) s.tests row k i;
+  tests = length-new pair_cmp pair_cmp_total (λ x. (x.material, x.test)) s.tests row absent i;
+  any_test = λ such. any-new pair_cmp (λ x. (x.material, x.test)) such s.tests row absent i;
+}
+
+-- ---- lots stay as they are, since none is of the material
+
+module _ (H : History) (o : Bytes) (row : TestRow) (accepted : verdict H (by o (AddTest row)) ≡ Accepted) where
+  not_its_material : (l : Bytes) (made : Made) → lot_made H (lot_id o l) ≡ Some made → same_bytes made.material row.material ≡ false
+  not_its_material l made is = false_from_ne_true _ (λ same. false≢true (
+      sym (accepted_passes H o (AddTest row) accepted 2) ∙ ap (material_used H o) (sym (same_bytes-exact made.material row.material same)) ∙ is_used H (lot_id o l) made is))
+
+  same_bad : (material : Bytes) → same_bytes material row.material ≡ false → is_bad (AddTest row ∷ acts o H) material ≡ is_bad (acts o H) material
+  same_bad material other i test value = ap (λ b. is_some_where (λ (r : TestRow). is_outside r.limits value) (or_else (where_so (b && same_bytes test row.test) row) (test_of (acts o H) (material, test)))) other i
+
+  same_disposition : (material l : Bytes) → same_bytes material row.material ≡ false → disposition_of (AddTest row ∷ acts o H) material l ≡ disposition_of (acts o H) material l
+  same_disposition material l other = ap (λ bad. cond (list_any (rejects l) (acts o H)) Rejected (cond (stays_released bad l (acts o H)) Released Quarantined)) (same_bad material other)
+
+  same_lots : (l : Bytes) → option_map (λ (made : Made). let r : LotRow = record { lot = l; material = made.material; origin = made.origin; disposition = disposition_of (AddTest row ∷ acts o H) made.material l } in r) (lot_made H (lot_id o l)) ≡ lot_row H o l
+  same_lots l =
+      elim (lot_made H (lot_id o l)) as (λ x. lot_made H (lot_id o l) ≡ x → option_map (λ (made : Made). let r : LotRow = record { lot = l; material = made.material; origin = made.origin; disposition = disposition_of (AddTest row ∷ acts o H) made.material l } in r) x
+      ≡ option_map (λ (made : Made). let r : LotRow = record { lot = l; material = made.material; origin = made.origin; disposition = disposition_of (acts o H) made.material l } in r) x) [
+        | None ↦ λ is. refl
+        | Some made ↦ λ is. ap (λ (d : Disposition). let r : LotRow = record { lot = l; material = made.material; origin = made.origin; disposition = d } in Some r) (same_disposition made.material l (not_its_material l made is))
+      ] refl
+
+  in_history : tables_given (by o (AddTest row) ∷ H) o ≡ with_test row (tables_given H o)
+  in_history = tables-own H o (AddTest row) refl ∙ (λ i. record (with_test row (tables_given H o)) {
+    test = λ k. (ap (λ b. or_else (where_so b row) (test_of (acts o H) k)) (sym (is_eq-then (bytes_cmp k.0 row.material) (bytes_cmp k.1 row.test))) ∙ put_first (is_eq (pair_cmp k (row.material, row.test))) row (test_of (acts o H) k)) i;
+    lot = λ l. same_lots l i;
+  })
+
+grows : (row : TestRow) → Grows (AddTest row) (λ t. Test row ∷ [])
+grows row H s lawful valid accepted there =
+    in_slice s row (ap (λ (t : Tables). is_some (t.test (row.material, row.test))) there ∙ accepted_passes H s.owner (AddTest row) accepted 1)
+    ∙ ap (with_test row) there
+    ∙ sym (in_history H s.owner row accepted)
+
+module _ (own : Slice) (row : TestRow) (d : Decision) (decided : IsDecided (test_checks (tables_of own) row) (Put own.owner (Test row) ∷ []) d) where
+  pub test_decided : Decides (by own.owner (AddTest row)) own d
+  test_decided =
+      decides (AddTest row) (λ t. Test row ∷ []) (grows row) (λ H o p lawful accepted other. tables-others H o (AddTest row) refl p other)
+      own d _ decided (λ H lawful valid known there. verdict_is H own.owner (AddTest row) (tables_of own) _ known there refl)
+
+  pub test_keeps : KeepsRules own → DecisionKeepsRules own d
+  test_keeps keeps =
+      keeps_rules own (Test row ∷ []) d _ decided keeps
+      (λ accepted. (or_right _ _ (less_of 2000 (length own.tests) (none_applies (test_checks (tables_of own) row) accepted 3)), tt))

@@ -1,0 +1,38 @@
+-- What the totals of a lot are, over a history whose rows the slice has.
+use Rattle.std.proofs.Common.{◌≡◌, ◌-◌, Option, Some, None, is_some, refl, sym, ap, ◌∙◌}
+use Rattle.std.specs.Option.{option_map}
+use Rattle.toll_base.specs.Bytes.{Bytes, bytes_cmp}
+use Rattle.toll_base.specs.Keys.{pair_cmp}
+use Rattle.toll_base.specs.Table.{IsInKeyOrder}
+use Rattle.toll_base.specs.Words.{where_so}
+use Rattle.toll_base.specs.History.{History}
+use Rattle.toll_base.specs.Movements.{lot_id, lot_made}
+use Rattle.toll_base.specs.Slice.{Slice, lot_at}
+use Rattle.toll_base.specs.Tables.{Tables, IsRowsOf}
+use Rattle.toll_base.specs.Verdict.{IsLawful}
+use Rattle.toll_base.specs.declared.rows.LotRow.{LotRow}
+use Rattle.toll_stock.specs.LotTotals.{received_or_produced, consumed_shipped_or_scrapped, shipped, totals_given, on_hand_in, shipped_in}
+use Rattle.toll_stock.specs.declared.stock.Totals.{Totals}
+use Rattle.toll_stock.proofs.OnHandTotals.{on_hand_is}
+use Rattle.toll_stock.proofs.ShippedTotals.{shipped_is}
+
+is_mapped : {X Y : Type 0} (f : X → Y) (x : Option X) → is_some (option_map f x) ≡ is_some x
+is_mapped f None = refl
+is_mapped f (Some x) = refl
+
+module _ (H : History) (s : Slice) (there : IsRowsOf H s) (lot : Bytes) where
+  -- the slice has the lots that were made
+  is_known : is_some (lot_made H (lot_id s.owner lot)) ≡ is_some (lot_at s lot)
+  is_known = sym (ap (λ (t : Tables). is_some (t.lot lot)) there ∙ is_mapped _ (lot_made H (lot_id s.owner lot)))
+
+  abbrev totals : Totals
+  totals = record { on_hand = received_or_produced H (lot_id s.owner lot) - consumed_shipped_or_scrapped H (lot_id s.owner lot); shipped = shipped H (lot_id s.owner lot) }
+
+  pub none_given : lot_at s lot ≡ None → None ≡ totals_given H (lot_id s.owner lot)
+  none_given none = sym (ap (λ b. where_so b totals) (is_known ∙ ap is_some none))
+
+  pub given : (row : LotRow) → lot_at s lot ≡ Some row → IsLawful H → IsInKeyOrder pair_cmp (λ row. (row.lot, row.sublot)) s.sublots → IsInKeyOrder bytes_cmp (λ row. row.key) s.moves →
+      ◌≡◌ {A = Option Totals} (Some (record { on_hand = on_hand_in s lot; shipped = shipped_in s lot })) (totals_given H (lot_id s.owner lot))
+  given row found lawful sublots moves =
+      (λ i. let t : Totals = record { on_hand = on_hand_is H lawful s there sublots lot i; shipped = shipped_is H lawful s there moves lot i } in Some t)
+      ∙ sym (ap (λ b. where_so b totals) (is_known ∙ ap is_some found))

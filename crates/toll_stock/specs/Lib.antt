@@ -1,0 +1,2 @@
+pub mod LotRows
+pub mod LotTotals

@@ -1,0 +1,27 @@
+-- The rows that a decision on a lot puts.
+use Rattle.std.specs.Prelude.{ℕ, ◌+◌, ℤ, ◌&&◌, if◌then◌else◌, Option, Some, None, List, [], ◌∷◌}
+use Rattle.toll_base.specs.Bytes.{Bytes}
+use Rattle.toll_base.specs.Dispositions.{is_outside}
+use Rattle.toll_base.specs.Tables.{Tables}
+use Rattle.toll_base.specs.Verdict.{is_released}
+use Rattle.toll_base.specs.Words.{is_some_where}
+use Rattle.toll_base.specs.declared.lot.Disposition.{Disposition}
+use Rattle.toll_base.specs.declared.lot.Disposition.TheVariants.{Quarantined}
+use Rattle.toll_base.specs.declared.rows.LotRow.{LotRow}
+use Rattle.toll_base.specs.declared.rows.Row.{Row}
+use Rattle.toll_base.specs.declared.rows.Row.TheVariants.{Lot, Result}
+
+-- the row of a lot that is there, with another disposition
+abbrev pub given_disposition : (LotRow → Disposition) → Option LotRow → List Row
+given_disposition disposition None = []
+given_disposition disposition (Some row) = Lot (record row { disposition = disposition row }) ∷ []
+
+-- after a value of the test, a released lot is quarantined where that is out of the test's limits; else a lot is what it was
+abbrev pub disposition_after : Tables → Bytes → ℤ → LotRow → Disposition
+disposition_after t test value row = if is_released row.disposition && is_some_where (λ r. is_outside r.limits value) (t.test (row.material, test)) then Quarantined else row.disposition
+
+-- a result, numbered after those that are there, and the lot's row after it
+abbrev pub result_rows : (lot test : Bytes) → ℤ → ℕ → Tables → List Row
+result_rows lot test value day t =
+    Result (record { lot = lot; test = test; number = t.results_of lot test + 1; value = value; day = day })
+    ∷ given_disposition (disposition_after t test value) (t.lot lot)

@@ -1,0 +1,69 @@
+//! Tests of materials.
+ghost use Rattle.std.specs.Prelude.{◌≡◌, [], ◌∷◌, IfOk};
+ghost use Rattle.std.specs.List.{list_any};
+ghost use Rattle.toll_base.specs.Bytes.{same_bytes};
+ghost use Rattle.toll_base.specs.Command.{AddTest, by};
+ghost use Rattle.toll_base.specs.Decision.{IsDecided, Decides, DecisionKeepsRules};
+ghost use Rattle.toll_base.specs.SliceRules.{KeepsRules};
+ghost use Rattle.toll_base.specs.Tables.{tables_of};
+ghost use Rattle.toll_base.specs.Verdict.{test_checks};
+ghost use Rattle.toll_base.specs.declared.decision.Change.TheVariants as Change;
+ghost use Rattle.toll_base.specs.declared.rows.Row.TheVariants as Row;
+
+use std::alloc::{AllocError, Global};
+use toll_base::{Change, Decision, Limits, Name, Refusal, Row, Slice, TestRow};
+
+const MOST_TESTS: usize = 2_000;
+
+/// Adds a test of the material, which a result within these limits passes.
+///
+/// [`Refusal::UnknownMaterial`] where the owner has no such material, [`Refusal::TestExists`] where
+/// the material has a test of this name, [`Refusal::MaterialInUse`] where a lot is of the material,
+/// then [`Refusal::LimitReached`] at 2,000 tests.
+pub fn add_test(
+    alloc: Global,
+    slice: &Slice,
+    material: Name,
+    test: Name,
+    limits: Limits,
+) -> Result<Decision, AllocError>
+    ensures decides { IfOk result (Decides (by slice.now.owner (AddTest (record { material = material; test = test; limits = limits }))) slice.now) }
+    ensures rules { IfOk result (DecisionKeepsRules slice.now) }
+{
+    plan_test(
+        alloc,
+        slice,
+        &TestRow {
+            material,
+            test,
+            limits,
+        },
+    )
+}
+
+fn plan_test(alloc: Global, slice: &Slice, row: &TestRow) -> Result<Decision, AllocError>
+    ensures plan { IfOk result (IsDecided (test_checks (tables_of slice.now) row.now) (Change.Put slice.now.owner (Row.Test row.now) ∷ [])) }
+    ensures kept { KeepsRules slice.now }
+{
+    let owner = *slice.owner();
+    if slice.material(&row.material).is_none() {
+        return Ok(Decision::Refuse(Refusal::UnknownMaterial));
+    }
+    if slice.test(&row.material, &row.test).is_some() {
+        return Ok(Decision::Refuse(Refusal::TestExists));
+    }
+    if is_in_use(slice, &row.material) {
+        return Ok(Decision::Refuse(Refusal::MaterialInUse));
+    }
+    if slice.tests().len() >= MOST_TESTS {
+        return Ok(Decision::Refuse(Refusal::LimitReached));
+    }
+    Decision::accept(alloc, Change::Put(owner, Row::Test(*row)))
+}
+
+// Whether a lot is of the material.
+fn is_in_use(slice: &Slice, material: &Name) -> bool
+    ensures { result ≡ list_any (λ row. same_bytes row.material material.now) slice.now.lots }
+{
+    slice.lots().iter().any(|row| row.material == *material)
+}

@@ -1,0 +1,129 @@
+//! Results of tests.
+ghost use Rattle.std.specs.Prelude.{◌≡◌, ◌≤◌, ◌&&◌, if◌then◌else◌, [], ◌∷◌, map, length, IfOk};
+ghost use Rattle.toll_base.specs.Command.{RecordResult, by};
+ghost use Rattle.toll_base.specs.Decision.{IsDecided, Decides, DecisionKeepsRules};
+ghost use Rattle.toll_base.specs.Dispositions.{is_outside};
+ghost use Rattle.toll_base.specs.SliceRules.{KeepsRules};
+ghost use Rattle.toll_base.specs.Tables.{tables_of, count_results_in};
+ghost use Rattle.toll_base.specs.Verdict.{result_checks, is_released};
+ghost use Rattle.toll_base.specs.declared.decision.Change.TheVariants as Change;
+ghost use Rattle.toll_base.specs.declared.rows.Row.TheVariants as Row;
+ghost use Rattle.toll_stock.specs.LotRows.{result_rows};
+
+use std::alloc::{AllocError, Global};
+use toll_base::{
+    Change, Day, Decision, Disposition, Limits, LotRow, Name, Refusal, ResultRow, Row, Slice, Value,
+};
+
+const MOST_RESULTS: usize = 20_000;
+
+/// Records a result of a test of a lot. Out of the test's limits it makes a released lot
+/// quarantined again.
+///
+/// [`Refusal::UnknownLot`] where the owner has no such lot, [`Refusal::UnknownTest`] where the
+/// lot's material has no such test, [`Refusal::Rejected`] where the lot is rejected, then
+/// [`Refusal::LimitReached`] at 20,000 results.
+pub fn record_result(
+    alloc: Global,
+    slice: &Slice,
+    lot: Name,
+    test: Name,
+    value: Value,
+    day: Day,
+) -> Result<Decision, AllocError>
+    ensures decides { IfOk result (Decides (by slice.now.owner (RecordResult lot test value day)) slice.now) }
+    ensures rules { IfOk result (DecisionKeepsRules slice.now) }
+{
+    plan_result(alloc, slice, &lot, &test, value, day)
+}
+
+fn plan_result(
+    alloc: Global,
+    slice: &Slice,
+    lot: &Name,
+    test: &Name,
+    value: Value,
+    day: Day,
+) -> Result<Decision, AllocError>
+    ensures plan { IfOk result (IsDecided (result_checks (tables_of slice.now) lot.now test.now) (map (Change.Put slice.now.owner) (result_rows lot.now test.now value day (tables_of slice.now)))) }
+    ensures kept { KeepsRules slice.now }
+{
+    let owner = *slice.owner();
+    let Some(known) = slice.lot(lot) else {
+        return Ok(Decision::Refuse(Refusal::UnknownLot));
+    };
+    let Some(tested) = slice.test(&known.material, test) else {
+        return Ok(Decision::Refuse(Refusal::UnknownTest));
+    };
+    if matches!(known.disposition, Disposition::Rejected) {
+        return Ok(Decision::Refuse(Refusal::Rejected));
+    }
+    if slice.results().len() >= MOST_RESULTS {
+        return Ok(Decision::Refuse(Refusal::LimitReached));
+    }
+    let number = count_results(slice, lot, test) + 1;
+    let row = ResultRow {
+        lot: *lot,
+        test: *test,
+        number,
+        value,
+        day,
+    };
+    put_result(
+        alloc,
+        owner,
+        row,
+        after_result(known, &tested.limits, value),
+    )
+}
+
+// The lot's row after a result of this value.
+fn after_result(known: LotRow, limits: &Limits, value: Value) -> LotRow
+    ensures { result ≡ record known { disposition = if is_released known.disposition && is_outside limits.now value then Disposition.Quarantined else known.disposition } }
+{
+    let released = matches!(known.disposition, Disposition::Released);
+    let disposition = if released && is_outside(limits, value) {
+        Disposition::Quarantined
+    } else {
+        known.disposition
+    };
+    LotRow {
+        disposition,
+        ..known
+    }
+}
+
+// Puts the result, and the lot's row.
+fn put_result(
+    alloc: Global,
+    owner: Name,
+    row: ResultRow,
+    lot: LotRow,
+) -> Result<Decision, AllocError>
+    ensures { IfOk result (IsDecided [] (Change.Put owner (Row.Result row) ∷ Change.Put owner (Row.Lot lot) ∷ [])) }
+{
+    let changes = [
+        Change::Put(owner, Row::Result(row)),
+        Change::Put(owner, Row::Lot(lot)),
+    ];
+    Decision::accept_all(alloc, &changes)
+}
+
+/// Whether the value is out of the limits.
+pub(crate) fn is_outside(limits: &Limits, value: Value) -> bool
+    ensures { result ≡ is_outside limits.now value }
+{
+    value < limits.low || limits.high < value
+}
+
+/// How many results of the lot's test there are, which is the number of the latest.
+pub(crate) fn count_results(slice: &Slice, lot: &Name, test: &Name) -> u64
+    ensures count { result ≡ count_results_in slice.now lot.now test.now }
+    ensures bound { result ≤ length slice.now.results }
+{
+    slice
+        .results()
+        .iter()
+        .filter(|row| row.lot == *lot && row.test == *test)
+        .count() as u64
+}

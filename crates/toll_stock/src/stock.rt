@@ -1,0 +1,99 @@
+//! What is on hand, and what was shipped.
+ghost use Rattle.std.specs.Prelude.{◌≡◌};
+ghost use Rattle.std.specs.Option.{option_map};
+ghost use Rattle.toll_base.specs.Bytes.{bytes_cmp};
+ghost use Rattle.toll_base.specs.History.{History};
+ghost use Rattle.toll_base.specs.Keys.{pair_cmp};
+ghost use Rattle.toll_base.specs.Movements.{lot_id, sublot_known, stock};
+ghost use Rattle.toll_base.specs.Slice.{sublot_at};
+ghost use Rattle.toll_base.specs.Table.{IsInKeyOrder};
+ghost use Rattle.toll_base.specs.Tables.{IsRowsOf};
+ghost use Rattle.toll_base.specs.Verdict.{IsLawful};
+ghost use Rattle.toll_base.specs.Words.{where_so};
+ghost use Rattle.toll_stock.specs.LotTotals.{totals_in, totals_given, on_hand_in, shipped_in, is_shipment_of};
+
+use toll_base::{Move, MoveRow, Name, Slice};
+
+/// How much of a lot is on hand, and how much was shipped, in the measure of its material.
+#[derive(Clone, Copy, Debug, PartialEq, Eq)]
+pub struct Totals {
+    /// What was received and produced, less what was consumed, shipped and scrapped. A split keeps
+    /// it.
+    pub on_hand: u64,
+    /// What was shipped.
+    pub shipped: u64,
+}
+
+/// How much is in the sublot, in the measure of the lot's material; `None` where the owner has no
+/// such sublot.
+pub fn on_hand(slice: &Slice, lot: &Name, sublot: &Name) -> Option<u64>
+    ensures rows { result ≡ option_map (λ row. row.amount) (sublot_at slice.now (lot.now, sublot.now)) }
+    ensures stock { (H : History) → IsRowsOf H slice.now → result ≡ where_so (sublot_known H (lot_id slice.now.owner lot.now) sublot.now) (stock H (lot_id slice.now.owner lot.now) sublot.now) }
+{
+    amount_at(slice, lot, sublot)
+}
+
+fn amount_at(slice: &Slice, lot: &Name, sublot: &Name) -> Option<u64>
+    ensures { result ≡ option_map (λ row. row.amount) (sublot_at slice.now (lot.now, sublot.now)) }
+{
+    match slice.sublot(lot, sublot) {
+        None => None,
+        Some(row) => Some(row.amount),
+    }
+}
+
+/// The totals of a lot; `None` where the owner has no such lot. It takes no memory.
+pub fn lot_totals(slice: &Slice, lot: &Name) -> Option<Totals>
+    ensures rows { result ≡ totals_in slice.now lot.now }
+    ensures totals { (H : History) → IsLawful H → IsRowsOf H slice.now → result ≡ totals_given H (lot_id slice.now.owner lot.now) }
+{
+    match slice.lot(lot) {
+        None => None,
+        Some(_) => Some(Totals {
+            on_hand: on_hand_of(slice, lot),
+            shipped: shipped_of(slice, lot),
+        }),
+    }
+}
+
+// What is in the lot's sublots.
+fn on_hand_of(slice: &Slice, lot: &Name) -> u64
+    ensures amount { result ≡ on_hand_in slice.now lot.now }
+    ensures key_order { IsInKeyOrder pair_cmp (λ row. (row.lot, row.sublot)) slice.now.sublots }
+{
+    let _owner = slice.owner();
+    let rows = slice.sublots();
+    let mut sum: u64 = 0;
+    for row in rows {
+        if row.lot == *lot {
+            sum += row.amount;
+        }
+    }
+    sum
+}
+
+// What the lot's shipments took.
+fn shipped_of(slice: &Slice, lot: &Name) -> u64
+    ensures amount { result ≡ shipped_in slice.now lot.now }
+    ensures key_order { IsInKeyOrder bytes_cmp (λ row. row.key) slice.now.moves }
+{
+    let _owner = slice.owner();
+    let rows = slice.moves();
+    let mut sum: u64 = 0;
+    for row in rows {
+        if is_shipment_of(row, lot) {
+            sum += row.amount.get();
+        }
+    }
+    sum
+}
+
+// Whether the movement is a shipment of the lot.
+fn is_shipment_of(row: &MoveRow, lot: &Name) -> bool
+    ensures { result ≡ is_shipment_of lot.now row.now.what }
+{
+    match &row.what {
+        Move::Ship { lot: of, .. } => *of == *lot,
+        _ => false,
+    }
+}
