@@ -1,6 +1,17 @@
 //! Orders.
+ghost use Rattle.std.specs.Prelude.{◌≡◌, [], ◌∷◌, IfOk};
+ghost use Rattle.toll_base.specs.Command.{PlaceOrder, by};
+ghost use Rattle.toll_base.specs.Decision.{IsDecided, Decides, DecisionKeepsRules};
+ghost use Rattle.toll_base.specs.SliceRules.{KeepsRules};
+ghost use Rattle.toll_base.specs.Tables.{tables_of};
+ghost use Rattle.toll_base.specs.Verdict.{order_checks};
+ghost use Rattle.toll_base.specs.declared.decision.Change.TheVariants as Change;
+ghost use Rattle.toll_base.specs.declared.rows.Row.TheVariants as Row;
+
 use std::alloc::{AllocError, Global};
 use toll_base::{BatchNo, Change, Decision, Name, OrderRow, Refusal, Row, Slice};
+
+const MOST_ORDERS: usize = 2_000;
 
 /// Places an order of that many batches by the recipe.
 ///
@@ -13,25 +24,35 @@ pub fn place_order(
     order: Name,
     recipe: Name,
     batches: BatchNo,
-) -> Result<Decision, AllocError> {
-    if let Some(known) = slice.order(&order) {
-        return Ok(if known.recipe == recipe && known.batches == batches {
-            Decision::Repeated
-        } else {
-            Decision::Refuse(Refusal::OrderExists)
-        });
-    }
-    if slice.recipe(&recipe).is_none() {
-        return Ok(Decision::Refuse(Refusal::UnknownRecipe));
-    }
-    let row = Row::Order(OrderRow {
+) -> Result<Decision, AllocError>
+    ensures decides { IfOk result (Decides (by slice.now.owner (PlaceOrder order recipe batches)) slice.now) }
+    ensures rules { IfOk result (DecisionKeepsRules slice.now) }
+{
+    let row = OrderRow {
         order,
         recipe,
         batches,
         cancelled: false,
-    });
-    if !slice.fits(&row) {
+    };
+    plan_order(alloc, slice, &row)
+}
+
+fn plan_order(alloc: Global, slice: &Slice, row: &OrderRow) -> Result<Decision, AllocError>
+    ensures plan { IfOk result (IsDecided (order_checks (tables_of slice.now) row.now.order row.now.recipe row.now.batches) (Change.Put slice.now.owner (Row.Order row.now) ∷ [])) }
+    ensures kept { KeepsRules slice.now }
+{
+    let owner = *slice.owner();
+    if let Some(known) = slice.order(&row.order) {
+        if known.recipe == row.recipe && known.batches == row.batches {
+            return Ok(Decision::Repeated);
+        }
+        return Ok(Decision::Refuse(Refusal::OrderExists));
+    }
+    if slice.recipe(&row.recipe).is_none() {
+        return Ok(Decision::Refuse(Refusal::UnknownRecipe));
+    }
+    if slice.orders().len() >= MOST_ORDERS {
         return Ok(Decision::Refuse(Refusal::LimitReached));
     }
-    Decision::accept(alloc, Change::Put(*slice.owner(), row))
+    Decision::accept(alloc, Change::Put(owner, Row::Order(*row)))
 }
