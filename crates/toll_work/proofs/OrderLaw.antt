@@ -74,7 +74,7 @@ uncancelled H o lawful = along_acts IsUncancelled o (λ k absent. refl) (uncance
 -- ---- the order that is placed
 
 -- the order as it was placed
-abbrev placed : List Action → Bytes → Option OrderRow
+abbrev pub placed : List Action → Bytes → Option OrderRow
 placed own order = first_some (λ a. elim (order_placed a) [ Some row ↦ where_so (same_bytes order row.order) row | None ↦ None ]) own
 
 -- an order is as it was placed where it was never cancelled

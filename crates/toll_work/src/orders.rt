@@ -1,13 +1,15 @@
 //! Orders.
-ghost use Rattle.std.specs.Prelude.{◌≡◌, [], ◌∷◌, IfOk};
-ghost use Rattle.toll_base.specs.Command.{PlaceOrder, by};
+ghost use Rattle.std.specs.Prelude.{◌≡◌, [], ◌∷◌, map, IfOk};
+ghost use Rattle.toll_base.specs.Command.{PlaceOrder, CancelOrder, by};
 ghost use Rattle.toll_base.specs.Decision.{IsDecided, Decides, DecisionKeepsRules};
 ghost use Rattle.toll_base.specs.SliceRules.{KeepsRules};
 ghost use Rattle.toll_base.specs.Tables.{tables_of};
-ghost use Rattle.toll_base.specs.Verdict.{order_checks};
+ghost use Rattle.toll_base.specs.Verdict.{order_checks, cancel_checks};
 ghost use Rattle.toll_base.specs.declared.decision.Change.TheVariants as Change;
 ghost use Rattle.toll_base.specs.declared.rows.Row.TheVariants as Row;
+ghost use Rattle.toll_work.specs.Plans.{cancelled_rows};
 
+use crate::batches::count_opened;
 use std::alloc::{AllocError, Global};
 use toll_base::{BatchNo, Change, Decision, Name, OrderRow, Refusal, Row, Slice};
 
@@ -55,4 +57,36 @@ fn plan_order(alloc: Global, slice: &Slice, row: &OrderRow) -> Result<Decision, 
         return Ok(Decision::Refuse(Refusal::LimitReached));
     }
     Decision::accept(alloc, Change::Put(owner, Row::Order(*row)))
+}
+
+/// Cancels the order.
+///
+/// [`Refusal::UnknownOrder`], then [`Refusal::OrderCancelled`] where it was cancelled before, then
+/// [`Refusal::OrderStarted`] where a batch of it was opened.
+pub fn cancel_order(alloc: Global, slice: &Slice, order: Name) -> Result<Decision, AllocError>
+    ensures decides { IfOk result (Decides (by slice.now.owner (CancelOrder order)) slice.now) }
+    ensures rules { IfOk result (DecisionKeepsRules slice.now) }
+{
+    plan_cancelling(alloc, slice, &order)
+}
+
+fn plan_cancelling(alloc: Global, slice: &Slice, order: &Name) -> Result<Decision, AllocError>
+    ensures plan { IfOk result (IsDecided (cancel_checks (tables_of slice.now) order.now) (map (Change.Put slice.now.owner) (cancelled_rows order.now (tables_of slice.now)))) }
+    ensures kept { KeepsRules slice.now }
+{
+    let owner = *slice.owner();
+    let Some(known) = slice.order(order) else {
+        return Ok(Decision::Refuse(Refusal::UnknownOrder));
+    };
+    if known.cancelled {
+        return Ok(Decision::Refuse(Refusal::OrderCancelled));
+    }
+    if count_opened(slice, order) > 0 {
+        return Ok(Decision::Refuse(Refusal::OrderStarted));
+    }
+    let row = OrderRow {
+        cancelled: true,
+        ..known
+    };
+    Decision::accept(alloc, Change::Put(owner, Row::Order(row)))
 }
