@@ -25,7 +25,7 @@ use Rattle.toll_base.proofs.KeyOrder.{row_at-put_row}
 use Rattle.toll_base.proofs.PutTables.{length-known, any-known}
 use Rattle.toll_base.proofs.Texts.{same_bytes-exact, same_bytes-symm}
 use Rattle.toll_work.specs.Plans.{cancelled_row, cancelled_rows}
-use Rattle.toll_work.proofs.FoundRow.{row_at-key, of_known}
+use Rattle.toll_work.proofs.FoundRow.{row_at-key, of_known, known_changed}
 use Rattle.toll_work.proofs.OrderLaw.{placed}
 
 -- tables with the order cancelled
@@ -47,11 +47,12 @@ module _ (s : Slice) (order : Bytes) (known : OrderRow) (found : order_at s orde
   }
 
 -- an order that is cancelled now, or as it was
-cancelled_first : (b was : Bool) (row : Option OrderRow) (known : OrderRow) → (b ≡ true → option_map {T = OrderRow} (λ r. record r { cancelled = was }) row ≡ Some known) →
-    option_map {T = OrderRow} (λ r. record r { cancelled = b || was }) row ≡ cond b (Some (cancelled_row known)) (option_map {T = OrderRow} (λ r. record r { cancelled = was }) row)
-cancelled_first true was None known is = let none = is refl in (cc)
-cancelled_first true was (Some row) known is = ap (option_map {T = OrderRow} (λ r. record r { cancelled = true })) (is refl)
-cancelled_first false was row known is = refl
+cancelled_now : (b was : Bool) (row : Option OrderRow) →
+    option_map {T = OrderRow} (λ r. record r { cancelled = b || was }) row
+    ≡ cond b (option_map cancelled_row (option_map {T = OrderRow} (λ r. record r { cancelled = was }) row)) (option_map {T = OrderRow} (λ r. record r { cancelled = was }) row)
+cancelled_now true was None = refl
+cancelled_now true was (Some row) = refl
+cancelled_now false was row = refl
 
 in_history : (H : History) (o order : Bytes) (known : OrderRow) → order_of (acts o H) order ≡ Some known → tables_given (by o (CancelOrder order) ∷ H) o ≡ with_cancelled order known (tables_given H o)
 in_history H o order known found =
@@ -61,8 +62,8 @@ in_history H o order known found =
     cancelled_at : (k : Bytes) → order_of (CancelOrder order ∷ acts o H) k ≡ cond (same_bytes k order) (Some (cancelled_row known)) (order_of (acts o H) k)
     cancelled_at k =
         ap (λ b. option_map {T = OrderRow} (λ r. record r { cancelled = b || list_any (cancels k) (acts o H) }) (placed (acts o H) k)) (same_bytes-symm order k)
-        ∙ cancelled_first (same_bytes k order) (list_any (cancels k) (acts o H)) (placed (acts o H) k) known
-        (λ same. ap (order_of (acts o H)) (same_bytes-exact k order same) ∙ found)
+        ∙ cancelled_now (same_bytes k order) (list_any (cancels k) (acts o H)) (placed (acts o H) k)
+        ∙ known_changed cancelled_row (same_bytes k order) (order_of (acts o H) k) known (λ same. ap (order_of (acts o H)) (same_bytes-exact k order same) ∙ found)
 
 grows : (order : Bytes) → Grows (CancelOrder order) (cancelled_rows order)
 grows order H s lawful valid accepted there =

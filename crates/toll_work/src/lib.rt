@@ -5,8 +5,12 @@ mod batches;
 mod crossing;
 mod orders;
 mod recipes;
+mod states;
 #[cfg(test)]
 mod tests;
 
+pub use batches::{close_batch, command_batch, open_batch};
 pub use orders::{cancel_order, place_order};
 pub use recipes::{add_recipe, require};
+pub use states::{StateWord, next};
+pub use toll_base::{State, StateCommand};
