@@ -6,3 +6,4 @@ pub mod OrderLaw
 pub mod RecipeLaw
 pub mod RequirementLaw
 pub mod RightWhere
+pub mod Sums

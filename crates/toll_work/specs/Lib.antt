@@ -1,2 +1,3 @@
+pub mod BatchView
 pub mod Opening
 pub mod Plans

@@ -8,9 +8,11 @@ mod recipes;
 mod states;
 #[cfg(test)]
 mod tests;
+mod views;
 
 pub use batches::{close_batch, command_batch, open_batch};
 pub use orders::{cancel_order, place_order};
 pub use recipes::{add_recipe, require};
 pub use states::{StateWord, next};
 pub use toll_base::{State, StateCommand};
+pub use views::{BatchView, RequirementLine, batch_view};
