@@ -1,5 +1,6 @@
 -- The states of batches, and which command leads from which to which.
-use Rattle.std.specs.Prelude.{Bool, true, false, Option, Some, None, unwrap_or}
+use Rattle.std.specs.Prelude.{Bool, true, false, Option, Some, None, unwrap_or, List, [], ◌∷◌, find, codes}
+use Rattle.toll_base.specs.Bytes.{Bytes, same_bytes}
 use Rattle.toll_base.specs.declared.state.State.{State}
 use Rattle.toll_base.specs.declared.state.State.TheVariants.{Idle, Running, Pausing, Paused, Holding, Held, Restarting, Stopping, Stopped, Aborting, Aborted, Complete}
 use Rattle.toll_base.specs.declared.state_command.StateCommand.{StateCommand}
@@ -55,3 +56,37 @@ may_close _ = false
 abbrev pub is_idle : State → Bool
 is_idle Idle = true
 is_idle _ = false
+
+-- ---- words
+
+abbrev pub word_of_state : State → Bytes
+word_of_state Idle = codes "idle"
+word_of_state Running = codes "running"
+word_of_state Pausing = codes "pausing"
+word_of_state Paused = codes "paused"
+word_of_state Holding = codes "holding"
+word_of_state Held = codes "held"
+word_of_state Restarting = codes "restarting"
+word_of_state Stopping = codes "stopping"
+word_of_state Stopped = codes "stopped"
+word_of_state Aborting = codes "aborting"
+word_of_state Aborted = codes "aborted"
+word_of_state Complete = codes "complete"
+
+abbrev pub word_of_command : StateCommand → Bytes
+word_of_command Done = codes "done"
+word_of_command Start = codes "start"
+word_of_command Stop = codes "stop"
+word_of_command Hold = codes "hold"
+word_of_command Restart = codes "restart"
+word_of_command Abort = codes "abort"
+word_of_command Reset = codes "reset"
+word_of_command Pause = codes "pause"
+word_of_command Resume = codes "resume"
+
+abbrev pub commands : List StateCommand
+commands = Done ∷ Start ∷ Stop ∷ Hold ∷ Restart ∷ Abort ∷ Reset ∷ Pause ∷ Resume ∷ []
+
+-- the command with this word
+abbrev pub read_command : Bytes → Option StateCommand
+read_command bytes = find (λ command. same_bytes bytes (word_of_command command)) commands

@@ -167,12 +167,12 @@ reject_grows lot H s lawful valid accepted there =
 module _ (own : Slice) (lot : Bytes) (d : Decision) where
   pub release_decided : IsDecided (release_checks (tables_of own) lot) (map (Put own.owner) (given_disposition (λ row. Released) (lot_at own lot))) d → Decides (by own.owner (Release lot)) own d
   release_decided decided =
-      decides (Release lot) (λ t. given_disposition (λ row. Released) (t.lot lot)) (release_grows lot) (λ H o p lawful accepted other. tables-others H o (Release lot) refl p other)
+      decides (Release lot) (λ t. given_disposition (λ row. Released) (t.lot lot)) (release_grows lot) (λ H o p lawful valid accepted other. tables-others H o (Release lot) refl p other)
       own d _ decided (λ H lawful valid known there. verdict_is H own.owner (Release lot) (tables_of own) _ known there refl)
 
   pub reject_decided : IsDecided (reject_checks (tables_of own) lot) (map (Put own.owner) (given_disposition (λ row. Rejected) (lot_at own lot))) d → Decides (by own.owner (Reject lot)) own d
   reject_decided decided =
-      decides (Reject lot) (λ t. given_disposition (λ row. Rejected) (t.lot lot)) (reject_grows lot) (λ H o p lawful accepted other. tables-others H o (Reject lot) refl p other)
+      decides (Reject lot) (λ t. given_disposition (λ row. Rejected) (t.lot lot)) (reject_grows lot) (λ H o p lawful valid accepted other. tables-others H o (Reject lot) refl p other)
       own d _ decided (λ H lawful valid known there. verdict_is H own.owner (Reject lot) (tables_of own) _ known there refl)
 
   -- whatever the checks are

@@ -192,7 +192,7 @@ result_grows lot test value day H s lawful valid accepted there =
 module _ (own : Slice) (lot test : Bytes) (value : ℤ) (day : ℕ) (d : Decision) (decided : IsDecided (result_checks (tables_of own) lot test) (map (Put own.owner) (result_rows lot test value day (tables_of own))) d) where
   pub result_decided : Decides (by own.owner (RecordResult lot test value day)) own d
   result_decided =
-      decides (RecordResult lot test value day) (result_rows lot test value day) (result_grows lot test value day) (λ H o p lawful accepted other. tables-others H o (RecordResult lot test value day) refl p other)
+      decides (RecordResult lot test value day) (result_rows lot test value day) (result_grows lot test value day) (λ H o p lawful valid accepted other. tables-others H o (RecordResult lot test value day) refl p other)
       own d _ decided (λ H lawful valid known there. verdict_is H own.owner (RecordResult lot test value day) (tables_of own) _ known there refl)
 
   pub result_keeps : KeepsRules own → DecisionKeepsRules own d

@@ -85,7 +85,7 @@ grows row H s lawful valid accepted there =
 module _ (own : Slice) (row : TestRow) (d : Decision) (decided : IsDecided (test_checks (tables_of own) row) (Put own.owner (Test row) ∷ []) d) where
   pub test_decided : Decides (by own.owner (AddTest row)) own d
   test_decided =
-      decides (AddTest row) (λ t. Test row ∷ []) (grows row) (λ H o p lawful accepted other. tables-others H o (AddTest row) refl p other)
+      decides (AddTest row) (λ t. Test row ∷ []) (grows row) (λ H o p lawful valid accepted other. tables-others H o (AddTest row) refl p other)
       own d _ decided (λ H lawful valid known there. verdict_is H own.owner (AddTest row) (tables_of own) _ known there refl)
 
   pub test_keeps : KeepsRules own → DecisionKeepsRules own d

@@ -1,3 +1,11 @@
 pub mod ConsumptionLaw
 pub mod ProductionLaw
+pub mod BatchLaw
+pub mod CancelLaw
+pub mod FoundRow
+pub mod OpenLaw
+pub mod OrderLaw
 pub mod RecipeLaw
+pub mod RequirementLaw
+pub mod RightWhere
+pub mod Sums

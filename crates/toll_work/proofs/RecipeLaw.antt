@@ -8,9 +8,9 @@ use Rattle.toll_base.specs.History.{History, acts}
 use Rattle.toll_base.specs.Slice.{Slice, recipe_at, with_row}
 use Rattle.toll_base.specs.SliceRules.{KeepsRules}
 use Rattle.toll_base.specs.Work.{recipe_of}
-use Rattle.toll_base.specs.Tables.{Tables, tables_of, tables_given, IsRowsOf}
+use Rattle.toll_base.specs.Tables.{Tables, tables_of, tables_given}
 use Rattle.toll_base.specs.Decision.{IsDecided, Decides, DecisionKeepsRules}
-use Rattle.toll_base.specs.Verdict.{Accepted, first_of, recipe_checks, verdict}
+use Rattle.toll_base.specs.Verdict.{recipe_checks}
 use Rattle.toll_base.specs.declared.decision.Change.TheVariants.{Put}
 use Rattle.toll_base.specs.declared.decision.Decision.{Decision}
 use Rattle.toll_base.specs.declared.rows.RecipeRow.{RecipeRow}

@@ -2,11 +2,19 @@
 #![tactic(auto)]
 
 mod actuals;
+mod batches;
+mod crossing;
 mod orders;
 mod recipes;
+mod states;
 #[cfg(test)]
 mod tests;
+mod views;
 
 pub use actuals::record_actual;
-pub use orders::place_order;
-pub use recipes::add_recipe;
+pub use batches::{close_batch, command_batch, open_batch};
+pub use orders::{cancel_order, place_order};
+pub use recipes::{add_recipe, require};
+pub use states::{StateWord, next};
+pub use toll_base::{State, StateCommand};
+pub use views::{BatchView, RequirementLine, batch_view};

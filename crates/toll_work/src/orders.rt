@@ -1,6 +1,19 @@
 //! Orders.
+ghost use Rattle.std.specs.Prelude.{◌≡◌, [], ◌∷◌, map, IfOk};
+ghost use Rattle.toll_base.specs.Command.{PlaceOrder, CancelOrder, by};
+ghost use Rattle.toll_base.specs.Decision.{IsDecided, Decides, DecisionKeepsRules};
+ghost use Rattle.toll_base.specs.SliceRules.{KeepsRules};
+ghost use Rattle.toll_base.specs.Tables.{tables_of};
+ghost use Rattle.toll_base.specs.Verdict.{order_checks, cancel_checks};
+ghost use Rattle.toll_base.specs.declared.decision.Change.TheVariants as Change;
+ghost use Rattle.toll_base.specs.declared.rows.Row.TheVariants as Row;
+ghost use Rattle.toll_work.specs.Plans.{cancelled_rows};
+
+use crate::batches::count_opened;
 use std::alloc::{AllocError, Global};
 use toll_base::{BatchNo, Change, Decision, Name, OrderRow, Refusal, Row, Slice};
+
+const MOST_ORDERS: usize = 2_000;
 
 /// Places an order of that many batches by the recipe.
 ///
@@ -13,25 +26,67 @@ pub fn place_order(
     order: Name,
     recipe: Name,
     batches: BatchNo,
-) -> Result<Decision, AllocError> {
-    if let Some(known) = slice.order(&order) {
-        return Ok(if known.recipe == recipe && known.batches == batches {
-            Decision::Repeated
-        } else {
-            Decision::Refuse(Refusal::OrderExists)
-        });
-    }
-    if slice.recipe(&recipe).is_none() {
-        return Ok(Decision::Refuse(Refusal::UnknownRecipe));
-    }
-    let row = Row::Order(OrderRow {
+) -> Result<Decision, AllocError>
+    ensures decides { IfOk result (Decides (by slice.now.owner (PlaceOrder order recipe batches)) slice.now) }
+    ensures rules { IfOk result (DecisionKeepsRules slice.now) }
+{
+    let row = OrderRow {
         order,
         recipe,
         batches,
         cancelled: false,
-    });
-    if !slice.fits(&row) {
+    };
+    plan_order(alloc, slice, &row)
+}
+
+fn plan_order(alloc: Global, slice: &Slice, row: &OrderRow) -> Result<Decision, AllocError>
+    ensures plan { IfOk result (IsDecided (order_checks (tables_of slice.now) row.now.order row.now.recipe row.now.batches) (Change.Put slice.now.owner (Row.Order row.now) ∷ [])) }
+    ensures kept { KeepsRules slice.now }
+{
+    let owner = *slice.owner();
+    if let Some(known) = slice.order(&row.order) {
+        if known.recipe == row.recipe && known.batches == row.batches {
+            return Ok(Decision::Repeated);
+        }
+        return Ok(Decision::Refuse(Refusal::OrderExists));
+    }
+    if slice.recipe(&row.recipe).is_none() {
+        return Ok(Decision::Refuse(Refusal::UnknownRecipe));
+    }
+    if slice.orders().len() >= MOST_ORDERS {
         return Ok(Decision::Refuse(Refusal::LimitReached));
     }
-    Decision::accept(alloc, Change::Put(*slice.owner(), row))
+    Decision::accept(alloc, Change::Put(owner, Row::Order(*row)))
+}
+
+/// Cancels the order.
+///
+/// [`Refusal::UnknownOrder`], then [`Refusal::OrderCancelled`] where it was cancelled before, then
+/// [`Refusal::OrderStarted`] where a batch of it was opened.
+pub fn cancel_order(alloc: Global, slice: &Slice, order: Name) -> Result<Decision, AllocError>
+    ensures decides { IfOk result (Decides (by slice.now.owner (CancelOrder order)) slice.now) }
+    ensures rules { IfOk result (DecisionKeepsRules slice.now) }
+{
+    plan_cancelling(alloc, slice, &order)
+}
+
+fn plan_cancelling(alloc: Global, slice: &Slice, order: &Name) -> Result<Decision, AllocError>
+    ensures plan { IfOk result (IsDecided (cancel_checks (tables_of slice.now) order.now) (map (Change.Put slice.now.owner) (cancelled_rows order.now (tables_of slice.now)))) }
+    ensures kept { KeepsRules slice.now }
+{
+    let owner = *slice.owner();
+    let Some(known) = slice.order(order) else {
+        return Ok(Decision::Refuse(Refusal::UnknownOrder));
+    };
+    if known.cancelled {
+        return Ok(Decision::Refuse(Refusal::OrderCancelled));
+    }
+    if count_opened(slice, order) > 0 {
+        return Ok(Decision::Refuse(Refusal::OrderStarted));
+    }
+    let row = OrderRow {
+        cancelled: true,
+        ..known
+    };
+    Decision::accept(alloc, Change::Put(owner, Row::Order(row)))
 }

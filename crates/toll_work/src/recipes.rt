@@ -1,17 +1,22 @@
 //! Recipes.
-ghost use Rattle.std.specs.Prelude.{◌≡◌, [], ◌∷◌, IfOk};
-ghost use Rattle.toll_base.specs.Command.{AddRecipe, by};
-ghost use Rattle.toll_base.specs.Decision.{IsDecided, Decides, DecisionKeepsRules};
+ghost use Rattle.std.specs.Prelude.{◌≡◌, is_some, [], ◌∷◌, IfOk};
+ghost use Rattle.toll_base.specs.Command.{AddRecipe, Require, by};
+ghost use Rattle.toll_base.specs.Decision.{IsDecided, Decides, DecidesWith, DecisionKeepsRules};
 ghost use Rattle.toll_base.specs.SliceRules.{KeepsRules};
 ghost use Rattle.toll_base.specs.Tables.{tables_of};
-ghost use Rattle.toll_base.specs.Verdict.{recipe_checks};
+ghost use Rattle.toll_base.specs.Verdict.{recipe_checks, requirement_checks, tables_for};
 ghost use Rattle.toll_base.specs.declared.decision.Change.TheVariants as Change;
 ghost use Rattle.toll_base.specs.declared.rows.Row.TheVariants as Row;
 
+use crate::crossing::crosses;
 use std::alloc::{AllocError, Global};
-use toll_base::{Change, Decision, Name, RecipeRow, Refusal, Row, Segment, Slice};
+use toll_base::{
+    Change, Decision, Keyed, Name, RecipeRow, Refusal, RequirementRow, Row, Segment, Slice,
+};
 
 const MOST_RECIPES: usize = 200;
+
+const MOST_REQUIREMENTS: usize = 2_000;
 
 /// Adds a recipe of that many segments.
 ///
@@ -41,4 +46,75 @@ fn plan_recipe(alloc: Global, slice: &Slice, row: &RecipeRow) -> Result<Decision
         return Ok(Decision::Refuse(Refusal::LimitReached));
     }
     Decision::accept(alloc, Change::Put(owner, Row::Recipe(*row)))
+}
+
+/// Requires that much of the source's material, or produces it, in a segment of a recipe. `house` has
+/// the rows of HOUSE, also where the owner is HOUSE.
+///
+/// [`Refusal::UnknownRecipe`], then [`Refusal::RecipeInUse`] where an order names the recipe, then
+/// [`Refusal::BadSegment`] above the recipe's segments, then [`Refusal::CrossOwner`] where the source
+/// is another owner, or HOUSE of what is produced, then [`Refusal::UnknownMaterial`] of the source,
+/// then [`Refusal::RequirementExists`], then [`Refusal::LimitReached`] at 2,000 requirements.
+pub fn require(
+    alloc: Global,
+    own: &Slice,
+    house: &Slice,
+    row: RequirementRow,
+) -> Result<Decision, AllocError>
+    ensures decides { IfOk result (DecidesWith (by own.now.owner (Require row)) own.now house.now) }
+    ensures rules { IfOk result (DecisionKeepsRules own.now) }
+{
+    plan_requirement(alloc, own, house, &row)
+}
+
+fn plan_requirement(
+    alloc: Global,
+    own: &Slice,
+    house: &Slice,
+    row: &RequirementRow,
+) -> Result<Decision, AllocError>
+    ensures plan { IfOk result (IsDecided (requirement_checks own.now.owner (tables_of own.now) (tables_for own.now.owner (tables_of own.now) (tables_of house.now) row.now.source) row.now) (Change.Put own.now.owner (Row.Requirement row.now) ∷ [])) }
+    ensures kept { KeepsRules own.now }
+{
+    let owner = *own.owner();
+    let Some(recipe) = own.recipe(&row.recipe) else {
+        return Ok(Decision::Refuse(Refusal::UnknownRecipe));
+    };
+    if is_recipe_used(own, &row.recipe) {
+        return Ok(Decision::Refuse(Refusal::RecipeInUse));
+    }
+    if row.segment > recipe.segments {
+        return Ok(Decision::Refuse(Refusal::BadSegment));
+    }
+    if crosses(&owner, row.role, &row.source) {
+        return Ok(Decision::Refuse(Refusal::CrossOwner));
+    }
+    if !has_material(own, house, row) {
+        return Ok(Decision::Refuse(Refusal::UnknownMaterial));
+    }
+    if own.requirement(&row.key()).is_some() {
+        return Ok(Decision::Refuse(Refusal::RequirementExists));
+    }
+    if own.requirements().len() >= MOST_REQUIREMENTS {
+        return Ok(Decision::Refuse(Refusal::LimitReached));
+    }
+    Decision::accept(alloc, Change::Put(owner, Row::Requirement(*row)))
+}
+
+// Whether an order names the recipe, cancelled or not.
+fn is_recipe_used(slice: &Slice, recipe: &Name) -> bool
+    ensures { result ≡ (tables_of slice.now).recipe_used recipe.now }
+{
+    slice.orders().iter().any(|row| row.recipe == *recipe)
+}
+
+// Whether the source, which is the owner or HOUSE, has the material.
+fn has_material(own: &Slice, house: &Slice, row: &RequirementRow) -> bool
+    ensures { result ≡ is_some ((tables_for own.now.owner (tables_of own.now) (tables_of house.now) row.now.source).material row.now.material) }
+{
+    if row.source == *own.owner() {
+        own.material(&row.material).is_some()
+    } else {
+        house.material(&row.material).is_some()
+    }
 }

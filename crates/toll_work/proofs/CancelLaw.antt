@@ -1,0 +1,88 @@
+-- What the cancelling of an order owes.
+use Rattle.std.proofs.Common.{◌≡◌, Bool, true, false, cond, Option, Some, None, is_some, is_none, [], ◌∷◌, ◌||◌, map, refl, sym, ap, ◌∙◌}
+use Rattle.std.specs.List.{list_any}
+use Rattle.std.specs.Option.{option_map}
+use Rattle.std.proofs.lemmas.Bool.{or_left}
+use Rattle.std.specs.Cmp.Lexicographic.{nat_list_cmp_total}
+use Rattle.toll_base.specs.Bytes.{Bytes, same_bytes, bytes_cmp}
+use Rattle.toll_base.specs.Command.{CancelOrder, by}
+use Rattle.toll_base.specs.History.{History, acts}
+use Rattle.toll_base.specs.Slice.{Slice, order_at, with_row}
+use Rattle.toll_base.specs.SliceRules.{KeepsRules}
+use Rattle.toll_base.specs.Work.{order_of, cancels}
+use Rattle.toll_base.specs.Tables.{Tables, tables_of, tables_given}
+use Rattle.toll_base.specs.Decision.{IsDecided, Decides, DecisionKeepsRules}
+use Rattle.toll_base.specs.Verdict.{cancel_checks}
+use Rattle.toll_base.specs.declared.decision.Change.TheVariants.{Put}
+use Rattle.toll_base.specs.declared.decision.Decision.{Decision}
+use Rattle.toll_base.specs.declared.rows.OrderRow.{OrderRow}
+use Rattle.toll_base.specs.declared.rows.Row.TheVariants.{Order}
+use Rattle.toll_base.proofs.Accepted.{none_applies}
+use Rattle.toll_base.proofs.Passed.{accepted_passes}
+use Rattle.toll_base.proofs.Decided.{verdict_is, Grows, RowsFit, put_rows, decides, keeps_rules}
+use Rattle.toll_base.proofs.Grown.{tables-own, tables-others}
+use Rattle.toll_base.proofs.KeyOrder.{row_at-put_row}
+use Rattle.toll_base.proofs.PutTables.{length-known, any-known}
+use Rattle.toll_base.proofs.Texts.{same_bytes-exact, same_bytes-symm}
+use Rattle.toll_work.specs.Plans.{cancelled_row, cancelled_rows}
+use Rattle.toll_work.proofs.FoundRow.{row_at-key, of_known, known_changed}
+use Rattle.toll_work.proofs.OrderLaw.{placed}
+
+-- tables with the order cancelled
+abbrev with_cancelled : (order : Bytes) → OrderRow → Tables → Tables
+with_cancelled order known t = record t { order = λ k. cond (same_bytes k order) (Some (cancelled_row known)) (t.order k) }
+
+module _ (s : Slice) (order : Bytes) (known : OrderRow) (found : order_at s order ≡ Some known) where
+  own_name : order ≡ known.order
+  own_name = same_bytes-exact order known.order (row_at-key bytes_cmp (λ row. row.order) s.orders order known found)
+
+  found_own : order_at s known.order ≡ Some known
+  found_own = ap (order_at s) (sym own_name) ∙ found
+
+  in_slice : tables_of (with_row s (Order (cancelled_row known))) ≡ with_cancelled order known (tables_of s)
+  in_slice i = record (tables_of s) {
+    order = λ k. (row_at-put_row bytes_cmp nat_list_cmp_total (λ row. row.order) s.orders (cancelled_row known) k ∙ ap (λ name. cond (same_bytes k name) (Some (cancelled_row known)) (order_at s k)) (sym own_name)) i;
+    orders = length-known bytes_cmp nat_list_cmp_total (λ row. row.order) s.orders (cancelled_row known) (ap is_some found_own) i;
+    recipe_used = λ recipe. any-known bytes_cmp (λ row. row.order) (λ row. same_bytes row.recipe recipe) s.orders (cancelled_row known) known found_own refl i;
+  }
+
+-- an order that is cancelled now, or as it was
+cancelled_now : (b was : Bool) (row : Option OrderRow) →
+    option_map {T = OrderRow} (λ r. record r { cancelled = b || was }) row
+    ≡ cond b (option_map cancelled_row (option_map {T = OrderRow} (λ r. record r { cancelled = was }) row)) (option_map {T = OrderRow} (λ r. record r { cancelled = was }) row)
+cancelled_now true was None = refl
+cancelled_now true was (Some row) = refl
+cancelled_now false was row = refl
+
+in_history : (H : History) (o order : Bytes) (known : OrderRow) → order_of (acts o H) order ≡ Some known → tables_given (by o (CancelOrder order) ∷ H) o ≡ with_cancelled order known (tables_given H o)
+in_history H o order known found =
+    tables-own H o (CancelOrder order) refl
+    ∙ (λ i. record (with_cancelled order known (tables_given H o)) { order = λ k. cancelled_at k i })
+  where
+    cancelled_at : (k : Bytes) → order_of (CancelOrder order ∷ acts o H) k ≡ cond (same_bytes k order) (Some (cancelled_row known)) (order_of (acts o H) k)
+    cancelled_at k =
+        ap (λ b. option_map {T = OrderRow} (λ r. record r { cancelled = b || list_any (cancels k) (acts o H) }) (placed (acts o H) k)) (same_bytes-symm order k)
+        ∙ cancelled_now (same_bytes k order) (list_any (cancels k) (acts o H)) (placed (acts o H) k)
+        ∙ known_changed cancelled_row (same_bytes k order) (order_of (acts o H) k) known (λ same. ap (order_of (acts o H)) (same_bytes-exact k order same) ∙ found)
+
+grows : (order : Bytes) → Grows (CancelOrder order) (cancelled_rows order)
+grows order H s lawful valid accepted there =
+    of_known (order_at s order) (λ row. Order (cancelled_row row) ∷ []) (λ rows. tables_of (put_rows rows s) ≡ tables_given (by s.owner (CancelOrder order) ∷ H) s.owner)
+    (ap (λ (t : Tables). is_none (t.order order)) there ∙ accepted_passes H s.owner (CancelOrder order) accepted 0)
+    (λ known found.
+    in_slice s order known found
+    ∙ ap (with_cancelled order known) there
+    ∙ sym (in_history H s.owner order known (sym (ap (λ (t : Tables). t.order order) there) ∙ found)))
+
+module _ (own : Slice) (order : Bytes) (d : Decision) (decided : IsDecided (cancel_checks (tables_of own) order) (map (Put own.owner) (cancelled_rows order (tables_of own))) d) where
+  pub cancel_decided : Decides (by own.owner (CancelOrder order)) own d
+  cancel_decided =
+      decides (CancelOrder order) (cancelled_rows order) (grows order) (λ H o p lawful valid accepted other. tables-others H o (CancelOrder order) refl p other)
+      own d _ decided (λ H lawful valid known there. verdict_is H own.owner (CancelOrder order) (tables_of own) _ known there refl)
+
+  pub cancel_keeps : KeepsRules own → DecisionKeepsRules own d
+  cancel_keeps keeps =
+      keeps_rules own (cancelled_rows order (tables_of own)) d _ decided keeps
+      (λ accepted. of_known (order_at own order) (λ row. Order (cancelled_row row) ∷ []) (λ rows. RowsFit rows own)
+      (none_applies (cancel_checks (tables_of own) order) accepted 0)
+      (λ known found. (or_left _ _ (ap is_some (found_own own order known found)), tt)))

@@ -1,0 +1,27 @@
+-- Rows that are found.
+use Rattle.std.proofs.Common.{◌≡◌, Bool, true, false, cond, Option, Some, None, is_none, List, [], ◌∷◌, refl, sym, ap, ◌∙◌}
+use mathlib.Core.Bool.{false≢true}
+use Rattle.std.specs.Option.{option_map, option_map_or}
+use Rattle.std.specs.Ordering.{is_eq}
+use Rattle.std.specs.declared.cmp.Ordering.{Ordering}
+use Rattle.toll_base.specs.Table.{row_at}
+
+-- a row that is found has the key
+pub row_at-key : {K R : Type 0} (cmp : K → K → Ordering) (key : R → K) (rows : List R) (k : K) (row : R) → row_at cmp key rows k ≡ Some row → is_eq (cmp k (key row)) ≡ true
+unfolding row_at
+row_at-key cmp key [] k row found = (cc)
+row_at-key cmp key (x ∷ xs) k row found =
+    elim (is_eq (cmp k (key x))) as (λ b. is_eq (cmp k (key x)) ≡ b → cond b (Some x) (row_at cmp key xs k) ≡ Some row → is_eq (cmp k (key row)) ≡ true) [
+      | true ↦ λ hit is. let same : x ≡ row = (cc) in ap (λ r. is_eq (cmp k (key r))) (sym same) ∙ hit
+      | false ↦ λ miss is. row_at-key cmp key xs k row is
+    ] refl found
+
+-- what holds of the rows that are made of a known row holds of those made of one that is not unknown
+pub of_known : {R Y : Type 0} (x : Option R) (make : R → List Y) (P : List Y → Type 0) → is_none x ≡ false → ((row : R) → x ≡ Some row → P (make row)) → P (option_map_or make x [])
+of_known None make P known each = absurd (false≢true (sym known))
+of_known (Some row) make P known each = each row refl
+
+-- a known row that is changed where a test holds
+pub known_changed : {R : Type 0} (change : R → R) (b : Bool) (row : Option R) (known : R) → (b ≡ true → row ≡ Some known) → cond b (option_map change row) row ≡ cond b (Some (change known)) row
+known_changed change true row known is = ap (option_map change) (is refl)
+known_changed change false row known is = refl

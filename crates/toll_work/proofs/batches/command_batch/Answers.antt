@@ -1,0 +1,9 @@
+use Rattle.std.proofs.lemmas.Result.{IfOk-weaker}
+use Rattle.toll_work.proofs.BatchLaw.{command_decided, command_keeps}
+use Rattle.toll_work.proofs.batches.command_batch.Goals as goal
+
+pub returns-clause-decides : goal.returns-clause-decides
+returns-clause-decides c = IfOk-weaker _ _ _ (λ d. command_decided _ _ _ _ d) c.plan_command.ensures.plan
+
+pub returns-clause-rules : goal.returns-clause-rules
+returns-clause-rules c = IfOk-weaker _ _ _ (λ d decided. command_keeps _ _ _ _ d decided c.plan_command.ensures.kept) c.plan_command.ensures.plan

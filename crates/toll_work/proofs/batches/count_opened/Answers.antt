@@ -1,0 +1,11 @@
+use Rattle.std.proofs.Common.{rules, ◌≡◌, sym, ◌∙◌}
+use Rattle.std.specs.List.{count_by}
+use Rattle.toll_base.specs.Bytes.{same_bytes}
+use Rattle.toll_base.specs.declared.rows.BatchRow.{BatchRow}
+use Rattle.toll_base.proofs.PutRules.{count-is}
+use Rattle.toll_work.proofs.batches.count_opened.Goals as goal
+
+pub returns : goal.returns
+returns c =
+    let counted : c.count.result ≡ count_by (λ (row : BatchRow). same_bytes row.order c.args.order.now) c.args.slice.now.batches = search rules in
+    counted ∙ sym (count-is _ c.args.slice.now.batches)

@@ -1,0 +1,9 @@
+use Rattle.std.proofs.lemmas.Result.{IfOk-weaker}
+use Rattle.toll_work.proofs.CancelLaw.{cancel_decided, cancel_keeps}
+use Rattle.toll_work.proofs.orders.cancel_order.Goals as goal
+
+pub returns-clause-decides : goal.returns-clause-decides
+returns-clause-decides c = IfOk-weaker _ _ _ (λ d. cancel_decided _ _ d) c.plan_cancelling.ensures.plan
+
+pub returns-clause-rules : goal.returns-clause-rules
+returns-clause-rules c = IfOk-weaker _ _ _ (λ d decided. cancel_keeps _ _ d decided c.plan_cancelling.ensures.kept) c.plan_cancelling.ensures.plan

@@ -1,0 +1,47 @@
+-- What is told of a batch: its row, and each requirement of its order's recipe with what the batch did of it.
+use Rattle.std.specs.Prelude.{◌≡◌, ℕ, Bool, true, false, not, ◌&&◌, ◌==◌, if◌then◌else◌, Option, Some, None, is_some, List, map, filter}
+use Rattle.std.specs.Option.{option_map, option_and_then}
+use Rattle.toll_base.specs.Bytes.{Bytes, same_bytes}
+use Rattle.toll_base.specs.Roles.{same_role}
+use Rattle.toll_base.specs.Words.{total}
+use Rattle.toll_base.specs.Slice.{Slice, order_at, batch_at, void_at}
+use Rattle.toll_base.specs.SliceRules.{is_actual_of}
+use Rattle.toll_base.specs.declared.rows.BatchRow.{BatchRow}
+use Rattle.toll_base.specs.declared.rows.OrderRow.{OrderRow}
+use Rattle.toll_base.specs.declared.rows.RequirementRow.{RequirementRow}
+use Rattle.toll_base.specs.declared.rows.MoveRow.{MoveRow}
+use Rattle.toll_base.specs.declared.rows.Move.{Move}
+use Rattle.toll_base.specs.declared.rows.Move.TheVariants.{Actual}
+use Rattle.toll_work.specs.declared.views.BatchView.{BatchView}
+use Rattle.toll_work.specs.declared.views.RequirementLine.{RequirementLine}
+
+-- an actual of the requirement's segment, role, source and material
+abbrev pub meets : RequirementRow → Move → Bool
+meets row (Actual order number segment role material lot sublot) = segment == row.segment && same_role role row.role && same_bytes lot.owner row.source && same_bytes material row.material
+meets row _ = false
+
+-- the sum of the amounts of those of these movements that meet the requirement
+abbrev pub amount_for : RequirementRow → List MoveRow → ℕ
+amount_for row moves = total (λ move. if meets row move.what then move.amount else 0) moves
+
+-- the actuals of the batch that no row voids
+abbrev pub standing_in : Slice → (order : Bytes) → (number : ℕ) → List MoveRow
+standing_in s order number = filter (λ move. is_actual_of order number move.what && not (is_some (void_at s move.key))) s.moves
+
+abbrev pub line : RequirementRow → List MoveRow → RequirementLine
+line row actuals = record { row = row; actual = amount_for row actuals }
+
+-- the requirements of the recipe, in the order of their keys, each with what these actuals did of it
+abbrev pub lines_in : Slice → (recipe : Bytes) → List MoveRow → List RequirementLine
+lines_in s recipe actuals = map (λ row. line row actuals) (filter (λ row. same_bytes row.recipe recipe) s.requirements)
+
+-- the batch of an order, where both are known
+abbrev pub IsViewIn : Slice → (order : Bytes) → (number : ℕ) → Option OrderRow → Option BatchRow → Option BatchView → Type 0
+IsViewIn s order number (Some known) (Some row) (Some view) = (view.row ≡ row) × (view.lines.items ≡ lines_in s known.recipe (standing_in s order number))
+IsViewIn s order number (Some known) (Some row) None = ⊥
+IsViewIn s order number _ _ None = Unit {0}
+IsViewIn s order number _ _ (Some view) = ⊥
+
+-- what a slice tells of the batch
+abbrev pub TellsInSlice : Slice → (order : Bytes) → (number : ℕ) → Option BatchView → Type 0
+TellsInSlice s order number view = IsViewIn s order number (order_at s order) (batch_at s (order, number)) view

@@ -1,0 +1,3 @@
+pub mod BatchView
+pub mod Opening
+pub mod Plans

@@ -1,0 +1,193 @@
+//! Batches.
+ghost use Rattle.std.specs.Prelude.{◌≡◌, ◌+◌, nat_le, not, Some, None, if◌then◌else◌, map, IfOk};
+ghost use Rattle.toll_base.specs.Command.{CommandBatch, CloseBatch, by};
+ghost use Rattle.toll_base.specs.Decision.{IsDecided, Decides, DecisionKeepsRules};
+ghost use Rattle.toll_base.specs.SliceRules.{KeepsRules};
+ghost use Rattle.toll_base.specs.Tables.{tables_of};
+ghost use Rattle.toll_base.specs.Verdict.{open_checks, batch_command_checks, close_checks};
+ghost use Rattle.toll_base.specs.States as states;
+ghost use Rattle.toll_base.specs.declared.decision.Change.TheVariants as Change;
+ghost use Rattle.toll_work.specs.Opening.{DecidesOpening};
+ghost use Rattle.toll_work.specs.Plans.{opened_rows, commanded_row, closed_row, changed_rows};
+
+use crate::states::next;
+use std::alloc::{AllocError, Global};
+use toll_base::{
+    BatchNo, BatchRow, Change, Decision, Name, Refusal, Row, Slice, State, StateCommand,
+};
+
+/// Opens the next batch of the order on the unit, idle. It is told whether the unit is known, and
+/// whether it is free: no batch holds it that isn't closed.
+///
+/// [`Refusal::UnknownOrder`], then [`Refusal::OrderCancelled`], then [`Refusal::NoMoreBatches`] where
+/// all batches of the order were opened, then [`Refusal::UnknownUnit`], then [`Refusal::UnitBusy`].
+pub fn open_batch(
+    alloc: Global,
+    slice: &Slice,
+    order: Name,
+    unit: Name,
+    unit_known: bool,
+    unit_free: bool,
+) -> Result<Decision, AllocError>
+    ensures decides { IfOk result (DecidesOpening order unit unit_known unit_free slice.now) }
+    ensures rules { IfOk result (DecisionKeepsRules slice.now) }
+{
+    plan_opening(alloc, slice, &order, &unit, unit_known, unit_free)
+}
+
+fn plan_opening(
+    alloc: Global,
+    slice: &Slice,
+    order: &Name,
+    unit: &Name,
+    unit_known: bool,
+    unit_free: bool,
+) -> Result<Decision, AllocError>
+    ensures plan { IfOk result (IsDecided (open_checks (tables_of slice.now) order.now unit_known (not unit_free)) (map (Change.Put slice.now.owner) (opened_rows order.now unit.now (tables_of slice.now)))) }
+    ensures kept { KeepsRules slice.now }
+{
+    let owner = *slice.owner();
+    let Some(known) = slice.order(order) else {
+        return Ok(Decision::Refuse(Refusal::UnknownOrder));
+    };
+    if known.cancelled {
+        return Ok(Decision::Refuse(Refusal::OrderCancelled));
+    }
+    let Some(number) = next_number(count_opened(slice, order), known.batches) else {
+        return Ok(Decision::Refuse(Refusal::NoMoreBatches));
+    };
+    if !unit_known {
+        return Ok(Decision::Refuse(Refusal::UnknownUnit));
+    }
+    if !unit_free {
+        return Ok(Decision::Refuse(Refusal::UnitBusy));
+    }
+    let row = BatchRow {
+        order: *order,
+        number,
+        unit: *unit,
+        state: State::Idle,
+        closed: false,
+    };
+    Decision::accept(alloc, Change::Put(owner, Row::Batch(row)))
+}
+
+// The number of the batch after those that were opened, of so many.
+fn next_number(opened: u64, batches: BatchNo) -> Option<BatchNo>
+    ensures { result ≡ if nat_le batches opened then None else Some (opened + 1) }
+{
+    if opened >= batches.get() {
+        return None;
+    }
+    BatchNo::new(opened + 1).ok()
+}
+
+/// How many batches of the order were opened.
+pub fn count_opened(slice: &Slice, order: &Name) -> u64
+    ensures { result ≡ (tables_of slice.now).opened order.now }
+{
+    slice
+        .batches()
+        .iter()
+        .filter(|row| row.order == *order)
+        .count() as u64
+}
+
+/// Commands the batch, which goes to the state that the command leads to.
+///
+/// [`Refusal::UnknownOrder`], then [`Refusal::UnknownBatch`], then [`Refusal::BatchClosed`], then
+/// [`Refusal::BadState`] where the command leads nowhere.
+pub fn command_batch(
+    alloc: Global,
+    slice: &Slice,
+    order: Name,
+    number: BatchNo,
+    command: StateCommand,
+) -> Result<Decision, AllocError>
+    ensures decides { IfOk result (Decides (by slice.now.owner (CommandBatch order number command)) slice.now) }
+    ensures rules { IfOk result (DecisionKeepsRules slice.now) }
+{
+    plan_command(alloc, slice, &order, number, command)
+}
+
+fn plan_command(
+    alloc: Global,
+    slice: &Slice,
+    order: &Name,
+    number: BatchNo,
+    command: StateCommand,
+) -> Result<Decision, AllocError>
+    ensures plan { IfOk result (IsDecided (batch_command_checks (tables_of slice.now) order.now number command) (map (Change.Put slice.now.owner) (changed_rows (commanded_row command) order.now number (tables_of slice.now)))) }
+    ensures kept { KeepsRules slice.now }
+{
+    let owner = *slice.owner();
+    if slice.order(order).is_none() {
+        return Ok(Decision::Refuse(Refusal::UnknownOrder));
+    }
+    let Some(known) = slice.batch(order, number) else {
+        return Ok(Decision::Refuse(Refusal::UnknownBatch));
+    };
+    if known.closed {
+        return Ok(Decision::Refuse(Refusal::BatchClosed));
+    }
+    let Some(state) = next(known.state, command) else {
+        return Ok(Decision::Refuse(Refusal::BadState));
+    };
+    let row = BatchRow { state, ..known };
+    Decision::accept(alloc, Change::Put(owner, Row::Batch(row)))
+}
+
+/// Closes the batch, after which it holds its unit no more.
+///
+/// [`Refusal::UnknownOrder`], then [`Refusal::UnknownBatch`], then [`Refusal::BatchClosed`], then
+/// [`Refusal::BadState`] unless the batch is idle, complete, stopped or aborted.
+pub fn close_batch(
+    alloc: Global,
+    slice: &Slice,
+    order: Name,
+    number: BatchNo,
+) -> Result<Decision, AllocError>
+    ensures decides { IfOk result (Decides (by slice.now.owner (CloseBatch order number)) slice.now) }
+    ensures rules { IfOk result (DecisionKeepsRules slice.now) }
+{
+    plan_closing(alloc, slice, &order, number)
+}
+
+fn plan_closing(
+    alloc: Global,
+    slice: &Slice,
+    order: &Name,
+    number: BatchNo,
+) -> Result<Decision, AllocError>
+    ensures plan { IfOk result (IsDecided (close_checks (tables_of slice.now) order.now number) (map (Change.Put slice.now.owner) (changed_rows closed_row order.now number (tables_of slice.now)))) }
+    ensures kept { KeepsRules slice.now }
+{
+    let owner = *slice.owner();
+    if slice.order(order).is_none() {
+        return Ok(Decision::Refuse(Refusal::UnknownOrder));
+    }
+    let Some(known) = slice.batch(order, number) else {
+        return Ok(Decision::Refuse(Refusal::UnknownBatch));
+    };
+    if known.closed {
+        return Ok(Decision::Refuse(Refusal::BatchClosed));
+    }
+    if !may_close(known.state) {
+        return Ok(Decision::Refuse(Refusal::BadState));
+    }
+    let row = BatchRow {
+        closed: true,
+        ..known
+    };
+    Decision::accept(alloc, Change::Put(owner, Row::Batch(row)))
+}
+
+// Whether a batch in this state may be closed.
+fn may_close(state: State) -> bool
+    ensures { result ≡ states.may_close state }
+{
+    matches!(
+        state,
+        State::Idle | State::Complete | State::Stopped | State::Aborted
+    )
+}
