@@ -110,7 +110,8 @@ LeavesOthers a = (H : History) (o p : Bytes) → IsLawful H → IsValid a → ve
 
 -- where an owner's action changes nobody's rows but the owner's
 module _ (a : Action) (rows : Tables → List Row) (grows : Grows a rows) (leaves : LeavesOthers a) where
-  grown_rows : (H : History) (o : Bytes) (t : Tables) → t ≡ tables_given H o → IsLawful H → IsValid a → verdict H (by o a) ≡ Accepted → (s : Slice) → IsRowsOf H s → IsRowsOf (by o a ∷ H) (after_changes (map (Put o) (rows t)) s)
+  -- the rows that are put make every slice's rows those of the grown history
+  pub grown_rows : (H : History) (o : Bytes) (t : Tables) → t ≡ tables_given H o → IsLawful H → IsValid a → verdict H (by o a) ≡ Accepted → (s : Slice) → IsRowsOf H s → IsRowsOf (by o a ∷ H) (after_changes (map (Put o) (rows t)) s)
   grown_rows H o t is lawful valid accepted s there =
       elim (same_bytes o s.owner) as (λ b. same_bytes o s.owner ≡ b → IsRowsOf (by o a ∷ H) (after_changes (map (Put o) (rows t)) s)) [
         | true ↦ λ own.

@@ -18,6 +18,7 @@ ghost use Rattle.toll_base.specs.declared.refusal.Refusal.TheVariants as Refusal
 ghost use Rattle.toll_base.specs.declared.role.Role.TheVariants as Role;
 ghost use Rattle.toll_base.specs.declared.rows.Row.TheVariants as Row;
 
+use crate::crossing::crosses;
 use std::alloc::{AllocError, Global};
 use toll_base::{
     Amount, BatchNo, Change, Decision, Disposition, LotId, LotRow, Move, MoveRow, Name, Origin,
@@ -341,15 +342,5 @@ fn is_made_by(origin: &Origin, order: &Name, number: BatchNo) -> bool
             order: of,
             number: n,
         } => *of == *order && *n == number,
-    }
-}
-
-// Whether the source is neither the owner nor HOUSE, or isn't the owner where it produces.
-fn crosses(owner: &Name, role: Role, source: &Name) -> bool
-    ensures { result ≡ verdict.crosses owner.now role source.now }
-{
-    match role {
-        Role::Consumed => *source != *owner && *source != Name::house(),
-        Role::Produced => *source != *owner,
     }
 }
