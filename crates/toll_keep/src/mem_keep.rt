@@ -1,7 +1,7 @@
 //! A keep of lists in memory.
-ghost use Rattle.std.specs.Prelude.{◌≡◌, ◌⊎◌, false, ⊤, IfOk, OnOk, OnErr, IsOkUnless};
+ghost use Rattle.std.specs.Prelude.{◌≡◌, false, ⊤, IfOk, OnOk, OnErr, IsOkUnless};
 ghost use Rattle.toll_trace.specs.Edges.{AreEdges, IsEdge};
-ghost use Rattle.toll_keep.specs.Content.{Content, nothing, knows, slice_of, after, after_owners, after_units};
+ghost use Rattle.toll_keep.specs.Content.{nothing, knows, slice_of, after, after_owners, after_units};
 ghost use Rattle.toll_keep.specs.Goes.{IsAmong};
 ghost use Rattle.toll_keep.specs.Holding.{IsEdgeOfSome};
 ghost use Rattle.toll_keep.specs.Slices.{content_of, rows_in};
@@ -94,8 +94,6 @@ impl MemKeep {
 }
 
 impl Keep for MemKeep {
-    ghost use Rattle.std.specs.Prelude.{⊤};
-
     ghost holds = { λ k c. content_of k ≡ c };
 
     ghost is_honest = { λ _. ⊤ };
