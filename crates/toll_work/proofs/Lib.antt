@@ -1,9 +1,12 @@
 pub mod BatchLaw
 pub mod CancelLaw
 pub mod FoundRow
+pub mod KeyedRows
 pub mod OpenLaw
 pub mod OrderLaw
 pub mod RecipeLaw
 pub mod RequirementLaw
 pub mod RightWhere
+pub mod StandingSums
 pub mod Sums
+pub mod ViewLaw
