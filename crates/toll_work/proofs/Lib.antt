@@ -3,9 +3,12 @@ pub mod ProductionLaw
 pub mod BatchLaw
 pub mod CancelLaw
 pub mod FoundRow
+pub mod KeyedRows
 pub mod OpenLaw
 pub mod OrderLaw
 pub mod RecipeLaw
 pub mod RequirementLaw
 pub mod RightWhere
+pub mod StandingSums
 pub mod Sums
+pub mod ViewLaw

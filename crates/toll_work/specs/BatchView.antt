@@ -1,9 +1,17 @@
 -- What is told of a batch: its row, and each requirement of its order's recipe with what the batch did of it.
-use Rattle.std.specs.Prelude.{◌≡◌, ℕ, Bool, true, false, not, ◌&&◌, ◌==◌, if◌then◌else◌, Option, Some, None, is_some, List, map, filter}
-use Rattle.std.specs.Option.{option_map, option_and_then}
+use Rattle.std.specs.Prelude.{◌≡◌, ℕ, Bool, false, not, ◌&&◌, ◌==◌, if◌then◌else◌, Option, Some, None, is_some, List, map, filter}
+use Rattle.std.specs.Option.{option_and_then}
+use Rattle.std.specs.declared.cmp.Ordering.{Ordering}
 use Rattle.toll_base.specs.Bytes.{Bytes, same_bytes}
 use Rattle.toll_base.specs.Roles.{same_role}
-use Rattle.toll_base.specs.Words.{total}
+use Rattle.toll_base.specs.Words.{total, where_so}
+use Rattle.toll_base.specs.Keys.{RequirementKey, requirement_cmp}
+use Rattle.toll_base.specs.Table.{row_at, IsInKeyOrder}
+use Rattle.toll_base.specs.History.{History, acts}
+use Rattle.toll_base.specs.Work.{requirement_of, order_of, batch_of}
+use Rattle.toll_base.specs.Movements.{standing}
+use Rattle.toll_base.specs.Tables.{IsRowsOf}
+use Rattle.toll_base.specs.Verdict.{IsLawful}
 use Rattle.toll_base.specs.Slice.{Slice, order_at, batch_at, void_at}
 use Rattle.toll_base.specs.SliceRules.{is_actual_of}
 use Rattle.toll_base.specs.declared.rows.BatchRow.{BatchRow}
@@ -45,3 +53,37 @@ IsViewIn s order number _ _ (Some view) = ⊥
 -- what a slice tells of the batch
 abbrev pub TellsInSlice : Slice → (order : Bytes) → (number : ℕ) → Option BatchView → Type 0
 TellsInSlice s order number view = IsViewIn s order number (order_at s order) (batch_at s (order, number)) view
+
+-- ---- over a history
+
+-- the rows that are given at the keys, each once, in the order of the keys
+pub record AreRowsGiven {K R : Type 0} (cmp : K → K → Ordering) (key : R → K) (given : K → Option R) (rows : List R) : Type 0 where
+  pub ordered : IsInKeyOrder cmp key rows
+  pub at : (k : K) → row_at cmp key rows k ≡ given k
+
+-- an actual of the owner's batch that meets the requirement
+abbrev pub serves : Bytes → (order : Bytes) → (number : ℕ) → RequirementRow → Bytes → Move → Bool
+serves o order number row p what = same_bytes p o && is_actual_of order number what && meets row what
+
+-- the sum of the batch's standing actuals of the requirement's segment, role, source and material
+unfoldable pub actual_of : History → Bytes → (order : Bytes) → (number : ℕ) → RequirementRow → ℕ
+actual_of H o order number row = total (λ m. if serves o order number row m.0 m.1.what then m.1.amount else 0) (standing H)
+
+-- a requirement of this recipe
+abbrev pub line_of : History → Bytes → (order : Bytes) → (number : ℕ) → (recipe : Bytes) → RequirementKey → Option RequirementLine
+line_of H o order number recipe k =
+    option_and_then (λ row. where_so (same_bytes row.recipe recipe) (record { row = row; actual = actual_of H o order number row })) (requirement_of (acts o H) k)
+
+abbrev pub line_key : RequirementLine → RequirementKey
+line_key line = (line.row.recipe, line.row.segment, line.row.role, line.row.source, line.row.material)
+
+-- the batch of an order, where both are known
+abbrev pub IsViewOver : History → Bytes → (order : Bytes) → (number : ℕ) → Option OrderRow → Option BatchRow → Option BatchView → Type 0
+IsViewOver H o order number (Some known) (Some row) (Some view) = (view.row ≡ row) × AreRowsGiven requirement_cmp line_key (line_of H o order number known.recipe) view.lines.items
+IsViewOver H o order number (Some known) (Some row) None = ⊥
+IsViewOver H o order number _ _ None = Unit {0}
+IsViewOver H o order number _ _ (Some view) = ⊥
+
+-- what every lawful history tells of the batch of which the slice has the rows
+unfoldable pub TellsOverHistories : Slice → (order : Bytes) → (number : ℕ) → Option BatchView → Type 0
+TellsOverHistories s order number view = (H : History) → IsLawful H → IsRowsOf H s → IsViewOver H s.owner order number (order_of (acts s.owner H) order) (batch_of (acts s.owner H) (order, number)) view

@@ -1,5 +1,9 @@
 //! What is told of a batch.
 ghost use Rattle.std.specs.Prelude.{◌≡◌, ◌≤◌, length, IfOk, if◌then◌else◌};
+ghost use Rattle.toll_base.specs.Bytes.{bytes_cmp};
+ghost use Rattle.toll_base.specs.Keys.{requirement_cmp};
+ghost use Rattle.toll_base.specs.Table.{IsInKeyOrder};
+ghost use Rattle.toll_base.specs.Verdict.{requirement_key};
 ghost use Rattle.toll_work.specs.BatchView as told;
 
 use std::alloc::{AllocError, Global};
@@ -29,8 +33,24 @@ pub fn batch_view(
     number: BatchNo,
 ) -> Result<Option<BatchView>, AllocError>
     ensures in_slice { IfOk result (told.TellsInSlice slice.now order.now number) }
+    ensures over_histories { IfOk result (told.TellsOverHistories slice.now order.now number) }
+{
+    view_in_slice(alloc, slice, order, number)
+}
+
+fn view_in_slice(
+    alloc: Global,
+    slice: &Slice,
+    order: &Name,
+    number: BatchNo,
+) -> Result<Option<BatchView>, AllocError>
+    ensures view { IfOk result (told.TellsInSlice slice.now order.now number) }
+    ensures moves { IsInKeyOrder bytes_cmp (λ row. row.key) slice.now.moves }
+    ensures requirements { IsInKeyOrder requirement_cmp requirement_key slice.now.requirements }
 {
     let _owner = slice.owner();
+    let _moves = slice.moves();
+    let _requirements = slice.requirements();
     let Some(known) = slice.order(order) else {
         return Ok(None);
     };

@@ -1,9 +1,8 @@
-use Rattle.std.proofs.Common.{List, ◌≤◌, length, sym, subst, ◌∙◌}
-use Rattle.toll_base.specs.declared.rows.MoveRow.{MoveRow}
-use Rattle.toll_work.proofs.Sums.{length-filter_le}
+use Rattle.std.proofs.lemmas.Result.{IfOk-weaker}
+use Rattle.toll_work.proofs.ViewLaw.{told_over}
 use Rattle.toll_work.proofs.views.batch_view.Goals as goal
 
-pub lines-requires : goal.lines-requires
-lines-requires c =
-    subst (λ (xs : List MoveRow). length xs ≤ 20000) (sym (c.deref.ensures.value ∙ c.in_ok-actuals.ensures))
-    (length-filter_le _ c.args.slice.now.moves 20000 c.owner-owner.ensures.kept.moves)
+pub returns-clause-over_histories : goal.returns-clause-over_histories
+returns-clause-over_histories c =
+    let view = c.view_in_slice.ensures in
+    IfOk-weaker _ _ _ (λ told. told_over c.args.slice.now c.args.order.now c.args.number told view.moves view.requirements) view.view

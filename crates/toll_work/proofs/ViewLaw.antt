@@ -1,0 +1,90 @@
+-- What a slice tells of a batch is what every lawful history tells of which it has the rows.
+use Rattle.std.proofs.Common.{◌≡◌, ℕ, Bool, true, false, not, ◌&&◌, cond, Option, Some, None, is_some, refl, sym, ap, subst, ◌∙◌}
+use Rattle.std.specs.Option.{option_and_then}
+use Rattle.std.specs.Ordering.{is_eq, ordering_then}
+use Rattle.std.specs.declared.cmp.Ordering.{Ordering}
+use Rattle.toll_base.specs.Bytes.{Bytes, same_bytes, bytes_cmp}
+use Rattle.toll_base.specs.Keys.{RequirementKey, requirement_cmp}
+use Rattle.toll_base.specs.Table.{IsInKeyOrder}
+use Rattle.toll_base.specs.Words.{where_so}
+use Rattle.toll_base.specs.History.{History, acts}
+use Rattle.toll_base.specs.Slice.{Slice, order_at, batch_at, void_at}
+use Rattle.toll_base.specs.SliceRules.{is_actual_of}
+use Rattle.toll_base.specs.Movements.{standing, voided_in}
+use Rattle.toll_base.specs.Tables.{Tables, IsRowsOf}
+use Rattle.toll_base.specs.Verdict.{IsLawful, requirement_key}
+use Rattle.toll_base.specs.declared.rows.BatchRow.{BatchRow}
+use Rattle.toll_base.specs.declared.rows.OrderRow.{OrderRow}
+use Rattle.toll_base.specs.declared.rows.MoveRow.{MoveRow}
+use Rattle.toll_base.specs.declared.rows.RequirementRow.{RequirementRow}
+use Rattle.toll_base.proofs.Bools.{both}
+use Rattle.toll_base.proofs.Texts.{same_bytes-exact, is_eq-then}
+use Rattle.toll_work.specs.BatchView.{meets, amount_for, standing_in, line, lines_in, IsViewIn, TellsInSlice, AreRowsGiven, actual_of, line_of, line_key, IsViewOver, TellsOverHistories}
+use Rattle.toll_work.specs.declared.views.BatchView.{BatchView}
+use Rattle.toll_work.proofs.KeyedRows.{made_at, made_ordered}
+use Rattle.toll_work.proofs.StandingSums.{of_owner, sum_of_rows}
+use Rattle.toll_work.proofs.Sums.{total-kept, total-alike}
+
+-- keys that tie are of one recipe
+tied_first : (a b : Ordering) → is_eq (ordering_then a b) ≡ true → is_eq a ≡ true
+tied_first a b tied = (both (is_eq a) (is_eq b) (sym (is_eq-then a b) ∙ tied)).0
+
+same_recipe : (k l : RequirementKey) → is_eq (requirement_cmp k l) ≡ true → k.0 ≡ l.0
+same_recipe k l tied = same_bytes-exact k.0 l.0 (tied_first _ _ (tied_first _ _ (tied_first _ _ (tied_first _ _ tied))))
+
+-- ---- one sum
+
+counted_so : (a v r : Bool) (n : ℕ) → cond (a && not v) (cond r n 0) 0 ≡ cond v 0 (cond (a && r) n 0)
+counted_so true true r n = refl
+counted_so true false r n = refl
+counted_so false true r n = refl
+counted_so false false r n = refl
+
+served_so : (mine a r : Bool) (n : ℕ) → cond mine (cond (a && r) n 0) 0 ≡ cond (mine && a && r) n 0
+served_so true a r n = refl
+served_so false a r n = refl
+
+module _ (s : Slice) (H : History) (lawful : IsLawful H) (there : IsRowsOf H s) (moves_ordered : IsInKeyOrder bytes_cmp (λ row. row.key) s.moves) (order : Bytes) (number : ℕ) where
+  -- what the batch did of a requirement
+  done_of : (row : RequirementRow) → amount_for row (standing_in s order number) ≡ actual_of H s.owner order number row
+  unfolding actual_of
+  done_of row =
+      total-kept (λ move. is_actual_of order number move.what && not (is_some (void_at s move.key))) (λ move. cond (meets row move.what) move.amount 0) s.moves
+      ∙ total-alike _ (λ move. cond (voided_in (acts s.owner H) move.key) 0 (amount move)) s.moves
+      (λ move. counted_so (is_actual_of order number move.what) (is_some (void_at s move.key)) (meets row move.what) move.amount
+      ∙ ap (λ (t : Tables). cond (t.voided move.key) 0 (amount move)) there)
+      ∙ sum_of_rows s.owner H lawful amount s.moves moves_ordered (λ k. ap (λ (t : Tables). t.movement k) there)
+      ∙ total-alike (of_owner s.owner amount) _ (standing H) (λ m. served_so (same_bytes m.0 s.owner) (is_actual_of order number m.1.what) (meets row m.1.what) m.1.amount)
+    where
+      amount : MoveRow → ℕ
+      amount move = cond (is_actual_of order number move.what && meets row move.what) move.amount 0
+
+  module _ (ordered : IsInKeyOrder requirement_cmp requirement_key s.requirements) where
+    lines_given : (recipe : Bytes) → AreRowsGiven requirement_cmp line_key (line_of H s.owner order number recipe) (lines_in s recipe (standing_in s order number))
+    lines_given recipe = record {
+      ordered = made_ordered requirement_cmp requirement_key of_recipe alike (λ row. line row (standing_in s order number)) line_key (λ row. refl) s.requirements ordered;
+      at = λ k.
+          made_at requirement_cmp requirement_key of_recipe alike (λ row. line row (standing_in s order number)) line_key (λ row. refl) s.requirements k
+          ∙ (λ i. option_and_then (λ row. where_so (same_bytes row.recipe recipe) (record { row = row; actual = done_of row i })) ((there i).requirement k));
+    }
+      where
+        of_recipe : RequirementKey → Bool
+        of_recipe k = same_bytes k.0 recipe
+
+        alike : (k l : RequirementKey) → is_eq (requirement_cmp k l) ≡ true → of_recipe k ≡ of_recipe l
+        alike k l tied = ap (λ r. same_bytes r recipe) (same_recipe k l tied)
+
+    over : (known : Option OrderRow) (row : Option BatchRow) (view : Option BatchView) → IsViewIn s order number known row view → IsViewOver H s.owner order number known row view
+    over (Some known) (Some row) (Some view) is = (is.0, subst (AreRowsGiven requirement_cmp line_key (line_of H s.owner order number known.recipe)) (sym is.1) (lines_given known.recipe))
+    over (Some known) (Some row) None is = is
+    over (Some known) None None is = is
+    over (Some known) None (Some view) is = is
+    over None row None is = is
+    over None row (Some view) is = is
+
+pub told_over : (s : Slice) (order : Bytes) (number : ℕ) (view : Option BatchView) → IsInKeyOrder bytes_cmp (λ row. row.key) s.moves → IsInKeyOrder requirement_cmp requirement_key s.requirements →
+    TellsInSlice s order number view → TellsOverHistories s order number view
+unfolding TellsOverHistories
+told_over s order number view moves_ordered ordered is H lawful there =
+    subst (λ (t : Tables). IsViewOver H s.owner order number (t.order order) (t.batch (order, number)) view) there
+    (over s H lawful there moves_ordered order number ordered (order_at s order) (batch_at s (order, number)) view is)
