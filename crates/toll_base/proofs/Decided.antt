@@ -1,5 +1,5 @@
 -- From what a decision is, by its checks, to what it owes to every lawful history and to every slice.
-use Rattle.std.proofs.Common.{◌≡◌, ℕ, Bool, true, false, not, ◌&&◌, nat_le, nat_lt, cond, Some, List, [], ◌∷◌, map, refl, sym, ap, subst, ◌∙◌, arith}
+use Rattle.std.proofs.Common.{◌≡◌, ℕ, Bool, true, false, not, ◌&&◌, nat_le, nat_lt, cond, Some, List, [], ◌∷◌, ◌++◌, map, refl, sym, ap, subst, ◌∙◌, arith}
 use Rattle.std.proofs.lemmas.Bool.Decides.{nat_tests}
 use mathlib.Core.Bool.{false≢true}
 use Rattle.toll_base.specs.Bytes.{Bytes, same_bytes}
@@ -14,9 +14,12 @@ use Rattle.toll_base.specs.Verdict.{Verdict, Accepted, Repeated, Refused, Checks
 use Rattle.toll_base.specs.declared.decision.Change.{Change}
 use Rattle.toll_base.specs.declared.decision.Change.TheVariants.{Put}
 use Rattle.toll_base.specs.declared.decision.Decision.{Decision}
+use Rattle.toll_base.specs.declared.decision.Decision.TheVariants.{Refuse}
+use Rattle.toll_base.specs.declared.refusal.Refusal.{Refusal}
 use Rattle.toll_base.specs.declared.refusal.Refusal.TheVariants.{UnknownOwner}
 use Rattle.toll_base.specs.declared.rows.Row.{Row}
 use Rattle.toll_base.specs.declared.rows.Row.TheVariants.{Material, Test, Recipe, Requirement, Order, Batch, Lot, Sublot, Move, Result, Void}
+use Rattle.toll_base.proofs.Accepted.{refused_first}
 use Rattle.toll_base.proofs.Texts.{same_bytes-exact, same_bytes-refl}
 use Rattle.toll_base.proofs.SliceFits.{fits_exact}
 
@@ -179,3 +182,7 @@ keeps_skip o row rest s other keeps more = subst (λ b. KeepsRules (cond b (with
 pub rules_by : (s : Slice) (changes : List Change) (d : Decision) (checks : Checks) → IsDecided checks changes d → KeepsRules s → (first_of checks ≡ Accepted → ChangesKeepRules changes s) → DecisionKeepsRules s d
 unfolding DecisionKeepsRules
 rules_by s changes d checks decided keeps kept = subst (λ cs. ChangesKeepRules cs s) (sym decided.makes) (rules_if s changes (first_of checks) keeps kept)
+
+-- what the first of two lists of checks refuses is refused
+pub refused_decides : (first more : Checks) (changes : List Change) (why : Refusal) → Refused why ≡ first_of first → IsDecided (first ++ more) changes (Refuse why)
+refused_decides first more changes why is = record { says = refused_first first more why is; makes = ap (λ v. changes_if v changes) (refused_first first more why is) }

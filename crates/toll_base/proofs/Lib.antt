@@ -36,5 +36,6 @@ pub mod PutMoves
 pub mod Recorded
 pub mod Room
 pub mod Withdrawn
+pub mod Voided
 pub mod Unmoved
 pub mod OtherSublots

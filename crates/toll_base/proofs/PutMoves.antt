@@ -23,7 +23,7 @@ use Rattle.toll_base.proofs.Decided.{put_rows}
 use Rattle.toll_base.proofs.Grown.{more}
 use Rattle.toll_base.proofs.KeyOrder.{row_at-put_row, length-put_row, none_of}
 use Rattle.toll_base.proofs.PutTables.{length-new, count-new, any-new, any-known}
-use Rattle.toll_base.proofs.Texts.{pair_cmp_total, is_eq-then}
+use Rattle.toll_base.proofs.Texts.{pair_cmp_total, is_eq-then, same_bytes-symm}
 
 -- tables with one movement more
 abbrev pub with_move : MoveRow → Tables → Tables
@@ -125,3 +125,14 @@ put_went s row sublot absent = put_sublot (with_row s (Move row)) sublot ∙ ap 
 pub put_went_over : (s : Slice) (row : MoveRow) (target source : SublotRow) → is_some (move_at s row.key) ≡ false →
     tables_of (put_rows (Move row ∷ Sublot target ∷ Sublot source ∷ []) s) ≡ with_sublot source (with_sublot target (with_move row (tables_of s)))
 put_went_over s row target source absent = put_sublot (with_row (with_row s (Move row)) (Sublot target)) source ∙ ap (with_sublot source) (put_went s row target absent)
+
+some_or : {X : Type 0} (b : Bool) (new : X) (old : Option X) → is_some (cond b (Some new) old) ≡ (b || is_some old)
+some_or true new old = refl
+some_or false new old = refl
+
+pub put_void : (s : Slice) (row : VoidRow) → tables_of (with_row s (Void row)) ≡ with_void row.key (tables_of s)
+put_void s row i = record (tables_of s) {
+  voided = λ k. (ap is_some (row_at-put_row bytes_cmp nat_list_cmp_total (λ r. r.key) s.voids row k)
+      ∙ some_or (same_bytes k row.key) row (row_at bytes_cmp (λ r. r.key) s.voids k)
+      ∙ ap (λ b. b || is_some (row_at bytes_cmp (λ r. r.key) s.voids k)) (same_bytes-symm k row.key)) i;
+}

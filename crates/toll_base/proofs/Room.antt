@@ -132,14 +132,19 @@ module _ (s : Slice) where
       is_none (lot_at s lot) ≡ false → is_none (sublot_at s (lot, sub)) ≡ false →
       (is_none (sublot_at s (lot, target)) && nat_le 20000 (length s.sublots)) ≡ false → nat_lt 20000000000000 more ≡ false →
       RowsFit (Move row ∷ Sublot (record { lot = lot; sublot = target; amount = more }) ∷ Sublot (record { lot = lot; sublot = sub; amount = amount_in (tables_of s) lot sub - less }) ∷ []) s
-  went_over_fit row lot sub target more less keeps moves batch lot_there sub_there room small =
-      (move_room row moves batch,
-      (and_is _ _ (and_is _ _ (room_of (sublot_at s (lot, target)) 20000 (length s.sublots) room) (at_most more 20000000000000 small)) (some_of (lot_at s lot) lot_there),
-      (and_is _ _
-      (and_is _ _ (or_left _ _ (still_there pair_cmp pair_cmp_total (λ r. (r.lot, r.sublot)) s.sublots (record { lot = lot; sublot = target; amount = more }) (lot, sub) (some_of (sublot_at s (lot, sub)) sub_there)))
-      (at_most _ 20000000000000 (less_over (amount_in (tables_of s) lot sub) less (held_bound keeps lot sub))))
-      (some_of (lot_at s lot) lot_there),
-      tt)))
+  went_over_fit row lot sub target more less keeps moves batch lot_there sub_there room small = (
+    move_room row moves batch,
+    (
+      and_is _ _ (and_is _ _ (room_of (sublot_at s (lot, target)) 20000 (length s.sublots) room) (at_most more 20000000000000 small)) (some_of (lot_at s lot) lot_there),
+      (
+        and_is _ _
+            (and_is _ _ (or_left _ _ (still_there pair_cmp pair_cmp_total (λ r. (r.lot, r.sublot)) s.sublots (record { lot = lot; sublot = target; amount = more }) (lot, sub) (some_of (sublot_at s (lot, sub)) sub_there)))
+            (at_most _ 20000000000000 (less_over (amount_in (tables_of s) lot sub) less (held_bound keeps lot sub))))
+            (some_of (lot_at s lot) lot_there),
+        tt,
+      ),
+    ),
+  )
 
   -- a known sublot with less in it fits
   pub less_fit : (lot sub : Bytes) (amount : ℕ) → KeepsRules s → is_none (lot_at s lot) ≡ false → is_none (sublot_at s (lot, sub)) ≡ false → row_fits s (Sublot (record { lot = lot; sublot = sub; amount = amount_in (tables_of s) lot sub - amount })) ≡ true

@@ -15,3 +15,7 @@ sublot_bounds t lot sublot amount =
 -- or a lot whose material isn't there
 abbrev pub lot_bounds : Tables → (material lot sublot : Bytes) → ℕ → Checks
 lot_bounds t material lot sublot amount = (is_none (t.material material), Some LimitReached) ∷ sublot_bounds t lot sublot amount
+
+-- material given back to a sublot that isn't there
+abbrev pub returning_bounds : Tables → (lot sublot : Bytes) → ℕ → Checks
+returning_bounds t lot sublot amount = (is_none (t.sublot (lot, sublot)), Some LimitReached) ∷ sublot_bounds t lot sublot amount

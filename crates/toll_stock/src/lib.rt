@@ -5,19 +5,19 @@ mod dispositions;
 mod material_tests;
 mod materials;
 mod receipts;
-mod splits;
-mod taking;
-mod withdrawals;
 mod results;
+mod splits;
 mod stock;
+mod taking;
 #[cfg(test)]
 mod tests;
+mod withdrawals;
 
 pub use dispositions::{reject, release};
 pub use material_tests::add_test;
 pub use materials::add_material;
 pub use receipts::receive;
-pub use splits::split;
-pub use withdrawals::{scrap, ship};
 pub use results::record_result;
+pub use splits::split;
 pub use stock::{Totals, lot_totals, on_hand};
+pub use withdrawals::{scrap, ship};

@@ -90,7 +90,14 @@ fn plan_receipt(
         &[
             Change::Put(owner, Row::Move(*row)),
             Change::Put(owner, Row::Lot(lot_row)),
-            Change::Put(owner, Row::Sublot(SublotRow { lot, sublot, amount })),
+            Change::Put(
+                owner,
+                Row::Sublot(SublotRow {
+                    lot,
+                    sublot,
+                    amount,
+                }),
+            ),
         ],
     )
 }

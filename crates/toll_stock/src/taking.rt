@@ -10,12 +10,7 @@ use toll_base::{Amount, Name, Refusal, Slice};
 const MOST_MOVEMENTS: usize = 20_000;
 
 /// Whether there is enough in the sublot, and room for a movement.
-pub fn check_taking(
-    slice: &Slice,
-    lot: &Name,
-    sublot: &Name,
-    amount: Amount,
-) -> Result<(), Refusal>
+pub fn check_taking(slice: &Slice, lot: &Name, sublot: &Name, amount: Amount) -> Result<(), Refusal>
     ensures { said result ≡ first_of ((nat_lt (amount_in (tables_of slice.now) lot.now sublot.now) amount, Some Refusal.NotEnough) ∷ (nat_le 20000 (length slice.now.moves), Some Refusal.LimitReached) ∷ []) }
 {
     if slice.amount_in(lot, sublot) < amount.get() {

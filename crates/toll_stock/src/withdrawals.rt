@@ -137,17 +137,19 @@ fn taken(
         alloc,
         &[
             Change::Put(owner, Row::Move(*row)),
-            Change::Put(owner, Row::Sublot(SublotRow { lot, sublot, amount })),
+            Change::Put(
+                owner,
+                Row::Sublot(SublotRow {
+                    lot,
+                    sublot,
+                    amount,
+                }),
+            ),
         ],
     )
 }
 
-fn check_shipment(
-    slice: &Slice,
-    lot: &Name,
-    sublot: &Name,
-    amount: Amount,
-) -> Result<(), Refusal>
+fn check_shipment(slice: &Slice, lot: &Name, sublot: &Name, amount: Amount) -> Result<(), Refusal>
     ensures { said result ≡ first_of (ship_checks (tables_of slice.now) lot.now sublot.now amount) }
 {
     let Some(known) = slice.lot(lot) else {
@@ -162,12 +164,7 @@ fn check_shipment(
     check_taking(slice, lot, sublot, amount)
 }
 
-fn check_scrapping(
-    slice: &Slice,
-    lot: &Name,
-    sublot: &Name,
-    amount: Amount,
-) -> Result<(), Refusal>
+fn check_scrapping(slice: &Slice, lot: &Name, sublot: &Name, amount: Amount) -> Result<(), Refusal>
     ensures { said result ≡ first_of (scrap_checks (tables_of slice.now) lot.now sublot.now amount) }
 {
     if slice.lot(lot).is_none() {

@@ -1,3 +1,4 @@
+pub mod VoidLaw
 pub mod ConsumptionLaw
 pub mod ProductionLaw
 pub mod BatchLaw

@@ -1,3 +1,4 @@
 pub mod BatchView
 pub mod Opening
 pub mod Plans
+pub mod Voiding

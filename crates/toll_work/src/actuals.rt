@@ -33,13 +33,13 @@ const MOST_ACTUALS: u64 = 200;
 
 /// What a segment of a batch uses.
 #[derive(Clone, Copy)]
-struct Use {
-    order: Name,
-    number: BatchNo,
-    segment: Segment,
-    material: Name,
-    lot: LotId,
-    sublot: Name,
+pub struct Use {
+    pub order: Name,
+    pub number: BatchNo,
+    pub segment: Segment,
+    pub material: Name,
+    pub lot: LotId,
+    pub sublot: Name,
 }
 
 /// Records an actual of a batch of `own`'s owner: it consumes from a sublot of the owner's or of
@@ -184,8 +184,8 @@ fn plan_production(
     )
 }
 
-// The rows of this owner, which is the owner or HOUSE.
-fn slice_for<'a>(own: &'a Slice, house: &'a Slice, owner: &Name) -> &'a Slice
+/// The rows of this owner, which is the owner or HOUSE.
+pub fn slice_for<'a>(own: &'a Slice, house: &'a Slice, owner: &Name) -> &'a Slice
     ensures { tables_of result.now ≡ tables_for own.now.owner (tables_of own.now) (tables_of house.now) owner.now }
 {
     if *owner == *own.owner() { own } else { house }

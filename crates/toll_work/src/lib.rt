@@ -10,6 +10,7 @@ mod states;
 #[cfg(test)]
 mod tests;
 mod views;
+mod voids;
 
 pub use actuals::record_actual;
 pub use batches::{close_batch, command_batch, open_batch};
@@ -18,3 +19,4 @@ pub use recipes::{add_recipe, require};
 pub use states::{StateWord, next};
 pub use toll_base::{State, StateCommand};
 pub use views::{BatchView, RequirementLine, batch_view};
+pub use voids::void_actual;

@@ -1,0 +1,393 @@
+-- What a void owes.
+use Rattle.std.proofs.Common.{◌≡◌, ℕ, ◌+◌, ◌-◌, ◌≤◌, Bool, true, false, not, ◌&&◌, ◌||◌, cond, nat_le, nat_lt, Option, Some, None, is_some, is_none, List, [], ◌∷◌, ◌++◌, length, refl, sym, ap, subst, ◌∙◌, arith}
+use mathlib.Core.Bool.{false≢true}
+use Rattle.std.proofs.lemmas.Bool.{or_left, not-false}
+use Rattle.std.proofs.lemmas.Bool.Decides.{nat_tests}
+use Rattle.toll_base.specs.Bounds.{sublot_bounds, returning_bounds}
+use Rattle.toll_base.specs.Bytes.{Bytes, same_bytes, bytes_cmp}
+use Rattle.toll_base.specs.Keys.{pair_cmp}
+use Rattle.toll_base.specs.Values.{house_name}
+use Rattle.toll_base.specs.Command.{Void, by}
+use Rattle.toll_base.specs.History.{History, acts, owner_known}
+use Rattle.toll_base.specs.Movements.{lot_id, same_lot, movement_of, voided_in, brings_into, takes_from, sublot_known, stock}
+use Rattle.toll_base.specs.Slice.{Slice, with_row, lot_at, sublot_at, move_at}
+use Rattle.toll_base.specs.SliceRules.{KeepsRules, row_fits}
+use Rattle.toll_base.specs.Tables.{Tables, tables_of, tables_given, sublot_row, IsRowsOf}
+use Rattle.toll_base.specs.Words.{where_so, is_some_where, none_or}
+use Rattle.toll_base.specs.Decision.{IsDecided, after_changes, ChangesKeepRules, DecidesWith, DecisionKeepsRules}
+use Rattle.toll_base.specs.Verdict.{Verdict, Accepted, Refused, Checks, first_of, stopped, void_checks, is_actual, is_of_closed, takes_too_much, tables_for, amount_in, verdict, IsLawful, IsValid}
+use Rattle.toll_base.specs.Laws.{BringsOwn, TakesKnown}
+use Rattle.toll_work.specs.Voiding.{open_checks}
+use Rattle.toll_base.specs.declared.decision.Change.{Change}
+use Rattle.toll_base.specs.declared.decision.Change.TheVariants.{Put}
+use Rattle.toll_base.specs.declared.decision.Decision.{Decision}
+use Rattle.toll_base.specs.declared.decision.Decision.TheVariants.{Refuse}
+use Rattle.toll_base.specs.declared.refusal.Refusal.{Refusal}
+use Rattle.toll_base.specs.declared.lot.LotId.{LotId}
+use Rattle.toll_base.specs.declared.refusal.Refusal.TheVariants.{UnknownKey, Voided, BatchClosed, NotEnough, LimitReached}
+use Rattle.toll_base.specs.declared.role.Role.{Role}
+use Rattle.toll_base.specs.declared.role.Role.TheVariants.{Consumed, Produced}
+use Rattle.toll_base.specs.declared.rows.MoveRow.{MoveRow}
+use Rattle.toll_base.specs.declared.rows.Move.{Move as Moved}
+use Rattle.toll_base.specs.declared.rows.Move.TheVariants.{Receive, Split, Ship, Scrap, Actual}
+use Rattle.toll_base.specs.declared.rows.SublotRow.{SublotRow}
+use Rattle.toll_base.specs.declared.rows.VoidRow.{VoidRow}
+use Rattle.toll_base.specs.declared.rows.Row.TheVariants.{Sublot, Void as VoidPut}
+use Rattle.toll_base.proofs.Bools.{both, and_is}
+use Rattle.toll_base.proofs.EachMove.{of_found}
+use Rattle.toll_base.proofs.Owned.{all_bring_own, all_take_known}
+use Rattle.toll_base.proofs.Moving.{tables_for_are, held_is}
+use Rattle.toll_base.proofs.Stock.{stock_bounded}
+use Rattle.toll_base.proofs.StockChanges.{stock-voided}
+use Rattle.toll_base.proofs.Accepted.{none_applies}
+use Rattle.toll_base.proofs.Room.{unbounded, sublot_room_in, less_fit}
+use Rattle.toll_work.proofs.FoundRow.{row_at-key}
+use Rattle.toll_base.proofs.Decided.{verdict_is, right_over, taken_in, left_out, rules_by, keeps_put, keeps_skip}
+use Rattle.toll_base.proofs.Passed.{accepted_passes}
+use Rattle.toll_base.proofs.PutMoves.{with_sublot, with_void, is_at, put_sublot, put_void}
+use Rattle.toll_base.proofs.Texts.{same_bytes-exact, same_bytes-refl, same_bytes-symm, is_eq-then}
+use Rattle.toll_base.proofs.Grown.{more}
+use Rattle.toll_base.proofs.Voided.{own_but_sublots, others_but_sublots, given_back, taken_out, stayed_at}
+
+-- ---- the rows of all, where the void changes one sublot of this owner
+
+module _ (H : History) (o key : Bytes) (row : MoveRow) (lawful : IsLawful H) (valid : IsValid (Void key)) (accepted : verdict H (by o (Void key)) ≡ Accepted) (found : movement_of (acts o H) key ≡ Some row) (stays : voided_in (acts o H) key ≡ false) (q : SublotRow) (w : Bytes)
+    (there : is_none (sublot_row H w (q.lot, q.sublot)) ≡ false)
+    (its : (p : Bytes) → same_bytes w p ≡ true → (k : Bytes × Bytes) → sublot_row (by o (Void key) ∷ H) p k ≡ cond (is_at q.lot q.sublot k) (Some q) (sublot_row H p k))
+    (others : (p : Bytes) → same_bytes w p ≡ false → (k : Bytes × Bytes) → sublot_row (by o (Void key) ∷ H) p k ≡ sublot_row H p k) where
+  abbrev changes : List Change
+  changes = Put o (VoidPut (record { key = key })) ∷ Put w (Sublot q) ∷ []
+
+  there_of : (p : Bytes) → same_bytes w p ≡ true → is_none (sublot_row H p (q.lot, q.sublot)) ≡ false
+  there_of p same = ap (λ x. is_none (sublot_row H x (q.lot, q.sublot))) (sym (same_bytes-exact w p same)) ∙ there
+
+  -- tables that differ in the sublot alone have it
+  with_it : (p : Bytes) (t : Tables) → t.sublot ≡ sublot_row H p → same_bytes w p ≡ true → record t { sublot = sublot_row (by o (Void key) ∷ H) p } ≡ with_sublot q t
+  with_it p t is same i = record t {
+    sublot = λ k. (its p same k ∙ ap (λ (f : Bytes × Bytes → Option SublotRow). cond (is_at q.lot q.sublot k) (Some q) (f k)) (sym is)) i;
+    sublots = sym (ap (λ (f : Bytes × Bytes → Option SublotRow). more (is_none (f (q.lot, q.sublot))) t.sublots) is ∙ ap (λ b. more b t.sublots) (there_of p same)) i;
+  }
+
+  module _ (s : Slice) (rows : IsRowsOf H s) where
+    abbrev Done : Type 0
+    Done = IsRowsOf (by o (Void key) ∷ H) (after_changes changes s)
+
+    own_and_its : same_bytes o s.owner ≡ true → same_bytes w s.owner ≡ true → Done
+    own_and_its own mine =
+        let e = same_bytes-exact o s.owner own in
+        subst (IsRowsOf (by o (Void key) ∷ H))
+        (sym (taken_in o (VoidPut (record { key = key })) (Put w (Sublot q) ∷ []) s own ∙ taken_in w (Sublot q) [] (with_row s (VoidPut (record { key = key }))) mine))
+        (put_sublot (with_row s (VoidPut (record { key = key }))) q
+        ∙ ap (with_sublot q) (put_void s (record { key = key }) ∙ ap (with_void key) (rows ∙ ap (tables_given H) (sym e)))
+        ∙ sym (own_but_sublots H o key row lawful valid accepted found stays ∙ with_it o (with_void key (tables_given H o)) refl (ap (same_bytes w) e ∙ mine))
+        ∙ ap (tables_given (by o (Void key) ∷ H)) e)
+
+    own_alone : same_bytes o s.owner ≡ true → same_bytes w s.owner ≡ false → Done
+    own_alone own other =
+        let e = same_bytes-exact o s.owner own in
+        subst (IsRowsOf (by o (Void key) ∷ H))
+        (sym (taken_in o (VoidPut (record { key = key })) (Put w (Sublot q) ∷ []) s own ∙ left_out w (Sublot q) [] (with_row s (VoidPut (record { key = key }))) other))
+        (put_void s (record { key = key })
+        ∙ ap (with_void key) (rows ∙ ap (tables_given H) (sym e))
+        ∙ sym (own_but_sublots H o key row lawful valid accepted found stays ∙ (λ i. record (with_void key (tables_given H o)) { sublot = λ k. others o (ap (same_bytes w) e ∙ other) k i }))
+        ∙ ap (tables_given (by o (Void key) ∷ H)) e)
+
+    its_alone : same_bytes o s.owner ≡ false → same_bytes w s.owner ≡ true → Done
+    its_alone other mine =
+        subst (IsRowsOf (by o (Void key) ∷ H))
+        (sym (left_out o (VoidPut (record { key = key })) (Put w (Sublot q) ∷ []) s other ∙ taken_in w (Sublot q) [] s mine))
+        (put_sublot s q ∙ ap (with_sublot q) rows
+        ∙ sym (others_but_sublots H o key row lawful valid accepted found stays s.owner other ∙ with_it s.owner (tables_given H s.owner) refl mine))
+
+    neither : same_bytes o s.owner ≡ false → same_bytes w s.owner ≡ false → Done
+    neither other apart =
+        subst (IsRowsOf (by o (Void key) ∷ H))
+        (sym (left_out o (VoidPut (record { key = key })) (Put w (Sublot q) ∷ []) s other ∙ left_out w (Sublot q) [] s apart))
+        (rows ∙ sym (others_but_sublots H o key row lawful valid accepted found stays s.owner other ∙ (λ i. record (tables_given H s.owner) { sublot = λ k. others s.owner apart k i })))
+
+    pub rows_after : Done
+    rows_after =
+        elim (same_bytes o s.owner) as (λ b. same_bytes o s.owner ≡ b → Done) [
+          | true ↦ λ own. elim (same_bytes w s.owner) as (λ b. same_bytes w s.owner ≡ b → Done) [ true ↦ own_and_its own | false ↦ own_alone own ] refl
+          | false ↦ λ other. elim (same_bytes w s.owner) as (λ b. same_bytes w s.owner ≡ b → Done) [ true ↦ its_alone other | false ↦ neither other ] refl
+        ] refl
+
+-- ---- what the verdict on a void is
+
+-- over tables that have this movement at the key, or none
+abbrev checks_at : Tables → (key : Bytes) → Option MoveRow → Checks
+checks_at t key known =
+    (not (is_some_where (λ (r : MoveRow). is_actual r.what) known), Some UnknownKey)
+    ∷ (t.voided key, Some Voided)
+    ∷ (is_some_where (λ (r : MoveRow). is_of_closed t r.what) known, Some BatchClosed)
+    ∷ (is_some_where (λ (r : MoveRow). takes_too_much t r.amount r.what) known, Some NotEnough)
+    ∷ []
+
+-- a key without an actual is refused
+module _ (own house : Slice) (key : Bytes) (none : is_some_where (λ (r : MoveRow). is_actual r.what) (move_at own key) ≡ false) where
+  pub unknown_decided : DecidesWith (by own.owner (Void key)) own house (Refuse UnknownKey)
+  unfolding DecidesWith
+  unknown_decided H lawful valid known there house_there is_house =
+      let is : Refused UnknownKey ≡ verdict H (by own.owner (Void key)) =
+      ap (λ b. cond (not b) (Refused UnknownKey) (first_of (((tables_of own).voided key, Some Voided) ∷ (is_some_where (λ (r : MoveRow). is_of_closed (tables_of own) r.what) (move_at own key), Some BatchClosed) ∷ (is_some_where (λ (r : MoveRow). takes_too_much (tables_of own) r.amount r.what) (move_at own key), Some NotEnough) ∷ []))) (sym none)
+      ∙ verdict_is H own.owner (Void key) (tables_of own) (tables_of house) known there (house_there ∙ ap (tables_given H) is_house) in
+      right_over H (by own.owner (Void key)) (Refuse UnknownKey) (Refused UnknownKey) [] refl refl is (λ accepted s rows. absurd (not_accepted (is ∙ accepted)))
+    where
+      not_accepted : Refused UnknownKey ≡ Accepted → ⊥
+      not_accepted h = (cc)
+
+pub unknown_keeps : (s : Slice) (why : Refusal) → DecisionKeepsRules s (Refuse why)
+unfolding DecisionKeepsRules
+unknown_keeps s why = tt
+
+-- a known sublot is of a lot that is there
+lot_of_known : (s : Slice) → KeepsRules s → (lot sub : Bytes) → is_none (sublot_at s (lot, sub)) ≡ false → is_some (lot_at s lot) ≡ true
+lot_of_known s keeps lot sub known =
+    elim (sublot_at s (lot, sub)) as (λ x. sublot_at s (lot, sub) ≡ x → is_none x ≡ false → is_some (lot_at s lot) ≡ true) [
+      | None ↦ λ none known. absurd (false≢true (sym known))
+      | Some row ↦ λ is known.
+          let same = row_at-key pair_cmp (λ (r : SublotRow). (r.lot, r.sublot)) s.sublots (lot, sub) row is in
+          let e : lot ≡ row.lot = same_bytes-exact lot row.lot (both (same_bytes lot row.lot) (same_bytes sub row.sublot) (sym (is_eq-then (bytes_cmp lot row.lot) (bytes_cmp sub row.sublot)) ∙ same)).0 in
+          ap (λ k. is_some (lot_at s k)) e ∙ ap (none_or (λ (r : SublotRow). is_some (lot_at s r.lot))) (sym is) ∙ keeps.sublot_lots (lot, sub)
+    ] refl known
+
+none_is : {X : Type 0} (x : Option X) → is_some x ≡ true → is_none x ≡ false
+none_is (Some x) h = refl
+none_is None h = sym h
+
+-- a known sublot with an amount that may be there fits
+known_fits : (s : Slice) → KeepsRules s → (q : SublotRow) → is_none (sublot_at s (q.lot, q.sublot)) ≡ false → nat_lt 20000000000000 q.amount ≡ false → row_fits s (Sublot q) ≡ true
+known_fits s keeps q known amount =
+    sublot_room_in s q (ap (λ b. b && nat_le 20000 (length s.sublots)) known) amount (lot_of_known s keeps q.lot q.sublot known)
+
+-- ---- the void of a known actual
+
+module _ (own house : Slice) (key : Bytes) (row : MoveRow) (found_in : move_at own key ≡ Some row) (order : Bytes) (number segment : ℕ) (role : Role) (material : Bytes) (lot : LotId) (sublot : Bytes) (is : row.what ≡ Actual order number segment role material lot sublot) where
+  -- the movement as it says itself
+  abbrev said_so : MoveRow
+  said_so = record { key = row.key; what = Actual order number segment role material lot sublot; amount = row.amount; day = row.day }
+
+  as_said : row ≡ said_so
+  as_said i = record { key = row.key; what = is i; amount = row.amount; day = row.day }
+
+  at_key : move_at own key ≡ Some said_so
+  at_key = found_in ∙ ap Some as_said
+
+  module _ (H : History) (there : IsRowsOf H own) where
+    found : movement_of (acts own.owner H) key ≡ Some said_so
+    found = ap (λ (t : Tables). t.movement key) (sym there) ∙ at_key
+
+    stays : verdict H (by own.owner (Void key)) ≡ Accepted → voided_in (acts own.owner H) key ≡ false
+    stays accepted = accepted_passes H own.owner (Void key) accepted 1
+
+    -- the verdict, by what is known of the movement
+    verdict_at : owner_known H own.owner ≡ true → (u : Tables) → u ≡ tables_given H house_name → first_of (checks_at (tables_of own) key (Some said_so)) ≡ verdict H (by own.owner (Void key))
+    verdict_at known u houses =
+        ap (λ m. first_of (checks_at (tables_of own) key m)) (sym at_key)
+        ∙ verdict_is H own.owner (Void key) (tables_of own) u known there houses
+
+    its_place : (same_lot lot lot && same_bytes sublot sublot) ≡ true
+    its_place i = (same_bytes-refl lot.owner i && same_bytes-refl lot.lot i) && same_bytes-refl sublot i
+
+    sublot_there : sublot_known H lot sublot ≡ true → is_none (sublot_row H lot.owner (lot.lot, sublot)) ≡ false
+    sublot_there is_known = ap (λ b. is_none (where_so b (let q : SublotRow = record { lot = lot.lot; sublot = sublot; amount = stock H lot sublot } in q))) is_known
+
+  -- what the lot's tables are asked about: the sublot is there, and holds no more than may be
+  small : (n amount after m : ℕ) → after ≡ m + amount - 0 → n ≡ m → after ≤ 20000000000000 → nat_lt 20000000000000 (n + amount) ≡ false
+  small n amount after m is same le = let h : n + amount ≤ 20000000000000 = omega arith in grind (arith, nat_tests)
+
+  -- ---- of a consumption
+
+  module _ (consumes : role ≡ Consumed) where
+    abbrev source : Tables
+    source = tables_for own.owner (tables_of own) (tables_of house) lot.owner
+
+    abbrev more_in : Tables → SublotRow
+    more_in u = record { lot = lot.lot; sublot = sublot; amount = amount_in u lot.lot sublot + row.amount }
+
+    its_what : said_so.what ≡ Actual order number segment Consumed material lot sublot
+    its_what = ap (λ r. Actual order number segment r material lot sublot) consumes
+
+    takes_at : (o p : Bytes) (k : Bytes × Bytes) → takes_from (lot_id p k.0) k.1 o said_so.what ≡ ((same_bytes p lot.owner && same_bytes k.0 lot.lot) && same_bytes k.1 sublot)
+    takes_at o p k = ap (takes_from (lot_id p k.0) k.1 o) its_what
+
+    brings_none : (o p : Bytes) (k : Bytes × Bytes) → brings_into (lot_id p k.0) k.1 o said_so.what ≡ false
+    brings_none o p k = ap (brings_into (lot_id p k.0) k.1 o) its_what
+
+    module _ (H : History) (lawful : IsLawful H) (there : IsRowsOf H own) where
+      -- the sublot is known, and of a lot of the owner or HOUSE
+      taken_known : (sublot_known H lot sublot ≡ true) × ((same_bytes lot.owner own.owner || same_bytes lot.owner house_name) ≡ true)
+      taken_known = of_found (TakesKnown H) own.owner key said_so H (all_take_known H lawful) (found H there) lot sublot (ap (takes_from lot sublot own.owner) its_what ∙ its_place H there)
+
+      its_tables : tables_of house ≡ tables_given H house_name → source ≡ tables_given H lot.owner
+      its_tables houses = (λ i. tables_for own.owner (there i) (houses i) lot.owner) ∙ tables_for_are H own.owner lot.owner (ap not taken_known.1)
+
+      there_at : is_none (sublot_row H lot.owner (lot.lot, sublot)) ≡ false
+      there_at = sublot_there H there taken_known.0
+
+      -- there is room for what is given back
+      room : tables_of house ≡ tables_given H house_name → verdict H (by own.owner (Void key)) ≡ Accepted → first_of (returning_bounds source lot.lot sublot row.amount) ≡ Accepted
+      room houses accepted =
+          let u = its_tables houses in
+          let after : stock (by own.owner (Void key) ∷ H) lot sublot ≡ stock H lot sublot + row.amount - 0 =
+          stock-voided H own.owner key said_so lot sublot lawful (found H there) (stays H there accepted)
+          ∙ (λ i. stock H lot sublot + cond ((ap (takes_from lot sublot own.owner) its_what ∙ its_place H there) i) row.amount 0 - cond (ap (brings_into lot sublot own.owner) its_what i) row.amount 0) in
+          ap (λ t. first_of (returning_bounds t lot.lot sublot row.amount)) u
+          ∙ three_pass _ _ _ there_at (ap (λ b. b && nat_le 20000 (tables_given H lot.owner).sublots) there_at)
+          (small (amount_in (tables_given H lot.owner) lot.lot sublot) row.amount (stock (by own.owner (Void key) ∷ H) lot sublot) (stock H lot sublot) after (held_is H lot.owner lot.lot sublot)
+          (stock_bounded (by own.owner (Void key) ∷ H) lot sublot (lawful, tt, accepted)))
+        where
+          three_pass : (a b c : Bool) → a ≡ false → b ≡ false → c ≡ false → first_of ((a, Some LimitReached) ∷ (b, Some LimitReached) ∷ (c, Some LimitReached) ∷ []) ≡ Accepted
+          three_pass a b c ha hb hc = λ i. cond (ha i) (Refused LimitReached) (cond (hb i) (Refused LimitReached) (cond (hc i) (Refused LimitReached) Accepted))
+
+      -- the rows of all are those after the void
+      all_rows : tables_of house ≡ tables_given H house_name → verdict H (by own.owner (Void key)) ≡ Accepted → (s : Slice) → IsRowsOf H s → IsRowsOf (by own.owner (Void key) ∷ H) (after_changes (Put own.owner (VoidPut (record { key = key })) ∷ Put lot.owner (Sublot (more_in source)) ∷ []) s)
+      all_rows houses accepted =
+          rows_after H own.owner key said_so lawful tt accepted (found H there) (stays H there accepted) (more_in source) lot.owner there_at
+          (λ p same k.
+          let e = same_bytes-exact lot.owner p same in
+          given_back H own.owner key said_so lawful tt accepted (found H there) (stays H there accepted) p lot.lot sublot
+          (ap (λ w. is_none (sublot_row H w (lot.lot, sublot))) (sym e) ∙ there_at)
+          (λ k. brings_none own.owner p k)
+          (λ k. takes_at own.owner p k ∙ ap (λ b. (b && same_bytes k.0 lot.lot) && same_bytes k.1 sublot) (same_bytes-symm p lot.owner ∙ same)) k
+          ∙ ap (λ u. cond (is_at lot.lot sublot k) (Some (more_in u)) (sublot_row H p k)) (sym (its_tables houses ∙ ap (tables_given H) e)))
+          (λ p apart k.
+          stayed_at H own.owner key said_so lawful tt accepted (found H there) (stays H there accepted) p k (brings_none own.owner p k)
+          (takes_at own.owner p k ∙ ap (λ b. (b && same_bytes k.0 lot.lot) && same_bytes k.1 sublot) (same_bytes-symm p lot.owner ∙ apart)))
+
+      says : owner_known H own.owner ≡ true → tables_of house ≡ tables_given H house_name → first_of (open_checks (tables_of own) key order number) ≡ verdict H (by own.owner (Void key))
+      says known houses =
+          ap (λ w. first_of (checks_at (tables_of own) key (Some (record { key = row.key; what = w; amount = row.amount; day = row.day })))) (sym its_what)
+          ∙ verdict_at H there known (tables_of house) houses
+
+    module _ (d : Decision) (decided : IsDecided (open_checks (tables_of own) key order number ++ returning_bounds source lot.lot sublot row.amount) (Put own.owner (VoidPut (record { key = key })) ∷ Put lot.owner (Sublot (more_in source)) ∷ []) d) where
+      pub giving_decided : DecidesWith (by own.owner (Void key)) own house d
+      unfolding DecidesWith
+      giving_decided H lawful valid known there house_there is_house =
+          let houses = house_there ∙ ap (tables_given H) is_house in
+          let is = says H lawful there known houses in
+          right_over H (by own.owner (Void key)) d _ _ decided.says decided.makes
+          (unbounded (open_checks (tables_of own) key order number) (returning_bounds source lot.lot sublot row.amount) (λ passed. room H lawful there houses (sym is ∙ passed)) ∙ is)
+          (λ accepted. all_rows H lawful there houses accepted)
+
+      source_of : (s : Slice) → KeepsRules s → (u : Tables) → u ≡ tables_of s → is_none (u.sublot (lot.lot, sublot)) ≡ false → nat_lt 20000000000000 (amount_in u lot.lot sublot + row.amount) ≡ false → row_fits s (Sublot (more_in u)) ≡ true
+      source_of s keeps u e sub_there amount = known_fits s keeps (more_in u) (ap (λ (t : Tables). is_none (t.sublot (lot.lot, sublot))) (sym e) ∙ sub_there) amount
+
+      pub giving_keeps : KeepsRules own → DecisionKeepsRules own d
+      giving_keeps keeps =
+          rules_by own (Put own.owner (VoidPut (record { key = key })) ∷ Put lot.owner (Sublot (more_in source)) ∷ []) d _ decided keeps
+          (λ accepted.
+          let pass = none_applies (open_checks (tables_of own) key order number ++ returning_bounds source lot.lot sublot row.amount) accepted in
+          keeps_put own.owner (VoidPut (record { key = key })) (Put lot.owner (Sublot (more_in source)) ∷ []) own (same_bytes-refl own.owner) keeps refl
+          (λ kept.
+          elim (same_bytes lot.owner own.owner) as (λ b. same_bytes lot.owner own.owner ≡ b → ChangesKeepRules (Put lot.owner (Sublot (more_in source)) ∷ []) (with_row own (VoidPut (record { key = key })))) [
+            | true ↦ λ its.
+                keeps_put lot.owner (Sublot (more_in source)) [] (with_row own (VoidPut (record { key = key }))) its kept
+                (source_of own keeps source (ap (λ b. cond b (tables_of own) (tables_of house)) its) (pass 2) (pass 4))
+                (λ kept. tt)
+            | false ↦ λ its. keeps_skip lot.owner (Sublot (more_in source)) [] (with_row own (VoidPut (record { key = key }))) its kept tt
+          ] refl))
+
+      pub giving_keeps_house : same_bytes own.owner house.owner ≡ false → KeepsRules house → DecisionKeepsRules house d
+      giving_keeps_house other keeps =
+          rules_by house (Put own.owner (VoidPut (record { key = key })) ∷ Put lot.owner (Sublot (more_in source)) ∷ []) d _ decided keeps
+          (λ accepted.
+          let pass = none_applies (open_checks (tables_of own) key order number ++ returning_bounds source lot.lot sublot row.amount) accepted in
+          keeps_skip own.owner (VoidPut (record { key = key })) (Put lot.owner (Sublot (more_in source)) ∷ []) house other keeps
+          (elim (same_bytes lot.owner house.owner) as (λ b. same_bytes lot.owner house.owner ≡ b → ChangesKeepRules (Put lot.owner (Sublot (more_in source)) ∷ []) house) [
+            | true ↦ λ its.
+                let not_own : same_bytes lot.owner own.owner ≡ false = ap (λ w. same_bytes w own.owner) (same_bytes-exact lot.owner house.owner its) ∙ same_bytes-symm house.owner own.owner ∙ other in
+                keeps_put lot.owner (Sublot (more_in source)) [] house its keeps
+                (source_of house keeps source (ap (λ b. cond b (tables_of own) (tables_of house)) not_own) (pass 2) (pass 4))
+                (λ kept. tt)
+            | false ↦ λ its. keeps_skip lot.owner (Sublot (more_in source)) [] house its keeps tt
+          ] refl))
+
+  -- ---- of a production
+
+  module _ (produces : role ≡ Produced) where
+    abbrev less_in : Tables → SublotRow
+    less_in t = record { lot = lot.lot; sublot = sublot; amount = amount_in t lot.lot sublot - row.amount }
+
+    its_way : said_so.what ≡ Actual order number segment Produced material lot sublot
+    its_way = ap (λ r. Actual order number segment r material lot sublot) produces
+
+    brings_at : (o p : Bytes) (k : Bytes × Bytes) → brings_into (lot_id p k.0) k.1 o said_so.what ≡ ((same_bytes p lot.owner && same_bytes k.0 lot.lot) && same_bytes k.1 sublot)
+    brings_at o p k = ap (brings_into (lot_id p k.0) k.1 o) its_way
+
+    takes_none : (o p : Bytes) (k : Bytes × Bytes) → takes_from (lot_id p k.0) k.1 o said_so.what ≡ false
+    takes_none o p k = ap (takes_from (lot_id p k.0) k.1 o) its_way
+
+    abbrev own_checks : Checks
+    own_checks = open_checks (tables_of own) key order number ++ (nat_lt (amount_in (tables_of own) lot.lot sublot) row.amount, Some NotEnough) ∷ []
+
+    abbrev own_bounds : Checks
+    own_bounds = (is_none ((tables_of own).sublot (lot.lot, sublot)), Some LimitReached) ∷ []
+
+    module _ (H : History) (lawful : IsLawful H) (there : IsRowsOf H own) where
+      -- the sublot is known, and of a lot of the owner
+      brought_known : (lot.owner ≡ own.owner) × (sublot_known H lot sublot ≡ true)
+      brought_known = of_found (BringsOwn H) own.owner key said_so H (all_bring_own H lawful) (found H there) lot sublot (ap (brings_into lot sublot own.owner) its_way ∙ its_place H there)
+
+      there_own : is_none (sublot_row H own.owner (lot.lot, sublot)) ≡ false
+      there_own = ap (λ w. is_none (sublot_row H w (lot.lot, sublot))) (sym brought_known.0) ∙ sublot_there H there brought_known.1
+
+      its_owner : (p : Bytes) → same_bytes p lot.owner ≡ same_bytes p own.owner
+      its_owner p = ap (same_bytes p) brought_known.0
+
+      rows_of_all : verdict H (by own.owner (Void key)) ≡ Accepted → (s : Slice) → IsRowsOf H s → IsRowsOf (by own.owner (Void key) ∷ H) (after_changes (Put own.owner (VoidPut (record { key = key })) ∷ Put own.owner (Sublot (less_in (tables_of own))) ∷ []) s)
+      rows_of_all accepted =
+          rows_after H own.owner key said_so lawful tt accepted (found H there) (stays H there accepted) (less_in (tables_of own)) own.owner there_own
+          (λ p same k.
+          let e = same_bytes-exact own.owner p same in
+          taken_out H own.owner key said_so lawful tt accepted (found H there) (stays H there accepted) p lot.lot sublot
+          (ap (λ w. is_none (sublot_row H w (lot.lot, sublot))) (sym e) ∙ there_own)
+          (λ k. brings_at own.owner p k ∙ ap (λ b. (b && same_bytes k.0 lot.lot) && same_bytes k.1 sublot) (its_owner p ∙ same_bytes-symm p own.owner ∙ same))
+          (λ k. takes_none own.owner p k) k
+          ∙ ap (λ u. cond (is_at lot.lot sublot k) (Some (less_in u)) (sublot_row H p k)) (sym (there ∙ ap (tables_given H) e)))
+          (λ p apart k.
+          stayed_at H own.owner key said_so lawful tt accepted (found H there) (stays H there accepted) p k
+          (brings_at own.owner p k ∙ ap (λ b. (b && same_bytes k.0 lot.lot) && same_bytes k.1 sublot) (its_owner p ∙ same_bytes-symm p own.owner ∙ apart))
+          (takes_none own.owner p k))
+
+      own_says : owner_known H own.owner ≡ true → tables_of house ≡ tables_given H house_name → first_of own_checks ≡ verdict H (by own.owner (Void key))
+      own_says known houses =
+          ap (λ w. first_of (checks_at (tables_of own) key (Some (record { key = row.key; what = w; amount = row.amount; day = row.day })))) (sym its_way)
+          ∙ verdict_at H there known (tables_of house) houses
+
+      own_room : first_of own_bounds ≡ Accepted
+      own_room = ap (λ b. cond b (Refused LimitReached) Accepted) (ap (λ (t : Tables). is_none (t.sublot (lot.lot, sublot))) there ∙ there_own)
+
+    module _ (d : Decision) (decided : IsDecided (own_checks ++ own_bounds) (Put own.owner (VoidPut (record { key = key })) ∷ Put own.owner (Sublot (less_in (tables_of own))) ∷ []) d) where
+      pub taking_decided : DecidesWith (by own.owner (Void key)) own house d
+      unfolding DecidesWith
+      taking_decided H lawful valid known there house_there is_house =
+          right_over H (by own.owner (Void key)) d _ _ decided.says decided.makes
+          (unbounded own_checks own_bounds (λ passed. own_room H lawful there) ∙ own_says H lawful there known (house_there ∙ ap (tables_given H) is_house))
+          (λ accepted. rows_of_all H lawful there accepted)
+
+      pub taking_keeps : KeepsRules own → DecisionKeepsRules own d
+      taking_keeps keeps =
+          rules_by own (Put own.owner (VoidPut (record { key = key })) ∷ Put own.owner (Sublot (less_in (tables_of own))) ∷ []) d _ decided keeps
+          (λ accepted.
+          let sub_there = none_applies (own_checks ++ own_bounds) accepted 3 in
+          keeps_put own.owner (VoidPut (record { key = key })) (Put own.owner (Sublot (less_in (tables_of own))) ∷ []) own (same_bytes-refl own.owner) keeps refl
+          (λ kept.
+          keeps_put own.owner (Sublot (less_in (tables_of own))) [] (with_row own (VoidPut (record { key = key }))) (same_bytes-refl own.owner) kept
+          (less_fit own lot.lot sublot row.amount keeps (none_is (lot_at own lot.lot) (lot_of_known own keeps lot.lot sublot sub_there)) sub_there)
+          (λ kept. tt)))
+
+      pub taking_keeps_house : same_bytes own.owner house.owner ≡ false → KeepsRules house → DecisionKeepsRules house d
+      taking_keeps_house other keeps =
+          rules_by house (Put own.owner (VoidPut (record { key = key })) ∷ Put own.owner (Sublot (less_in (tables_of own))) ∷ []) d _ decided keeps
+          (λ accepted.
+          keeps_skip own.owner (VoidPut (record { key = key })) (Put own.owner (Sublot (less_in (tables_of own))) ∷ []) house other keeps
+          (keeps_skip own.owner (Sublot (less_in (tables_of own))) [] house other keeps tt))
+
+-- what is no actual
+pub not_actual : (what : Moved) → ((order : Bytes) (number segment : ℕ) (role : Role) (material : Bytes) (lot : LotId) (sublot : Bytes) → what ≡ Actual order number segment role material lot sublot → ⊥) → is_actual what ≡ false
+not_actual (Actual order number segment role material lot sublot) none = absurd (none order number segment role material lot sublot refl)
+not_actual (Receive material lot sublot) none = refl
+not_actual (Split lot sublot target) none = refl
+not_actual (Ship lot sublot) none = refl
+not_actual (Scrap lot sublot) none = refl

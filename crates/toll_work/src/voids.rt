@@ -1,0 +1,162 @@
+//! Voids.
+ghost use Rattle.std.specs.Prelude.{◌≡◌, ◌+◌, ◌-◌, false, nat_lt, is_none, Some, [], ◌∷◌, ◌++◌, IfOk};
+ghost use Rattle.toll_base.specs.Bounds.{returning_bounds};
+ghost use Rattle.toll_base.specs.Bytes.{same_bytes};
+ghost use Rattle.toll_base.specs.Command.{Void, by};
+ghost use Rattle.toll_base.specs.Decision.{IsDecided, DecidesWith, DecisionKeepsRules, said};
+ghost use Rattle.toll_base.specs.Tables.{tables_of};
+ghost use Rattle.toll_base.specs.Verdict.{first_of, tables_for, amount_in};
+ghost use Rattle.toll_base.specs.declared.decision.Change.TheVariants as Change;
+ghost use Rattle.toll_base.specs.declared.refusal.Refusal.TheVariants as Refusal;
+ghost use Rattle.toll_base.specs.declared.rows.Row.TheVariants as Row;
+ghost use Rattle.toll_work.specs.Voiding.{open_checks};
+
+use crate::actuals::{Use, slice_for};
+use std::alloc::{AllocError, Global};
+use toll_base::{
+    Amount, BatchNo, Change, Decision, Move, Name, Refusal, Role, Row, Slice, SublotRow, VoidRow,
+};
+
+/// Voids the actual with this key of a batch that isn't closed: what it consumed is given back to its
+/// sublot, whatever the lot's disposition, and what it produced is taken out. A lot that it produced
+/// stays known, with its material and origin, and no disposition changes.
+///
+/// [`Refusal::UnknownKey`] where `own`'s owner has no actual with the key, then [`Refusal::Voided`],
+/// [`Refusal::BatchClosed`], and for a production [`Refusal::NotEnough`] where its sublot holds less
+/// than its amount. Where the owner is HOUSE both slices are HOUSE's.
+pub fn void_actual(
+    alloc: Global,
+    own: &Slice,
+    house: &Slice,
+    key: Name,
+) -> Result<Decision, AllocError>
+    ensures decides { IfOk result (DecidesWith (by own.now.owner (Void key)) own.now house.now) }
+    ensures rules { IfOk result (DecisionKeepsRules own.now) }
+    ensures house_rules { same_bytes own.now.owner house.now.owner ≡ false → IfOk result (DecisionKeepsRules house.now) }
+{
+    // What each slice keeps is known where its owner is read.
+    let _own = own.owner();
+    let _house = house.owner();
+    let Some(row) = own.movement(&key) else {
+        return Ok(Decision::Refuse(Refusal::UnknownKey));
+    };
+    let what = row.what;
+    match what {
+        Move::Actual {
+            order,
+            number,
+            segment,
+            role,
+            material,
+            lot,
+            sublot,
+        } => {
+            let used = Use {
+                order,
+                number,
+                segment,
+                material,
+                lot,
+                sublot,
+            };
+            match role {
+                Role::Consumed => give_back(alloc, own, house, key, &used, row.amount),
+                Role::Produced => take_out(alloc, own, key, &used, row.amount),
+            }
+        }
+        _ => Ok(Decision::Refuse(Refusal::UnknownKey)),
+    }
+}
+
+fn give_back(
+    alloc: Global,
+    own: &Slice,
+    house: &Slice,
+    key: Name,
+    used: &Use,
+    amount: Amount,
+) -> Result<Decision, AllocError>
+    ensures plan { IfOk result (IsDecided
+        (open_checks (tables_of own.now) key used.now.order used.now.number
+        ++ returning_bounds (tables_for own.now.owner (tables_of own.now) (tables_of house.now) used.now.lot.owner) used.now.lot.lot used.now.sublot amount)
+        (Change.Put own.now.owner (Row.Void (record { key = key }))
+        ∷ Change.Put used.now.lot.owner (Row.Sublot (record { lot = used.now.lot.lot; sublot = used.now.sublot; amount = amount_in (tables_for own.now.owner (tables_of own.now) (tables_of house.now) used.now.lot.owner) used.now.lot.lot used.now.sublot + amount }))
+        ∷ [])) }
+{
+    if let Err(why) = check_open(own, &key, &used.order, used.number) {
+        return Ok(Decision::Refuse(why));
+    }
+    let source = slice_for(own, house, &used.lot.owner);
+    if source.sublot(&used.lot.lot, &used.sublot).is_none()
+        || !source.has_room_in(&used.lot.lot, &used.sublot, amount)
+    {
+        return Ok(Decision::Refuse(Refusal::LimitReached));
+    }
+    let held = SublotRow {
+        lot: used.lot.lot,
+        sublot: used.sublot,
+        amount: source.amount_in(&used.lot.lot, &used.sublot) + amount.get(),
+    };
+    Decision::accept_all(
+        alloc,
+        &[
+            Change::Put(*own.owner(), Row::Void(VoidRow { key })),
+            Change::Put(used.lot.owner, Row::Sublot(held)),
+        ],
+    )
+}
+
+fn take_out(
+    alloc: Global,
+    own: &Slice,
+    key: Name,
+    used: &Use,
+    amount: Amount,
+) -> Result<Decision, AllocError>
+    ensures plan { IfOk result (IsDecided
+        (open_checks (tables_of own.now) key used.now.order used.now.number
+        ++ (nat_lt (amount_in (tables_of own.now) used.now.lot.lot used.now.sublot) amount, Some Refusal.NotEnough)
+        ∷ (is_none ((tables_of own.now).sublot (used.now.lot.lot, used.now.sublot)), Some Refusal.LimitReached)
+        ∷ [])
+        (Change.Put own.now.owner (Row.Void (record { key = key }))
+        ∷ Change.Put own.now.owner (Row.Sublot (record { lot = used.now.lot.lot; sublot = used.now.sublot; amount = amount_in (tables_of own.now) used.now.lot.lot used.now.sublot - amount }))
+        ∷ [])) }
+{
+    if let Err(why) = check_open(own, &key, &used.order, used.number) {
+        return Ok(Decision::Refuse(why));
+    }
+    let held = own.amount_in(&used.lot.lot, &used.sublot);
+    if held < amount.get() {
+        return Ok(Decision::Refuse(Refusal::NotEnough));
+    }
+    if own.sublot(&used.lot.lot, &used.sublot).is_none() {
+        return Ok(Decision::Refuse(Refusal::LimitReached));
+    }
+    let left = SublotRow {
+        lot: used.lot.lot,
+        sublot: used.sublot,
+        amount: held.saturating_sub(amount.get()),
+    };
+    Decision::accept_all(
+        alloc,
+        &[
+            Change::Put(*own.owner(), Row::Void(VoidRow { key })),
+            Change::Put(*own.owner(), Row::Sublot(left)),
+        ],
+    )
+}
+
+// Whether the actual stands, and its batch isn't closed.
+fn check_open(own: &Slice, key: &Name, order: &Name, number: BatchNo) -> Result<(), Refusal>
+    ensures { said result ≡ first_of (open_checks (tables_of own.now) key.now order.now number) }
+{
+    if own.is_voided(key) {
+        return Err(Refusal::Voided);
+    }
+    if let Some(batch) = own.batch(order, number) {
+        if batch.closed {
+            return Err(Refusal::BatchClosed);
+        }
+    }
+    Ok(())
+}
