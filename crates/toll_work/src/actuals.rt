@@ -127,12 +127,11 @@ fn plan_consumption(
             .amount_in(&used.lot.lot, &used.sublot)
             .saturating_sub(row.amount.get()),
     };
+    // The movement is the batch's owner's, also where the lot is HOUSE's.
+    let recorded = Change::Put(owner, Row::Move(*row));
     Decision::accept_all(
         alloc,
-        &[
-            Change::Put(owner, Row::Move(*row)),
-            Change::Put(used.lot.owner, Row::Sublot(left)),
-        ],
+        &[recorded, Change::Put(used.lot.owner, Row::Sublot(left))],
     )
 }
 
@@ -154,8 +153,8 @@ fn plan_production(
     ensures kept { KeepsRules own.now }
 {
     let owner = *own.owner();
-    if let Some(known) = own.decided(row) {
-        return Ok(known);
+    if let Some(repeated) = own.decided(row) {
+        return Ok(repeated);
     }
     if let Err(why) = check_production(own, used, row.amount) {
         return Ok(Decision::Refuse(why));

@@ -97,12 +97,10 @@ fn give_back(
         sublot: used.sublot,
         amount: source.amount_in(&used.lot.lot, &used.sublot) + amount.get(),
     };
+    let voided = Change::Put(*own.owner(), Row::Void(VoidRow { key }));
     Decision::accept_all(
         alloc,
-        &[
-            Change::Put(*own.owner(), Row::Void(VoidRow { key })),
-            Change::Put(used.lot.owner, Row::Sublot(held)),
-        ],
+        &[voided, Change::Put(used.lot.owner, Row::Sublot(held))],
     )
 }
 
