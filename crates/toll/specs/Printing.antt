@@ -7,7 +7,7 @@ use Rattle.toll_base.specs.declared.refusal.Refusal.{Refusal}
 use Rattle.toll_desk.specs.declared.plant_cmd.PlantReply.{PlantReply}
 use Rattle.toll_desk.specs.declared.plant_cmd.PlantReply.TheVariants as plant
 use Rattle.toll_keep.specs.declared.fault.KeepFault.{KeepFault}
-use Rattle.toll_keep.specs.declared.fault.KeepFault.TheVariants.{Memory, Disk, Damaged, Closed}
+use Rattle.toll_keep.specs.Fault.{name_of}
 use Rattle.toll_wire.specs.OutTexts.{out_bytes}
 use Rattle.toll_wire.specs.declared.event.Answer.{Answer}
 use Rattle.toll_wire.specs.declared.event.Answer.TheVariants as answer
@@ -30,20 +30,13 @@ shown_body (b ∷ body) = codes " " ++ (b ∷ body)
 abbrev pub reply_line : Bytes → Bytes
 reply_line reply = status_of reply ++ (shown_body (body_of reply) ++ codes "\n")
 
--- the word of a fault
-abbrev pub fault_name : KeepFault → Bytes
-fault_name Memory = codes "Memory"
-fault_name Disk = codes "Disk"
-fault_name Damaged = codes "Damaged"
-fault_name Closed = codes "Closed"
-
 -- a refusal: its number and its word
 abbrev pub refusal_line : Refusal → Bytes
 refusal_line refusal = codes "refused " ++ (decimal (code_of refusal) ++ (codes " " ++ (title_of refusal ++ codes "\n")))
 
 -- a fault of the keep
 abbrev pub fault_line : KeepFault → Bytes
-fault_line fault = codes "fault " ++ (fault_name fault ++ codes "\n")
+fault_line fault = codes "fault " ++ (name_of fault ++ codes "\n")
 
 -- what the plant is answered; a text is lines already
 abbrev pub plant_lines : PlantReply → Bytes

@@ -103,18 +103,7 @@ fn print_refusal(alloc: Global, text: &mut Vec<u8>, refusal: &Refusal) -> Result
 fn print_fault(alloc: Global, text: &mut Vec<u8>, fault: &KeepFault) -> Result<(), AllocError>
     ensures { OnOk result (text.new.items ≡ text.old.items ++ spec.fault_line fault.now) }
 {
-    let name = fault_name(fault);
+    let name = fault.name();
     let line = format!(in alloc; "fault {name}\n")?;
     text.extend_from_slice(line.as_bytes())
-}
-
-fn fault_name(fault: &KeepFault) -> &'static str
-    ensures { result.now ≡ spec.fault_name fault.now }
-{
-    match fault {
-        KeepFault::Memory => "Memory",
-        KeepFault::Disk => "Disk",
-        KeepFault::Damaged => "Damaged",
-        KeepFault::Closed => "Closed",
-    }
 }

@@ -1,5 +1,5 @@
 -- What an accepted command says: none of its checks applies.
-use Rattle.std.proofs.Common.{◌≡◌, ℕ, zero, suc, Bool, true, false, Option, Some, None, List, [], ◌∷◌, ◌++◌, cond, refl, sym, ap, ◌∙◌}
+use Rattle.std.proofs.Common.{◌≡◌, ℕ, zero, suc, Bool, true, false, Option, Some, None, [], ◌∷◌, ◌++◌, cond, refl, sym, ap, ◌∙◌}
 use Rattle.toll_base.specs.Verdict.{Verdict, Accepted, Repeated, Refused, Checks, first_of, stopped}
 use Rattle.toll_base.specs.declared.refusal.Refusal.{Refusal}
 

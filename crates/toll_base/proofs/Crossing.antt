@@ -1,10 +1,10 @@
 -- In a lawful history nothing is brought into another owner's lot, and nothing is taken from one but from HOUSE's.
-use Rattle.std.proofs.Common.{◌≡◌, ℕ, Bool, true, false, not, ◌&&◌, ◌||◌, cond, Option, Some, None, List, [], ◌∷◌, ◌++◌, filter, refl, sym, ap, subst, ◌∙◌}
+use Rattle.std.proofs.Common.{◌≡◌, Bool, true, false, not, ◌&&◌, ◌||◌, cond, Some, None, List, [], ◌∷◌, ◌++◌, filter, refl, sym, ap, subst}
 use mathlib.Core.Bool.{false≢true}
 use Rattle.std.specs.List.{AllByRecursion}
 use Rattle.toll_base.specs.Bytes.{Bytes, same_bytes}
 use Rattle.toll_base.specs.Values.{house_name}
-use Rattle.toll_base.specs.Command.{Action, AddOwner, AddUnit, AddMaterial, AddTest, AddRecipe, Require, PlaceOrder, CancelOrder, OpenBatch, CommandBatch, CloseBatch, Record, RecordResult, Release, Reject, Void, Command}
+use Rattle.toll_base.specs.Command.{Action, Record, Void, Command}
 use Rattle.toll_base.specs.History.{History, owner_known}
 use Rattle.toll_base.specs.Movements.{Movement, moved_by, movements, standing_after, standing, has_key, lot_id, same_lot, brings_into, takes_from, made_by}
 use Rattle.toll_base.specs.Tables.{Tables}
@@ -19,7 +19,7 @@ use Rattle.toll_base.specs.declared.role.Role.TheVariants.{Consumed, Produced}
 use Rattle.toll_base.specs.declared.rows.Move.{Move}
 use Rattle.toll_base.specs.declared.rows.Move.TheVariants.{Receive, Split, Ship, Scrap, Actual}
 use Rattle.toll_base.proofs.Accepted.{none_applies, rest_accepts}
-use Rattle.toll_base.proofs.Texts.{same_bytes-exact, same_bytes-symm}
+use Rattle.toll_base.proofs.Texts.{same_bytes-exact}
 
 -- an actual of a lot that its owner may not touch so
 abbrev pub crosses_by : Bytes → Move → Bool

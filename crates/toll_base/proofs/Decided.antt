@@ -1,7 +1,6 @@
 -- From what a decision is, by its checks, to what it owes to every lawful history and to every slice.
 use Rattle.std.proofs.Common.{◌≡◌, ℕ, Bool, true, false, not, ◌&&◌, nat_le, nat_lt, cond, Some, List, [], ◌∷◌, ◌++◌, map, refl, sym, ap, subst, ◌∙◌, arith}
 use Rattle.std.proofs.lemmas.Bool.Decides.{nat_tests}
-use mathlib.Core.Bool.{false≢true}
 use Rattle.toll_base.specs.Bytes.{Bytes, same_bytes}
 use Rattle.toll_base.specs.Values.{house_name}
 use Rattle.toll_base.specs.Command.{Action, Command, by}
@@ -9,7 +8,7 @@ use Rattle.toll_base.specs.History.{History, owner_known}
 use Rattle.toll_base.specs.Slice.{Slice, with_row}
 use Rattle.toll_base.specs.SliceRules.{KeepsRules, row_fits}
 use Rattle.toll_base.specs.Tables.{Tables, tables_of, tables_given, IsRowsOf}
-use Rattle.toll_base.specs.Decision.{after_change, after_changes, verdict_of, changes_of, changes_if, ChangesKeepRules, IsRightOver, IsDecided, Decides, DecidesWith, DecisionKeepsRules}
+use Rattle.toll_base.specs.Decision.{after_changes, verdict_of, changes_of, changes_if, ChangesKeepRules, IsRightOver, IsDecided, Decides, DecidesWith, DecisionKeepsRules}
 use Rattle.toll_base.specs.Verdict.{Verdict, Accepted, Repeated, Refused, Checks, first_of, stopped, plant_given, action_checks, needs_owner, checks, verdict, grown, grow, IsLawful, IsValid}
 use Rattle.toll_base.specs.declared.decision.Change.{Change}
 use Rattle.toll_base.specs.declared.decision.Change.TheVariants.{Put}

@@ -1,11 +1,11 @@
 -- An owner's own commands and movements, among those of all.
-use Rattle.std.proofs.Common.{◌≡◌, ℕ, ◌+◌, Bool, true, false, not, ◌&&◌, cond, List, [], ◌∷◌, ◌++◌, map, filter, refl, sym, ap, subst, ◌∙◌}
+use Rattle.std.proofs.Common.{◌≡◌, Bool, true, false, not, ◌&&◌, cond, List, [], ◌∷◌, ◌++◌, map, filter, refl, sym, ap, subst, ◌∙◌}
 use mathlib.Core.Bool.{false≢true}
 use Rattle.toll_base.specs.Bytes.{Bytes, same_bytes}
-use Rattle.toll_base.specs.Command.{Action, AddOwner, AddUnit, AddMaterial, AddTest, AddRecipe, Require, PlaceOrder, CancelOrder, OpenBatch, CommandBatch, CloseBatch, Record, RecordResult, Release, Reject, Void, Command}
+use Rattle.toll_base.specs.Command.{Action, Record, Void, Command}
 use Rattle.toll_base.specs.History.{History, part, acts}
 use Rattle.toll_base.specs.Movements.{Movement, moved_by, movements, standing_after, standing, has_key}
-use Rattle.toll_base.proofs.Texts.{same_bytes-exact, same_bytes-refl}
+use Rattle.toll_base.proofs.Texts.{same_bytes-exact}
 
 filter_again : {X : Type 0} (p : X → Bool) (xs : List X) → filter p (filter p xs) ≡ filter p xs
 filter_again p [] = refl

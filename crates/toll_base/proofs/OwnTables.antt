@@ -1,13 +1,12 @@
 -- What belongs to an owner is the same over the whole history as over the owner's part of it.
-use Rattle.std.proofs.Common.{◌≡◌, ℕ, ◌+◌, ◌-◌, Bool, true, false, not, ◌&&◌, ◌||◌, cond, Option, Some, None, is_none, List, [], ◌∷◌, ◌++◌, filter, refl, sym, ap, subst, ◌∙◌, arith, zero-add}
-use mathlib.Core.Bool.{false≢true}
-use Rattle.std.specs.List.{AllByRecursion, list_any}
+use Rattle.std.proofs.Common.{◌≡◌, ℕ, ◌+◌, ◌-◌, Bool, true, false, not, ◌&&◌, ◌||◌, cond, Option, Some, None, is_none, List, [], ◌∷◌, filter, refl, sym, ap, subst, ◌∙◌, zero-add}
+use Rattle.std.specs.List.{list_any}
 use Rattle.std.specs.Option.{option_map}
 use Rattle.toll_base.specs.Bytes.{Bytes, same_bytes}
 use Rattle.toll_base.specs.Values.{house_name}
 use Rattle.toll_base.specs.Command.{Command}
 use Rattle.toll_base.specs.Words.{total, or_else, where_so, is_some_where}
-use Rattle.toll_base.specs.History.{History, part, acts}
+use Rattle.toll_base.specs.History.{History, part}
 use Rattle.toll_base.specs.Movements.{Movement, movements, standing, lot_id, brings_into, takes_from, made_by, first_made, lot_made, sublot_known, stock, brought, taken, makes_lot, makes_sublot, sublot_in, count_making, count_lots, count_sublots, lot_brought, material_used}
 use Rattle.toll_base.specs.Movements.{movement_of, count_movements, voided_in, count_actuals_of}
 use Rattle.toll_base.specs.Work.{material_of, count_materials, test_added, test_of, count_tests, recipe_of, count_recipes, recipe_used, requirement_of, count_requirements, order_of, count_orders, batch_of, count_opened}
@@ -17,7 +16,6 @@ use Rattle.toll_base.specs.declared.rows.SublotRow.{SublotRow}
 use Rattle.toll_base.specs.Roles.{same_role}
 use Rattle.toll_base.specs.Verdict.{IsLawful}
 use Rattle.toll_base.specs.declared.lot.LotId.{LotId}
-use Rattle.toll_base.specs.declared.rows.MoveRow.{MoveRow}
 use Rattle.toll_base.specs.declared.rows.Move.{Move}
 use Rattle.toll_base.specs.declared.rows.Move.TheVariants.{Receive, Split, Ship, Scrap, Actual}
 use Rattle.toll_base.specs.declared.role.Role.TheVariants.{Consumed, Produced}

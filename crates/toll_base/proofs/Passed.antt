@@ -2,7 +2,7 @@
 use Rattle.std.proofs.Common.{◌≡◌, ℕ, suc, false, not, ◌&&◌, Some, ◌∷◌}
 use Rattle.toll_base.specs.Bytes.{Bytes}
 use Rattle.toll_base.specs.Values.{house_name}
-use Rattle.toll_base.specs.Command.{Action, Record, Command, by}
+use Rattle.toll_base.specs.Command.{Action, Record, by}
 use Rattle.toll_base.specs.History.{History, owner_known}
 use Rattle.toll_base.specs.Tables.{tables_given}
 use Rattle.toll_base.specs.Verdict.{Accepted, first_of, verdict, checks, plant_given, action_checks, key_checks, movement_checks, needs_owner}

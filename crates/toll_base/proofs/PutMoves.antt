@@ -1,6 +1,5 @@
 -- The tables of a slice after a movement, a lot, a sublot or a void was put.
-use Rattle.std.proofs.Common.{◌≡◌, ℕ, suc, ◌+◌, Bool, true, false, ◌&&◌, ◌||◌, cond, Option, Some, None, is_some, is_none, List, [], ◌∷◌, length, refl, sym, ap, ◌∙◌, arith}
-use mathlib.Core.Bool.{false≢true}
+use Rattle.std.proofs.Common.{◌≡◌, ℕ, suc, ◌+◌, Bool, true, false, ◌&&◌, ◌||◌, cond, Option, Some, None, is_some, is_none, List, [], ◌∷◌, length, refl, ap, ◌∙◌, arith}
 use Rattle.std.specs.Cmp.Lexicographic.{nat_list_cmp_total}
 use Rattle.std.specs.Cmp.{IsTotalOrder}
 use Rattle.std.specs.List.{list_any}
@@ -13,7 +12,6 @@ use Rattle.toll_base.specs.Table.{row_at, put_row}
 use Rattle.toll_base.specs.Slice.{Slice, with_row, lot_at, move_at}
 use Rattle.toll_base.specs.SliceRules.{is_actual_of}
 use Rattle.toll_base.specs.Tables.{Tables, tables_of}
-use Rattle.toll_base.specs.Words.{none_or}
 use Rattle.toll_base.specs.declared.rows.LotRow.{LotRow}
 use Rattle.toll_base.specs.declared.rows.MoveRow.{MoveRow}
 use Rattle.toll_base.specs.declared.rows.SublotRow.{SublotRow}
@@ -21,7 +19,7 @@ use Rattle.toll_base.specs.declared.rows.VoidRow.{VoidRow}
 use Rattle.toll_base.specs.declared.rows.Row.TheVariants.{Lot, Sublot, Move, Void}
 use Rattle.toll_base.proofs.Decided.{put_rows}
 use Rattle.toll_base.proofs.Grown.{more}
-use Rattle.toll_base.proofs.KeyOrder.{row_at-put_row, length-put_row, none_of}
+use Rattle.toll_base.proofs.KeyOrder.{row_at-put_row, length-put_row}
 use Rattle.toll_base.proofs.PutTables.{length-new, count-new, any-new, any-known}
 use Rattle.toll_base.proofs.Texts.{pair_cmp_total, is_eq-then, same_bytes-symm}
 

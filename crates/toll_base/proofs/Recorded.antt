@@ -1,18 +1,16 @@
 -- The tables that a history gives after a movement more.
-use Rattle.std.proofs.Common.{◌≡◌, ℕ, suc, ◌+◌, ◌-◌, Bool, true, false, not, ◌&&◌, ◌||◌, cond, Option, Some, None, is_some, is_none, List, [], ◌∷◌, refl, sym, ap, ◌∙◌, arith}
+use Rattle.std.proofs.Common.{◌≡◌, ℕ, ◌+◌, ◌-◌, Bool, true, false, not, ◌&&◌, ◌||◌, cond, Option, Some, None, is_none, ◌∷◌, refl, sym, ap, ◌∙◌, arith}
 use mathlib.Core.Bool.{false≢true}
 use Rattle.std.specs.Option.{option_map}
 use Rattle.std.proofs.lemmas.Bool.{and_right}
 use Rattle.toll_base.specs.Bytes.{Bytes, same_bytes}
-use Rattle.toll_base.specs.Values.{house_name}
 use Rattle.toll_base.specs.Words.{or_else, where_so, is_some_where}
 use Rattle.toll_base.specs.Command.{Record, by}
 use Rattle.toll_base.specs.History.{History, acts}
 use Rattle.toll_base.specs.Movements.{lot_id, Made, made_by, first_made, lot_made, lot_brought, movements, movement_of, sublot_known, sublot_in, stock, brings_into, takes_from, makes_lot, makes_sublot, count_lots, count_sublots, material_used}
 use Rattle.toll_base.specs.Dispositions.{disposition_of}
-use Rattle.toll_base.specs.Tables.{Tables, tables_given, lot_row, sublot_row, without_amounts}
+use Rattle.toll_base.specs.Tables.{tables_given, lot_row, sublot_row}
 use Rattle.toll_base.specs.Verdict.{Accepted, IsLawful, IsValid, verdict, amount_in}
-use Rattle.toll_base.specs.Laws.{coming, going}
 use Rattle.toll_base.specs.declared.lot.Disposition.TheVariants.{Quarantined}
 use Rattle.toll_base.specs.declared.lot.Origin.{Origin}
 use Rattle.toll_base.specs.declared.rows.LotRow.{LotRow}

@@ -1,6 +1,5 @@
 -- That a slice has room for what is put, and that no lawful history leads where it has none.
-use Rattle.std.proofs.Common.{◌≡◌, ℕ, ◌+◌, ◌-◌, ◌≤◌, Bool, true, false, not, ◌&&◌, ◌||◌, cond, nat_le, nat_lt, length, Option, Some, None, is_some, is_none, List, [], ◌∷◌, ◌++◌, refl, sym, ap, subst, ◌∙◌, arith}
-use mathlib.Core.Bool.{false≢true}
+use Rattle.std.proofs.Common.{◌≡◌, ℕ, ◌+◌, ◌-◌, ◌≤◌, Bool, true, false, ◌&&◌, ◌||◌, cond, nat_le, nat_lt, length, Option, Some, None, is_some, is_none, [], ◌∷◌, ◌++◌, refl, ap, ◌∙◌, arith}
 use Rattle.std.specs.Cmp.Lexicographic.{nat_list_cmp_total}
 use Rattle.std.proofs.lemmas.Bool.{or_left, or_right}
 use Rattle.std.specs.Option.{option_map_or}
@@ -13,10 +12,8 @@ use Rattle.toll_base.specs.History.{History, acts}
 use Rattle.toll_base.specs.Movements.{lot_id, count_movements, count_sublots, stock, brings_into, takes_from}
 use Rattle.toll_base.specs.Slice.{Slice, with_row, material_at, lot_at, sublot_at, move_at}
 use Rattle.toll_base.specs.SliceRules.{KeepsRules, row_fits, batch_has_room}
-use Rattle.toll_base.specs.Tables.{Tables, tables_of, tables_given, sublot_row}
+use Rattle.toll_base.specs.Tables.{tables_of, tables_given, sublot_row}
 use Rattle.toll_base.specs.Verdict.{Accepted, Checks, first_of, stopped, amount_in, verdict, IsLawful, IsValid}
-use Rattle.toll_base.specs.Laws.{coming, going}
-use Rattle.toll_base.specs.declared.lot.LotId.{LotId}
 use Rattle.toll_base.specs.declared.refusal.Refusal.{Refusal}
 use Rattle.toll_base.specs.declared.refusal.Refusal.TheVariants.{LimitReached}
 use Rattle.toll_base.specs.declared.rows.LotRow.{LotRow}

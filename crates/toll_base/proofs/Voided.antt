@@ -1,11 +1,11 @@
 -- The tables that a history gives after a void.
-use Rattle.std.proofs.Common.{◌≡◌, ℕ, ◌+◌, ◌-◌, Bool, true, false, ◌||◌, cond, Some, is_none, ◌∷◌, refl, sym, ap, ◌∙◌, arith}
+use Rattle.std.proofs.Common.{◌≡◌, ℕ, ◌+◌, ◌-◌, Bool, true, false, cond, Some, is_none, ◌∷◌, refl, sym, ap, ◌∙◌, arith}
 use Rattle.toll_base.specs.Bytes.{Bytes, same_bytes}
 use Rattle.toll_base.specs.Words.{where_so}
 use Rattle.toll_base.specs.Command.{Void, by}
 use Rattle.toll_base.specs.History.{History, acts}
 use Rattle.toll_base.specs.Movements.{lot_id, movement_of, voided_in, sublot_known, stock, brings_into, takes_from, lot_made, count_lots, count_sublots, material_used}
-use Rattle.toll_base.specs.Tables.{Tables, tables_given, sublot_row}
+use Rattle.toll_base.specs.Tables.{tables_given, sublot_row}
 use Rattle.toll_base.specs.Verdict.{Accepted, IsLawful, IsValid, verdict, amount_in}
 use Rattle.toll_base.specs.declared.rows.MoveRow.{MoveRow}
 use Rattle.toll_base.specs.declared.rows.SublotRow.{SublotRow}

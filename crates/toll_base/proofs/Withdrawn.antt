@@ -1,12 +1,10 @@
 -- What a movement that takes from one of its owner's sublots does to the tables of all.
-use Rattle.std.proofs.Common.{◌≡◌, ◌-◌, true, false, ◌&&◌, None, is_some, is_none, List, [], ◌∷◌, refl, sym, ap, ◌∙◌}
+use Rattle.std.proofs.Common.{◌≡◌, ◌-◌, false, ◌&&◌, None, is_some, is_none, List, [], ◌∷◌, sym, ap, ◌∙◌}
 use Rattle.toll_base.specs.Bytes.{Bytes, same_bytes}
 use Rattle.toll_base.specs.Command.{Record, by}
 use Rattle.toll_base.specs.History.{History}
 use Rattle.toll_base.specs.Movements.{lot_id, Movement, made_by, makes_lot, makes_sublot, lot_brought, brings_into, takes_from}
-use Rattle.toll_base.specs.Slice.{Slice}
-use Rattle.toll_base.specs.SliceRules.{batch_has_room}
-use Rattle.toll_base.specs.Tables.{Tables, tables_of, tables_given, sublot_row}
+use Rattle.toll_base.specs.Tables.{Tables, tables_of, sublot_row}
 use Rattle.toll_base.specs.Verdict.{Accepted, amount_in, verdict}
 use Rattle.toll_base.specs.declared.rows.MoveRow.{MoveRow}
 use Rattle.toll_base.specs.declared.rows.SublotRow.{SublotRow}
@@ -14,7 +12,7 @@ use Rattle.toll_base.specs.declared.rows.Row.{Row}
 use Rattle.toll_base.specs.declared.rows.Row.TheVariants.{Sublot, Move}
 use Rattle.toll_base.proofs.Decided.{Grows, LeavesOthers}
 use Rattle.toll_base.proofs.Passed.{accepted_passes}
-use Rattle.toll_base.proofs.PutMoves.{with_move, with_sublot, is_at, put_went}
+use Rattle.toll_base.proofs.PutMoves.{with_move, with_sublot, put_went}
 use Rattle.toll_base.proofs.Recorded.{went_out, tables-untaken}
 use Rattle.toll_base.proofs.Texts.{same_bytes-refl, same_bytes-symm}
 

@@ -1,5 +1,5 @@
 -- What a slice has no room for, besides what a verdict checks. No lawful history leads there.
-use Rattle.std.specs.Prelude.{ℕ, ◌+◌, ◌&&◌, ◌||◌, nat_le, nat_lt, Some, is_none, [], ◌∷◌}
+use Rattle.std.specs.Prelude.{ℕ, ◌+◌, ◌&&◌, nat_le, nat_lt, Some, is_none, [], ◌∷◌}
 use Rattle.toll_base.specs.Bytes.{Bytes}
 use Rattle.toll_base.specs.Tables.{Tables}
 use Rattle.toll_base.specs.Verdict.{Checks, amount_in}

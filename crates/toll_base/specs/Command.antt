@@ -1,5 +1,5 @@
 -- What the office is asked to write down.
-use Rattle.std.specs.Prelude.{ℕ, ℤ, List}
+use Rattle.std.specs.Prelude.{ℕ, ℤ}
 use Rattle.toll_base.specs.Bytes.{Bytes}
 use Rattle.toll_base.specs.declared.rows.MaterialRow.{MaterialRow}
 use Rattle.toll_base.specs.declared.rows.TestRow.{TestRow}

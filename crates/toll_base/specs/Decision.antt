@@ -1,5 +1,5 @@
 -- What a decision is, and what it owes: it is the verdict, and its changes make the rows of the grown history.
-use Rattle.std.specs.Prelude.{◌≡◌, Bool, true, if◌then◌else◌, List, [], ◌∷◌, Result, Ok, Err}
+use Rattle.std.specs.Prelude.{◌≡◌, true, if◌then◌else◌, List, [], ◌∷◌, Result, Ok, Err}
 use Rattle.toll_base.specs.Bytes.{same_bytes}
 use Rattle.toll_base.specs.Values.{house_name}
 use Rattle.toll_base.specs.Command.{Command}
@@ -10,7 +10,7 @@ use Rattle.toll_base.specs.Tables.{IsRowsOf}
 use Rattle.toll_base.specs.Verdict.{Verdict, Checks, first_of, Accepted, Repeated as WasRepeated, Refused, verdict, grow, IsLawful, IsValid}
 use Rattle.toll_base.specs.declared.refusal.Refusal.{Refusal}
 use Rattle.toll_base.specs.declared.decision.Change.{Change}
-use Rattle.toll_base.specs.declared.decision.Change.TheVariants.{Owner, Unit as UnitAdded, Put}
+use Rattle.toll_base.specs.declared.decision.Change.TheVariants.{Put}
 use Rattle.toll_base.specs.declared.decision.Decision.{Decision}
 use Rattle.toll_base.specs.declared.decision.Decision.TheVariants.{Accept, Repeated, Refuse}
 

@@ -1,8 +1,8 @@
 -- Results of tests, and dispositions of lots (IEC 62264-2, test results and the status of material lots).
-use Rattle.std.specs.Prelude.{ℕ, ◌+◌, ℤ, Bool, true, false, not, ◌&&◌, ◌||◌, ◌==◌, int_lt, if◌then◌else◌, Option, Some, None, is_some, List, [], ◌∷◌}
+use Rattle.std.specs.Prelude.{ℕ, ◌+◌, ℤ, Bool, false, not, ◌&&◌, ◌||◌, ◌==◌, int_lt, if◌then◌else◌, Option, Some, None, is_some, List, [], ◌∷◌}
 use Rattle.std.specs.List.{list_any}
 use Rattle.toll_base.specs.Bytes.{Bytes, same_bytes}
-use Rattle.toll_base.specs.Words.{count, first_some, or_else, is_some_where, where_so}
+use Rattle.toll_base.specs.Words.{count, first_some, or_else, is_some_where}
 use Rattle.toll_base.specs.Command.{Action, RecordResult, Release, Reject}
 use Rattle.toll_base.specs.Work.{test_of, test_added}
 use Rattle.toll_base.specs.declared.limits.Limits.{Limits}

@@ -3,7 +3,7 @@ use Rattle.std.specs.Prelude.{ℕ, Bool, true, false, ◌||◌, Option, Some, No
 use Rattle.std.specs.List.{list_any}
 use Rattle.toll_base.specs.Bytes.{Bytes, same_bytes}
 use Rattle.toll_base.specs.Values.{house_name}
-use Rattle.toll_base.specs.Words.{count, first_some, where_so}
+use Rattle.toll_base.specs.Words.{count, first_some}
 use Rattle.toll_base.specs.Command.{Action, AddOwner, AddUnit, Command}
 
 abbrev pub History : Type 0

@@ -1,7 +1,7 @@
 -- Which batch holds a unit.
-use Rattle.std.specs.Prelude.{ℕ, ◌+◌, Bool, not, ◌&&◌, Option, Some, None, List, [], ◌∷◌, ◌++◌, find}
+use Rattle.std.specs.Prelude.{ℕ, ◌+◌, not, ◌&&◌, Option, List, [], ◌∷◌, ◌++◌, find}
 use Rattle.toll_base.specs.Bytes.{Bytes, same_bytes}
-use Rattle.toll_base.specs.Command.{Action, OpenBatch, Command}
+use Rattle.toll_base.specs.Command.{Action, OpenBatch}
 use Rattle.toll_base.specs.History.{History, acts}
 use Rattle.toll_base.specs.Work.{count_opened, is_closed}
 

@@ -1,12 +1,11 @@
 -- Movements, stock, and where lots come from. A lot is an owner with a name, and is asked about over the commands of all.
-use Rattle.std.specs.Prelude.{ℕ, ◌+◌, ◌-◌, Bool, true, false, not, ◌&&◌, ◌||◌, ◌==◌, if◌then◌else◌, Option, Some, None, is_none, is_some, List, [], ◌∷◌, ◌++◌, filter}
+use Rattle.std.specs.Prelude.{ℕ, ◌+◌, ◌-◌, Bool, false, not, ◌&&◌, if◌then◌else◌, Option, Some, None, is_none, is_some, List, [], ◌∷◌, ◌++◌, filter}
 use Rattle.std.specs.List.{list_any}
-use Rattle.std.specs.Option.{option_map}
 use Rattle.toll_base.specs.Bytes.{Bytes, same_bytes}
 use Rattle.toll_base.specs.Words.{total, count, first_some, or_else, is_some_where, where_so}
 use Rattle.toll_base.specs.Roles.{same_role}
 use Rattle.toll_base.specs.SliceRules.{is_actual_of}
-use Rattle.toll_base.specs.Command.{Action, Record, Void, Command}
+use Rattle.toll_base.specs.Command.{Action, Record, Void}
 use Rattle.toll_base.specs.History.{History}
 use Rattle.toll_base.specs.declared.rows.MoveRow.{MoveRow}
 use Rattle.toll_base.specs.declared.rows.Move.{Move}
@@ -14,7 +13,6 @@ use Rattle.toll_base.specs.declared.rows.Move.TheVariants.{Receive, Split, Ship,
 use Rattle.toll_base.specs.declared.lot.LotId.{LotId}
 use Rattle.toll_base.specs.declared.lot.Origin.{Origin}
 use Rattle.toll_base.specs.declared.lot.Origin.TheVariants.{Receipts, Batch}
-use Rattle.toll_base.specs.declared.role.Role.{Role}
 use Rattle.toll_base.specs.declared.role.Role.TheVariants.{Consumed, Produced}
 
 -- a lot of this owner

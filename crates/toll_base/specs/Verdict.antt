@@ -1,5 +1,5 @@
 -- The verdict on a command, as a list of checks in their order, and how a history grows.
-use Rattle.std.specs.Prelude.{◌≡◌, ℕ, ◌≤◌, ℤ, Bool, true, false, not, ◌&&◌, ◌||◌, if◌then◌else◌, nat_le, nat_lt, ◌==◌, Option, Some, None, is_some, is_none, List, [], ◌∷◌, ◌++◌}
+use Rattle.std.specs.Prelude.{◌≡◌, ℕ, ◌≤◌, Bool, true, false, not, ◌&&◌, ◌||◌, if◌then◌else◌, nat_le, nat_lt, ◌==◌, Option, Some, None, is_some, is_none, List, [], ◌∷◌, ◌++◌}
 use Rattle.std.specs.Option.{option_map_or}
 use Rattle.toll_base.specs.Bytes.{Bytes, same_bytes}
 use Rattle.toll_base.specs.Values.{house_name}
@@ -9,7 +9,7 @@ use Rattle.toll_base.specs.Keys.{RequirementKey}
 use Rattle.toll_base.specs.States.{next_state, may_close, is_idle}
 use Rattle.toll_base.specs.Command.{Action, AddOwner, AddUnit, AddMaterial, AddTest, AddRecipe, Require, PlaceOrder, CancelOrder, OpenBatch, CommandBatch, CloseBatch, Record, RecordResult, Release, Reject, Void, Command}
 use Rattle.toll_base.specs.History.{History, owner_known, count_owners, unit_known, count_units}
-use Rattle.toll_base.specs.Movements.{lot_id, same_lot}
+use Rattle.toll_base.specs.Movements.{same_lot}
 use Rattle.toll_base.specs.Holders.{holder}
 use Rattle.toll_base.specs.Dispositions.{is_outside}
 use Rattle.toll_base.specs.Tables.{Tables, tables_given}
@@ -20,7 +20,6 @@ use Rattle.toll_base.specs.declared.rows.TestRow.{TestRow}
 use Rattle.toll_base.specs.declared.rows.RecipeRow.{RecipeRow}
 use Rattle.toll_base.specs.declared.rows.RequirementRow.{RequirementRow}
 use Rattle.toll_base.specs.declared.rows.OrderRow.{OrderRow}
-use Rattle.toll_base.specs.declared.rows.BatchRow.{BatchRow}
 use Rattle.toll_base.specs.declared.rows.MoveRow.{MoveRow}
 use Rattle.toll_base.specs.declared.rows.Move.{Move}
 use Rattle.toll_base.specs.declared.rows.Move.TheVariants.{Receive, Split, Ship, Scrap, Actual}

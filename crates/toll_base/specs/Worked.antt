@@ -1,8 +1,8 @@
 -- Histories that worked examples begin with, and what is judged along further commands.
-use Rattle.std.specs.Prelude.{ℕ, ℤ, pos, negsuc, Bool, true, false, List, [], ◌∷◌, ◌++◌, codes}
+use Rattle.std.specs.Prelude.{ℕ, pos, negsuc, List, [], ◌∷◌, ◌++◌, codes}
 use Rattle.toll_base.specs.Bytes.{Bytes}
 use Rattle.toll_base.specs.Values.{house_name}
-use Rattle.toll_base.specs.Command.{Action, AddOwner, AddUnit, AddMaterial, AddTest, AddRecipe, Require, PlaceOrder, CancelOrder, OpenBatch, CommandBatch, CloseBatch, Record, RecordResult, Release, Reject, Void, Command, by}
+use Rattle.toll_base.specs.Command.{Action, AddOwner, AddUnit, AddMaterial, AddTest, AddRecipe, Require, PlaceOrder, OpenBatch, CommandBatch, Record, RecordResult, Release, Command, by}
 use Rattle.toll_base.specs.History.{History}
 use Rattle.toll_base.specs.Movements.{lot_id}
 use Rattle.toll_base.specs.Verdict.{Verdict, Accepted, verdict, grow}
@@ -10,7 +10,7 @@ use Rattle.toll_base.specs.declared.lot.LotId.{LotId}
 use Rattle.toll_base.specs.declared.role.Role.{Role}
 use Rattle.toll_base.specs.declared.role.Role.TheVariants.{Consumed, Produced}
 use Rattle.toll_base.specs.declared.rows.Move.{Move}
-use Rattle.toll_base.specs.declared.rows.Move.TheVariants.{Receive, Split, Ship, Scrap, Actual}
+use Rattle.toll_base.specs.declared.rows.Move.TheVariants.{Receive, Scrap, Actual}
 use Rattle.toll_base.specs.Work.{state_of}
 use Rattle.toll_base.specs.declared.state.State.{State}
 use Rattle.toll_base.specs.declared.state_command.StateCommand.{StateCommand}

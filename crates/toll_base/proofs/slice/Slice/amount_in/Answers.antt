@@ -1,4 +1,4 @@
-use Rattle.std.proofs.Common.{sym, ap, ◌∙◌, subst}
+use Rattle.std.proofs.Common.{sym, ◌∙◌, subst}
 use Rattle.toll_base.specs.SliceRules.{KeepsRules}
 use Rattle.toll_base.proofs.SliceFits.{amount_bound}
 use Rattle.toll_base.proofs.slice.Slice.amount_in.Goals as goal
