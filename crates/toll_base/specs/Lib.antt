@@ -20,5 +20,6 @@ pub mod Holders
 pub mod Tables
 pub mod Verdict
 pub mod Bounds
+pub mod Amounts
 pub mod Worked
 pub mod Laws

@@ -1,5 +1,5 @@
 -- Rows in the order of their keys, each key once.
-use Rattle.std.specs.Prelude.{ℕ, Bool, ◌||◌, nat_lt, length, Option, Some, None, is_some, List, [], ◌∷◌, map, if◌then◌else◌}
+use Rattle.std.specs.Prelude.{◌≡◌, ℕ, Bool, ◌||◌, nat_lt, length, Option, Some, None, is_some, List, [], ◌∷◌, map, if◌then◌else◌}
 use Rattle.std.specs.List.Sorted.{IsStrictlySortedBy}
 use Rattle.std.specs.Ordering.{is_eq, is_lt}
 use Rattle.std.specs.declared.cmp.Ordering.{Ordering}
@@ -31,3 +31,8 @@ module _ {K R : Type 0} (cmp : K → K → Ordering) (key : R → K) where
   -- a row with the key is there, or there is room for one more
   abbrev pub has_room : ℕ → List R → R → Bool
   has_room most rows row = is_some (row_at rows (key row)) || nat_lt (length rows) most
+
+-- the rows that are given at the keys, each once, in the order of the keys
+pub record AreRowsGiven {K R : Type 0} (cmp : K → K → Ordering) (key : R → K) (given : K → Option R) (rows : List R) : Type 0 where
+  pub ordered : IsInKeyOrder cmp key rows
+  pub at : (k : K) → row_at cmp key rows k ≡ given k

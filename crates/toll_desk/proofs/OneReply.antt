@@ -22,7 +22,7 @@ use Rattle.toll_base.proofs.Texts.{pair_cmp_total, result_cmp_total, requirement
 use Rattle.toll_base.proofs.SameRows.{same_rows}
 use Rattle.toll_trace.proofs.Unique.{trace_unique}
 use Rattle.toll_trace.specs.declared.way.Way.TheVariants.{Back, Forward}
-use Rattle.toll_desk.specs.Given.{AreRowsGiven}
+use Rattle.toll_base.specs.Table.{AreRowsGiven}
 use Rattle.toll_desk.specs.Told.{Asked, AskOrders, AskOrder, AskPlace, AskCancel, AskBatch, AskStock, AskLot, AskRelease, AskReject, AskBack, AskForward, AskHouseForward, RequirementLine, StockLine, Told, TellOrders, TellBatch, TellStock, TellLot, TellTrace}
 use Rattle.toll_desk.specs.Edges.{IsOwnJoined}
 use Rattle.toll_desk.specs.Replies.{has_key, stock_line, line_of, results_of_lot, sublots_of_lot, measure_of, AreOrdersTold, IsStockTold, IsBatchTold, IsLotTold, IsTraceTold, IsOrderOr, IsLotOr, IsBatchOr, IsTraceOr, has_consumed, IsWritten, IsOrderAfter, IsLotAfter, IsAnswer, IsReply}

@@ -15,7 +15,8 @@ use Rattle.toll_base.proofs.Texts.{same_bytes-symm}
 use Rattle.toll_base.proofs.Own.{standing-part}
 use Rattle.toll_base.proofs.Crossing.{crosses_by, standing_not_crossing, not_same_lot, and_false_two, is_the_owner, neither}
 use Rattle.toll_base.proofs.OwnTables.{total-own}
-use Rattle.toll_desk.specs.Given.{adds_to, ships_from, uses_up, amounts, on_hand, shipped, serves, actual_of}
+use Rattle.toll_base.specs.SliceRules.{is_actual_of}
+use Rattle.toll_base.specs.Amounts.{adds_to, ships_from, uses_up, amounts, on_hand, shipped, meets, serves, actual_of}
 
 module _ (o : Bytes) where
   -- movements of others that do not cross fail the test
@@ -53,11 +54,7 @@ module _ (o : Bytes) where
     ships_from_not l p _ other h = refl
 
     serves_not : (order : Bytes) (number : ℕ) (row : RequirementRow) → OthersFail (serves o order number row)
-    serves_not order number row p (Actual ord n segment role material lot sublot) other h = seven (same_bytes p o) _ _ _ _ _ _ (same_bytes-symm p o ∙ other)
-      where
-        seven : (a b c d e f g : Bool) → a ≡ false → (a && b && c && d && e && f && g) ≡ false
-        seven a b c d e f g h = ap (λ x. x && b && c && d && e && f && g) h
-    serves_not order number row p _ other h = refl
+    serves_not order number row p what other h = ap (λ x. x && is_actual_of order number what && meets row what) (same_bytes-symm p o ∙ other)
 
     pub on_hand-part : same_bytes o house_name ≡ false → (l : Bytes) → on_hand (part o H) (lot_id o l) ≡ on_hand H (lot_id o l)
     unfolding on_hand

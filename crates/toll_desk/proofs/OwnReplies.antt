@@ -20,7 +20,7 @@ use Rattle.toll_base.proofs.OwnTables.{lot_row-part, sublot_row-part, tables-par
 use Rattle.toll_base.proofs.Texts.{same_bytes-refl}
 use Rattle.toll_trace.specs.declared.way.Way.{Way}
 use Rattle.toll_trace.specs.declared.way.Way.TheVariants.{Back, Forward}
-use Rattle.toll_desk.specs.Given.{on_hand, actual_of}
+use Rattle.toll_base.specs.Amounts.{on_hand, actual_of}
 use Rattle.toll_desk.specs.Told.{Asked, AskOrders, AskOrder, AskPlace, AskCancel, AskBatch, AskStock, AskLot, AskRelease, AskReject, AskBack, AskForward, AskHouseForward, Told, TellRefused, TellForbidden}
 use Rattle.toll_desk.specs.Edges.{IsOwnJoined}
 use Rattle.toll_desk.specs.Replies.{has_key, measure_of, stock_line, line_of, results_of_lot, sublots_of_lot, AreOrdersTold, IsStockTold, IsBatchTold, IsLotTold, IsOrderOr, IsLotOr, IsBatchOr, IsTraceOr, has_consumed, IsWritten, IsOrderAfter, IsLotAfter, IsAnswer, IsReply, after_answer, after_reply}

@@ -17,7 +17,7 @@ use Rattle.toll_trace.specs.declared.step.Step.{Step}
 use Rattle.toll_trace.specs.Chain.{IsChain}
 use Rattle.toll_trace.specs.Trace.{IsTrace, lots_of}
 use Rattle.toll_trace.proofs.Members.{Contains-from_map, Contains-map}
-use Rattle.toll_desk.specs.Given.{on_hand, shipped}
+use Rattle.toll_base.specs.Amounts.{on_hand, shipped}
 use Rattle.toll_desk.specs.Edges.{IsOwnJoined, IsPlantJoined}
 use Rattle.toll_desk.specs.Joints.{IsJoint, AreJoints}
 use Rattle.toll_desk.specs.PlantAnswers.{RecallLine, recall_line, IsRecall}

@@ -20,7 +20,8 @@ use Rattle.toll_trace.specs.declared.way.Way.{Way}
 use Rattle.toll_trace.specs.declared.way.Way.TheVariants.{Forward}
 use Rattle.toll_trace.specs.declared.step.Step.{Step}
 use Rattle.toll_trace.specs.Trace.{IsTrace}
-use Rattle.toll_desk.specs.Given.{AreRowsGiven, on_hand, shipped}
+use Rattle.toll_base.specs.Table.{AreRowsGiven}
+use Rattle.toll_base.specs.Amounts.{on_hand, shipped}
 use Rattle.toll_desk.specs.Told.{Told, TellBatch}
 use Rattle.toll_desk.specs.Edges.{IsPlantJoined}
 use Rattle.toll_desk.specs.Replies.{IsBatchOr}

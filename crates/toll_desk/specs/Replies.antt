@@ -29,7 +29,8 @@ use Rattle.toll_trace.specs.declared.way.Way.{Way}
 use Rattle.toll_trace.specs.declared.way.Way.TheVariants.{Back, Forward}
 use Rattle.toll_trace.specs.declared.step.Step.{Step}
 use Rattle.toll_trace.specs.Trace.{IsTrace}
-use Rattle.toll_desk.specs.Given.{AreRowsGiven, on_hand, actual_of}
+use Rattle.toll_base.specs.Table.{AreRowsGiven}
+use Rattle.toll_base.specs.Amounts.{on_hand, actual_of}
 use Rattle.toll_desk.specs.Told.{Asked, AskOrders, AskOrder, AskPlace, AskCancel, AskBatch, AskStock, AskLot, AskRelease, AskReject, AskBack, AskForward, AskHouseForward, RequirementLine, StockLine, LotView, Told, TellForbidden, TellOrders, TellOrder, TellBatch, TellStock, TellLot, TellTrace, TellRefused}
 use Rattle.toll_desk.specs.Edges.{IsOwnJoined}
 

@@ -5,14 +5,13 @@ use Rattle.toll_base.specs.Slice.{empty_slice}
 use Rattle.toll_base.specs.Table.{row_at}
 use Rattle.toll_base.specs.History.{acts}
 use Rattle.toll_base.specs.Movements.{stock, sublot_known, lot_made, count_lots, count_sublots, material_used}
-use Rattle.toll_base.specs.Dispositions.{tests_open}
 use Rattle.toll_base.specs.Tables.{IsRowsOf}
 use Rattle.std.specs.List.Sorted.{IsStrictlySortedBy}
 use Rattle.toll_keep.specs.Content.{nothing}
 use Rattle.toll_keep.specs.Standing.{StandsFor}
 
 rows_of_nobody : (o : Bytes) → IsRowsOf [] (empty_slice o)
-unfolding row_at acts stock sublot_known lot_made count_lots count_sublots material_used tests_open
+unfolding row_at acts stock sublot_known lot_made count_lots count_sublots material_used
 rows_of_nobody o = refl
 
 pub nothing_stands : StandsFor nothing []

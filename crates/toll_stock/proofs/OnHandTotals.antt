@@ -26,7 +26,8 @@ use Rattle.toll_base.proofs.Options.{some_where}
 use Rattle.toll_base.proofs.Owned.{all_bring_own, all_take_known}
 use Rattle.toll_base.proofs.Stock.{covered}
 use Rattle.toll_base.proofs.Texts.{same_bytes-exact, same_bytes-refl, same_bytes-symm, is_eq-then, pair_cmp_total}
-use Rattle.toll_stock.specs.LotTotals.{adds_to, uses_up, received_or_produced, consumed_shipped_or_scrapped, on_hand_in}
+use Rattle.toll_base.specs.Amounts.{adds_to, uses_up, amounts, on_hand}
+use Rattle.toll_stock.specs.LotTotals.{on_hand_in}
 use Rattle.toll_stock.proofs.Sums.{total-along, total-each, total-plus, total-zero, total-swapped, cond-total, cond_zero, along, each_found, total_at}
 
 -- ---- the sublots that a movement brings into and takes from
@@ -223,16 +224,17 @@ module _ (H : History) (lawful : IsLawful H) (s : Slice) (there : IsRowsOf H s) 
       (along _ _ (λ row found. left (same_bytes row.lot lot) row.amount _ _ (held_is row found) (covered H (lot_id s.owner row.lot) row.sublot lawful)) s.sublots
       (each_found pair_cmp pair_cmp_total (λ row. (row.lot, row.sublot)) s.sublots ordered))
 
-  pub on_hand_is : on_hand_in s lot ≡ received_or_produced H id - consumed_shipped_or_scrapped H id
+  pub on_hand_is : on_hand_in s lot ≡ on_hand H id
+  unfolding on_hand
   on_hand_is =
       let split = total (λ (m : Movement). cond (splits id m.0 m.1.what) m.1.amount 0) (standing H) in
-      let came : total (λ m. cond (is_in id (goes_to m.0 m.1.what)) m.1.amount 0) (standing H) ≡ received_or_produced H id + split =
+      let came : total (λ m. cond (is_in id (goes_to m.0 m.1.what)) m.1.amount 0) (standing H) ≡ amounts (adds_to id) H + split =
       total-each _ (λ m. cond (adds_to id m.0 m.1.what) m.1.amount 0 + cond (splits id m.0 m.1.what) m.1.amount 0) (standing H) (λ m. into_lot id m.0 m.1.what m.1.amount)
       ∙ total-plus (λ m. cond (adds_to id m.0 m.1.what) m.1.amount 0) (λ m. cond (splits id m.0 m.1.what) m.1.amount 0) (standing H) in
-      let went : total (λ m. cond (is_in id (comes_from m.0 m.1.what)) m.1.amount 0) (standing H) ≡ consumed_shipped_or_scrapped H id + split =
+      let went : total (λ m. cond (is_in id (comes_from m.0 m.1.what)) m.1.amount 0) (standing H) ≡ amounts (uses_up id) H + split =
       total-each _ (λ m. cond (uses_up id m.0 m.1.what) m.1.amount 0 + cond (splits id m.0 m.1.what) m.1.amount 0) (standing H) (λ m. out_of_lot id m.0 m.1.what m.1.amount)
       ∙ total-plus (λ m. cond (uses_up id m.0 m.1.what) m.1.amount 0) (λ m. cond (splits id m.0 m.1.what) m.1.amount 0) (standing H) in
-      less (on_hand_in s lot) all_taken all_brought (received_or_produced H id) (consumed_shipped_or_scrapped H id) split held_and_taken (brought_is ∙ came) (taken_is ∙ went)
+      less (on_hand_in s lot) all_taken all_brought (amounts (adds_to id) H) (amounts (uses_up id) H) split held_and_taken (brought_is ∙ came) (taken_is ∙ went)
     where
       less : (held went came adds uses split : ℕ) → held + went ≡ came → came ≡ adds + split → went ≡ uses + split → held ≡ adds - uses
       less held went came adds uses split a b c = omega arith

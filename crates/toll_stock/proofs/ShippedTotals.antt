@@ -18,7 +18,8 @@ use Rattle.toll_base.specs.declared.rows.MoveRow.{MoveRow}
 use Rattle.toll_base.proofs.KeysOnce.{all_found, void_of_actual}
 use Rattle.toll_base.proofs.StandsOnce.{stands_once}
 use Rattle.toll_base.proofs.Texts.{same_bytes-exact, same_bytes-refl, same_bytes-symm}
-use Rattle.toll_stock.specs.LotTotals.{ships, shipped, is_shipment_of, shipped_in}
+use Rattle.toll_base.specs.Amounts.{ships_from, shipped}
+use Rattle.toll_stock.specs.LotTotals.{is_shipment_of, shipped_in}
 use Rattle.toll_stock.proofs.Sums.{total-along, total-each, total-zero, total-swapped, cond-total, cond_zero, along, each_found, total_at}
 use Rattle.toll_stock.proofs.OnHandTotals.{each_standing}
 
@@ -39,7 +40,7 @@ and_false true = refl
 and_false false = refl
 
 -- a shipment of an owner's lot is the owner's
-ships_own : (o lot w : Bytes) (what : Move) → ships (lot_id o lot) w what ≡ (same_bytes o w && is_shipment_of lot what)
+ships_own : (o lot w : Bytes) (what : Move) → ships_from (lot_id o lot) w what ≡ (same_bytes o w && is_shipment_of lot what)
 ships_own o lot w (Ship l sublot) = ap (λ b. same_bytes o w && b) (same_bytes-symm lot l)
 ships_own o lot w _ = and_false (same_bytes o w)
 
@@ -76,7 +77,7 @@ module _ (H : History) (lawful : IsLawful H) (s : Slice) (there : IsRowsOf H s) 
   both_ways true b n = refl
   both_ways false b n = refl
 
-  taken_by : (m : Movement) → movement_of (acts m.0 H) m.1.key ≡ Some m.1 → total (λ row. cond (has_key s.owner row.key m) (shipment lot row) 0) s.moves ≡ cond (ships (lot_id s.owner lot) m.0 m.1.what) m.1.amount 0
+  taken_by : (m : Movement) → movement_of (acts m.0 H) m.1.key ≡ Some m.1 → total (λ row. cond (has_key s.owner row.key m) (shipment lot row) 0) s.moves ≡ cond (ships_from (lot_id s.owner lot) m.0 m.1.what) m.1.amount 0
   taken_by m found =
       total-each _ (λ row. cond (same_bytes s.owner m.0) (cond (same_bytes m.1.key row.key) (shipment lot row) 0) 0) s.moves
       (λ row. ap (λ b. cond (same_bytes s.owner m.0 && b) (shipment lot row) 0) (same_bytes-symm row.key m.1.key) ∙ both_ways (same_bytes s.owner m.0) (same_bytes m.1.key row.key) (shipment lot row))
@@ -89,8 +90,9 @@ module _ (H : History) (lawful : IsLawful H) (s : Slice) (there : IsRowsOf H s) 
       ∙ sym (ap (λ b. cond b m.1.amount 0) (ships_own s.owner lot m.0 m.1.what))
 
   pub shipped_is : shipped_in s lot ≡ shipped H (lot_id s.owner lot)
+  unfolding shipped
   shipped_is =
       total-along _ (λ row. total (λ m. cond (has_key s.owner row.key m) (shipment lot row) 0) (standing H)) s.moves (along _ _ stands s.moves (each_found bytes_cmp nat_list_cmp_total (λ row. row.key) s.moves ordered))
       ∙ total-swapped (λ row m. cond (has_key s.owner row.key m) (shipment lot row) 0) s.moves (standing H)
-      ∙ total-along _ (λ m. cond (ships (lot_id s.owner lot) m.0 m.1.what) m.1.amount 0) (standing H)
+      ∙ total-along _ (λ m. cond (ships_from (lot_id s.owner lot) m.0 m.1.what) m.1.amount 0) (standing H)
       (along _ _ taken_by (standing H) (each_standing (λ m. movement_of (acts m.0 H) m.1.key ≡ Some m.1) H (all_found H lawful)))

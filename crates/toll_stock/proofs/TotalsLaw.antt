@@ -1,5 +1,5 @@
 -- What the totals of a lot are, over a history whose rows the slice has.
-use Rattle.std.proofs.Common.{◌≡◌, ◌-◌, Option, Some, None, is_some, refl, sym, ap, ◌∙◌}
+use Rattle.std.proofs.Common.{◌≡◌, Option, Some, None, is_some, refl, sym, ap, ◌∙◌}
 use Rattle.std.specs.Option.{option_map}
 use Rattle.toll_base.specs.Bytes.{Bytes, bytes_cmp}
 use Rattle.toll_base.specs.Keys.{pair_cmp}
@@ -11,7 +11,8 @@ use Rattle.toll_base.specs.Slice.{Slice, lot_at}
 use Rattle.toll_base.specs.Tables.{Tables, IsRowsOf}
 use Rattle.toll_base.specs.Verdict.{IsLawful}
 use Rattle.toll_base.specs.declared.rows.LotRow.{LotRow}
-use Rattle.toll_stock.specs.LotTotals.{received_or_produced, consumed_shipped_or_scrapped, shipped, totals_given, on_hand_in, shipped_in}
+use Rattle.toll_base.specs.Amounts.{on_hand, shipped}
+use Rattle.toll_stock.specs.LotTotals.{totals_given, on_hand_in, shipped_in}
 use Rattle.toll_stock.specs.declared.stock.Totals.{Totals}
 use Rattle.toll_stock.proofs.OnHandTotals.{on_hand_is}
 use Rattle.toll_stock.proofs.ShippedTotals.{shipped_is}
@@ -26,7 +27,7 @@ module _ (H : History) (s : Slice) (there : IsRowsOf H s) (lot : Bytes) where
   is_known = sym (ap (λ (t : Tables). is_some (t.lot lot)) there ∙ is_mapped _ (lot_made H (lot_id s.owner lot)))
 
   abbrev totals : Totals
-  totals = record { on_hand = received_or_produced H (lot_id s.owner lot) - consumed_shipped_or_scrapped H (lot_id s.owner lot); shipped = shipped H (lot_id s.owner lot) }
+  totals = record { on_hand = on_hand H (lot_id s.owner lot); shipped = shipped H (lot_id s.owner lot) }
 
   pub none_given : lot_at s lot ≡ None → None ≡ totals_given H (lot_id s.owner lot)
   none_given none = sym (ap (λ b. where_so b totals) (is_known ∙ ap is_some none))

@@ -5,7 +5,7 @@ use Rattle.std.specs.Ordering.{is_eq, ordering_then}
 use Rattle.std.specs.declared.cmp.Ordering.{Ordering}
 use Rattle.toll_base.specs.Bytes.{Bytes, same_bytes, bytes_cmp}
 use Rattle.toll_base.specs.Keys.{RequirementKey, requirement_cmp}
-use Rattle.toll_base.specs.Table.{IsInKeyOrder}
+use Rattle.toll_base.specs.Table.{IsInKeyOrder, AreRowsGiven}
 use Rattle.toll_base.specs.Words.{where_so}
 use Rattle.toll_base.specs.History.{History, acts}
 use Rattle.toll_base.specs.Slice.{Slice, order_at, batch_at, void_at}
@@ -19,7 +19,8 @@ use Rattle.toll_base.specs.declared.rows.MoveRow.{MoveRow}
 use Rattle.toll_base.specs.declared.rows.RequirementRow.{RequirementRow}
 use Rattle.toll_base.proofs.Bools.{both}
 use Rattle.toll_base.proofs.Texts.{same_bytes-exact, is_eq-then}
-use Rattle.toll_work.specs.BatchView.{meets, amount_for, standing_in, line, lines_in, IsViewIn, TellsInSlice, AreRowsGiven, actual_of, line_of, line_key, IsViewOver, TellsOverHistories}
+use Rattle.toll_base.specs.Amounts.{meets, actual_of}
+use Rattle.toll_work.specs.BatchView.{amount_for, standing_in, line, lines_in, IsViewIn, TellsInSlice, line_of, line_key, IsViewOver, TellsOverHistories}
 use Rattle.toll_work.specs.declared.views.BatchView.{BatchView}
 use Rattle.toll_work.proofs.KeyedRows.{made_at, made_ordered}
 use Rattle.toll_work.proofs.StandingSums.{of_owner, sum_of_rows}

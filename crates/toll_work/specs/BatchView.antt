@@ -1,15 +1,13 @@
 -- What is told of a batch: its row, and each requirement of its order's recipe with what the batch did of it.
 use Rattle.std.specs.Prelude.{◌≡◌, ℕ, Bool, false, not, ◌&&◌, ◌==◌, if◌then◌else◌, Option, Some, None, is_some, List, map, filter}
 use Rattle.std.specs.Option.{option_and_then}
-use Rattle.std.specs.declared.cmp.Ordering.{Ordering}
 use Rattle.toll_base.specs.Bytes.{Bytes, same_bytes}
-use Rattle.toll_base.specs.Roles.{same_role}
 use Rattle.toll_base.specs.Words.{total, where_so}
 use Rattle.toll_base.specs.Keys.{RequirementKey, requirement_cmp}
-use Rattle.toll_base.specs.Table.{row_at, IsInKeyOrder}
+use Rattle.toll_base.specs.Table.{AreRowsGiven}
+use Rattle.toll_base.specs.Amounts.{meets, actual_of}
 use Rattle.toll_base.specs.History.{History, acts}
 use Rattle.toll_base.specs.Work.{requirement_of, order_of, batch_of}
-use Rattle.toll_base.specs.Movements.{standing}
 use Rattle.toll_base.specs.Tables.{IsRowsOf}
 use Rattle.toll_base.specs.Verdict.{IsLawful}
 use Rattle.toll_base.specs.Slice.{Slice, order_at, batch_at, void_at}
@@ -18,15 +16,8 @@ use Rattle.toll_base.specs.declared.rows.BatchRow.{BatchRow}
 use Rattle.toll_base.specs.declared.rows.OrderRow.{OrderRow}
 use Rattle.toll_base.specs.declared.rows.RequirementRow.{RequirementRow}
 use Rattle.toll_base.specs.declared.rows.MoveRow.{MoveRow}
-use Rattle.toll_base.specs.declared.rows.Move.{Move}
-use Rattle.toll_base.specs.declared.rows.Move.TheVariants.{Actual}
 use Rattle.toll_work.specs.declared.views.BatchView.{BatchView}
 use Rattle.toll_work.specs.declared.views.RequirementLine.{RequirementLine}
-
--- an actual of the requirement's segment, role, source and material
-abbrev pub meets : RequirementRow → Move → Bool
-meets row (Actual order number segment role material lot sublot) = segment == row.segment && same_role role row.role && same_bytes lot.owner row.source && same_bytes material row.material
-meets row _ = false
 
 -- the sum of the amounts of those of these movements that meet the requirement
 abbrev pub amount_for : RequirementRow → List MoveRow → ℕ
@@ -55,19 +46,6 @@ abbrev pub TellsInSlice : Slice → (order : Bytes) → (number : ℕ) → Optio
 TellsInSlice s order number view = IsViewIn s order number (order_at s order) (batch_at s (order, number)) view
 
 -- ---- over a history
-
--- the rows that are given at the keys, each once, in the order of the keys
-pub record AreRowsGiven {K R : Type 0} (cmp : K → K → Ordering) (key : R → K) (given : K → Option R) (rows : List R) : Type 0 where
-  pub ordered : IsInKeyOrder cmp key rows
-  pub at : (k : K) → row_at cmp key rows k ≡ given k
-
--- an actual of the owner's batch that meets the requirement
-abbrev pub serves : Bytes → (order : Bytes) → (number : ℕ) → RequirementRow → Bytes → Move → Bool
-serves o order number row p what = same_bytes p o && is_actual_of order number what && meets row what
-
--- the sum of the batch's standing actuals of the requirement's segment, role, source and material
-unfoldable pub actual_of : History → Bytes → (order : Bytes) → (number : ℕ) → RequirementRow → ℕ
-actual_of H o order number row = total (λ m. if serves o order number row m.0 m.1.what then m.1.amount else 0) (standing H)
 
 -- a requirement of this recipe
 abbrev pub line_of : History → Bytes → (order : Bytes) → (number : ℕ) → (recipe : Bytes) → RequirementKey → Option RequirementLine

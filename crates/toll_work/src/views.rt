@@ -4,6 +4,7 @@ ghost use Rattle.toll_base.specs.Bytes.{bytes_cmp};
 ghost use Rattle.toll_base.specs.Keys.{requirement_cmp};
 ghost use Rattle.toll_base.specs.Table.{IsInKeyOrder};
 ghost use Rattle.toll_base.specs.Verdict.{requirement_key};
+ghost use Rattle.toll_base.specs.Amounts as amount;
 ghost use Rattle.toll_work.specs.BatchView as told;
 
 use std::alloc::{AllocError, Global};
@@ -122,7 +123,7 @@ fn amount_for(row: &RequirementRow, actuals: &[MoveRow]) -> u64
 
 // The movement's amount, if it meets the requirement.
 fn amount_of(row: &RequirementRow, actual: &MoveRow) -> u64
-    ensures amount { result ≡ if told.meets row.now actual.now.what then actual.now.amount else 0 }
+    ensures amount { result ≡ if amount.meets row.now actual.now.what then actual.now.amount else 0 }
     ensures bound { result ≤ 1000000000 }
 {
     if meets(row, &actual.what) {
@@ -134,7 +135,7 @@ fn amount_of(row: &RequirementRow, actual: &MoveRow) -> u64
 
 // Whether it is an actual of the requirement's segment, role, source and material.
 fn meets(row: &RequirementRow, what: &Move) -> bool
-    ensures { result ≡ told.meets row.now what.now }
+    ensures { result ≡ amount.meets row.now what.now }
 {
     match what {
         Move::Actual {
