@@ -1,5 +1,5 @@
 -- Lists of rows as a history gives them, and sums over a lot and a batch.
-use Rattle.std.specs.Prelude.{◌≡◌, ℕ, ◌+◌, ◌-◌, Bool, true, false, ◌&&◌, ◌==◌, if◌then◌else◌, Option, Some, None, List}
+use Rattle.std.specs.Prelude.{◌≡◌, ℕ, ◌-◌, Bool, false, ◌&&◌, ◌==◌, if◌then◌else◌, Option, List}
 use Rattle.std.specs.declared.cmp.Ordering.{Ordering}
 use Rattle.toll_base.specs.Bytes.{Bytes, same_bytes}
 use Rattle.toll_base.specs.Words.{total}
@@ -8,11 +8,10 @@ use Rattle.toll_base.specs.Table.{row_at, IsInKeyOrder}
 use Rattle.toll_base.specs.History.{History}
 use Rattle.toll_base.specs.Movements.{lot_id, same_lot, standing}
 use Rattle.toll_base.specs.declared.lot.LotId.{LotId}
-use Rattle.toll_base.specs.declared.role.Role.{Role}
 use Rattle.toll_base.specs.declared.role.Role.TheVariants.{Consumed, Produced}
 use Rattle.toll_base.specs.declared.rows.RequirementRow.{RequirementRow}
 use Rattle.toll_base.specs.declared.rows.Move.{Move}
-use Rattle.toll_base.specs.declared.rows.Move.TheVariants.{Receive, Split, Ship, Scrap, Actual}
+use Rattle.toll_base.specs.declared.rows.Move.TheVariants.{Receive, Ship, Scrap, Actual}
 
 -- the rows that are given at the keys, each once, in the order of the keys
 pub record AreRowsGiven {K R : Type 0} (cmp : K → K → Ordering) (key : R → K) (given : K → Option R) (rows : List R) : Type 0 where
