@@ -11,7 +11,6 @@ use Rattle.toll_base.specs.Movements.{movement_recorded, voided_in}
 use Rattle.toll_base.specs.declared.lot.LotId.{LotId}
 use Rattle.toll_base.specs.declared.lot.Edge.{Edge}
 use Rattle.toll_base.specs.declared.rows.MoveRow.{MoveRow}
-use Rattle.toll_trace.specs.declared.step.Step.{Step}
 use Rattle.toll_trace.specs.declared.way.Way.{Way}
 use Rattle.toll_trace.specs.Chain.{edge_of, IsJoined}
 use Rattle.toll_trace.specs.Edges.{AreEdges}

@@ -7,3 +7,8 @@ pub mod Recalls
 pub mod SliceEdges
 pub mod DrawnHere
 pub mod WorkedEdges
+pub mod Found
+pub mod Lift
+pub mod Answered
+pub mod Carried
+pub mod OwnerPlans

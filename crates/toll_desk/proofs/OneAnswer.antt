@@ -1,20 +1,19 @@
 -- Over a list of commands the plant has one answer to a command or a question.
-use Rattle.std.proofs.Common.{◌≡◌, ℕ, Option, Some, None, List, [], ◌∷◌, map, refl, sym, ap, ◌∙◌}
+use Rattle.std.proofs.Common.{◌≡◌, ℕ, Some, List, [], ◌∷◌, map, refl, sym, ap, ◌∙◌}
 use Rattle.std.specs.Cmp.Lexicographic.{nat_list_cmp_total}
 use Rattle.toll_base.specs.Bytes.{Bytes, bytes_cmp}
 use Rattle.toll_base.specs.Keys.{pair_cmp}
 use Rattle.toll_base.specs.History.{History, acts}
 use Rattle.toll_base.specs.Work.{order_of, batch_of}
 use Rattle.toll_base.specs.Tables.{tables_given, lot_row, sublot_row}
-use Rattle.toll_base.specs.Verdict.{Verdict, Accepted, Repeated, Refused, first_of, verdict, known_batch_checks}
+use Rattle.toll_base.specs.Verdict.{Verdict, Accepted, Repeated, Refused, first_of, known_batch_checks}
 use Rattle.toll_base.specs.declared.lot.LotId.{LotId}
 use Rattle.toll_base.proofs.Texts.{pair_cmp_total}
 use Rattle.toll_trace.proofs.Unique.{trace_unique}
 use Rattle.toll_trace.specs.declared.way.Way.{Way}
 use Rattle.toll_trace.specs.declared.way.Way.TheVariants.{Forward}
-use Rattle.toll_trace.specs.declared.step.Step.{Step}
 use Rattle.toll_desk.specs.Edges.{IsPlantJoined}
-use Rattle.toll_desk.specs.PlantAnswers.{PlantAsked, Does, AsksOrders, AsksStock, AsksBatch, AsksTrace, AsksRecall, CannotRead, RecallLine, PlantTold, Judged, ShowsOrders, ShowsStock, ShowsBatch, ShowsTrace, ShowsRecall, recall_line, IsRecall, AreOrdersShown, IsStockShown, IsBatchShown, IsTraceShown, IsRecallShown, IsCheckedOr, owner_checks, lot_checks, IsPlantAnswer}
+use Rattle.toll_desk.specs.PlantAnswers.{PlantAsked, Does, AsksOrders, AsksStock, AsksBatch, AsksTrace, AsksRecall, CannotRead, RecallLine, PlantTold, ShowsOrders, ShowsStock, ShowsBatch, ShowsTrace, ShowsRecall, recall_line, IsRecall, AreOrdersShown, IsStockShown, IsBatchShown, IsTraceShown, IsRecallShown, IsCheckedOr, owner_checks, lot_checks, IsPlantAnswer}
 use Rattle.toll_desk.proofs.OneReply.{one_list, one_batch_or}
 
 -- a fact of what the plant is told that one answer at most meets

@@ -1,17 +1,13 @@
 -- Over a list of commands an owner has one reply to a request.
-use Rattle.std.proofs.Common.{◌≡◌, ℕ, Bool, true, false, cond, Option, Some, None, is_some, List, MatchBool, refl, sym, ap, ◌∙◌}
+use Rattle.std.proofs.Common.{◌≡◌, ℕ, Bool, true, false, Option, Some, None, List, MatchBool, sym, ap, ◌∙◌}
 use Rattle.std.specs.Cmp.{IsTotalOrder}
 use Rattle.std.specs.Cmp.Lexicographic.{nat_list_cmp_total}
 use Rattle.std.specs.declared.cmp.Ordering.{Ordering}
 use Rattle.toll_base.specs.Bytes.{Bytes, bytes_cmp}
-use Rattle.toll_base.specs.Values.{house_name}
 use Rattle.toll_base.specs.Keys.{RequirementKey, requirement_cmp, result_cmp, pair_cmp}
-use Rattle.toll_base.specs.Command.{Action, PlaceOrder, CancelOrder, Release, Reject, by}
-use Rattle.toll_base.specs.History.{History, acts}
-use Rattle.toll_base.specs.Work.{order_of, batch_of}
-use Rattle.toll_base.specs.Movements.{lot_id}
-use Rattle.toll_base.specs.Tables.{tables_given, lot_row}
-use Rattle.toll_base.specs.Verdict.{Verdict, Accepted, Repeated, Refused, first_of, verdict, grow, known_batch_checks}
+use Rattle.toll_base.specs.Command.{Release, Reject, by}
+use Rattle.toll_base.specs.History.{History}
+use Rattle.toll_base.specs.Verdict.{Verdict, Accepted, Repeated, Refused, grow}
 use Rattle.toll_base.specs.declared.lot.LotId.{LotId}
 use Rattle.toll_base.specs.declared.rows.OrderRow.{OrderRow}
 use Rattle.toll_base.specs.declared.rows.LotRow.{LotRow}
@@ -21,11 +17,9 @@ use Rattle.toll_base.specs.declared.rows.SublotRow.{SublotRow}
 use Rattle.toll_base.proofs.Texts.{pair_cmp_total, result_cmp_total, requirement_cmp_total}
 use Rattle.toll_base.proofs.SameRows.{same_rows}
 use Rattle.toll_trace.proofs.Unique.{trace_unique}
-use Rattle.toll_trace.specs.declared.way.Way.TheVariants.{Back, Forward}
 use Rattle.toll_base.specs.Table.{AreRowsGiven}
 use Rattle.toll_desk.specs.Told.{Asked, AskOrders, AskOrder, AskPlace, AskCancel, AskBatch, AskStock, AskLot, AskRelease, AskReject, AskBack, AskForward, AskHouseForward, RequirementLine, StockLine, Told, TellOrders, TellBatch, TellStock, TellLot, TellTrace}
-use Rattle.toll_desk.specs.Edges.{IsOwnJoined}
-use Rattle.toll_desk.specs.Replies.{has_key, stock_line, line_of, results_of_lot, sublots_of_lot, measure_of, AreOrdersTold, IsStockTold, IsBatchTold, IsLotTold, IsTraceTold, IsOrderOr, IsLotOr, IsBatchOr, IsTraceOr, has_consumed, IsWritten, IsOrderAfter, IsLotAfter, IsAnswer, IsReply}
+use Rattle.toll_desk.specs.Replies.{has_key, AreOrdersTold, IsStockTold, IsBatchTold, IsLotTold, IsTraceTold, IsOrderOr, IsLotOr, IsBatchOr, IsTraceOr, IsWritten, IsAnswer, IsReply}
 
 -- a fact of replies that one reply at most meets
 abbrev pub IsOne : (Told → Type 0) → Type 0

@@ -1,12 +1,11 @@
 -- What is on hand of an owner's lots, and what its batches did, comes from the owner's part of a history.
-use Rattle.std.proofs.Common.{◌≡◌, ℕ, ◌-◌, Bool, true, false, not, ◌&&◌, cond, refl, sym, ap, subst, ◌∙◌}
+use Rattle.std.proofs.Common.{◌≡◌, ℕ, ◌-◌, Bool, false, ◌&&◌, cond, refl, sym, ap, subst, ◌∙◌}
 use Rattle.toll_base.specs.Bytes.{Bytes, same_bytes}
 use Rattle.toll_base.specs.Values.{house_name}
 use Rattle.toll_base.specs.Words.{total}
 use Rattle.toll_base.specs.History.{History, part}
-use Rattle.toll_base.specs.Movements.{Movement, standing, lot_id}
+use Rattle.toll_base.specs.Movements.{standing, lot_id}
 use Rattle.toll_base.specs.Verdict.{IsLawful}
-use Rattle.toll_base.specs.declared.lot.LotId.{LotId}
 use Rattle.toll_base.specs.declared.role.Role.TheVariants.{Consumed, Produced}
 use Rattle.toll_base.specs.declared.rows.RequirementRow.{RequirementRow}
 use Rattle.toll_base.specs.declared.rows.Move.{Move}

@@ -1,10 +1,10 @@
 -- Whose edges a chain goes over: an owner's lots, and HOUSE's at its start.
-use Rattle.std.proofs.Common.{◌≡◌, ◌⊎◌, ℕ, zero, suc, ◌+◌, Bool, true, false, not, ◌&&◌, ◌||◌, cond, List, [], ◌∷◌, refl, sym, ap, subst, ◌∙◌, inl, inr, arith}
+use Rattle.std.proofs.Common.{◌≡◌, ◌⊎◌, ℕ, zero, suc, ◌+◌, true, false, not, ◌||◌, [], ◌∷◌, refl, sym, ap, subst, ◌∙◌, inl, inr, arith}
 use Rattle.std.specs.Prelude.{Contains}
 use mathlib.Core.Bool.{false≢true}
 use Rattle.toll_base.specs.Bytes.{Bytes, same_bytes}
 use Rattle.toll_base.specs.Values.{house_name}
-use Rattle.toll_base.specs.Command.{Action, AddOwner, AddUnit, AddMaterial, AddTest, AddRecipe, Require, PlaceOrder, CancelOrder, OpenBatch, CommandBatch, CloseBatch, Record, RecordResult, Release, Reject, Void, Command}
+use Rattle.toll_base.specs.Command.{Record}
 use Rattle.toll_base.specs.History.{History, acts}
 use Rattle.toll_base.specs.Verdict.{IsLawful, crosses}
 use Rattle.toll_base.specs.declared.lot.LotId.{LotId}
@@ -19,7 +19,7 @@ use Rattle.toll_trace.specs.declared.way.Way.TheVariants.{Back, Forward}
 use Rattle.toll_trace.specs.Chain.{IsChain}
 use Rattle.toll_trace.specs.Edges.{IsActual}
 use Rattle.toll_trace.proofs.Members.{Contains-none, Contains-cases}
-use Rattle.toll_desk.specs.Edges.{WasDone, IsOwnEdge, IsOwnJoined, IsPlantJoined}
+use Rattle.toll_desk.specs.Edges.{WasDone, IsOwnJoined, IsPlantJoined}
 
 -- ---- an accepted movement does not cross
 

@@ -1,5 +1,5 @@
 -- An owner's replies come from the owner's part of a history.
-use Rattle.std.proofs.Common.{◌≡◌, ℕ, Bool, true, false, not, ◌&&◌, ◌||◌, cond, Option, Some, None, is_some, List, [], ◌∷◌, MatchBool, ◌↔◌, refl, sym, ap, subst, ◌∙◌}
+use Rattle.std.proofs.Common.{◌≡◌, ℕ, Bool, true, false, not, ◌&&◌, ◌||◌, cond, Option, Some, None, is_some, [], ◌∷◌, MatchBool, ◌↔◌, refl, sym, ap, ◌∙◌}
 use Rattle.std.specs.List.{list_any}
 use Rattle.std.specs.Option.{option_map, option_map_or, option_and_then}
 use Rattle.toll_base.specs.Bytes.{Bytes, same_bytes}
@@ -9,19 +9,17 @@ use Rattle.toll_base.specs.Command.{Action, PlaceOrder, CancelOrder, Release, Re
 use Rattle.toll_base.specs.History.{History, part, acts, owner_known, owner_key, adds_owner}
 use Rattle.toll_base.specs.Work.{material_of, order_of, batch_of, requirement_of}
 use Rattle.toll_base.specs.Movements.{lot_id}
-use Rattle.toll_base.specs.Tables.{Tables, tables_given, lot_row, sublot_row}
-use Rattle.toll_base.specs.Verdict.{Verdict, Accepted, Repeated, Refused, Checks, first_of, checks, verdict, grow, grown, IsLawful, IsValid, needs_owner, order_checks, cancel_checks, release_checks, reject_checks, known_batch_checks}
-use Rattle.toll_base.specs.declared.refusal.Refusal.TheVariants.{UnknownOwner, UnknownLot}
+use Rattle.toll_base.specs.Tables.{Tables, tables_given, lot_row}
+use Rattle.toll_base.specs.Verdict.{Verdict, Accepted, Repeated, Refused, Checks, first_of, checks, verdict, grow, grown, IsLawful, IsValid, order_checks, cancel_checks, release_checks, reject_checks, known_batch_checks}
+use Rattle.toll_base.specs.declared.refusal.Refusal.TheVariants.{UnknownOwner}
 use Rattle.toll_base.specs.declared.rows.OrderRow.{OrderRow}
 use Rattle.toll_base.specs.declared.rows.LotRow.{LotRow}
 use Rattle.toll_base.specs.declared.rows.BatchRow.{BatchRow}
 use Rattle.toll_base.proofs.Own.{acts-part, part-own}
 use Rattle.toll_base.proofs.OwnTables.{lot_row-part, sublot_row-part, tables-part}
 use Rattle.toll_base.proofs.Texts.{same_bytes-refl}
-use Rattle.toll_trace.specs.declared.way.Way.{Way}
 use Rattle.toll_trace.specs.declared.way.Way.TheVariants.{Back, Forward}
-use Rattle.toll_base.specs.Amounts.{on_hand, actual_of}
-use Rattle.toll_desk.specs.Told.{Asked, AskOrders, AskOrder, AskPlace, AskCancel, AskBatch, AskStock, AskLot, AskRelease, AskReject, AskBack, AskForward, AskHouseForward, Told, TellRefused, TellForbidden}
+use Rattle.toll_desk.specs.Told.{Asked, AskOrders, AskOrder, AskPlace, AskCancel, AskBatch, AskStock, AskLot, AskRelease, AskReject, AskBack, AskForward, AskHouseForward, Told, TellForbidden}
 use Rattle.toll_desk.specs.Edges.{IsOwnJoined}
 use Rattle.toll_desk.specs.Replies.{has_key, measure_of, stock_line, line_of, results_of_lot, sublots_of_lot, AreOrdersTold, IsStockTold, IsBatchTold, IsLotTold, IsOrderOr, IsLotOr, IsBatchOr, IsTraceOr, has_consumed, IsWritten, IsOrderAfter, IsLotAfter, IsAnswer, IsReply, after_answer, after_reply}
 use Rattle.toll_desk.proofs.OwnAmounts.{on_hand-part, actual_of-part}

@@ -1,27 +1,19 @@
 -- Traces and recalls, cut to one owner's lots.
-use Rattle.std.proofs.Common.{◌≡◌, ◌⊎◌, ℕ, zero, suc, ◌+◌, ◌≤◌, Bool, true, false, Option, Some, None, List, [], ◌∷◌, map, refl, sym, ap, ap₂, subst, ◌∙◌, inl, inr, arith}
+use Rattle.std.proofs.Common.{◌≡◌, ℕ, zero, suc, ◌+◌, false, List, refl, sym, ap₂, subst, inl, inr, arith}
 use Rattle.std.specs.Prelude.{Contains}
-use Rattle.std.specs.Option.{option_map}
 use Rattle.toll_base.specs.Bytes.{Bytes, same_bytes}
 use Rattle.toll_base.specs.Values.{house_name}
-use Rattle.toll_base.specs.History.{History, part, acts}
+use Rattle.toll_base.specs.History.{History, acts}
 use Rattle.toll_base.specs.Verdict.{IsLawful}
-use Rattle.toll_base.specs.Movements.{lot_id}
-use Rattle.toll_base.specs.Tables.{lot_row}
 use Rattle.toll_base.specs.declared.lot.LotId.{LotId}
-use Rattle.toll_base.proofs.Own.{acts-part}
-use Rattle.toll_base.proofs.OwnTables.{lot_row-part}
 use Rattle.toll_trace.specs.declared.way.Way.{Way}
 use Rattle.toll_trace.specs.declared.way.Way.TheVariants.{Forward}
 use Rattle.toll_trace.specs.declared.step.Step.{Step}
 use Rattle.toll_trace.specs.Chain.{IsChain}
-use Rattle.toll_trace.specs.Trace.{IsTrace, lots_of}
-use Rattle.toll_trace.proofs.Members.{Contains-from_map, Contains-map}
-use Rattle.toll_base.specs.Amounts.{on_hand, shipped}
+use Rattle.toll_trace.specs.Trace.{IsTrace}
+use Rattle.toll_trace.proofs.Members.{Contains-from_map}
 use Rattle.toll_desk.specs.Edges.{IsOwnJoined, IsPlantJoined}
 use Rattle.toll_desk.specs.Joints.{IsJoint, AreJoints}
-use Rattle.toll_desk.specs.PlantAnswers.{RecallLine, recall_line, IsRecall}
-use Rattle.toll_desk.proofs.OwnAmounts.{on_hand-part, shipped-part}
 use Rattle.toll_desk.proofs.OwnEdges.{edge_end, edge_start, chain_append, own_is_plants, chain_within}
 
 -- ---- traces over two relations that agree at some lots

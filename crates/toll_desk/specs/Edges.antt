@@ -1,5 +1,5 @@
 -- Genealogy over a history.
-use Rattle.std.specs.Prelude.{◌≡◌, ℕ, Bool, false, List, Contains, Some, None}
+use Rattle.std.specs.Prelude.{◌≡◌, false, List, Contains}
 use Rattle.toll_base.specs.Bytes.{Bytes}
 use Rattle.toll_base.specs.History.{History, acts}
 use Rattle.toll_base.specs.Command.{Action, Record}

@@ -4,3 +4,4 @@ pub mod Replies
 pub mod PlantAnswers
 pub mod Joints
 pub mod Worked
+pub mod Plans

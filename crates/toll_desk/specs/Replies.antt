@@ -1,37 +1,34 @@
 -- What an owner is told over a list of commands.
-use Rattle.std.specs.Prelude.{◌≡◌, ℕ, Bool, true, false, not, ◌&&◌, ◌||◌, if◌then◌else◌, Option, Some, None, is_some, is_none, List, [], ◌∷◌, MatchBool}
+use Rattle.std.specs.Prelude.{◌≡◌, ℕ, Bool, false, not, ◌&&◌, if◌then◌else◌, Option, Some, None, is_some, List, [], MatchBool}
 use Rattle.std.specs.List.{list_any}
 use Rattle.std.specs.Option.{option_map, option_map_or, option_and_then}
 use Rattle.toll_base.specs.Bytes.{Bytes, same_bytes, bytes_cmp}
 use Rattle.toll_base.specs.Values.{house_name}
 use Rattle.toll_base.specs.Words.{is_some_where, where_so}
 use Rattle.toll_base.specs.Keys.{RequirementKey, requirement_cmp, result_cmp, pair_cmp}
-use Rattle.toll_base.specs.Command.{Action, PlaceOrder, CancelOrder, Release, Reject, Command, by}
+use Rattle.toll_base.specs.Command.{Action, PlaceOrder, CancelOrder, Release, Reject, by}
 use Rattle.toll_base.specs.History.{History, acts, owner_key}
 use Rattle.toll_base.specs.Work.{material_of, order_of, batch_of, requirement_of}
 use Rattle.toll_base.specs.Movements.{lot_id, same_lot, movement_recorded, voided_in}
 use Rattle.toll_base.specs.Dispositions.{result_of}
 use Rattle.toll_base.specs.Tables.{tables_given, lot_row, sublot_row}
-use Rattle.toll_base.specs.Verdict.{Verdict, Accepted, Repeated, Refused, Checks, first_of, verdict, grow, known_batch_checks}
-use Rattle.toll_base.specs.declared.refusal.Refusal.{Refusal}
+use Rattle.toll_base.specs.Verdict.{Verdict, Refused, first_of, verdict, grow, known_batch_checks}
 use Rattle.toll_base.specs.declared.refusal.Refusal.TheVariants.{UnknownOrder, UnknownLot}
 use Rattle.toll_base.specs.declared.lot.LotId.{LotId}
 use Rattle.toll_base.specs.declared.rows.OrderRow.{OrderRow}
 use Rattle.toll_base.specs.declared.rows.BatchRow.{BatchRow}
 use Rattle.toll_base.specs.declared.rows.LotRow.{LotRow}
-use Rattle.toll_base.specs.declared.rows.RequirementRow.{RequirementRow}
 use Rattle.toll_base.specs.declared.rows.ResultRow.{ResultRow}
 use Rattle.toll_base.specs.declared.rows.SublotRow.{SublotRow}
 use Rattle.toll_base.specs.declared.rows.Move.{Move}
 use Rattle.toll_base.specs.declared.rows.Move.TheVariants.{Actual}
 use Rattle.toll_base.specs.declared.role.Role.TheVariants.{Consumed}
-use Rattle.toll_trace.specs.declared.way.Way.{Way}
 use Rattle.toll_trace.specs.declared.way.Way.TheVariants.{Back, Forward}
 use Rattle.toll_trace.specs.declared.step.Step.{Step}
 use Rattle.toll_trace.specs.Trace.{IsTrace}
 use Rattle.toll_base.specs.Table.{AreRowsGiven}
 use Rattle.toll_base.specs.Amounts.{on_hand, actual_of}
-use Rattle.toll_desk.specs.Told.{Asked, AskOrders, AskOrder, AskPlace, AskCancel, AskBatch, AskStock, AskLot, AskRelease, AskReject, AskBack, AskForward, AskHouseForward, RequirementLine, StockLine, LotView, Told, TellForbidden, TellOrders, TellOrder, TellBatch, TellStock, TellLot, TellTrace, TellRefused}
+use Rattle.toll_desk.specs.Told.{Asked, AskOrders, AskOrder, AskPlace, AskCancel, AskBatch, AskStock, AskLot, AskRelease, AskReject, AskBack, AskForward, AskHouseForward, RequirementLine, StockLine, Told, TellForbidden, TellOrders, TellOrder, TellBatch, TellStock, TellLot, TellTrace, TellRefused}
 use Rattle.toll_desk.specs.Edges.{IsOwnJoined}
 
 -- ---- admission

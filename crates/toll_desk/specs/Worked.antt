@@ -1,5 +1,5 @@
 -- Histories that worked examples of genealogy begin with.
-use Rattle.std.specs.Prelude.{ℕ, List, [], ◌∷◌, codes}
+use Rattle.std.specs.Prelude.{List, [], ◌∷◌, codes}
 use Rattle.toll_base.specs.Bytes.{Bytes}
 use Rattle.toll_base.specs.Values.{house_name}
 use Rattle.toll_base.specs.Command.{AddOwner, AddUnit, AddRecipe, PlaceOrder, OpenBatch, CommandBatch, Release, Command, by}

@@ -1,4 +1,6 @@
 //! Owners' requests, and the replies to them.
+ghost use Rattle.std.specs.Prelude.{◌≡◌, []};
+
 use std::alloc::Global;
 use toll_base::{BatchNo, Change, Name, OrderRow, Refusal};
 use toll_keep::KeepFault;
@@ -38,7 +40,10 @@ pub struct Planned {
 
 impl Planned {
     /// A reply that changes nothing.
-    pub fn unchanged(alloc: Global, reply: Reply) -> Self {
+    pub fn unchanged(alloc: Global, reply: Reply) -> Self
+        ensures reply { result.reply ≡ reply }
+        ensures changes { result.changes.items ≡ [] }
+    {
         Planned {
             reply,
             changes: Vec::new(alloc),

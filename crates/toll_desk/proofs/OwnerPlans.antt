@@ -1,0 +1,95 @@
+-- From a plan over a slice to a plan over the content of a keep.
+use Rattle.std.proofs.Common.{◌≡◌, Bool, true, false, not, ◌&&◌, ◌||◌, Option, Some, None, is_some, List, [], refl, sym, ap, subst, ◌∙◌}
+use Rattle.std.specs.Prelude.{if◌then◌else◌}
+use Rattle.std.specs.Option.{option_map}
+use Rattle.toll_base.specs.Bytes.{Bytes, bytes_cmp, same_bytes}
+use Rattle.toll_base.specs.Values.{house_name}
+use Rattle.toll_base.specs.Words.{is_some_where, where_so}
+use Rattle.toll_base.specs.Table.{row_at}
+use Rattle.toll_base.specs.Command.{PlaceOrder, CancelOrder, Release, Reject}
+use Rattle.toll_base.specs.History.{History, acts, owner_key, owner_known}
+use Rattle.toll_base.specs.Slice.{Slice}
+use Rattle.toll_base.specs.Tables.{IsRowsOf}
+use Rattle.toll_base.specs.Verdict.{IsLawful}
+use Rattle.toll_base.specs.Decision.{after_changes, ChangesKeepRules}
+use Rattle.toll_base.specs.declared.decision.Change.{Change}
+use Rattle.toll_base.specs.declared.rows.OwnerRow.{OwnerRow}
+use Rattle.toll_keep.specs.Content.{Content, knows, slice_of}
+use Rattle.toll_keep.specs.Standing.{StandsFor}
+use Rattle.toll_keep.proofs.Knowing.{standing_knows}
+use Rattle.toll_desk.specs.Told.{Asked, AskPlace, AskCancel, AskRelease, AskReject, Told, TellForbidden}
+use Rattle.toll_desk.specs.Replies.{has_key, IsAnswer, after_answer, IsReply, after_reply}
+use Rattle.toll_desk.specs.Plans.{is_admitted, PutsOnly, IsPlanOver, IsPlanFor, IsPlan}
+use Rattle.toll_desk.proofs.Lift.{SamePlant, same_plant-refl, same_grown, leads_on, leads_nowhere}
+
+-- ---- the key
+
+key_of_row : (key o : Bytes) (x : Option Bytes) → is_some_where (λ row. same_bytes key row.key) (option_map {T = Bytes} {U = OwnerRow} (λ k. record { owner = o; key = k }) x) ≡ is_some_where (same_bytes key) x
+key_of_row key o None = refl
+key_of_row key o (Some k) = refl
+
+-- who is admitted by the owners of a content is who has the key
+pub admits_alike : (c : Content) (H : History) (o key : Bytes) → StandsFor c H → is_admitted c.owners o key ≡ has_key o key H
+admits_alike c H o key stands =
+    ap (λ row. not (same_bytes o house_name) && is_some_where (λ (r : OwnerRow). same_bytes key r.key) row) (stands.owners.each o)
+    ∙ ap (λ b. not (same_bytes o house_name) && b) (key_of_row key o (owner_key (acts o H)))
+
+some_of : {X : Type 0} (p : X → Bool) (h : Bool) (x : Option X) → (not h && is_some_where p x) ≡ true → (h || is_some x) ≡ true
+some_of p true x e = refl
+some_of p false None e = e
+some_of p false (Some x) e = refl
+
+pub key_known : (c : Content) (H : History) (o key : Bytes) → StandsFor c H → has_key o key H ≡ true → owner_known H o ≡ true
+key_known c H o key stands right = sym (standing_knows H c stands o) ∙ some_of (λ row. same_bytes key row.key) (same_bytes o house_name) (row_at bytes_cmp (λ row. row.owner) c.owners o) (admits_alike c H o key stands ∙ right)
+
+pub right_key : (o name : Bytes) (b : Bool) → Some name ≡ where_so b o → (b ≡ true) × (name ≡ o)
+right_key o name true e = (refl, cc)
+right_key o name false e = (cc)
+
+pub wrong_key : (o : Bytes) (b : Bool) → None ≡ where_so b o → b ≡ false
+wrong_key o true e = (cc)
+wrong_key o false e = refl
+
+-- ---- the slice that is read
+
+read_some : (b : Bool) (s x : Slice) → Some s ≡ (if b then Some x else None) → s ≡ x
+read_some true s x e = cc
+read_some false s x e = (cc)
+
+pub slice_read : (c : Content) (o : Bytes) (s : Slice) → Some s ≡ slice_of c o → s ≡ c.rows o
+slice_read c o s e = read_some (knows c o) s (c.rows o) e
+
+read_none : (b : Bool) (x : Slice) → None ≡ (if b then Some x else None) → b ≡ false
+read_none true x e = (cc)
+read_none false x e = refl
+
+pub none_read : (c : Content) (H : History) (o : Bytes) → StandsFor c H → None ≡ slice_of c o → owner_known H o ≡ false
+none_read c H o stands e = sym (standing_knows H c stands o) ∙ read_none (knows c o) (c.rows o) e
+
+-- ---- plans
+
+-- an owner's request adds no owner and no unit
+same_answer : (o : Bytes) (H : History) (q : Asked) → SamePlant H (after_answer o H q)
+same_answer o H (AskPlace order recipe batches) = same_grown H o (PlaceOrder order recipe batches) refl
+same_answer o H (AskCancel order) = same_grown H o (CancelOrder order) refl
+same_answer o H (AskRelease lot) = same_grown H o (Release lot) refl
+same_answer o H (AskReject lot) = same_grown H o (Reject lot) refl
+same_answer o H _ = same_plant-refl H
+
+pub plan_lift : (c : Content) (H : History) (o : Bytes) (q : Asked) (s : Slice) (told : Told) (changes : List Change) → StandsFor c H → IsLawful H → owner_known H o ≡ true → s ≡ c.rows o → IsPlanOver H s q told changes → IsPlanFor c H o q told changes
+plan_lift c H o q s told changes stands lawful known is plan =
+    let named : s.owner ≡ o = ap (λ t. t.owner) is ∙ stands.own o in
+    let own = subst (λ p. PutsOnly p changes) named plan.own in
+    record {
+      answer = subst (λ p. IsAnswer p H q told) named plan.answer;
+      leads = leads_on c H stands lawful o known changes own (subst (ChangesKeepRules changes) is plan.rules) (after_answer o H q) (same_answer o H q) (λ t there. subst (λ p. IsRowsOf (after_answer p H q) (after_changes changes t)) named (plan.rows t there));
+      own = own;
+    }
+
+pub plan_admitted : (c : Content) (H : History) (o key : Bytes) (q : Asked) (told : Told) (changes : List Change) → has_key o key H ≡ true → IsPlanFor c H o q told changes → IsPlan c H o key q told changes
+unfolding IsReply after_reply
+plan_admitted c H o key q told changes right plan = record { reply = rw right plan.answer; leads = rw right plan.leads; own = plan.own }
+
+pub plan_forbidden : (c : Content) (H : History) (o key : Bytes) (q : Asked) → StandsFor c H → has_key o key H ≡ false → IsPlan c H o key q TellForbidden []
+unfolding IsReply after_reply
+plan_forbidden c H o key q stands wrong = record { reply = rw wrong refl; leads = rw wrong (leads_nowhere c H stands); own = tt }
