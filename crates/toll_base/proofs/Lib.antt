@@ -30,6 +30,7 @@ pub mod OneOrigin
 pub mod OpenTests
 pub mod CameIn
 pub mod Decided
+pub mod PutsOwn
 pub mod Grown
 pub mod PutTables
 pub mod PutMoves

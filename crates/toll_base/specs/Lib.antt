@@ -10,6 +10,7 @@ pub mod SliceRules
 pub mod ActualCounts
 pub mod SliceView
 pub mod Decision
+pub mod OwnChanges
 pub mod States
 pub mod Command
 pub mod History

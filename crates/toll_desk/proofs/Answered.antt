@@ -13,6 +13,7 @@ use Rattle.toll_base.specs.Work.{order_of, cancels}
 use Rattle.toll_base.specs.Tables.{Tables, IsRowsOf}
 use Rattle.toll_base.specs.Verdict.{Verdict, Accepted, Repeated, Refused, verdict, grown, IsLawful, IsValid}
 use Rattle.toll_base.specs.Decision.{changes_of, verdict_of, Decides, IsRightOver, DecisionKeepsRules}
+use Rattle.toll_base.specs.OwnChanges.{PutsOnly}
 use Rattle.toll_base.specs.declared.decision.Decision.{Decision}
 use Rattle.toll_base.specs.declared.refusal.Refusal.{Refusal}
 use Rattle.toll_base.specs.declared.rows.OrderRow.{OrderRow}
@@ -23,7 +24,7 @@ use Rattle.toll_base.proofs.Passed.{accepted_passes}
 use Rattle.toll_base.proofs.Texts.{same_bytes-exact, same_bytes-refl}
 use Rattle.toll_desk.specs.Told.{AskOrders, AskOrder, AskPlace, Told, TellOrders, TellOrder, TellRefused}
 use Rattle.toll_desk.specs.Replies.{IsOrderOr, IsWritten}
-use Rattle.toll_desk.specs.Plans.{PutsOnly, IsPlanOver}
+use Rattle.toll_desk.specs.Plans.{IsPlanOver}
 
 -- the orders that a slice has are those of the history
 given_orders : (H : History) (s : Slice) → IsRowsOf H s → (k : Bytes) → order_at s k ≡ order_of (acts s.owner H) k

@@ -1,7 +1,7 @@
 -- From what a decision owes to every slice to what a plan owes over the content of a keep.
 use Rattle.std.proofs.Common.{◌≡◌, ℕ, ◌+◌, Bool, true, false, ◌&&◌, ◌||◌, cond, Option, None, List, [], ◌∷◌, refl, sym, ap, subst, ◌∙◌, arith}
 use mathlib.Core.Bool.{false≢true}
-use Rattle.std.specs.List.{list_all, list_any}
+use Rattle.std.specs.List.{list_any}
 use Rattle.std.specs.Option.{option_map}
 use Rattle.toll_base.specs.Bytes.{Bytes, same_bytes}
 use Rattle.toll_base.specs.Values.{house_name}
@@ -13,6 +13,7 @@ use Rattle.toll_base.specs.SliceRules.{KeepsRules}
 use Rattle.toll_base.specs.Tables.{IsRowsOf}
 use Rattle.toll_base.specs.Verdict.{Verdict, Accepted, Repeated, Refused, verdict, grown, grow, IsLawful}
 use Rattle.toll_base.specs.Decision.{after_change, after_changes, ChangesKeepRules}
+use Rattle.toll_base.specs.OwnChanges.{is_put_of, PutsOnly}
 use Rattle.toll_base.specs.declared.rows.OwnerRow.{OwnerRow}
 use Rattle.toll_base.specs.declared.rows.UnitRow.{UnitRow}
 use Rattle.toll_base.specs.declared.decision.Change.{Change}
@@ -25,7 +26,7 @@ use Rattle.toll_keep.proofs.Fitting.{kept_rules_fit}
 use Rattle.toll_keep.proofs.KeptRules.{standing_keeps_rules}
 use Rattle.toll_keep.proofs.Knowing.{standing_knows}
 use Rattle.toll_keep.proofs.Slicing.{owner-with_row}
-use Rattle.toll_desk.specs.Plans.{is_put_of, PutsOnly, LeadsTo}
+use Rattle.toll_desk.specs.Plans.{LeadsTo}
 
 -- ---- owners and units
 
@@ -77,14 +78,6 @@ same_grown H w a none = go (verdict H (by w a))
     go (Refused why) = same_plant-refl H
 
 -- ---- changes of one owner's rows
-
-pub puts_of_all : (o : Bytes) (changes : List Change) → list_all (is_put_of o) changes ≡ true → PutsOnly o changes
-puts_of_all o [] all = tt
-puts_of_all o (change ∷ changes) all =
-    elim (is_put_of o change) as (λ b. is_put_of o change ≡ b → (b && list_all (is_put_of o) changes) ≡ true → PutsOnly o (change ∷ changes)) [
-      | true ↦ λ is rest. (is, puts_of_all o changes rest)
-      | false ↦ λ is rest. absurd (false≢true rest)
-    ] refl all
 
 owners_stay : (o : Bytes) (changes : List Change) (rows : List OwnerRow) → PutsOnly o changes → after_owners changes rows ≡ rows
 owners_stay o [] rows puts = refl

@@ -17,9 +17,10 @@ use Rattle.toll_base.specs.declared.rows.OwnerRow.{OwnerRow}
 use Rattle.toll_keep.specs.Content.{Content, knows, slice_of}
 use Rattle.toll_keep.specs.Standing.{StandsFor}
 use Rattle.toll_keep.proofs.Knowing.{standing_knows}
+use Rattle.toll_base.specs.OwnChanges.{PutsOnly}
 use Rattle.toll_desk.specs.Told.{Asked, AskPlace, AskCancel, AskRelease, AskReject, Told, TellForbidden}
 use Rattle.toll_desk.specs.Replies.{has_key, IsAnswer, after_answer, IsReply, after_reply}
-use Rattle.toll_desk.specs.Plans.{is_admitted, PutsOnly, IsPlanOver, IsPlanFor, IsPlan}
+use Rattle.toll_desk.specs.Plans.{is_admitted, IsPlanOver, IsPlanFor, IsPlan}
 use Rattle.toll_desk.proofs.Lift.{SamePlant, same_plant-refl, same_grown, leads_on, leads_nowhere}
 
 -- ---- the key

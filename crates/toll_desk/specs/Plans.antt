@@ -10,9 +10,9 @@ use Rattle.toll_base.specs.Slice.{Slice}
 use Rattle.toll_base.specs.Tables.{IsRowsOf}
 use Rattle.toll_base.specs.Verdict.{Accepted, Repeated, Refused as RefusedFor}
 use Rattle.toll_base.specs.Decision.{after_changes, ChangesKeepRules}
+use Rattle.toll_base.specs.OwnChanges.{PutsOnly}
 use Rattle.toll_base.specs.declared.rows.OwnerRow.{OwnerRow}
 use Rattle.toll_base.specs.declared.decision.Change.{Change}
-use Rattle.toll_base.specs.declared.decision.Change.TheVariants.{Put}
 use Rattle.toll_keep.specs.Content.{Content, after, Fits}
 use Rattle.toll_keep.specs.Standing.{StandsFor}
 use Rattle.toll_keep.specs.declared.fault.KeepFault.{KeepFault}
@@ -65,15 +65,6 @@ is_admitted rows o key = not (same_bytes o house_name) && is_some_where (λ row.
 
 -- ---- plans
 
--- each of the changes puts a row of this owner
-abbrev pub is_put_of : Bytes → Change → Bool
-is_put_of o (Put p row) = same_bytes p o
-is_put_of o _ = false
-
-abbrev pub PutsOnly : Bytes → List Change → Type 0
-PutsOnly o [] = Unit {0}
-PutsOnly o (change ∷ changes) = (is_put_of o change ≡ true) × PutsOnly o changes
-
 -- over the rows of an owner that is known, this is the answer, and the changes lead to the rows after it
 pub record IsPlanOver (H : History) (s : Slice) (q : Asked) (told : Told) (changes : List Change) : Type 0 where
   pub answer : IsAnswer s.owner H q told
@@ -118,7 +109,7 @@ pub record HoldsFor (holds : Content → Type 0) (G : History) : Type 0 where
   pub stands : StandsFor content G
 
 -- what is told is so and the content of that history is held, or after a fault the content from before; and a stop leaves one of the two
-pub record IsDone {X : Type 0} (holds : Content → Type 0) (was_live : Type 0) (leaves : List Content → Type 0) (c : Content) (G : History) (outcome : Result X KeepFault) (IsTold : X → Type 0) : Type 0 where
+pub record IsDone {X E : Type 0} (holds : Content → Type 0) (was_live : Type 0) (leaves : List Content → Type 0) (c : Content) (G : History) (outcome : Result X E) (IsTold : X → Type 0) : Type 0 where
   pub told : IfOk outcome IsTold
   pub done : OnOk outcome (HoldsFor holds G)
   pub undone : OnErr outcome (holds c)

@@ -1,6 +1,5 @@
 //! Plans over an owner's rows, with no keep.
 ghost use Rattle.std.specs.Prelude.{◌≡◌, ◌∷◌, [], true, IfOk, Option, is_ok};
-ghost use Rattle.std.specs.List.{list_all};
 ghost use Rattle.toll_base.specs.Bytes.{bytes_cmp, same_bytes};
 ghost use Rattle.toll_base.specs.Values.{house_name};
 ghost use Rattle.toll_base.specs.Words.{where_so};
@@ -8,15 +7,14 @@ ghost use Rattle.toll_base.specs.Table.{row_at};
 ghost use Rattle.toll_base.specs.History.{History, owner_known};
 ghost use Rattle.toll_base.specs.Tables.{IsRowsOf};
 ghost use Rattle.toll_base.specs.Verdict.{IsLawful};
-ghost use Rattle.toll_base.specs.Decision.{changes_of};
 ghost use Rattle.toll_base.specs.Slice.{order_at};
 ghost use Rattle.toll_desk.specs.Replies.{IsOrderOr};
 ghost use Rattle.toll_desk.specs.Told.{AskOrders, AskOrder, AskPlace};
-ghost use Rattle.toll_desk.specs.Plans.{asked_of, told_of, is_admitted, is_put_of, PutsOnly, IsPlanOver};
+ghost use Rattle.toll_desk.specs.Plans.{asked_of, told_of, is_admitted, IsPlanOver};
 
 use crate::request::{Planned, Reply, Request};
 use std::alloc::{AllocError, Global};
-use toll_base::{BatchNo, Change, Decision, Name, OrderRow, OwnerRow, Refusal, Row, Slice};
+use toll_base::{BatchNo, Decision, Name, OrderRow, OwnerRow, Refusal, Slice};
 use toll_work::place_order;
 
 fn is_same(bytes: &[u8], other: &[u8]) -> bool
@@ -57,44 +55,6 @@ pub fn admitted(rows: &[OwnerRow], owner: &[u8], key: &[u8]) -> Option<Name>
         Some(row.owner)
     } else {
         None
-    }
-}
-
-/// Whether each of the changes puts a row of this owner.
-pub fn puts_only(owner: &Name, changes: &[Change]) -> bool
-    ensures { result ≡ list_all (is_put_of owner.now) changes.now }
-{
-    changes.iter().all(|change| is_put_of(owner, change))
-}
-
-fn is_put_of(owner: &Name, change: &Change) -> bool
-    ensures { result ≡ is_put_of owner.now change.now }
-{
-    // The type of rows has to be named where changes are looked at.
-    let _row: Option<Row> = None;
-    match change {
-        Change::Put(of, _) => is_same(of.as_bytes(), owner.as_bytes()),
-        _ => false,
-    }
-}
-
-/// The decision, where its changes put rows of this owner alone. Every decision on an owner's own
-/// rows is such; what is not is never done.
-#[tactic(auto, using(crate::proofs::Lift::puts_of_all))]
-pub fn own_decision(owner: &Name, decision: Decision) -> Result<Decision, AllocError>
-    ensures same { IfOk result (λ d. d ≡ decision) }
-    ensures own { IfOk result (λ d. PutsOnly owner.now (changes_of d)) }
-{
-    match decision {
-        Decision::Accept(changes) => {
-            if puts_only(owner, &changes) {
-                Ok(Decision::Accept(changes))
-            } else {
-                Err(AllocError)
-            }
-        }
-        Decision::Repeated => Ok(Decision::Repeated),
-        Decision::Refuse(why) => Ok(Decision::Refuse(why)),
     }
 }
 
@@ -165,11 +125,7 @@ fn plan_place(
 {
     // The proof is told of the bounds.
     let _within = batches.get();
-    let decision = own_decision(
-        slice.owner(),
-        place_order(alloc, slice, order, recipe, batches)?,
-    )?;
-    match decision {
+    match place_order(alloc, slice, order, recipe, batches)? {
         Decision::Accept(changes) => Ok(Planned {
             reply: Reply::Order(OrderRow {
                 order,

@@ -1,7 +1,8 @@
 //! Orders.
 ghost use Rattle.std.specs.Prelude.{◌≡◌, [], ◌∷◌, map, IfOk};
 ghost use Rattle.toll_base.specs.Command.{PlaceOrder, CancelOrder, by};
-ghost use Rattle.toll_base.specs.Decision.{IsDecided, Decides, DecisionKeepsRules};
+ghost use Rattle.toll_base.specs.Decision.{IsDecided, Decides, DecisionKeepsRules, changes_of};
+ghost use Rattle.toll_base.specs.OwnChanges.{PutsOnly};
 ghost use Rattle.toll_base.specs.SliceRules.{KeepsRules};
 ghost use Rattle.toll_base.specs.Tables.{tables_of};
 ghost use Rattle.toll_base.specs.Verdict.{order_checks, cancel_checks};
@@ -29,6 +30,7 @@ pub fn place_order(
 ) -> Result<Decision, AllocError>
     ensures decides { IfOk result (Decides (by slice.now.owner (PlaceOrder order recipe batches)) slice.now) }
     ensures rules { IfOk result (DecisionKeepsRules slice.now) }
+    ensures own { IfOk result (λ d. PutsOnly slice.now.owner (changes_of d)) }
 {
     let row = OrderRow {
         order,

@@ -1,7 +1,8 @@
 //! Recipes.
 ghost use Rattle.std.specs.Prelude.{◌≡◌, is_some, [], ◌∷◌, IfOk};
 ghost use Rattle.toll_base.specs.Command.{AddRecipe, Require, by};
-ghost use Rattle.toll_base.specs.Decision.{IsDecided, Decides, DecidesWith, DecisionKeepsRules};
+ghost use Rattle.toll_base.specs.Decision.{IsDecided, Decides, DecidesWith, DecisionKeepsRules, changes_of};
+ghost use Rattle.toll_base.specs.OwnChanges.{PutsOnly};
 ghost use Rattle.toll_base.specs.SliceRules.{KeepsRules};
 ghost use Rattle.toll_base.specs.Tables.{tables_of};
 ghost use Rattle.toll_base.specs.Verdict.{recipe_checks, requirement_checks, tables_for};
@@ -30,6 +31,7 @@ pub fn add_recipe(
 ) -> Result<Decision, AllocError>
     ensures decides { IfOk result (Decides (by slice.now.owner (AddRecipe (record { recipe = recipe; segments = segments }))) slice.now) }
     ensures rules { IfOk result (DecisionKeepsRules slice.now) }
+    ensures own { IfOk result (λ d. PutsOnly slice.now.owner (changes_of d)) }
 {
     plan_recipe(alloc, slice, &RecipeRow { recipe, segments })
 }

@@ -1,4 +1,6 @@
 use Rattle.std.proofs.lemmas.Result.{IfOk-weaker}
+use Rattle.toll_base.proofs.Texts.{same_bytes-refl}
+use Rattle.toll_base.proofs.PutsOwn.{puts_own}
 use Rattle.toll_work.proofs.RecipeLaw.{recipe_decided, recipe_keeps}
 use Rattle.toll_work.proofs.recipes.add_recipe.Goals as goal
 
@@ -7,3 +9,6 @@ returns-clause-decides c = IfOk-weaker _ _ _ (λ d. recipe_decided _ _ d) c.plan
 
 pub returns-clause-rules : goal.returns-clause-rules
 returns-clause-rules c = IfOk-weaker _ _ _ (λ d decided. recipe_keeps _ _ d decided c.plan_recipe.ensures.kept) c.plan_recipe.ensures.plan
+
+pub returns-clause-own : goal.returns-clause-own
+returns-clause-own c = IfOk-weaker _ _ _ (λ d decided. puts_own _ _ _ d (same_bytes-refl _, tt) decided) c.plan_recipe.ensures.plan
