@@ -11,4 +11,4 @@ pub returns-clause-rules : goal.returns-clause-rules
 returns-clause-rules c = IfOk-weaker _ _ _ (λ d decided. recipe_keeps _ _ d decided c.plan_recipe.ensures.kept) c.plan_recipe.ensures.plan
 
 pub returns-clause-own : goal.returns-clause-own
-returns-clause-own c = IfOk-weaker _ _ _ (λ d decided. puts_own _ _ _ d (same_bytes-refl _, tt) decided) c.plan_recipe.ensures.plan
+returns-clause-own c = IfOk-weaker _ _ _ (λ d decided. puts_own _ _ _ d (same_bytes-refl c.args.slice.now.owner, tt) decided) c.plan_recipe.ensures.plan
