@@ -8,3 +8,6 @@ pub mod Readings
 mod WorkedReplies
 pub mod Private
 pub mod Determined
+pub mod Served
+pub mod Valid
+pub mod Serving

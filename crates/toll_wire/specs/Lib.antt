@@ -16,3 +16,5 @@ pub mod ReplyTexts
 pub mod OutTexts
 pub mod Telling
 pub mod Runs
+pub mod Steps
+pub mod OfficeRuns

@@ -1,12 +1,14 @@
 -- The texts of replies (RFC 9112, section 6; RFC 9110, section 15).
-use Rattle.std.specs.Prelude.{ℕ, [], ◌∷◌, ◌++◌, Option, Some, None, codes, decimal, length}
+use Rattle.std.specs.Prelude.{ℕ, [], ◌∷◌, ◌++◌, Option, Some, None, Result, Ok, Err, codes, decimal, length}
 use Rattle.http.specs.StatusCode.{status_text}
 use Rattle.serde_json.specs.Written.{compact_text}
 use Rattle.toll_base.specs.Bytes.{Bytes}
 use Rattle.toll_base.specs.declared.refusal.Refusal.{Refusal}
 use Rattle.toll_base.specs.declared.refusal.Refusal.TheVariants.{UnknownOrder, UnknownBatch, UnknownLot}
+use Rattle.toll_keep.specs.declared.fault.KeepFault.{KeepFault}
 use Rattle.toll_desk.specs.declared.request.Reply.{Reply}
-use Rattle.toll_desk.specs.declared.request.Reply.TheVariants as reply
+use Rattle.toll_desk.specs.Told.{Told, TellForbidden, TellOrders, TellOrder, TellBatch, TellStock, TellLot, TellTrace, TellRefused}
+use Rattle.toll_desk.specs.Plans.{told_of}
 use Rattle.toll_wire.specs.declared.verb.Verb.{Verb}
 use Rattle.toll_wire.specs.Verbs.{verb_name}
 use Rattle.toll_wire.specs.declared.failure.Failure.{Failure}
@@ -47,13 +49,24 @@ refusal_status UnknownBatch = 404
 refusal_status UnknownLot = 404
 refusal_status _ = 409
 
+-- what an owner is told; no request is told of batches, stock, lots or traces yet
+abbrev pub text_of_told : Told → Bytes
+text_of_told TellForbidden = text_of_failure Forbidden
+text_of_told (TellOrders rows) = reply_text 200 None (compact_text (orders_data rows))
+text_of_told (TellOrder row) = reply_text 200 None (compact_text (order_data row))
+text_of_told (TellRefused refusal) = reply_text (refusal_status refusal) None (compact_text (refusal_data refusal))
+text_of_told (TellBatch batch lines) = []
+text_of_told (TellStock lines) = []
+text_of_told (TellLot view) = []
+text_of_told (TellTrace trace) = []
+
 -- nothing is told of a fault
+abbrev pub text_if_told : Result Told KeepFault → Option Bytes
+text_if_told (Ok told) = Some (text_of_told told)
+text_if_told (Err fault) = None
+
 abbrev pub text_of_reply : Reply → Option Bytes
-text_of_reply reply.Forbidden = Some (text_of_failure Forbidden)
-text_of_reply (reply.Orders rows) = Some (reply_text 200 None (compact_text (orders_data rows.items)))
-text_of_reply (reply.Order row) = Some (reply_text 200 None (compact_text (order_data row)))
-text_of_reply (reply.Refused refusal) = Some (reply_text (refusal_status refusal) None (compact_text (refusal_data refusal)))
-text_of_reply (reply.Fault fault) = None
+text_of_reply reply = text_if_told (told_of reply)
 
 -- ---- where there was no memory, or the keep failed
 

@@ -1,6 +1,11 @@
 //! Answering a request.
-ghost use Rattle.toll_wire.specs.OutTexts.{IsText};
-ghost use Rattle.toll_wire.specs.ReplyTexts.{text_of_reply};
+ghost use Rattle.std.specs.Prelude.{◌⊎◌};
+ghost use Rattle.toll_base.specs.History.{History};
+ghost use Rattle.toll_base.specs.Verdict.{IsLawful};
+ghost use Rattle.toll_keep.specs.Content.{Content};
+ghost use Rattle.toll_keep.specs.Standing.{StandsFor};
+ghost use Rattle.toll_wire.specs.Runs.{By};
+ghost use Rattle.toll_wire.specs.Steps.{asking_of, IsAnswered, IsServed, IsUnread};
 ghost use Rattle.toll_wire.specs.Telling.{AnswersBytes, MayBeServed, Tells};
 
 use crate::asked::{Asked, Asks, read};
@@ -8,8 +13,7 @@ use crate::failure::Failure;
 use crate::outgoing::Out;
 use crate::reply::{fail, tell};
 use std::alloc::Global;
-use toll_base::Change;
-use toll_desk::{Reply, Request, admit, carry, owner_plan};
+use toll_desk::{Request, admit, carry, owner_plan};
 use toll_keep::Keep;
 
 /// Answers the bytes of a request.
@@ -18,7 +22,10 @@ use toll_keep::Keep;
 /// [`Out::Unavailable`] nothing changed; or, after a fault of the disk, the change stands whole or
 /// not at all.
 pub fn answer<K: Keep>(alloc: Global, keep: &mut K, bytes: &[u8]) -> Out
-    ensures { Tells (AnswersBytes bytes.now) result }
+    ensures tells { Tells (AnswersBytes bytes.now) result }
+    ensures honest { K.is_honest keep.new → K.is_honest keep.old }
+    ensures step { K.is_honest keep.new → (c : Content) (H : History) → K.holds keep.old c → StandsFor c H → IsLawful H →
+        IsAnswered (K.holds keep.new) (K.is_live keep.old) (K.leaves keep.new) c H bytes.now result ⊎ IsUnread keep.old keep.new result }
 {
     match read(alloc, bytes) {
         Err(_) => Out::Unavailable,
@@ -32,7 +39,10 @@ pub fn answer<K: Keep>(alloc: Global, keep: &mut K, bytes: &[u8]) -> Out
 
 // Answers who claims to be this owner. The key comes before what is asked for.
 fn serve<K: Keep>(alloc: Global, keep: &mut K, owner: &[u8], key: &[u8], asks: &Asks) -> Out
-    ensures { Tells (MayBeServed asks.now) result }
+    ensures tells { Tells (MayBeServed asks.now) result }
+    ensures honest { K.is_honest keep.new → K.is_honest keep.old }
+    ensures step { K.is_honest keep.new → (c : Content) (H : History) → K.holds keep.old c → StandsFor c H → IsLawful H →
+        IsServed (K.holds keep.new) (K.is_live keep.old) (K.leaves keep.new) c H (By owner.now key.now (asking_of asks.now)) result }
 {
     match asks {
         Asks::For(request) => serve_request(alloc, keep, owner, key, request),
@@ -44,6 +54,7 @@ fn serve<K: Keep>(alloc: Global, keep: &mut K, owner: &[u8], key: &[u8], asks: &
     }
 }
 
+// Makes the text of the reply, and then the changes.
 fn serve_request<K: Keep>(
     alloc: Global,
     keep: &mut K,
@@ -51,19 +62,15 @@ fn serve_request<K: Keep>(
     key: &[u8],
     request: &Request,
 ) -> Out
-    ensures { Tells (MayBeServed (Asks.For request.now)) result }
+    ensures tells { Tells (MayBeServed (Asks.For request.now)) result }
+    ensures honest { K.is_honest keep.new → K.is_honest keep.old }
+    ensures step { K.is_honest keep.new → (c : Content) (H : History) → K.holds keep.old c → StandsFor c H → IsLawful H →
+        IsServed (K.holds keep.new) (K.is_live keep.old) (K.leaves keep.new) c H (By owner.now key.now (asking_of (Asks.For request.now))) result }
 {
     let planned = owner_plan(alloc, keep, owner, key, request);
-    commit(alloc, keep, &planned.reply, &planned.changes)
-}
-
-// Makes the text, and then the changes.
-fn commit<K: Keep>(alloc: Global, keep: &mut K, reply: &Reply, changes: &[Change]) -> Out
-    ensures { IsText result (text_of_reply reply.now) }
-{
-    match tell(alloc, reply) {
+    match tell(alloc, &planned.reply) {
         Out::Unavailable => Out::Unavailable,
-        Out::Text(text) => match carry(alloc, keep, changes) {
+        Out::Text(text) => match carry(alloc, keep, &planned.changes) {
             Ok(()) => Out::Text(text),
             Err(_) => Out::Unavailable,
         },

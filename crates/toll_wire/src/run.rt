@@ -1,6 +1,11 @@
 //! Runs of events.
 ghost use Rattle.std.specs.Prelude.{◌≡◌, IfOk, OnErr};
 ghost use Rattle.std.specs.List.{AllZip};
+ghost use Rattle.toll_base.specs.History.{History};
+ghost use Rattle.toll_base.specs.Verdict.{IsLawful};
+ghost use Rattle.toll_keep.specs.Content.{Content};
+ghost use Rattle.toll_keep.specs.Standing.{StandsFor};
+ghost use Rattle.toll_wire.specs.OfficeRuns.{IsRunOf, IsStepOf};
 ghost use Rattle.toll_wire.specs.Telling.{AnswersEvent};
 
 use crate::answering::answer;
@@ -18,6 +23,9 @@ pub fn run_events<K: Keep>(
 ) -> Result<Vec<Answer>, AllocError>
     ensures each { IfOk result (λ answers. AllZip AnswersEvent events.now answers.items) }
     ensures err { OnErr result (keep.new ≡ keep.old) }
+    ensures honest { K.is_honest keep.new → K.is_honest keep.old }
+    ensures run { K.is_honest keep.new → (c : Content) (H : History) → K.holds keep.old c → StandsFor c H → IsLawful H →
+        IfOk result (λ answers. IsRunOf (K.holds keep.new) H events.now answers.items) }
 {
     let mut answers = Vec::with_capacity(alloc, events.len())?;
     for event in events {
@@ -28,7 +36,10 @@ pub fn run_events<K: Keep>(
 }
 
 fn answer_event<K: Keep>(alloc: Global, keep: &mut K, event: &Event) -> Answer
-    ensures { AnswersEvent event.now result }
+    ensures answers { AnswersEvent event.now result }
+    ensures honest { K.is_honest keep.new → K.is_honest keep.old }
+    ensures step { K.is_honest keep.new → (c : Content) (H : History) → K.holds keep.old c → StandsFor c H → IsLawful H →
+        IsStepOf (K.holds keep.new) H event.now result }
 {
     match event {
         Event::Owner(bytes) => Answer::Bytes(answer(alloc, keep, bytes)),

@@ -1,0 +1,50 @@
+-- Requests that are served, over any keep.
+use Rattle.std.proofs.Common.{◌≡◌, ℕ, List, [], ◌∷◌, Option, Some, None, Result, Ok, Err, IfOk, sym, subst}
+use Rattle.std.specs.Global.{Vec}
+use Rattle.toll_base.specs.Bytes.{Bytes}
+use Rattle.toll_base.specs.History.{History}
+use Rattle.toll_keep.specs.Content.{Content}
+use Rattle.toll_keep.specs.Standing.{StandsFor}
+use Rattle.toll_keep.specs.declared.fault.KeepFault.{KeepFault}
+use Rattle.toll_desk.specs.Told.{Told}
+use Rattle.toll_desk.specs.Plans.{IsDone}
+use Rattle.toll_desk.proofs.Carried.{finished}
+use Rattle.toll_wire.specs.declared.outgoing.Out.{Out}
+use Rattle.toll_wire.specs.declared.outgoing.Out.TheVariants.{Text, Unavailable}
+use Rattle.toll_wire.specs.OutTexts.{IsText}
+use Rattle.toll_wire.specs.ReplyTexts.{text_of_told, text_if_told}
+use Rattle.toll_wire.specs.Steps.{outcome_of}
+
+-- what is so of the one text that there may be is so of the reply
+pub so_of_text : (out : Out) (text : Bytes) (P : Bytes → Type 0) → IsText out (Some text) → P text → IfOk (outcome_of out) P
+so_of_text (Text told) text P is so = subst P (sym is) so
+so_of_text Unavailable text P is so = tt
+
+module _ (holds : Content → Type 0) (was_live : Type 0) (leaves : List Content → Type 0) (c : Content) (held : holds c) where
+  -- nothing was done
+  pub none_done : {X E : Type 0} (G : History) (e : E) (IsTold : X → Type 0) → (was_live → leaves (c ∷ [])) → IsDone holds was_live leaves c G (Err e) IsTold
+  none_done G e IsTold stop = record { told = tt; done = tt; undone = held; crash = λ was. record { others = []; stand = tt; left = stop was } }
+
+  -- nothing was to be done
+  pub none_to_do : {X E : Type 0} (H : History) (outcome : Result X E) (IsTold : X → Type 0) → StandsFor c H → (was_live → leaves (c ∷ [])) → IfOk outcome IsTold → IsDone holds was_live leaves c H outcome IsTold
+  none_to_do H (Ok x) IsTold stands stop told = record {
+    told = told;
+    done = record { content = c; held = held; stands = stands };
+    undone = tt;
+    crash = λ was. record { others = []; stand = tt; left = stop was };
+  }
+  none_to_do H (Err e) IsTold stands stop told = none_done H e IsTold stop
+
+module _ (holds : Content → Type 0) (was_live : Type 0) (leaves : List Content → Type 0) (c : Content) (G : History) (IsTold : Told → Type 0) where
+  -- the text is that of what is told
+  abbrev pub IsTextOfSome : Bytes → Type 0
+  IsTextOfSome text = (told : Told) × IsTold told × (text ≡ text_of_told told)
+
+  -- after the changes were made the text is told
+  pub done_told : (planned : Result Told KeepFault) (text : Vec ℕ) → IsText (Text text) (text_if_told planned) → IsDone holds was_live leaves c G planned IsTold → IsDone holds was_live leaves c G (outcome_of (Text text)) IsTextOfSome
+  done_told (Ok told) text is done = record { told = (told, done.told, is); done = done.done; undone = tt; crash = done.crash }
+  done_told (Err fault) text is done = absurd is
+
+  -- after a fault nothing is told
+  pub undone_untold : (fault : KeepFault) → IsDone holds was_live leaves c G (Err fault) IsTold → IsDone holds was_live leaves c G (outcome_of Unavailable) IsTextOfSome
+  undone_untold fault done = record { told = tt; done = tt; undone = done.undone; crash = done.crash }
