@@ -50,7 +50,7 @@ module _ (wire : Wire) where
   lawful-after_plant H (Does c) lawful valid = lawful-grow H c lawful valid
   lawful-after_plant H _ lawful valid = lawful
 
-  lawful-step : (old : History) (e : Happening) (a : Answered) (new : History) → IsLawful old → IsValidEvent wire e → IsStep wire old e a new → IsLawful new
+  pub lawful-step : (old : History) (e : Happening) (a : Answered) (new : History) → IsLawful old → IsValidEvent wire e → IsStep wire old e a new → IsLawful new
   lawful-step old (Request s) (Tells out) new lawful valid step = subst IsLawful (sym step.1) (lawful-after_saying old s lawful valid)
   lawful-step old (Request s) Unavailable new lawful valid step = subst IsLawful (sym step) lawful
   lawful-step old (Plant asked) (PlantTells answer) new lawful valid step = subst IsLawful (sym step.1) (lawful-after_plant old asked lawful valid)

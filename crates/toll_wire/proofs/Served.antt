@@ -1,19 +1,24 @@
 -- Requests that are served, over any keep.
-use Rattle.std.proofs.Common.{◌≡◌, ℕ, List, [], ◌∷◌, Option, Some, None, Result, Ok, Err, IfOk, sym, subst}
+use Rattle.std.proofs.Common.{◌≡◌, ℕ, List, [], ◌∷◌, Option, Some, None, Result, Ok, Err, IfOk, refl, sym, subst}
 use Rattle.std.specs.Global.{Vec}
+use Rattle.std.specs.Prelude.{OnOk, OnErr}
+use Rattle.std.proofs.lemmas.Result.{IfOk-weaker}
 use Rattle.toll_base.specs.Bytes.{Bytes}
 use Rattle.toll_base.specs.History.{History}
 use Rattle.toll_keep.specs.Content.{Content}
 use Rattle.toll_keep.specs.Standing.{StandsFor}
 use Rattle.toll_keep.specs.declared.fault.KeepFault.{KeepFault}
-use Rattle.toll_desk.specs.Told.{Told}
-use Rattle.toll_desk.specs.Plans.{IsDone}
-use Rattle.toll_desk.proofs.Carried.{finished}
+use Rattle.toll_base.specs.declared.decision.Change.{Change}
+use Rattle.toll_desk.specs.Told.{Asked, Told}
+use Rattle.toll_desk.specs.Replies.{IsReply, after_reply}
+use Rattle.toll_desk.specs.Plans.{IsPlan, IsDone}
+use Rattle.toll_desk.proofs.Carried.{IsCarried, finished, carried_done}
 use Rattle.toll_wire.specs.declared.outgoing.Out.{Out}
 use Rattle.toll_wire.specs.declared.outgoing.Out.TheVariants.{Text, Unavailable}
 use Rattle.toll_wire.specs.OutTexts.{IsText}
 use Rattle.toll_wire.specs.ReplyTexts.{text_of_told, text_if_told}
-use Rattle.toll_wire.specs.Steps.{outcome_of}
+use Rattle.toll_wire.specs.Runs.{Nobody, IsTold}
+use Rattle.toll_wire.specs.Steps.{http, outcome_of, IsServed}
 
 -- what is so of the one text that there may be is so of the reply
 pub so_of_text : (out : Out) (text : Bytes) (P : Bytes → Type 0) → IsText out (Some text) → P text → IfOk (outcome_of out) P
@@ -35,6 +40,10 @@ module _ (holds : Content → Type 0) (was_live : Type 0) (leaves : List Content
   }
   none_to_do H (Err e) IsTold stands stop told = none_done H e IsTold stop
 
+  -- what the bytes alone are told
+  pub nobody_served : (H : History) (text : Bytes) (out : Out) → StandsFor c H → (was_live → leaves (c ∷ [])) → IsText out (Some text) → IsServed holds was_live leaves c H (Nobody text) out
+  nobody_served H text out stands stop is = none_to_do H (outcome_of out) (IsTold http H (Nobody text)) stands stop (so_of_text out text (IsTold http H (Nobody text)) is refl)
+
 module _ (holds : Content → Type 0) (was_live : Type 0) (leaves : List Content → Type 0) (c : Content) (G : History) (IsTold : Told → Type 0) where
   -- the text is that of what is told
   abbrev pub IsTextOfSome : Bytes → Type 0
@@ -48,3 +57,12 @@ module _ (holds : Content → Type 0) (was_live : Type 0) (leaves : List Content
   -- after a fault nothing is told
   pub undone_untold : (fault : KeepFault) → IsDone holds was_live leaves c G (Err fault) IsTold → IsDone holds was_live leaves c G (outcome_of Unavailable) IsTextOfSome
   undone_untold fault done = record { told = tt; done = tt; undone = done.undone; crash = done.crash }
+
+module _ {K : Type 0} (holds : K → Content → Type 0) (is_live : K → Type 0) (leaves : K → List Content → Type 0) where
+  -- an owner's plan that was carried out
+  pub plan_carried : (old middle new : K) (c : Content) (H : History) (o key : Bytes) (q : Asked) (planned : Result Told KeepFault) (changes : List Change) (result : Result (Unit {0}) KeepFault) →
+      OnErr planned (changes ≡ []) → IfOk planned (λ told. IsPlan c H o key q told changes) → OnOk planned (is_live middle) → holds middle c → (is_live old → leaves middle (c ∷ [])) → IsCarried holds is_live leaves middle new changes c result →
+      IsDone (holds new) (is_live old) (leaves new) c (after_reply o key H q) (finished planned result) (IsReply o key H q)
+  plan_carried old middle new c H o key q planned changes result none plan live held stop carried =
+      carried_done holds is_live leaves old middle new result c (after_reply o key H q) (IsReply o key H q) changes carried held planned none
+      (IfOk-weaker planned _ _ (λ told is. (is.reply, is.leads)) plan) live stop

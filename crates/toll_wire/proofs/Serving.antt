@@ -1,5 +1,5 @@
 -- Events of the office, one after another, are a run.
-use Rattle.std.proofs.Common.{◌≡◌, List, [], ◌∷◌, ◌++◌, Option, Some, None, Result, Ok, Err, refl, sym, subst, inl}
+use Rattle.std.proofs.Common.{◌≡◌, List, [], ◌∷◌, ◌++◌, Option, Some, None, Result, Ok, Err, refl, sym, subst, inl, inr, ◌⊎◌}
 use Rattle.std.specs.Global.{Vec}
 use Rattle.std.specs.Prelude.{ℕ}
 use Rattle.toll_base.specs.History.{History}
@@ -95,9 +95,8 @@ module _ (holds : Content → Type 0) (c : Content) (H : History) (stands : Stan
     left = record { content = c; held = held; stands = stands };
   }
 
-  -- a request that was answered
-  pub step_of_answered : (was_live : Type 0) (leaves : List Content → Type 0) (bytes : Vec ℕ) (out : Out) → IsAnswered holds was_live leaves c H bytes.items out → IsStepOf holds H (Owner bytes) (Reply out)
-  step_of_answered was_live leaves bytes (Text text) answered = record {
+  answered_step : (was_live : Type 0) (leaves : List Content → Type 0) (bytes : Vec ℕ) (out : Out) → IsAnswered holds was_live leaves c H bytes.items out → IsStepOf holds H (Owner bytes) (Reply out)
+  answered_step was_live leaves bytes (Text text) answered = record {
     happening = Request answered.saying;
     told = Tells text.items;
     shows = (answered.says, refl);
@@ -106,11 +105,7 @@ module _ (holds : Content → Type 0) (c : Content) (H : History) (stands : Stan
     step = (answered.served.told, refl);
     left = answered.served.done;
   }
-  step_of_answered was_live leaves bytes NoText answered = nothing_told bytes answered.served.undone
-
-  -- a request that was not read
-  pub step_of_unread : {K : Type 0} (old new : K) (bytes : Vec ℕ) (out : Out) → holds c → IsUnread old new out → IsStepOf holds H (Owner bytes) (Reply out)
-  step_of_unread old new bytes out held unread = subst (λ o. IsStepOf holds H (Owner bytes) (Reply o)) (sym unread.unavailable) (nothing_told bytes held)
+  answered_step was_live leaves bytes NoText answered = nothing_told bytes answered.served.undone
 
   module _ (was_live : Type 0) (leaves : List Content → Type 0) (Judges : PlantAsked → Option PlantTold → Type 0) where
     -- what the plant is told is the answer to it; it is told no text
@@ -138,3 +133,10 @@ module _ (holds : Content → Type 0) (c : Content) (H : History) (stands : Stan
           step = step;
           left = left;
         }
+
+-- a request, read or not
+pub step_of_request : {K : Type 0} (holds : K → Content → Type 0) (old new : K) (c : Content) (H : History) (was_live : Type 0) (leaves : List Content → Type 0) (bytes : Vec ℕ) (out : Out) → holds old c → StandsFor c H →
+    IsAnswered (holds new) was_live leaves c H bytes.items out ⊎ IsUnread old new out → IsStepOf (holds new) H (Owner bytes) (Reply out)
+step_of_request holds old new c H was_live leaves bytes out held stands (inl answered) = answered_step (holds new) c H stands was_live leaves bytes out answered
+step_of_request holds old new c H was_live leaves bytes out held stands (inr unread) =
+    subst (λ o. IsStepOf (holds new) H (Owner bytes) (Reply o)) (sym unread.unavailable) (nothing_told (holds new) c H stands bytes (subst (λ k. holds k c) (sym unread.same) held))

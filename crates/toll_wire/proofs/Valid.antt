@@ -2,7 +2,9 @@
 use Rattle.std.proofs.Common.{◌≡◌, ℕ, ◌≤◌, ◌&&◌, Bool, true, false, Option, Some, None, refl, sym, subst}
 use Rattle.std.specs.Prelude.{nat_le, codes, if◌then◌else◌}
 use Rattle.std.specs.Option.{option_map, option_and_then}
+use Rattle.std.proofs.lemmas.Bool.{leb-true}
 use Rattle.serde_json.specs.Data.{Data}
+use Rattle.serde_json.specs.Find.{get, as_number, as_u64}
 use Rattle.toll_base.specs.Bytes.{Bytes}
 use Rattle.toll_desk.specs.declared.request.Request.{Request}
 use Rattle.toll_desk.specs.declared.request.Request.TheVariants.{Orders as OrdersOf, Order as OrderOf, Place as PlaceOf}
@@ -29,12 +31,16 @@ IsValidAsks (For request) = IsValidRequest request
 
 -- ---- the body
 
-some_within : (n m : ℕ) → (if nat_le 1 n && nat_le n 99 then Some n else None) ≡ Some m → (1 ≤ m) × (m ≤ 99)
-some_within n m e = ?
+some_within : (n m : ℕ) (low high : Bool) → nat_le 1 n ≡ low → nat_le n 99 ≡ high → (if low && high then Some n else None) ≡ Some m → (1 ≤ m) × (m ≤ 99)
+some_within n m true true above below e =
+    let same : n ≡ m = cc in
+    subst (λ k. (1 ≤ k) × (k ≤ 99)) same (leb-true 1 n above, leb-true n 99 below)
+some_within n m true false above below e = cc e
+some_within n m false high above below e = cc e
 
 batches_within : (batches : Option ℕ) (n : ℕ) → option_and_then (λ n. if nat_le 1 n && nat_le n 99 then Some n else None) batches ≡ Some n → (1 ≤ n) × (n ≤ 99)
 batches_within None n e = cc e
-batches_within (Some m) n e = some_within m n e
+batches_within (Some m) n e = some_within m n (nat_le 1 m) (nat_le m 99) refl refl e
 
 placed_within : (d : Data) (order : Bytes) (recipe : Bytes) (batches : Option ℕ) → ((n : ℕ) → batches ≡ Some n → (1 ≤ n) × (n ≤ 99)) → (asked : Request) → option_map (λ n. PlaceOf order recipe n) batches ≡ Some asked → IsValidRequest asked
 placed_within d order recipe None within asked e = cc e
@@ -44,7 +50,7 @@ order_within : (d : Data) (order recipe : Option Bytes) (asked : Request) →
     option_and_then (λ order. option_and_then (λ recipe. option_map (λ batches. PlaceOf order recipe batches) (batches_at d)) recipe) order ≡ Some asked → IsValidRequest asked
 order_within d None recipe asked e = cc e
 order_within d (Some order) None asked e = cc e
-order_within d (Some order) (Some recipe) asked e = placed_within d order recipe (batches_at d) (λ n is. batches_within _ n is) asked e
+order_within d (Some order) (Some recipe) asked e = placed_within d order recipe (batches_at d) (batches_within (option_and_then as_u64 (option_and_then as_number (get (codes "batches") d)))) asked e
 
 -- ---- the whole
 

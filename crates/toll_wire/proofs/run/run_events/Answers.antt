@@ -1,4 +1,4 @@
-use Rattle.std.proofs.Common.{List, [], ◌∷◌, ◌++◌, take, sym, ap, ◌∙◌, subst, subst₂, arith}
+use Rattle.std.proofs.Common.{◌≡◌, ◌+◌, List, [], ◌∷◌, ◌++◌, take, sym, ap, ◌∙◌, subst, subst₂, arith}
 use Rattle.std.specs.List.{AllZip}
 use Rattle.std.proofs.lemmas.List.{take_more, take_all}
 use Rattle.toll_wire.specs.declared.event.Event.{Event}
@@ -16,13 +16,15 @@ each_push (e ∷ events) [] event answer each last = absurd each
 each_push (e ∷ events) (a ∷ answers) event answer each last = (each.0, each_push events answers event answer each.1 last)
 
 pub loop-event-init : goal.loop-event-init
-loop-event-init g c = record {
-  count = omega arith;
-  room = omega arith;
-  each = ?;
-  honest = λ honest. honest;
-  run = λ honest content H held stands lawful. ?;
-}
+loop-event-init g c =
+    let none : c.in_ok-answers.answers.items ≡ [] = c.in_ok-answers.ensures.items in
+    record {
+      count = omega (arith, c.in_ok-answers.ensures.len);
+      room = omega (arith, c.in_ok-answers.ensures.capacity);
+      each = subst (AllZip AnswersEvent []) (sym none) tt;
+      honest = λ honest. honest;
+      run = λ honest content H held stands lawful. subst (IsRunOf (g.K.Keep.holds c.args.keep.now) H []) (sym none) (run_of_none H lawful (g.K.Keep.holds c.args.keep.now) content held stands);
+    }
 
 pub loop-event-preserved : goal.loop-event-preserved
 loop-event-preserved g c =
@@ -30,7 +32,7 @@ loop-event-preserved g c =
     let told = c.answer_event-answer in
     let before : List Event = take c.loop-event.event-index c.args.events.now in
     let events_are : before ++ event ∷ [] ≡ take (c.loop-event.event-index + 1) c.args.events.now =
-        ap (λ e. before ++ e ∷ []) c.event-item.is ∙ sym (take_more c.args.events.now c.loop-event.event-index event c.loop-event-test.true) in
+    ap (λ e. before ++ e ∷ []) c.event-item.is ∙ sym (take_more c.args.events.now c.loop-event.event-index event c.loop-event-test.true) in
     let answers_are : c.loop-event.answers.items ++ told.result ∷ [] ≡ c.push_reserved.new.self.items = sym c.push_reserved.ensures.items in
     record {
       count = omega arith;
@@ -48,5 +50,5 @@ loop-event-preserved g c =
 
 pub returns-clause-run : goal.returns-clause-run
 returns-clause-run g c = λ honest content H held stands lawful.
-    subst (λ events. IsRunOf (g.K.Keep.holds c.loop-event.keep) H events c.loop-event.answers.items) (take_all c.args.events.now c.loop-event.event-index c.loop-event-test.false)
+    subst (λ events. IsRunOf (g.K.Keep.holds c.loop-event.keep) H events c.loop-event.answers.items) (take_all c.loop-event.event-index c.args.events.now c.loop-event-test.false)
     (c.loop-event.invariant.run honest content H held stands lawful)
