@@ -117,6 +117,15 @@ module _ {K R : Type 0} (cmp : K → K → Ordering) (o : IsTotalOrder cmp) (key
         | Greater ↦ λ e none. (all_inserted (key x) xs new (turned (key new) (key x) Greater e) ordered.0, insert_row_ordered xs new none ordered.1)
       ] refl absent
 
+  -- a row that is put leaves the rows in order
+  pub put_row_ordered : (xs : List R) (new : R) → IsInKeyOrder cmp key xs → IsInKeyOrder cmp key (put_row cmp key xs new)
+  unfolding row_at put_row
+  put_row_ordered xs new ordered =
+      elim (is_some (row_at cmp key xs (key new))) as (λ b. is_some (row_at cmp key xs (key new)) ≡ b → IsInKeyOrder cmp key (cond b (replace_row cmp key xs new) (insert_row cmp key xs new))) [
+        | true ↦ λ found. replace_row_ordered xs new ordered
+        | false ↦ λ absent. insert_row_ordered xs new (none_of _ absent) ordered
+      ] refl
+
   -- ---- the comparisons with a key rise along the rows, as a binary search asks
   rises_by : (a b k : K) (r s : Ordering) → cmp a k ≡ r → cmp b k ≡ s → cmp a b ≡ Less → ordering_index r ≤ ordering_index s
   rises_by a b k Less s ea eb lt = omega arith

@@ -57,6 +57,6 @@ module _ {K : Type 0} (holds : K → Content → Type 0) (is_live : K → Type 0
           crash = λ was. record { others = []; stand = tt; left = stop was };
         }))
 
-    pub carried_done : (planned : Result X KeepFault) → OnErr planned (changes ≡ []) → IfOk planned (λ x. IsTold x × LeadsTo c changes G) → OnOk planned (is_live middle) → (is_live old → leaves middle (c ∷ [])) → Done (finished planned result)
-    carried_done (Ok x) none plan live stop = done_by x result plan.0 plan.1 (carried.all plan.1.fits) carried.none (λ was. live)
+    pub carried_done : (planned : Result X KeepFault) → OnErr planned (changes ≡ []) → IfOk planned (λ x. IsTold x × LeadsTo c changes G) → OnOk planned (is_live old → is_live middle) → (is_live old → leaves middle (c ∷ [])) → Done (finished planned result)
+    carried_done (Ok x) none plan live stop = done_by x result plan.0 plan.1 (carried.all plan.1.fits) carried.none live
     carried_done (Err fault) none plan live stop = undone_by fault none stop

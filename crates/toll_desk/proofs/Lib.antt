@@ -12,3 +12,6 @@ pub mod Lift
 pub mod Answered
 pub mod Carried
 pub mod OwnerPlans
+pub mod Unknown
+pub mod OwnerAdded
+pub mod PlantPlans

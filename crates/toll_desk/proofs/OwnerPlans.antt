@@ -64,6 +64,13 @@ read_none : (b : Bool) (x : Slice) → None ≡ (if b then Some x else None) →
 read_none true x e = (cc)
 read_none false x e = refl
 
+read_known : (b : Bool) (s x : Slice) → Some s ≡ (if b then Some x else None) → b ≡ true
+read_known true s x e = refl
+read_known false s x e = (cc)
+
+pub some_read : (c : Content) (H : History) (o : Bytes) (s : Slice) → StandsFor c H → Some s ≡ slice_of c o → owner_known H o ≡ true
+some_read c H o s stands e = sym (standing_knows H c stands o) ∙ read_known (knows c o) s (c.rows o) e
+
 pub none_read : (c : Content) (H : History) (o : Bytes) → StandsFor c H → None ≡ slice_of c o → owner_known H o ≡ false
 none_read c H o stands e = sym (standing_knows H c stands o) ∙ read_none (knows c o) (c.rows o) e
 

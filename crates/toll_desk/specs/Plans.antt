@@ -1,5 +1,5 @@
 -- What a plan owes, and what came of it.
-use Rattle.std.specs.Prelude.{◌≡◌, Bool, true, false, not, ◌&&◌, Option, Some, None, List, [], ◌∷◌, Result, Ok, Err, IfOk, OnOk, OnErr}
+use Rattle.std.specs.Prelude.{◌≡◌, Bool, true, false, not, ◌&&◌, ◌||◌, nat_le, Option, Some, None, is_some, List, [], ◌∷◌, length, Result, Ok, Err, IfOk, OnOk, OnErr}
 use Rattle.toll_base.specs.Bytes.{Bytes, bytes_cmp, same_bytes}
 use Rattle.toll_base.specs.Values.{house_name}
 use Rattle.toll_base.specs.Words.{is_some_where}
@@ -8,17 +8,19 @@ use Rattle.toll_base.specs.Command.{AddOwner, AddRecipe, by}
 use Rattle.toll_base.specs.History.{History}
 use Rattle.toll_base.specs.Slice.{Slice}
 use Rattle.toll_base.specs.Tables.{IsRowsOf}
-use Rattle.toll_base.specs.Verdict.{Accepted, Repeated, Refused as RefusedFor}
-use Rattle.toll_base.specs.Decision.{after_changes, ChangesKeepRules}
+use Rattle.toll_base.specs.Verdict.{Checks, Accepted, Repeated, Refused as RefusedFor, IsValid}
+use Rattle.toll_base.specs.Decision.{verdict_of, changes_of, after_changes, ChangesKeepRules}
 use Rattle.toll_base.specs.OwnChanges.{PutsOnly}
 use Rattle.toll_base.specs.declared.rows.OwnerRow.{OwnerRow}
 use Rattle.toll_base.specs.declared.decision.Change.{Change}
+use Rattle.toll_base.specs.declared.decision.Decision.{Decision}
+use Rattle.toll_base.specs.declared.refusal.Refusal.TheVariants.{OwnerExists, LimitReached}
 use Rattle.toll_keep.specs.Content.{Content, after, Fits}
 use Rattle.toll_keep.specs.Standing.{StandsFor}
 use Rattle.toll_keep.specs.declared.fault.KeepFault.{KeepFault}
 use Rattle.toll_desk.specs.Told.{Asked, AskOrders, AskOrder, AskPlace, Told, TellForbidden, TellOrders, TellOrder, TellRefused}
 use Rattle.toll_desk.specs.Replies.{IsAnswer, after_answer, IsReply, after_reply}
-use Rattle.toll_desk.specs.PlantAnswers.{PlantAsked, Does, CannotRead, PlantTold, Judged}
+use Rattle.toll_desk.specs.PlantAnswers.{PlantAsked, Does, CannotRead, PlantTold, Judged, IsPlantAnswer, after_plant}
 use Rattle.toll_desk.specs.declared.request.Request.{Request}
 use Rattle.toll_desk.specs.declared.request.Request.TheVariants.{Orders as OrdersOf, Order as OrderOf, Place}
 use Rattle.toll_desk.specs.declared.request.Reply.{Reply}
@@ -88,6 +90,39 @@ pub record IsPlan (c : Content) (H : History) (o key : Bytes) (q : Asked) (told 
   pub reply : IsReply o key H q told
   pub leads : LeadsTo c changes (after_reply o key H q)
   pub own : PutsOnly o changes
+
+-- ---- the plant's commands
+
+-- the values of what the plant does are within their bounds
+abbrev pub IsValidDeed : PlantAsked → Type 0
+IsValidDeed (Does c) = IsValid c.action
+IsValidDeed _ = Unit {0}
+
+-- the command asks for something of the keep: its values could be read
+abbrev pub is_asked : PlantAsked → Bool
+is_asked (CannotRead why) = false
+is_asked _ = true
+
+-- the plant is told what is so; it is told no text yet
+abbrev pub IsPlantTold : History → PlantAsked → Option PlantTold → Type 0
+IsPlantTold H q None = ⊥
+IsPlantTold H q (Some told) = IsPlantAnswer H q told
+
+-- the checks of an owner to be added, over those that were
+abbrev pub owner_row_checks : List OwnerRow → OwnerRow → Checks
+owner_row_checks rows row =
+    (same_bytes row.owner house_name || is_some (row_at bytes_cmp (λ r. r.owner) rows row.owner), Some OwnerExists)
+    ∷ (nat_le 64 (length rows), Some LimitReached)
+    ∷ []
+
+-- over the content of a keep, this is what the plant is told, and the changes lead to the content after it
+pub record IsPlantPlan (c : Content) (H : History) (q : PlantAsked) (answer : Option PlantTold) (changes : List Change) : Type 0 where
+  pub told : IsPlantTold H q answer
+  pub leads : LeadsTo c changes (after_plant H q)
+
+-- the decision tells the plant what is so, and its changes lead to the content after it
+abbrev pub IsPlantDecision : Content → History → PlantAsked → Decision → Type 0
+IsPlantDecision c H q d = IsPlantPlan c H q (Some (Judged (verdict_of d))) (changes_of d)
 
 -- ---- what came of it
 

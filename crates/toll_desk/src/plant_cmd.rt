@@ -1,5 +1,11 @@
 //! The plant's commands, and the replies to them.
-use toll_base::{Name, OwnerKey, Refusal, Segment};
+ghost use Rattle.std.specs.Prelude.{◌≡◌, [], Ok, Some};
+ghost use Rattle.toll_base.specs.Decision.{changes_of, verdict_of};
+ghost use Rattle.toll_desk.specs.PlantAnswers.{Judged};
+ghost use Rattle.toll_desk.specs.Plans.{plant_told};
+
+use std::alloc::Global;
+use toll_base::{Change, Decision, Name, OwnerKey, Refusal, Segment};
 use toll_keep::KeepFault;
 
 /// A command of the plant.
@@ -30,4 +36,39 @@ pub enum PlantReply {
     /// The text that was asked for.
     Text(Vec<u8>),
     Fault(KeepFault),
+}
+
+/// The reply as it will stand, and what must be applied for it.
+#[derive(Debug, Drop)]
+pub struct PlantPlan {
+    pub reply: PlantReply,
+    pub changes: Vec<Change>,
+}
+
+impl PlantPlan {
+    /// What a decision comes to.
+    pub fn of(alloc: Global, decision: Decision) -> Self
+        ensures told { plant_told result.reply ≡ Ok (Some (Judged (verdict_of decision))) }
+        ensures changes { result.changes.items ≡ changes_of decision }
+    {
+        match decision {
+            Decision::Accept(changes) => PlantPlan {
+                reply: PlantReply::Accepted,
+                changes,
+            },
+            Decision::Repeated => PlantPlan::unchanged(alloc, PlantReply::Repeated),
+            Decision::Refuse(why) => PlantPlan::unchanged(alloc, PlantReply::Refused(why)),
+        }
+    }
+
+    /// A reply that changes nothing.
+    pub fn unchanged(alloc: Global, reply: PlantReply) -> Self
+        ensures reply { result.reply ≡ reply }
+        ensures changes { result.changes.items ≡ [] }
+    {
+        PlantPlan {
+            reply,
+            changes: Vec::new(alloc),
+        }
+    }
 }

@@ -8,14 +8,14 @@ use Rattle.toll_desk.proofs.over.plan_place.Goals as goal
 
 pub returns-in-Accept-clause-over : goal.returns-in-Accept-clause-over
 returns-in-Accept-clause-over c H lawful known there =
-    let placed = c.in_ok-place_order.ensures in
+    let placed = c.in_ok-changes.ensures in
     subst (IsPlanOver H c.args.slice.now (AskPlace c.args.order c.args.recipe c.args.batches) _) (ap changes_of c.in-Accept.is)
     (accepted_over H c.args.slice.now c.args.order c.args.recipe c.args.batches lawful c.get-within.ensures.bounds known there _
     placed.decides placed.rules placed.own (ap verdict_of c.in-Accept.is))
 
 pub returns-in-Repeated-clause-over : goal.returns-in-Repeated-clause-over
 returns-in-Repeated-clause-over c H lawful known there =
-    let placed = c.in_ok-place_order.ensures in
+    let placed = c.in_ok-changes.ensures in
     IfOk-weaker (told_of c.plan_order.result.reply) _ _
     (λ told stands. subst (IsPlanOver H c.args.slice.now (AskPlace c.args.order c.args.recipe c.args.batches) told) (ap changes_of c.in-Repeated.is ∙ sym c.plan_order.ensures.changes)
     (repeated_over H c.args.slice.now c.args.order c.args.recipe c.args.batches lawful c.get-within.ensures.bounds known there _
@@ -24,7 +24,7 @@ returns-in-Repeated-clause-over c H lawful known there =
 
 pub returns-in-Refuse-clause-over : goal.returns-in-Refuse-clause-over
 returns-in-Refuse-clause-over c H lawful known there =
-    let placed = c.in_ok-place_order.ensures in
+    let placed = c.in_ok-changes.ensures in
     rw (c.unchanged.ensures.reply, c.unchanged.ensures.changes)
     (subst (IsPlanOver H c.args.slice.now (AskPlace c.args.order c.args.recipe c.args.batches) _) (ap changes_of c.in-Refuse.is)
     (refused_over H c.args.slice.now c.args.order c.args.recipe c.args.batches lawful c.get-within.ensures.bounds known there _

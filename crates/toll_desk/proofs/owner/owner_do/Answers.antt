@@ -1,5 +1,5 @@
 use Rattle.std.proofs.Common.{subst}
-use Rattle.std.proofs.lemmas.Result.{IfOk-weaker}
+use Rattle.std.proofs.lemmas.Result.{IfOk-weaker, on_ok_weaker}
 use Rattle.toll_desk.specs.Replies.{IsReply, after_reply}
 use Rattle.toll_desk.specs.Plans.{asked_of, told_of, IsDone}
 use Rattle.toll_desk.proofs.Carried.{IsCarried, finished, carried_done}
@@ -24,7 +24,7 @@ returns-in-Ok-clause-done g c honest content H held stands lawful =
     (carried_done g.K.Keep.holds g.K.Keep.is_live g.K.Keep.leaves old middle new c.carry.result content G told planned.result.changes.items carried between
     (told_of planned.result.reply) planned.ensures.none
     (IfOk-weaker (told_of planned.result.reply) _ _ (λ x plan. (plan.reply, plan.leads)) (planned.ensures.plan before content H held stands lawful))
-    (planned.ensures.goes.shown before) (λ live. keeps.crash live content held))
+    (on_ok_weaker (told_of planned.result.reply) (λ live was. live) (planned.ensures.goes.shown before)) (λ live. keeps.crash live content held))
 
 pub returns-in-Err-clause-done : goal.returns-in-Err-clause-done
 returns-in-Err-clause-done g c honest content H held stands lawful =
@@ -45,4 +45,4 @@ returns-in-Err-clause-done g c honest content H held stands lawful =
     (carried_done g.K.Keep.holds g.K.Keep.is_live g.K.Keep.leaves old middle new c.carry.result content G told planned.result.changes.items carried between
     (told_of planned.result.reply) planned.ensures.none
     (IfOk-weaker (told_of planned.result.reply) _ _ (λ x plan. (plan.reply, plan.leads)) (planned.ensures.plan before content H held stands lawful))
-    (planned.ensures.goes.shown before) (λ live. keeps.crash live content held))
+    (on_ok_weaker (told_of planned.result.reply) (λ live was. live) (planned.ensures.goes.shown before)) (λ live. keeps.crash live content held))
