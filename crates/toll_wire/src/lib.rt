@@ -18,6 +18,8 @@ mod reply_body;
 mod route;
 mod run;
 mod settled;
+mod sink;
+mod source;
 #[cfg(test)]
 mod tests;
 mod verb;
@@ -29,4 +31,6 @@ pub use laws::{answers_are_determined, runs_are_private, runs_that_agree_tell_th
 pub use outgoing::Out;
 pub use reading::{ReadFault, read_request};
 pub use run::run_events;
+pub use sink::Sink;
+pub use source::{Source, read_behind};
 pub use writing::{WriteFault, write_reply};
