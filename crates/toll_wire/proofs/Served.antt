@@ -2,7 +2,7 @@
 use Rattle.std.proofs.Common.{◌≡◌, ℕ, List, [], ◌∷◌, Option, Some, None, Result, Ok, Err, IfOk, refl, sym, subst}
 use Rattle.std.specs.Global.{Vec}
 use Rattle.std.specs.Prelude.{OnOk, OnErr}
-use Rattle.std.proofs.lemmas.Result.{IfOk-weaker}
+use Rattle.std.proofs.lemmas.Result.{IfOk-weaker, on_ok_weaker}
 use Rattle.toll_base.specs.Bytes.{Bytes}
 use Rattle.toll_base.specs.History.{History}
 use Rattle.toll_keep.specs.Content.{Content}
@@ -65,4 +65,4 @@ module _ {K : Type 0} (holds : K → Content → Type 0) (is_live : K → Type 0
       IsDone (holds new) (is_live old) (leaves new) c (after_reply o key H q) (finished planned result) (IsReply o key H q)
   plan_carried old middle new c H o key q planned changes result none plan live held stop carried =
       carried_done holds is_live leaves old middle new result c (after_reply o key H q) (IsReply o key H q) changes carried held planned none
-      (IfOk-weaker planned _ _ (λ told is. (is.reply, is.leads)) plan) live stop
+      (IfOk-weaker planned _ _ (λ told is. (is.reply, is.leads)) plan) (on_ok_weaker planned (λ now was. now) live) stop

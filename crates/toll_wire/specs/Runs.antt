@@ -9,6 +9,7 @@ use Rattle.toll_base.specs.Verdict.{Verdict, Accepted, Repeated, Refused, IsVali
 use Rattle.toll_desk.specs.Told.{Asked, AskPlace, Told}
 use Rattle.toll_desk.specs.Replies.{has_key, IsReply, after_reply}
 use Rattle.toll_desk.specs.PlantAnswers.{PlantAsked, Does, PlantTold, Judged, IsPlantAnswer, after_plant}
+use Rattle.toll_desk.specs.Plans.{IsValidDeed}
 
 -- what is asked with a key: a request, or something that fails a check after the key's, with the text that it is told
 pub data Asking : Type 0 where
@@ -144,8 +145,7 @@ module _ (wire : Wire) where
 
   abbrev pub IsValidEvent : Happening → Type 0
   IsValidEvent (Request s) = IsValidSaying s
-  IsValidEvent (Plant (Does c)) = IsValid c.action
-  IsValidEvent (Plant _) = Unit {0}
+  IsValidEvent (Plant asked) = IsValidDeed asked
 
   abbrev pub AreValid : List Happening → Type 0
   AreValid [] = Unit {0}
