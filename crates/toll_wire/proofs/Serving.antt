@@ -1,5 +1,5 @@
 -- Events of the office, one after another, are a run.
-use Rattle.std.proofs.Common.{◌≡◌, List, [], ◌∷◌, ◌++◌, Option, Some, None, Result, Ok, Err, refl, sym, subst, inl, inr, ◌⊎◌}
+use Rattle.std.proofs.Common.{List, [], ◌∷◌, ◌++◌, Option, Some, None, Result, Ok, Err, refl, sym, subst, inl, inr, ◌⊎◌}
 use Rattle.std.specs.Global.{Vec}
 use Rattle.std.specs.Prelude.{ℕ}
 use Rattle.toll_base.specs.History.{History}
@@ -7,7 +7,7 @@ use Rattle.toll_base.specs.Verdict.{IsLawful}
 use Rattle.toll_keep.specs.Content.{Content}
 use Rattle.toll_keep.specs.Standing.{StandsFor}
 use Rattle.toll_keep.specs.declared.fault.KeepFault.{KeepFault}
-use Rattle.toll_desk.specs.PlantAnswers.{PlantAsked, PlantTold, IsPlantAnswer, after_plant}
+use Rattle.toll_desk.specs.PlantAnswers.{PlantAsked, PlantTold, after_plant}
 use Rattle.toll_desk.specs.Plans.{asked_by, plant_told, IsPlantTold, IsValidDeed, HoldsFor, IsDone}
 use Rattle.toll_desk.specs.declared.plant_cmd.PlantCmd.{PlantCmd}
 use Rattle.toll_desk.specs.declared.plant_cmd.PlantReply.{PlantReply}
@@ -17,7 +17,7 @@ use Rattle.toll_wire.specs.declared.event.Answer.{Answer}
 use Rattle.toll_wire.specs.declared.event.Answer.TheVariants.{Bytes as Reply, Plant as CommandReply}
 use Rattle.toll_wire.specs.declared.outgoing.Out.{Out}
 use Rattle.toll_wire.specs.declared.outgoing.Out.TheVariants.{Text, Unavailable as NoText}
-use Rattle.toll_wire.specs.Runs.{Nobody, Happening, Request, Plant, Answered, Tells, Unavailable, PlantTells, PlantFault, Wire, IsTold, after_saying, IsStep, IsRun, IsRunUpToFault, IsValidEvent, AreValid}
+use Rattle.toll_wire.specs.Runs.{Nobody, Happening, Request, Plant, Answered, Tells, Unavailable, PlantTells, PlantFault, Wire, after_saying, IsStep, IsRun, IsRunUpToFault, IsValidEvent, AreValid}
 use Rattle.toll_wire.specs.Steps.{http, IsAnswered, IsUnread}
 use Rattle.toll_wire.specs.OfficeRuns.{PlantShows, Shows, AllShow, IsStepOf, IsRunOf}
 use Rattle.toll_wire.proofs.Private.{lawful-step, runs-private}
