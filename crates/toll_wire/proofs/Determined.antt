@@ -1,14 +1,14 @@
 -- Events have one list of answers, where none is a fault, and an owner's part one list of replies.
-use Rattle.std.proofs.Common.{◌≡◌, Bool, true, false, cond, List, [], ◌∷◌, refl, sym, ap, subst, ◌∙◌}
+use Rattle.std.proofs.Common.{◌≡◌, false, List, [], ◌∷◌, refl, sym, ap, subst, ◌∙◌}
 use mathlib.Core.Bool.{false≢true}
 use Rattle.toll_base.specs.Bytes.{Bytes, same_bytes}
 use Rattle.toll_base.specs.Values.{house_name}
 use Rattle.toll_base.specs.History.{History, part}
 use Rattle.toll_base.specs.Verdict.{IsLawful}
-use Rattle.toll_desk.specs.PlantAnswers.{PlantAsked, Does, AsksOrders, AsksStock, AsksBatch, AsksTrace, AsksRecall, CannotRead, after_plant}
+use Rattle.toll_desk.specs.PlantAnswers.{Does, AsksOrders, AsksStock, AsksBatch, AsksTrace, AsksRecall, CannotRead}
 use Rattle.toll_desk.proofs.OneReply.{one_reply}
 use Rattle.toll_desk.proofs.OneAnswer.{one_plant_answer}
-use Rattle.toll_wire.specs.Runs.{Asking, Asks, Fails, Saying, By, Nobody, Happening, Request, Plant, Answered, Tells, Unavailable, PlantTells, PlantFault, Wire, IsTold, after_saying, IsStep, IsRun, is_fault, own_events, told, IsAlone, AreValid, NoFaults}
+use Rattle.toll_wire.specs.Runs.{Asks, Fails, Saying, By, Nobody, Happening, Request, Plant, Answered, Tells, Unavailable, PlantTells, PlantFault, Wire, IsTold, after_saying, IsStep, IsRun, is_fault, own_events, told, IsAlone, AreValid, NoFaults}
 use Rattle.toll_wire.proofs.Private.{runs-private}
 
 module _ (wire : Wire) where

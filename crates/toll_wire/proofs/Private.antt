@@ -1,17 +1,16 @@
 -- Each owner's replies in a run are those that its own events give by themselves.
-use Rattle.std.proofs.Common.{◌≡◌, ℕ, Bool, true, false, not, ◌&&◌, ◌||◌, cond, Option, Some, None, List, [], ◌∷◌, ◌++◌, refl, sym, ap, subst, ◌∙◌}
+use Rattle.std.proofs.Common.{◌≡◌, Bool, true, false, ◌&&◌, cond, List, [], ◌∷◌, ◌++◌, refl, sym, ap, subst, ◌∙◌}
 use mathlib.Core.Bool.{false≢true}
 use Rattle.toll_base.specs.Bytes.{Bytes, same_bytes}
 use Rattle.toll_base.specs.Values.{house_name}
-use Rattle.toll_base.specs.Words.{is_some_where}
-use Rattle.toll_base.specs.Command.{Action, PlaceOrder, CancelOrder, Release, Reject, Command, by}
+use Rattle.toll_base.specs.Command.{PlaceOrder, CancelOrder, Release, Reject, Command, by}
 use Rattle.toll_base.specs.History.{History, part}
-use Rattle.toll_base.specs.Verdict.{Verdict, Accepted, Repeated, Refused, verdict, grow, grown, IsLawful, IsValid}
+use Rattle.toll_base.specs.Verdict.{Verdict, Accepted, Repeated, Refused, verdict, grow, grown, IsLawful}
 use Rattle.toll_base.proofs.Own.{part-own, part-other}
 use Rattle.toll_base.proofs.Texts.{same_bytes-exact}
-use Rattle.toll_desk.specs.Told.{Asked, AskOrders, AskOrder, AskPlace, AskCancel, AskBatch, AskStock, AskLot, AskRelease, AskReject, AskBack, AskForward, AskHouseForward, Told}
+use Rattle.toll_desk.specs.Told.{Asked, AskPlace, AskCancel, AskRelease, AskReject}
 use Rattle.toll_desk.specs.Replies.{has_key, IsReply, after_answer, after_reply}
-use Rattle.toll_desk.specs.PlantAnswers.{PlantAsked, Does, AsksOrders, AsksStock, AsksBatch, AsksTrace, AsksRecall, CannotRead, PlantTold, Judged, ShowsOrders, ShowsStock, ShowsBatch, ShowsTrace, ShowsRecall, after_plant}
+use Rattle.toll_desk.specs.PlantAnswers.{PlantAsked, Does, AsksOrders, AsksStock, AsksBatch, AsksTrace, AsksRecall, CannotRead, PlantTold, Judged, after_plant}
 use Rattle.toll_desk.proofs.OwnReplies.{lawful-grow, has_key-part, reply-both_ways, after_reply-part}
 use Rattle.toll_wire.specs.Runs.{Asking, Asks, Fails, Saying, By, Nobody, Happening, Request, Plant, Answered, Tells, Unavailable, PlantTells, PlantFault, Wire, IsTold, after_saying, IsStep, IsRun, accepts, is_own, own_events, told_by, told, IsAlone, IsPrivate, IsValidAsking, IsValidSaying, IsValidEvent, AreValid, claims}
 

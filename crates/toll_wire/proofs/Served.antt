@@ -1,8 +1,8 @@
 -- Requests that are served, over any keep.
-use Rattle.std.proofs.Common.{◌≡◌, ℕ, List, [], ◌∷◌, Option, Some, None, Result, Ok, Err, IfOk, refl, sym, subst}
+use Rattle.std.proofs.Common.{◌≡◌, ℕ, List, [], ◌∷◌, Some, Result, Ok, Err, IfOk, refl, sym, subst}
 use Rattle.std.specs.Global.{Vec}
 use Rattle.std.specs.Prelude.{OnOk, OnErr}
-use Rattle.std.proofs.lemmas.Result.{IfOk-weaker}
+use Rattle.std.proofs.lemmas.Result.{IfOk-weaker, on_ok_weaker}
 use Rattle.toll_base.specs.Bytes.{Bytes}
 use Rattle.toll_base.specs.History.{History}
 use Rattle.toll_keep.specs.Content.{Content}
@@ -17,7 +17,7 @@ use Rattle.toll_wire.specs.declared.outgoing.Out.{Out}
 use Rattle.toll_wire.specs.declared.outgoing.Out.TheVariants.{Text, Unavailable}
 use Rattle.toll_wire.specs.OutTexts.{IsText}
 use Rattle.toll_wire.specs.ReplyTexts.{text_of_told, text_if_told}
-use Rattle.toll_wire.specs.Runs.{Nobody, IsTold}
+use Rattle.toll_wire.specs.Runs.{Asks, By, Nobody, IsTold}
 use Rattle.toll_wire.specs.Steps.{http, outcome_of, IsServed}
 
 -- what is so of the one text that there may be is so of the reply
@@ -58,11 +58,25 @@ module _ (holds : Content → Type 0) (was_live : Type 0) (leaves : List Content
   pub undone_untold : (fault : KeepFault) → IsDone holds was_live leaves c G (Err fault) IsTold → IsDone holds was_live leaves c G (outcome_of Unavailable) IsTextOfSome
   undone_untold fault done = record { told = tt; done = tt; undone = done.undone; crash = done.crash }
 
-module _ {K : Type 0} (holds : K → Content → Type 0) (is_live : K → Type 0) (leaves : K → List Content → Type 0) where
-  -- an owner's plan that was carried out
-  pub plan_carried : (old middle new : K) (c : Content) (H : History) (o key : Bytes) (q : Asked) (planned : Result Told KeepFault) (changes : List Change) (result : Result (Unit {0}) KeepFault) →
-      OnErr planned (changes ≡ []) → IfOk planned (λ told. IsPlan c H o key q told changes) → OnOk planned (is_live middle) → holds middle c → (is_live old → leaves middle (c ∷ [])) → IsCarried holds is_live leaves middle new changes c result →
-      IsDone (holds new) (is_live old) (leaves new) c (after_reply o key H q) (finished planned result) (IsReply o key H q)
-  plan_carried old middle new c H o key q planned changes result none plan live held stop carried =
+-- the reply once the changes were made, or not
+abbrev pub reply_if : Vec ℕ → Result (Unit {0}) KeepFault → Out
+reply_if text (Ok done) = Text text
+reply_if text (Err fault) = Unavailable
+
+module _ {K : Type 0} (holds : K → Content → Type 0) (is_live : K → Type 0) (leaves : K → List Content → Type 0) (old middle new : K) (c : Content) (H : History) (o key : Bytes) (q : Asked) (planned : Result Told KeepFault) (changes : List Change) where
+  plan_carried : (result : Result (Unit {0}) KeepFault) → OnErr planned (changes ≡ []) → IfOk planned (λ told. IsPlan c H o key q told changes) → OnOk planned (is_live middle) → holds middle c → (is_live old → leaves middle (c ∷ [])) →
+      IsCarried holds is_live leaves middle new changes c result → IsDone (holds new) (is_live old) (leaves new) c (after_reply o key H q) (finished planned result) (IsReply o key H q)
+  plan_carried result none plan live held stop carried =
       carried_done holds is_live leaves old middle new result c (after_reply o key H q) (IsReply o key H q) changes carried held planned none
-      (IfOk-weaker planned _ _ (λ told is. (is.reply, is.leads)) plan) live stop
+      (IfOk-weaker planned _ _ (λ told is. (is.reply, is.leads)) plan) (on_ok_weaker planned (λ now was. now) live) stop
+
+  reply_served : (text : Vec ℕ) (result : Result (Unit {0}) KeepFault) → IsText (Text text) (text_if_told planned) → IsDone (holds new) (is_live old) (leaves new) c (after_reply o key H q) (finished planned result) (IsReply o key H q) →
+      IsServed (holds new) (is_live old) (leaves new) c H (By o key (Asks q)) (reply_if text result)
+  reply_served text (Ok done) is told = done_told (holds new) (is_live old) (leaves new) c (after_reply o key H q) (IsReply o key H q) planned text is told
+  reply_served text (Err fault) is told = undone_untold (holds new) (is_live old) (leaves new) c (after_reply o key H q) (IsReply o key H q) fault told
+
+  -- the text of a plan is told once the changes, which are read through a reference, were made
+  pub plan_served : (text : Vec ℕ) (result : Result (Unit {0}) KeepFault) (made : List Change) → made ≡ changes → IsText (Text text) (text_if_told planned) → OnErr planned (changes ≡ []) → IfOk planned (λ told. IsPlan c H o key q told changes) → OnOk planned (is_live middle) → holds middle c → (is_live old → leaves middle (c ∷ [])) →
+      IsCarried holds is_live leaves middle new made c result → IsServed (holds new) (is_live old) (leaves new) c H (By o key (Asks q)) (reply_if text result)
+  plan_served text result made same is none plan live held stop carried =
+      reply_served text result is (plan_carried result none plan live held stop (subst (λ changes. IsCarried holds is_live leaves middle new changes c result) same carried))

@@ -1,5 +1,5 @@
 -- Events of the office, one after another, are a run.
-use Rattle.std.proofs.Common.{◌≡◌, List, [], ◌∷◌, ◌++◌, Option, Some, None, Result, Ok, Err, refl, sym, subst, inl, inr, ◌⊎◌}
+use Rattle.std.proofs.Common.{List, [], ◌∷◌, ◌++◌, Option, Some, None, Result, Ok, Err, refl, sym, subst, inl, inr, ◌⊎◌}
 use Rattle.std.specs.Global.{Vec}
 use Rattle.std.specs.Prelude.{ℕ}
 use Rattle.toll_base.specs.History.{History}
@@ -7,8 +7,8 @@ use Rattle.toll_base.specs.Verdict.{IsLawful}
 use Rattle.toll_keep.specs.Content.{Content}
 use Rattle.toll_keep.specs.Standing.{StandsFor}
 use Rattle.toll_keep.specs.declared.fault.KeepFault.{KeepFault}
-use Rattle.toll_desk.specs.PlantAnswers.{PlantAsked, PlantTold, IsPlantAnswer, after_plant}
-use Rattle.toll_desk.specs.Plans.{asked_by, plant_told, HoldsFor, IsDone}
+use Rattle.toll_desk.specs.PlantAnswers.{PlantAsked, PlantTold, after_plant}
+use Rattle.toll_desk.specs.Plans.{asked_by, plant_told, IsPlantTold, IsValidDeed, HoldsFor, IsDone}
 use Rattle.toll_desk.specs.declared.plant_cmd.PlantCmd.{PlantCmd}
 use Rattle.toll_desk.specs.declared.plant_cmd.PlantReply.{PlantReply}
 use Rattle.toll_wire.specs.declared.event.Event.{Event}
@@ -17,7 +17,7 @@ use Rattle.toll_wire.specs.declared.event.Answer.{Answer}
 use Rattle.toll_wire.specs.declared.event.Answer.TheVariants.{Bytes as Reply, Plant as CommandReply}
 use Rattle.toll_wire.specs.declared.outgoing.Out.{Out}
 use Rattle.toll_wire.specs.declared.outgoing.Out.TheVariants.{Text, Unavailable as NoText}
-use Rattle.toll_wire.specs.Runs.{Nobody, Happening, Request, Plant, Answered, Tells, Unavailable, PlantTells, PlantFault, Wire, IsTold, after_saying, IsStep, IsRun, IsRunUpToFault, IsValidEvent, AreValid}
+use Rattle.toll_wire.specs.Runs.{Nobody, Happening, Request, Plant, Answered, Tells, Unavailable, PlantTells, PlantFault, Wire, after_saying, IsStep, IsRun, IsRunUpToFault, IsValidEvent, AreValid}
 use Rattle.toll_wire.specs.Steps.{http, IsAnswered, IsUnread}
 use Rattle.toll_wire.specs.OfficeRuns.{PlantShows, Shows, AllShow, IsStepOf, IsRunOf}
 use Rattle.toll_wire.proofs.Private.{lawful-step, runs-private}
@@ -107,32 +107,26 @@ module _ (holds : Content → Type 0) (c : Content) (H : History) (stands : Stan
   }
   answered_step was_live leaves bytes NoText answered = nothing_told bytes answered.served.undone
 
-  module _ (was_live : Type 0) (leaves : List Content → Type 0) (Judges : PlantAsked → Option PlantTold → Type 0) where
-    -- what the plant is told is the answer to it; it is told no text
-    pub record JudgesAs (q : PlantAsked) : Type 0 where
-      pub none : Judges q None → ⊥
-      pub some : (told : PlantTold) → Judges q (Some told) → IsPlantAnswer H q told
+  plant_step : (was_live : Type 0) (leaves : List Content → Type 0) (q : PlantAsked) (outcome : Result (Option PlantTold) KeepFault) → IsDone holds was_live leaves c (after_plant H q) outcome (IsPlantTold H q) →
+      (told : Answered) × (next : History) × PlantShows outcome told × IsStep http H (Plant q) told next × HoldsFor holds next
+  plant_step was_live leaves q (Ok (Some told)) done = (PlantTells told, after_plant H q, refl, (done.told, refl), done.done)
+  plant_step was_live leaves q (Ok None) done = absurd done.told
+  plant_step was_live leaves q (Err fault) done = (PlantFault, H, refl, refl, record { content = c; held = done.undone; stands = stands })
 
-    plant_step : (q : PlantAsked) (outcome : Result (Option PlantTold) KeepFault) → JudgesAs q → IsValidEvent http (Plant q) → IsDone holds was_live leaves c (after_plant H q) outcome (Judges q) →
-        (told : Answered) × (next : History) × PlantShows outcome told × IsStep http H (Plant q) told next × HoldsFor holds next
-    plant_step q (Ok (Some told)) right valid done = (PlantTells told, after_plant H q, refl, (right.some told done.told, refl), done.done)
-    plant_step q (Ok None) right valid done = absurd (right.none done.told)
-    plant_step q (Err fault) right valid done = (PlantFault, H, refl, refl, record { content = c; held = done.undone; stands = stands })
-
-    -- a command of the plant
-    pub step_of_command : (command : PlantCmd) (reply : PlantReply) → JudgesAs (asked_by command) → IsValidEvent http (Plant (asked_by command)) →
-        IsDone holds was_live leaves c (after_plant H (asked_by command)) (plant_told reply) (Judges (asked_by command)) → IsStepOf holds H (Command command) (CommandReply reply)
-    step_of_command command reply right valid done =
-        let (told, next, shows, step, left) = plant_step (asked_by command) (plant_told reply) right valid done in
-        record {
-          happening = Plant (asked_by command);
-          told = told;
-          shows = (refl, shows);
-          valid = valid;
-          next = next;
-          step = step;
-          left = left;
-        }
+  -- a command of the plant
+  pub step_of_command : (was_live : Type 0) (leaves : List Content → Type 0) (command : PlantCmd) (reply : PlantReply) → IsValidDeed (asked_by command) →
+      IsDone holds was_live leaves c (after_plant H (asked_by command)) (plant_told reply) (IsPlantTold H (asked_by command)) → IsStepOf holds H (Command command) (CommandReply reply)
+  step_of_command was_live leaves command reply valid done =
+      let (told, next, shows, step, left) = plant_step was_live leaves (asked_by command) (plant_told reply) done in
+      record {
+        happening = Plant (asked_by command);
+        told = told;
+        shows = (refl, shows);
+        valid = valid;
+        next = next;
+        step = step;
+        left = left;
+      }
 
 -- a request, read or not
 pub step_of_request : {K : Type 0} (holds : K → Content → Type 0) (old new : K) (c : Content) (H : History) (was_live : Type 0) (leaves : List Content → Type 0) (bytes : Vec ℕ) (out : Out) → holds old c → StandsFor c H →

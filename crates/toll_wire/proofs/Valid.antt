@@ -7,7 +7,7 @@ use Rattle.serde_json.specs.Data.{Data}
 use Rattle.serde_json.specs.Find.{get, as_number, as_u64}
 use Rattle.toll_base.specs.Bytes.{Bytes}
 use Rattle.toll_desk.specs.declared.request.Request.{Request}
-use Rattle.toll_desk.specs.declared.request.Request.TheVariants.{Orders as OrdersOf, Order as OrderOf, Place as PlaceOf}
+use Rattle.toll_desk.specs.declared.request.Request.TheVariants.{Place as PlaceOf}
 use Rattle.toll_desk.specs.Plans.{asked_of}
 use Rattle.toll_wire.specs.declared.verb.Verb.{Verb}
 use Rattle.toll_wire.specs.declared.verb.Verb.TheVariants.{Get, Post}
@@ -16,10 +16,10 @@ use Rattle.toll_wire.specs.declared.place.Place.TheVariants.{Orders, Order}
 use Rattle.toll_wire.specs.declared.asked.Asks.{Asks}
 use Rattle.toll_wire.specs.declared.asked.Asks.TheVariants.{Failing, For}
 use Rattle.toll_wire.specs.Arriving.{Outcome, refused as refused_before, request as arrived}
-use Rattle.toll_wire.specs.Bodies.{batches_at, name_at, order_in, AsksFor, AsksOrder}
-use Rattle.toll_wire.specs.Asking.{Asked, refused, claimed, placing, get_asks, PostAsks, AsksAt, IsAsking, AskedOf}
+use Rattle.toll_wire.specs.Bodies.{batches_at, name_at, AsksOrder}
+use Rattle.toll_wire.specs.Asking.{Asked, claimed, placing, get_asks, PostAsks, AsksAt, AskedOf}
 use Rattle.toll_wire.specs.Runs.{Saying, IsValidAsking, IsValidSaying}
-use Rattle.toll_wire.specs.Steps.{http, asking_of, saying_of, Says}
+use Rattle.toll_wire.specs.Steps.{http, saying_of, Says}
 
 -- the values of a request are within their bounds
 abbrev IsValidRequest : Request → Type 0

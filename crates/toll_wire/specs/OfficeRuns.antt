@@ -11,7 +11,7 @@ use Rattle.toll_wire.specs.declared.event.Event.TheVariants.{Owner, Plant as Com
 use Rattle.toll_wire.specs.declared.event.Answer.{Answer}
 use Rattle.toll_wire.specs.declared.event.Answer.TheVariants.{Bytes as Reply, Plant as CommandReply}
 use Rattle.toll_wire.specs.declared.outgoing.Out.TheVariants.{Text, Unavailable as NoText}
-use Rattle.toll_wire.specs.Runs.{Saying, Happening, Request, Plant, Answered, Tells, Unavailable, PlantTells, PlantFault, IsStep, IsRun, IsPrivate, IsValidEvent, AreValid}
+use Rattle.toll_wire.specs.Runs.{Happening, Request, Plant, Answered, Tells, Unavailable, PlantTells, PlantFault, IsStep, IsRun, IsPrivate, IsValidEvent, AreValid}
 use Rattle.toll_wire.specs.Steps.{http, Says}
 
 -- ---- what an event and its answer are in a run

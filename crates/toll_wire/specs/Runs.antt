@@ -1,14 +1,15 @@
 -- Runs of events with their answers, and what one owner's events give alone.
-use Rattle.std.specs.Prelude.{◌≡◌, ◌⊎◌, ℕ, Bool, false, true, not, ◌&&◌, if◌then◌else◌, Option, Some, None, List, [], ◌∷◌, ◌++◌, length, MatchBool}
+use Rattle.std.specs.Prelude.{◌≡◌, ◌⊎◌, Bool, false, true, ◌&&◌, if◌then◌else◌, Option, Some, None, List, [], ◌∷◌, ◌++◌, length}
 use Rattle.toll_base.specs.Bytes.{Bytes, same_bytes}
 use Rattle.toll_base.specs.Values.{house_name}
 use Rattle.toll_base.specs.Words.{is_some_where}
-use Rattle.toll_base.specs.Command.{Action, PlaceOrder, Command}
+use Rattle.toll_base.specs.Command.{PlaceOrder}
 use Rattle.toll_base.specs.History.{History, part}
-use Rattle.toll_base.specs.Verdict.{Verdict, Accepted, Repeated, Refused, IsValid}
+use Rattle.toll_base.specs.Verdict.{Accepted, IsValid}
 use Rattle.toll_desk.specs.Told.{Asked, AskPlace, Told}
 use Rattle.toll_desk.specs.Replies.{has_key, IsReply, after_reply}
 use Rattle.toll_desk.specs.PlantAnswers.{PlantAsked, Does, PlantTold, Judged, IsPlantAnswer, after_plant}
+use Rattle.toll_desk.specs.Plans.{IsValidDeed}
 
 -- what is asked with a key: a request, or something that fails a check after the key's, with the text that it is told
 pub data Asking : Type 0 where
@@ -144,8 +145,7 @@ module _ (wire : Wire) where
 
   abbrev pub IsValidEvent : Happening → Type 0
   IsValidEvent (Request s) = IsValidSaying s
-  IsValidEvent (Plant (Does c)) = IsValid c.action
-  IsValidEvent (Plant _) = Unit {0}
+  IsValidEvent (Plant asked) = IsValidDeed asked
 
   abbrev pub AreValid : List Happening → Type 0
   AreValid [] = Unit {0}

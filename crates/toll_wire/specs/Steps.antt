@@ -1,5 +1,5 @@
 -- A request is one step of a run.
-use Rattle.std.specs.Prelude.{◌≡◌, Option, Some, None, List, Result, Ok, Err}
+use Rattle.std.specs.Prelude.{◌≡◌, Some, None, List, Result, Ok, Err}
 use Rattle.toll_base.specs.Bytes.{Bytes}
 use Rattle.toll_base.specs.History.{History}
 use Rattle.toll_keep.specs.Content.{Content}

@@ -16,7 +16,7 @@ use std::alloc::Global;
 use toll_desk::{Request, admit, carry, owner_plan};
 use toll_keep::Keep;
 
-/// Answers the bytes of a request.
+/// Answers the bytes of a request: one step of a run.
 ///
 /// The text of a reply is made before anything changes, so where the answer is
 /// [`Out::Unavailable`] nothing changed; or, after a fault of the disk, the change stands whole or

@@ -4,7 +4,7 @@ ghost use Rattle.toll_base.specs.Bytes.{Bytes, same_bytes};
 ghost use Rattle.toll_base.specs.Values.{house_name};
 ghost use Rattle.toll_base.specs.History.{History, part};
 ghost use Rattle.toll_base.specs.Verdict.{IsLawful};
-ghost use Rattle.toll_wire.specs.Runs.{Happening, Answered, Wire, IsRun, IsPrivate, AreValid, NoFaults, own_events, told};
+ghost use Rattle.toll_wire.specs.Runs.{Happening, Answered, Wire, IsRun, IsRunUpToFault, IsPrivate, AreValid, NoFaults, own_events, told};
 
 /// Every run over a lawful history is private: the replies to each owner besides HOUSE are those that
 /// its own requests, and the accepted commands of the plant on its rows, give by themselves. Whatever
@@ -12,6 +12,11 @@ ghost use Rattle.toll_wire.specs.Runs.{Happening, Answered, Wire, IsRun, IsPriva
 pub fn runs_are_private()
     ensures { (wire : Wire) (start end : History) (events : List Happening) (answers : List Answered) →
         IsLawful start → AreValid wire events → IsRun wire start events answers end → IsPrivate wire start events answers }
+{}
+
+/// Every run is one up to any fault.
+pub fn runs_are_runs_up_to_a_fault()
+    ensures { (wire : Wire) (start end : History) (events : List Happening) (answers : List Answered) → IsRun wire start events answers end → IsRunUpToFault wire start events answers }
 {}
 
 /// Two runs that agree on an owner's part, before and during them, tell it the same.

@@ -27,7 +27,10 @@ mod writing;
 
 pub use answering::answer;
 pub use event::{Answer, Event};
-pub use laws::{answers_are_determined, runs_are_private, runs_that_agree_tell_the_same};
+pub use laws::{
+    answers_are_determined, runs_are_private, runs_are_runs_up_to_a_fault,
+    runs_that_agree_tell_the_same,
+};
 pub use outgoing::Out;
 pub use reading::{ReadFault, read_request};
 pub use run::run_events;

@@ -14,8 +14,8 @@ use std::alloc::{AllocError, Global};
 use toll_desk::plant_do;
 use toll_keep::Keep;
 
-/// Answers the events one by one, each over what those before it left. An `Err` means that no event
-/// acted.
+/// Answers the events one by one, each over what those before it left: a run, in which each owner's
+/// replies are those that its own events give by themselves. An `Err` means that no event acted.
 pub fn run_events<K: Keep>(
     alloc: Global,
     keep: &mut K,

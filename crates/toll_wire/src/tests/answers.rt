@@ -6,7 +6,7 @@ use std::process::Abort;
 use std::test::Fail;
 use toll_base::{Name, OwnerKey, Refusal, Segment};
 use toll_desk::{PlantCmd, PlantReply, plant_do};
-use toll_keep::MemKeep;
+use toll_keep::{MemKeep, Refusing};
 
 pub const PLACE: &str = "{\"order\":\"O-1\",\"recipe\":\"R-1\",\"batches\":2}";
 
@@ -27,6 +27,9 @@ const LISTED: &[u8] =
 
 const FORBIDDEN: &[u8] =
     b"HTTP/1.1 403 Forbidden\r\ncontent-type: application/json\r\ncontent-length: 21\r\nconnection: close\r\n\r\n{\"error\":\"Forbidden\"}";
+
+const UNAVAILABLE: &[u8] =
+    b"HTTP/1.1 503 Service Unavailable\r\ncontent-type: application/json\r\ncontent-length: 23\r\nconnection: close\r\n\r\n{\"error\":\"Unavailable\"}";
 
 fn add_acme() -> Result<PlantCmd, Refusal> {
     let owner = Name::parse(b"ACME")?;
@@ -186,6 +189,25 @@ fn who_has_no_key_is_forbidden(rt: HostRuntime) -> Result<(), Fail> {
     }
     let rows = [["GET /orders", "", "200 OK", ORDERS]];
     expect_all(&rt, rt.alloc(), &mut keep, &rows)?;
+    Ok(())
+}
+
+#[test]
+fn an_order_that_is_not_kept_is_not_placed(rt: HostRuntime) -> Result<(), Fail> {
+    let mut keep = Refusing::new(office(&rt, rt.alloc()));
+    let placing = request(rt.alloc(), "POST /orders", PLACE)?;
+    let listing = request(rt.alloc(), "GET /orders", "")?;
+    let none = reply(rt.alloc(), "200 OK", "{\"orders\":[]}")?;
+    let wanted = [
+        (&placing, UNAVAILABLE),
+        (&listing, none.as_slice()),
+        (&placing, PLACED),
+        (&listing, LISTED),
+    ];
+    for (bytes, want) in wanted {
+        let out = answer(rt.alloc(), &mut keep, bytes);
+        assert_eq!(rt; out.bytes(), want);
+    }
     Ok(())
 }
 

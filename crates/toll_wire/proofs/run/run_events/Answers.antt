@@ -32,8 +32,8 @@ loop-event-preserved g c =
     let told = c.answer_event-answer in
     let before : List Event = take c.loop-event.event-index c.args.events.now in
     let events_are : before ++ event ∷ [] ≡ take (c.loop-event.event-index + 1) c.args.events.now =
-    ap (λ e. before ++ e ∷ []) c.event-item.is ∙ sym (take_more c.args.events.now c.loop-event.event-index event c.loop-event-test.true) in
-    let answers_are : c.loop-event.answers.items ++ told.result ∷ [] ≡ c.push_reserved.new.self.items = sym c.push_reserved.ensures.items in
+    ap (λ e. before ++ e ∷ []) c.event-item.is ∙ sym {A = List Event} (take_more c.args.events.now c.loop-event.event-index event c.loop-event-test.true) in
+    let answers_are : c.loop-event.answers.items ++ told.result ∷ [] ≡ c.push_reserved.new.self.items = sym {A = List Answer} c.push_reserved.ensures.items in
     record {
       count = omega arith;
       room = omega arith;
