@@ -10,9 +10,9 @@ pub loop-next-preserved : goal.loop-next-preserved
 loop-next-preserved g c = record {
   size = search rules;
   within = search rules;
-  given = read_more _ _ _ c.loop-next.text c.read_behind.new.text c.loop-next.filled c.in-Ok.n c.read_behind.ensures.front c.loop-next.invariant.given c.in-Ok.ensures.given;
+  given = read_more _ _ _ c.loop-next.text c.read_behind.new.buffer c.loop-next.filled c.in-Ok.n c.read_behind.ensures.front c.loop-next.invariant.given c.in-Ok.ensures.given;
   sound = none_more_failed _ _ _ c.loop-next.invariant.sound c.in-Ok.ensures.failures;
-  searched = searched_more c.loop-next.text c.read_behind.new.text c.loop-next.filled c.in-Ok.n c.in-Some.next c.read_behind.ensures.front c.in-Some.ensures.searched.1 c.in-Some.ensures.searched.0;
+  searched = searched_more c.loop-next.text c.read_behind.new.buffer c.loop-next.filled c.in-Ok.n c.in-Some.next c.read_behind.ensures.front c.in-Some.ensures.searched.1 c.in-Some.ensures.searched.0;
 }
 
 pub returns-in-Err-clause-early : goal.returns-in-Err-clause-early
