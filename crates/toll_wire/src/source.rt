@@ -33,11 +33,7 @@ impl<R: Read> Source for R {
 }
 
 /// One read, behind what was filled before.
-pub fn read_behind<R: Source>(
-    reader: &mut R,
-    buffer: &mut [u8],
-    filled: usize,
-) -> io::Result<usize>
+pub fn read_behind<R: Source>(reader: &mut R, buffer: &mut [u8], filled: usize) -> io::Result<usize>
     requires { filled ≤ length buffer.old }
     ensures front { take filled buffer.new ≡ take filled buffer.old }
     ensures fits { IfOk result (λ n. filled + n ≤ length buffer.new) }
