@@ -32,7 +32,7 @@ impl Said {
 }
 
 /// What a test tells, from an empty slice on.
-pub(crate) trait Story: Drop {
+pub(crate) trait Story {
     /// Whether it goes as it should.
     fn goes(&self, alloc: Global, slice: &mut Slice, names: &Names) -> Result<bool, Fail>;
 }
