@@ -1,15 +1,14 @@
 -- What a receipt owes.
-use Rattle.std.proofs.Common.{◌≡◌, ℕ, ◌+◌, not, ◌&&◌, Some, is_some, is_none, List, [], ◌∷◌, ◌++◌, length, false, refl, sym, ap, ◌∙◌}
+use Rattle.std.proofs.Common.{◌≡◌, ℕ, ◌+◌, not, ◌&&◌, is_some, List, [], ◌∷◌, ◌++◌, refl, sym, ap, ◌∙◌}
 use Rattle.std.proofs.lemmas.Bool.{or_parts}
 use Rattle.toll_base.specs.Bounds.{sublot_bounds}
 use Rattle.toll_base.specs.Bytes.{Bytes, same_bytes}
 use Rattle.toll_base.specs.Command.{Record, by}
-use Rattle.toll_base.specs.History.{History, acts}
-use Rattle.toll_base.specs.Movements.{lot_id, count_movements}
+use Rattle.toll_base.specs.History.{History}
 use Rattle.toll_base.specs.Slice.{Slice, lot_at}
 use Rattle.toll_base.specs.SliceRules.{KeepsRules}
 use Rattle.toll_base.specs.Words.{where_so, is_some_where}
-use Rattle.toll_base.specs.Tables.{Tables, tables_of, tables_given, IsRowsOf}
+use Rattle.toll_base.specs.Tables.{Tables, tables_of, tables_given}
 use Rattle.toll_base.specs.Decision.{IsDecided, Decides, DecisionKeepsRules}
 use Rattle.toll_base.specs.Verdict.{Accepted, Checks, first_of, key_checks, receive_checks, amount_in, verdict, IsLawful, IsValid}
 use Rattle.toll_base.specs.declared.decision.Change.TheVariants.{Put}

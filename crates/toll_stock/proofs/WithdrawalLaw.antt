@@ -1,29 +1,24 @@
 -- What owes a movement that takes from one of the owner's sublots: a shipment, or scrapping.
-use Rattle.std.proofs.Common.{◌≡◌, ℕ, ◌-◌, true, false, ◌&&◌, nat_le, Some, None, is_some, is_none, List, [], ◌∷◌, ◌++◌, refl, sym, ap, ◌∙◌}
-use Rattle.std.proofs.lemmas.Bool.{and_right}
-use Rattle.toll_base.specs.Bytes.{Bytes, same_bytes}
+use Rattle.std.proofs.Common.{◌≡◌, ℕ, ◌-◌, true, false, nat_le, is_none, [], ◌∷◌, ◌++◌, refl, sym, ap, ◌∙◌}
+use Rattle.toll_base.specs.Bytes.{Bytes}
 use Rattle.toll_base.specs.Values.{house_name}
 use Rattle.toll_base.specs.Command.{Record, by}
 use Rattle.toll_base.specs.History.{History}
-use Rattle.toll_base.specs.Movements.{lot_id, Movement, made_by, makes_lot, makes_sublot, lot_brought, brings_into, takes_from}
 use Rattle.toll_base.specs.Slice.{Slice}
 use Rattle.toll_base.specs.SliceRules.{KeepsRules, batch_has_room}
-use Rattle.toll_base.specs.Tables.{Tables, tables_of, tables_given, IsRowsOf}
+use Rattle.toll_base.specs.Tables.{Tables, tables_of, tables_given}
 use Rattle.toll_base.specs.Decision.{IsDecided, Decides, DecisionKeepsRules}
 use Rattle.toll_base.specs.Verdict.{Accepted, Checks, first_of, key_checks, movement_checks, ship_checks, scrap_checks, amount_in, verdict}
 use Rattle.toll_base.specs.declared.decision.Change.TheVariants.{Put}
 use Rattle.toll_base.specs.declared.decision.Decision.{Decision}
 use Rattle.toll_base.specs.declared.rows.MoveRow.{MoveRow}
 use Rattle.toll_base.specs.declared.rows.Move.TheVariants.{Ship, Scrap}
-use Rattle.toll_base.specs.declared.rows.SublotRow.{SublotRow}
-use Rattle.toll_base.specs.declared.rows.Row.{Row}
 use Rattle.toll_base.specs.declared.rows.Row.TheVariants.{Sublot, Move}
 use Rattle.toll_base.proofs.Accepted.{none_applies, rest_accept}
 use Rattle.toll_base.proofs.Decided.{verdict_is, decides, keeps_rules}
-use Rattle.toll_base.proofs.Passed.{accepted_passes, checks_accept}
+use Rattle.toll_base.proofs.Passed.{checks_accept}
 use Rattle.toll_base.proofs.Withdrawn.{Withdraws, left, rows, leaves, grows}
 use Rattle.toll_base.proofs.Room.{went_fit}
-use Rattle.toll_base.proofs.Texts.{same_bytes-refl, same_bytes-symm}
 
 module _ (row : MoveRow) (lot sublot : Bytes) (withdraws : Withdraws row lot sublot) (no_actual : (s : Slice) → batch_has_room s row.key row.what ≡ true) where
   -- where these checks are what the movement's own say

@@ -4,10 +4,14 @@
 mod dispositions;
 mod material_tests;
 mod materials;
+#[cfg(test)]
+mod movement_tests;
 mod receipts;
 mod results;
 mod splits;
 mod stock;
+#[cfg(test)]
+mod story;
 mod taking;
 #[cfg(test)]
 mod tests;

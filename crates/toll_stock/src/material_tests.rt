@@ -30,15 +30,12 @@ pub fn add_test(
     ensures decides { IfOk result (Decides (by slice.now.owner (AddTest (record { material = material; test = test; limits = limits }))) slice.now) }
     ensures rules { IfOk result (DecisionKeepsRules slice.now) }
 {
-    plan_test(
-        alloc,
-        slice,
-        &TestRow {
-            material,
-            test,
-            limits,
-        },
-    )
+    let row = TestRow {
+        material,
+        test,
+        limits,
+    };
+    plan_test(alloc, slice, &row)
 }
 
 fn plan_test(alloc: Global, slice: &Slice, row: &TestRow) -> Result<Decision, AllocError>
