@@ -43,9 +43,11 @@ pub enum Line {
     Void(&'static str),
     /// How much is in the sublot.
     AmountIn(Usage),
+    /// The disposition of the lot.
+    LotOf(Usage),
     /// How many movements the owner's rows have.
     Movements(&'static str),
-    /// What the batch did of its first requirement, and of its second.
+    /// What the batch did of its two requirements.
     Sums,
 }
 
@@ -58,7 +60,9 @@ pub enum Said {
     /// Accepted, and the batch is in this state.
     Now(State),
     Number(u64),
-    Sums(u64, u64),
+    Is(Disposition),
+    /// What the batch did of its first requirement, and of its second.
+    Did(u64, u64),
     Unknown,
 }
 
@@ -419,6 +423,13 @@ fn amount_in(own: &Slice, house: &Slice, usage: &Usage) -> Said {
     }
 }
 
+fn disposition_of(own: &Slice, house: &Slice, usage: &Usage) -> Said {
+    match rows_of(own, house, usage.owner).lot(&name(usage.lot)) {
+        Some(row) => Said::Is(row.disposition),
+        None => Said::Unknown,
+    }
+}
+
 /// What is told of the batch.
 pub fn view(alloc: Global, own: &Slice) -> Result<Option<BatchView>, Fail> {
     let number = BatchNo::new(1)?;
@@ -429,7 +440,7 @@ fn sums(alloc: Global, own: &Slice) -> Result<Said, Fail> {
     let told: Option<BatchView> = view(alloc, own)?;
     match told {
         Some(view) if view.lines.len() == 2 => {
-            Ok(Said::Sums(view.lines[0].actual, view.lines[1].actual))
+            Ok(Said::Did(view.lines[0].actual, view.lines[1].actual))
         }
         _ => Ok(Said::Unknown),
     }
@@ -457,6 +468,7 @@ fn say(alloc: Global, own: &mut Slice, house: &mut Slice, line: &Line) -> Result
         Line::Actuals(usage, most) => actuals(alloc, own, house, &usage, most),
         Line::Void(key) => void(alloc, own, house, key),
         Line::AmountIn(usage) => Ok(amount_in(own, house, &usage)),
+        Line::LotOf(usage) => Ok(disposition_of(own, house, &usage)),
         Line::Movements(owner) => Ok(Said::Number(rows_of(own, house, owner).moves().len() as u64)),
         Line::Sums => sums(alloc, own),
     }
@@ -492,9 +504,9 @@ pub fn first_wrong_of(
     Ok(None)
 }
 
-/// Tells the chapters over rows of this owner, none at first: which chapter and which line of it is
-/// the first that is not answered so.
-pub fn tell(
+/// Tells the chapters over the rows of this owner, none at first: which chapter, and which line of it,
+/// is the first that is not answered so.
+pub fn tell_of(
     alloc: Global,
     owner: &str,
     chapters: &[&[(Line, Said)]],
@@ -502,6 +514,11 @@ pub fn tell(
     let mut own = Slice::new(alloc, name(owner));
     let mut house = Slice::new(alloc, Name::house());
     first_wrong_of(alloc, &mut own, &mut house, chapters)
+}
+
+/// Tells the chapters over the rows of `ACME`.
+pub fn tell(alloc: Global, chapters: &[&[(Line, Said)]]) -> Result<Option<(usize, usize)>, Fail> {
+    tell_of(alloc, "ACME", chapters)
 }
 
 /// The lot `A` of material `M`, consumed in segment 1.
@@ -525,7 +542,7 @@ pub const INTO_P1: Usage = Usage {
 };
 
 /// A recipe that consumes 100 of `M` and produces 90 of `P`.
-pub const RECIPE: &[(Line, Said)] = &[
+pub const WITH_RECIPE: &[(Line, Said)] = &[
     (Line::Material("ACME", "M"), Said::Accepted),
     (Line::Material("ACME", "P"), Said::Accepted),
     (Line::Recipe("R", 2), Said::Accepted),
@@ -534,7 +551,7 @@ pub const RECIPE: &[(Line, Said)] = &[
 ];
 
 /// A batch by that recipe, which runs, and 100 in lot `A`.
-pub const BATCH: &[(Line, Said)] = &[
+pub const WITH_BATCH: &[(Line, Said)] = &[
     (Line::Receive("K1", FROM_A, 100), Said::Accepted),
     (Line::Place("O", "R", 1), Said::Accepted),
     (Line::Open("O", true, true), Said::Accepted),

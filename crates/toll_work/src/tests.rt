@@ -1,22 +1,32 @@
 //! Decisions on recipes, orders and batches.
-use crate::stories::{BATCH, Line, RECIPE, Said, Usage, tell};
+use crate::stories::Line::{Batches, Cancel, Close, Do, Open, Place, Recipe, Require};
+use crate::stories::Said::{Accepted, Now, Number, Refused, Repeated};
+use crate::stories::{FROM_A, Line, Said, Usage, WITH_BATCH, WITH_RECIPE, tell, tell_of};
 use crate::{StateWord, next};
 use std::test::Fail;
-use toll_base::{Refusal, Role, State, StateCommand};
+use toll_base::Refusal::{
+    BadState, BatchClosed, CrossOwner, NoMoreBatches, OrderCancelled, OrderExists, OrderStarted,
+    RecipeInUse, UnitBusy, UnknownRecipe, UnknownUnit,
+};
+use toll_base::State::{
+    Aborted, Aborting, Complete, Held, Holding, Idle, Paused, Pausing, Restarting, Running,
+    Stopped, Stopping,
+};
+use toll_base::{State, StateCommand};
 
 const STATES: [(State, &str); 12] = [
-    (State::Idle, "idle"),
-    (State::Running, "running"),
-    (State::Pausing, "pausing"),
-    (State::Paused, "paused"),
-    (State::Holding, "holding"),
-    (State::Held, "held"),
-    (State::Restarting, "restarting"),
-    (State::Stopping, "stopping"),
-    (State::Stopped, "stopped"),
-    (State::Aborting, "aborting"),
-    (State::Aborted, "aborted"),
-    (State::Complete, "complete"),
+    (Idle, "idle"),
+    (Running, "running"),
+    (Pausing, "pausing"),
+    (Paused, "paused"),
+    (Holding, "holding"),
+    (Held, "held"),
+    (Restarting, "restarting"),
+    (Stopping, "stopping"),
+    (Stopped, "stopped"),
+    (Aborting, "aborting"),
+    (Aborted, "aborted"),
+    (Complete, "complete"),
 ];
 
 const WORDS: [&str; 9] = [
@@ -93,137 +103,105 @@ fn other_words_are_no_commands(rt: HostRuntime) {
     assert!(rt; StateCommand::read(b"Start").is_none());
 }
 
-// Batches that go through their states, and are closed when they may be.
 const STATES_OF_A_BATCH: &[(Line, Said)] = &[
-    (Line::Do("pause"), Said::Now(State::Pausing)),
-    (Line::Do("hold"), Said::Now(State::Holding)),
-    (Line::Do("done"), Said::Now(State::Held)),
-    (Line::Do("pause"), Said::Refused(Refusal::BadState)),
-    (Line::Do("restart"), Said::Now(State::Restarting)),
-    (Line::Do("stop"), Said::Now(State::Stopping)),
-    (Line::Do("done"), Said::Now(State::Stopped)),
-    (Line::Do("reset"), Said::Now(State::Idle)),
-    (Line::Do("start"), Said::Now(State::Running)),
-    (Line::Close(1), Said::Refused(Refusal::BadState)),
-    (Line::Do("done"), Said::Now(State::Complete)),
-    (Line::Close(1), Said::Accepted),
-    (Line::Close(1), Said::Refused(Refusal::BatchClosed)),
-    (
-        Line::Open("O", true, true),
-        Said::Refused(Refusal::NoMoreBatches),
-    ),
+    (Do("pause"), Now(Pausing)),
+    (Do("hold"), Now(Holding)),
+    (Do("done"), Now(Held)),
+    (Do("pause"), Refused(BadState)),
+    (Do("restart"), Now(Restarting)),
+    (Do("stop"), Now(Stopping)),
+    (Do("done"), Now(Stopped)),
+    (Do("reset"), Now(Idle)),
+    (Do("start"), Now(Running)),
+    (Close(1), Refused(BadState)),
+    (Do("done"), Now(Complete)),
+    (Close(1), Accepted),
+    (Close(1), Refused(BatchClosed)),
+    (Open("O", true, true), Refused(NoMoreBatches)),
 ];
 
 #[test]
 fn a_batch_is_closed_once_it_may_be(rt: HostRuntime) -> Result<(), Fail> {
     let wrong: Option<(usize, usize)> = tell(
         rt.alloc(),
-        "ACME",
-        &[RECIPE, BATCH, STATES_OF_A_BATCH],
+        &[WITH_RECIPE, WITH_BATCH, STATES_OF_A_BATCH],
     )?;
     assert_eq!(rt; wrong, None);
     Ok(())
 }
 
 const CANCELLED: &[(Line, Said)] = &[
-    (Line::Recipe("R-1", 2), Said::Accepted),
-    (Line::Place("O-1", "R-1", 2), Said::Accepted),
-    (Line::Place("O-1", "R-1", 2), Said::Repeated),
-    (
-        Line::Place("O-1", "R-1", 3),
-        Said::Refused(Refusal::OrderExists),
-    ),
-    (Line::Cancel("O-1"), Said::Accepted),
-    (Line::Place("O-1", "R-1", 2), Said::Repeated),
-    (Line::Cancel("O-1"), Said::Refused(Refusal::OrderCancelled)),
-    (
-        Line::Open("O-1", true, true),
-        Said::Refused(Refusal::OrderCancelled),
-    ),
+    (Recipe("R-1", 2), Accepted),
+    (Place("O-1", "R-1", 2), Accepted),
+    (Place("O-1", "R-1", 2), Repeated),
+    (Place("O-1", "R-1", 3), Refused(OrderExists)),
+    (Cancel("O-1"), Accepted),
+    (Place("O-1", "R-1", 2), Repeated),
+    (Cancel("O-1"), Refused(OrderCancelled)),
+    (Open("O-1", true, true), Refused(OrderCancelled)),
 ];
 
 #[test]
 fn a_cancelled_order_is_not_started(rt: HostRuntime) -> Result<(), Fail> {
-    let wrong: Option<(usize, usize)> = tell(rt.alloc(), "ACME", &[CANCELLED])?;
+    let wrong: Option<(usize, usize)> = tell(rt.alloc(), &[CANCELLED])?;
     assert_eq!(rt; wrong, None);
     Ok(())
 }
 
-const STARTED: &[(Line, Said)] = &[(Line::Cancel("O"), Said::Refused(Refusal::OrderStarted))];
+const STARTED: &[(Line, Said)] = &[(Cancel("O"), Refused(OrderStarted))];
 
 #[test]
 fn a_started_order_is_not_cancelled(rt: HostRuntime) -> Result<(), Fail> {
-    let wrong: Option<(usize, usize)> = tell(rt.alloc(), "ACME", &[RECIPE, BATCH, STARTED])?;
+    let wrong: Option<(usize, usize)> = tell(rt.alloc(), &[WITH_RECIPE, WITH_BATCH, STARTED])?;
     assert_eq!(rt; wrong, None);
     Ok(())
 }
 
 const OF_HOUSE: &[(Line, Said)] = &[
-    (
-        Line::Place("HO", "NONE", 1),
-        Said::Refused(Refusal::UnknownRecipe),
-    ),
-    (Line::Recipe("HB", 1), Said::Accepted),
-    (Line::Place("HO", "HB", 1), Said::Accepted),
-    (Line::Cancel("HO"), Said::Accepted),
-    (Line::Cancel("HO"), Said::Refused(Refusal::OrderCancelled)),
+    (Place("HO", "NONE", 1), Refused(UnknownRecipe)),
+    (Recipe("HB", 1), Accepted),
+    (Place("HO", "HB", 1), Accepted),
+    (Cancel("HO"), Accepted),
+    (Cancel("HO"), Refused(OrderCancelled)),
 ];
 
 #[test]
 fn house_has_orders(rt: HostRuntime) -> Result<(), Fail> {
-    let wrong: Option<(usize, usize)> = tell(rt.alloc(), "HOUSE", &[OF_HOUSE])?;
+    let wrong: Option<(usize, usize)> = tell_of(rt.alloc(), "HOUSE", &[OF_HOUSE])?;
     assert_eq!(rt; wrong, None);
     Ok(())
 }
 
+// Material of another owner's.
 const OF_BOLT: Usage = Usage {
-    segment: 1,
-    role: Role::Consumed,
-    material: "M",
     owner: "BOLT",
-    lot: "A",
-    sublot: "S1",
+    ..FROM_A
 };
 
 const REQUIRED: &[(Line, Said)] = &[
-    (
-        Line::Require("R", OF_BOLT, 1),
-        Said::Refused(Refusal::RecipeInUse),
-    ),
-    (Line::Recipe("R2", 1), Said::Accepted),
-    (
-        Line::Require("R2", OF_BOLT, 1),
-        Said::Refused(Refusal::CrossOwner),
-    ),
+    (Require("R", OF_BOLT, 1), Refused(RecipeInUse)),
+    (Recipe("R2", 1), Accepted),
+    (Require("R2", OF_BOLT, 1), Refused(CrossOwner)),
 ];
 
 #[test]
 fn recipes_name_no_other_owner(rt: HostRuntime) -> Result<(), Fail> {
-    let wrong: Option<(usize, usize)> = tell(rt.alloc(), "ACME", &[RECIPE, BATCH, REQUIRED])?;
+    let wrong: Option<(usize, usize)> = tell(rt.alloc(), &[WITH_RECIPE, WITH_BATCH, REQUIRED])?;
     assert_eq!(rt; wrong, None);
     Ok(())
 }
 
 const WITH_99_BATCHES: &[(Line, Said)] = &[
-    (Line::Place("O", "R", 99), Said::Accepted),
-    (
-        Line::Open("O", false, false),
-        Said::Refused(Refusal::UnknownUnit),
-    ),
-    (
-        Line::Open("O", true, false),
-        Said::Refused(Refusal::UnitBusy),
-    ),
-    (Line::Batches(99), Said::Number(99)),
-    (
-        Line::Open("O", true, true),
-        Said::Refused(Refusal::NoMoreBatches),
-    ),
+    (Place("O", "R", 99), Accepted),
+    (Open("O", false, false), Refused(UnknownUnit)),
+    (Open("O", true, false), Refused(UnitBusy)),
+    (Batches(99), Number(99)),
+    (Open("O", true, true), Refused(NoMoreBatches)),
 ];
 
 #[test]
 fn an_order_has_its_batches_and_no_more(rt: HostRuntime) -> Result<(), Fail> {
-    let wrong: Option<(usize, usize)> = tell(rt.alloc(), "ACME", &[RECIPE, WITH_99_BATCHES])?;
+    let wrong: Option<(usize, usize)> = tell(rt.alloc(), &[WITH_RECIPE, WITH_99_BATCHES])?;
     assert_eq!(rt; wrong, None);
     Ok(())
 }
