@@ -17,7 +17,7 @@ use toll_base::{
 
 /// A line of a story. Where it names no order it is of batch 1 of the order `O`.
 #[derive(Clone, Copy)]
-pub enum Line {
+pub(crate) enum Line {
     /// The owner has this material.
     Material(&'static str, &'static str),
     /// A receipt with this key made the lot, which was released.
@@ -53,7 +53,7 @@ pub enum Line {
 
 /// What is said to a line.
 #[derive(Clone, Copy, Debug, PartialEq, Eq)]
-pub enum Said {
+pub(crate) enum Said {
     Accepted,
     Repeated,
     Refused(Refusal),
@@ -68,7 +68,7 @@ pub enum Said {
 
 /// What a segment uses: a material of its owner's, and of this sublot.
 #[derive(Clone, Copy)]
-pub struct Usage {
+pub(crate) struct Usage {
     pub segment: u64,
     pub role: Role,
     pub material: &'static str,
@@ -78,7 +78,7 @@ pub struct Usage {
 }
 
 /// The name that this text is.
-pub fn name(text: &str) -> Name {
+pub(crate) fn name(text: &str) -> Name {
     match Name::parse(text.as_bytes()) {
         Ok(name) => name,
         Err(_) => Name::house(),
@@ -431,7 +431,7 @@ fn disposition_of(own: &Slice, house: &Slice, usage: &Usage) -> Said {
 }
 
 /// What is told of the batch.
-pub fn view(alloc: Global, own: &Slice) -> Result<Option<BatchView>, Fail> {
+pub(crate) fn view(alloc: Global, own: &Slice) -> Result<Option<BatchView>, Fail> {
     let number = BatchNo::new(1)?;
     Ok(batch_view(alloc, own, &name("O"), number)?)
 }
@@ -490,7 +490,7 @@ fn first_wrong(
 }
 
 /// Which chapter, and which line of it, is the first that is not answered so.
-pub fn first_wrong_of(
+pub(crate) fn first_wrong_of(
     alloc: Global,
     own: &mut Slice,
     house: &mut Slice,
@@ -506,7 +506,7 @@ pub fn first_wrong_of(
 
 /// Tells the chapters over the rows of this owner, none at first: which chapter, and which line of it,
 /// is the first that is not answered so.
-pub fn tell_of(
+pub(crate) fn tell_of(
     alloc: Global,
     owner: &str,
     chapters: &[&[(Line, Said)]],
@@ -517,12 +517,15 @@ pub fn tell_of(
 }
 
 /// Tells the chapters over the rows of `ACME`.
-pub fn tell(alloc: Global, chapters: &[&[(Line, Said)]]) -> Result<Option<(usize, usize)>, Fail> {
+pub(crate) fn tell(
+    alloc: Global,
+    chapters: &[&[(Line, Said)]],
+) -> Result<Option<(usize, usize)>, Fail> {
     tell_of(alloc, "ACME", chapters)
 }
 
 /// The lot `A` of material `M`, consumed in segment 1.
-pub const FROM_A: Usage = Usage {
+pub(crate) const FROM_A: Usage = Usage {
     segment: 1,
     role: Role::Consumed,
     material: "M",
@@ -532,7 +535,7 @@ pub const FROM_A: Usage = Usage {
 };
 
 /// The lot `P1` of material `P`, produced in segment 1.
-pub const INTO_P1: Usage = Usage {
+pub(crate) const INTO_P1: Usage = Usage {
     segment: 1,
     role: Role::Produced,
     material: "P",
@@ -542,7 +545,7 @@ pub const INTO_P1: Usage = Usage {
 };
 
 /// A recipe that consumes 100 of `M` and produces 90 of `P`.
-pub const WITH_RECIPE: &[(Line, Said)] = &[
+pub(crate) const WITH_RECIPE: &[(Line, Said)] = &[
     (Line::Material("ACME", "M"), Said::Accepted),
     (Line::Material("ACME", "P"), Said::Accepted),
     (Line::Recipe("R", 2), Said::Accepted),
@@ -551,7 +554,7 @@ pub const WITH_RECIPE: &[(Line, Said)] = &[
 ];
 
 /// A batch by that recipe, which runs, and 100 in lot `A`.
-pub const WITH_BATCH: &[(Line, Said)] = &[
+pub(crate) const WITH_BATCH: &[(Line, Said)] = &[
     (Line::Receive("K1", FROM_A, 100), Said::Accepted),
     (Line::Place("O", "R", 1), Said::Accepted),
     (Line::Open("O", true, true), Said::Accepted),
