@@ -77,7 +77,7 @@ pub(crate) struct Usage {
     pub sublot: &'static str,
 }
 
-/// The name that this text is.
+/// The name that this text is, and `HOUSE` where it is none.
 pub(crate) fn name(text: &str) -> Name {
     match Name::parse(text.as_bytes()) {
         Ok(name) => name,
