@@ -1,17 +1,16 @@
 -- What a consumption owes, of a lot of the batch's owner or of HOUSE.
-use Rattle.std.proofs.Common.{◌≡◌, ℕ, ◌-◌, Bool, true, false, not, ◌&&◌, ◌||◌, cond, nat_le, nat_lt, Some, is_some, is_none, List, [], ◌∷◌, ◌++◌, length, refl, sym, ap, subst, ◌∙◌}
-use mathlib.Core.Bool.{false≢true}
-use Rattle.std.proofs.lemmas.Bool.{or_parts, or_left, not-false}
+use Rattle.std.proofs.Common.{◌≡◌, ℕ, ◌-◌, true, false, ◌&&◌, cond, is_some, is_none, List, [], ◌∷◌, ◌++◌, refl, sym, ap, subst, ◌∙◌}
+use Rattle.std.proofs.lemmas.Bool.{or_parts, or_left}
 use Rattle.toll_base.specs.Bytes.{Bytes, same_bytes}
 use Rattle.toll_base.specs.Values.{house_name}
 use Rattle.toll_base.specs.Command.{Record, by}
-use Rattle.toll_base.specs.History.{History, owner_known}
+use Rattle.toll_base.specs.History.{History}
 use Rattle.toll_base.specs.Movements.{lot_id, takes_from}
-use Rattle.toll_base.specs.Slice.{Slice, with_row, lot_at, sublot_at}
+use Rattle.toll_base.specs.Slice.{Slice, with_row}
 use Rattle.toll_base.specs.SliceRules.{KeepsRules, row_fits, count_actuals}
 use Rattle.toll_base.specs.Tables.{Tables, tables_of, tables_given, sublot_row, IsRowsOf}
 use Rattle.toll_base.specs.Decision.{IsDecided, after_changes, ChangesKeepRules, DecidesWith, DecisionKeepsRules}
-use Rattle.toll_base.specs.Verdict.{Accepted, Checks, first_of, key_checks, actual_checks, consumed_checks, tables_for, crosses, amount_in, verdict, IsLawful, IsValid}
+use Rattle.toll_base.specs.Verdict.{Accepted, Checks, first_of, key_checks, actual_checks, consumed_checks, tables_for, amount_in, verdict, IsLawful, IsValid}
 use Rattle.toll_base.specs.declared.decision.Change.{Change}
 use Rattle.toll_base.specs.declared.decision.Change.TheVariants.{Put}
 use Rattle.toll_base.specs.declared.decision.Decision.{Decision}
@@ -25,7 +24,6 @@ use Rattle.toll_base.specs.declared.rows.Row.TheVariants.{Sublot, Move}
 use Rattle.toll_base.proofs.Accepted.{applies, none_applies}
 use Rattle.toll_base.proofs.Decided.{verdict_is, right_over, rules_by, taken_in, left_out, keeps_put, keeps_skip, less_of}
 use Rattle.toll_base.proofs.Moving.{tables_for_are}
-use Rattle.toll_base.proofs.Options.{some_of}
 use Rattle.toll_base.proofs.Passed.{accepted_passes, move_fits}
 use Rattle.toll_base.proofs.PutMoves.{with_move, with_sublot, is_at, put_move, put_sublot, put_went}
 use Rattle.toll_base.proofs.Recorded.{went_out, moved_elsewhere, taken_from_other, tables-untaken}

@@ -3,10 +3,9 @@ use Rattle.std.proofs.Common.{◌≡◌, ℕ, ◌+◌, true, false, not, ◌&&�
 use Rattle.std.proofs.lemmas.Bool.{or_parts, or_left, not-false}
 use Rattle.toll_base.specs.Bounds.{lot_bounds, sublot_bounds}
 use Rattle.toll_base.specs.Bytes.{Bytes, same_bytes}
-use Rattle.toll_base.specs.Values.{house_name}
 use Rattle.toll_base.specs.Command.{Record, by}
 use Rattle.toll_base.specs.History.{History, acts}
-use Rattle.toll_base.specs.Movements.{lot_id, made_by, makes_lot, makes_sublot, first_made, sublot_in, movements}
+use Rattle.toll_base.specs.Movements.{lot_id, first_made, sublot_in, movements}
 use Rattle.toll_base.specs.Slice.{Slice, lot_at}
 use Rattle.toll_base.specs.SliceRules.{KeepsRules, count_actuals}
 use Rattle.toll_base.specs.Words.{where_so, is_some_where}

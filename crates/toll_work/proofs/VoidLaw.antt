@@ -1,9 +1,8 @@
 -- What a void owes.
 use Rattle.std.proofs.Common.{◌≡◌, ℕ, ◌+◌, ◌-◌, ◌≤◌, Bool, true, false, not, ◌&&◌, ◌||◌, cond, nat_le, nat_lt, Option, Some, None, is_some, is_none, List, [], ◌∷◌, ◌++◌, length, refl, sym, ap, subst, ◌∙◌, arith}
 use mathlib.Core.Bool.{false≢true}
-use Rattle.std.proofs.lemmas.Bool.{or_left, not-false}
 use Rattle.std.proofs.lemmas.Bool.Decides.{nat_tests}
-use Rattle.toll_base.specs.Bounds.{sublot_bounds, returning_bounds}
+use Rattle.toll_base.specs.Bounds.{returning_bounds}
 use Rattle.toll_base.specs.Bytes.{Bytes, same_bytes, bytes_cmp}
 use Rattle.toll_base.specs.Keys.{pair_cmp}
 use Rattle.toll_base.specs.Values.{house_name}
@@ -15,7 +14,7 @@ use Rattle.toll_base.specs.SliceRules.{KeepsRules, row_fits}
 use Rattle.toll_base.specs.Tables.{Tables, tables_of, tables_given, sublot_row, IsRowsOf}
 use Rattle.toll_base.specs.Words.{where_so, is_some_where, none_or}
 use Rattle.toll_base.specs.Decision.{IsDecided, after_changes, ChangesKeepRules, DecidesWith, DecisionKeepsRules}
-use Rattle.toll_base.specs.Verdict.{Verdict, Accepted, Refused, Checks, first_of, stopped, void_checks, is_actual, is_of_closed, takes_too_much, tables_for, amount_in, verdict, IsLawful, IsValid}
+use Rattle.toll_base.specs.Verdict.{Accepted, Refused, Checks, first_of, is_actual, is_of_closed, takes_too_much, tables_for, amount_in, verdict, IsLawful, IsValid}
 use Rattle.toll_base.specs.Laws.{BringsOwn, TakesKnown}
 use Rattle.toll_work.specs.Voiding.{open_checks}
 use Rattle.toll_base.specs.declared.decision.Change.{Change}
@@ -31,9 +30,8 @@ use Rattle.toll_base.specs.declared.rows.MoveRow.{MoveRow}
 use Rattle.toll_base.specs.declared.rows.Move.{Move as Moved}
 use Rattle.toll_base.specs.declared.rows.Move.TheVariants.{Receive, Split, Ship, Scrap, Actual}
 use Rattle.toll_base.specs.declared.rows.SublotRow.{SublotRow}
-use Rattle.toll_base.specs.declared.rows.VoidRow.{VoidRow}
 use Rattle.toll_base.specs.declared.rows.Row.TheVariants.{Sublot, Void as VoidPut}
-use Rattle.toll_base.proofs.Bools.{both, and_is}
+use Rattle.toll_base.proofs.Bools.{both}
 use Rattle.toll_base.proofs.EachMove.{of_found}
 use Rattle.toll_base.proofs.Owned.{all_bring_own, all_take_known}
 use Rattle.toll_base.proofs.Moving.{tables_for_are, held_is}

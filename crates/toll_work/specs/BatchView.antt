@@ -1,5 +1,5 @@
 -- What is told of a batch: its row, and each requirement of its order's recipe with what the batch did of it.
-use Rattle.std.specs.Prelude.{◌≡◌, ℕ, Bool, false, not, ◌&&◌, ◌==◌, if◌then◌else◌, Option, Some, None, is_some, List, map, filter}
+use Rattle.std.specs.Prelude.{◌≡◌, ℕ, not, ◌&&◌, if◌then◌else◌, Option, Some, None, is_some, List, map, filter}
 use Rattle.std.specs.Option.{option_and_then}
 use Rattle.toll_base.specs.Bytes.{Bytes, same_bytes}
 use Rattle.toll_base.specs.Words.{total, where_so}

@@ -1,155 +1,220 @@
 //! Decisions on recipes, orders and batches.
-use crate::{add_recipe, cancel_order, close_batch, command_batch, next, open_batch, place_order};
-use std::alloc::{AllocError, Global};
+use crate::stories::Line::{Batches, Cancel, Close, Do, Open, Place, Recipe, Require};
+use crate::stories::Said::{Accepted, Now, Number, Refused, Repeated};
+use crate::stories::{FROM_A, Line, Said, Usage, WITH_BATCH, WITH_RECIPE, tell, tell_of};
+use crate::{StateWord, next};
 use std::test::Fail;
-use toll_base::{
-    BatchNo, Change, Decision, Name, Refusal, Row, Segment, Slice, State, StateCommand,
+use toll_base::Refusal::{
+    BadState, BatchClosed, CrossOwner, NoMoreBatches, OrderCancelled, OrderExists, OrderStarted,
+    RecipeInUse, UnitBusy, UnknownRecipe, UnknownUnit,
 };
+use toll_base::State::{
+    Aborted, Aborting, Complete, Held, Holding, Idle, Paused, Pausing, Restarting, Running,
+    Stopped, Stopping,
+};
+use toll_base::{State, StateCommand};
 
-// What a decision says.
-#[derive(Clone, Copy, Debug, PartialEq, Eq)]
-enum Said {
-    Accepted,
-    Repeated,
-    Refused(Refusal),
-}
-
-const STATES: [State; 12] = [
-    State::Idle,
-    State::Running,
-    State::Pausing,
-    State::Paused,
-    State::Holding,
-    State::Held,
-    State::Restarting,
-    State::Stopping,
-    State::Stopped,
-    State::Aborting,
-    State::Aborted,
-    State::Complete,
+const STATES: [(State, &str); 12] = [
+    (Idle, "idle"),
+    (Running, "running"),
+    (Pausing, "pausing"),
+    (Paused, "paused"),
+    (Holding, "holding"),
+    (Held, "held"),
+    (Restarting, "restarting"),
+    (Stopping, "stopping"),
+    (Stopped, "stopped"),
+    (Aborting, "aborting"),
+    (Aborted, "aborted"),
+    (Complete, "complete"),
 ];
 
 const WORDS: [&str; 9] = [
     "done", "start", "stop", "hold", "restart", "abort", "reset", "pause", "resume",
 ];
 
-fn name(bytes: &[u8]) -> Name {
-    match Name::parse(bytes) {
-        Ok(name) => name,
-        Err(_) => Name::house(),
-    }
-}
+// From which state which command leads to which: of 108 pairs these 31.
+const LEADING: [(&str, &str, &str); 31] = [
+    ("idle", "start", "running"),
+    ("running", "done", "complete"),
+    ("running", "stop", "stopping"),
+    ("running", "hold", "holding"),
+    ("running", "abort", "aborting"),
+    ("running", "pause", "pausing"),
+    ("pausing", "done", "paused"),
+    ("pausing", "stop", "stopping"),
+    ("pausing", "hold", "holding"),
+    ("pausing", "abort", "aborting"),
+    ("paused", "stop", "stopping"),
+    ("paused", "hold", "holding"),
+    ("paused", "abort", "aborting"),
+    ("paused", "resume", "running"),
+    ("holding", "done", "held"),
+    ("holding", "stop", "stopping"),
+    ("holding", "abort", "aborting"),
+    ("held", "stop", "stopping"),
+    ("held", "restart", "restarting"),
+    ("held", "abort", "aborting"),
+    ("restarting", "done", "running"),
+    ("restarting", "stop", "stopping"),
+    ("restarting", "hold", "holding"),
+    ("restarting", "abort", "aborting"),
+    ("stopping", "done", "stopped"),
+    ("stopping", "abort", "aborting"),
+    ("stopped", "abort", "aborting"),
+    ("stopped", "reset", "idle"),
+    ("aborting", "done", "aborted"),
+    ("aborted", "reset", "idle"),
+    ("complete", "reset", "idle"),
+];
 
-fn put(slice: &mut Slice, row: Row) -> Result<(), AllocError> {
-    if slice.fits(&row) {
-        slice.put(row)?;
-    }
-    Ok(())
-}
-
-// Makes the changes of the decision, and tells what it says.
-fn make(slice: &mut Slice, decision: &Decision) -> Result<Said, AllocError> {
-    match decision {
-        Decision::Accept(changes) => {
-            for change in changes {
-                if let Change::Put(_, row) = change {
-                    put(slice, *row)?;
-                }
-            }
-            Ok(Said::Accepted)
+// The word of the state that the command leads to, empty where it leads nowhere.
+fn led(state: &str, command: &str) -> &'static str {
+    for (from, by, to) in LEADING {
+        if from == state && by == command {
+            return to;
         }
-        Decision::Repeated => Ok(Said::Repeated),
-        Decision::Refuse(why) => Ok(Said::Refused(*why)),
     }
+    ""
 }
 
-fn add(alloc: Global, slice: &mut Slice) -> Result<Said, Fail> {
-    let decision: Decision = add_recipe(alloc, slice, name(b"R1"), Segment::new(2)?)?;
-    Ok(make(slice, &decision)?)
-}
-
-fn place(alloc: Global, slice: &mut Slice, recipe: &[u8], batches: u64) -> Result<Said, Fail> {
-    let batches = BatchNo::new(batches)?;
-    let decision: Decision = place_order(alloc, slice, name(b"O1"), name(recipe), batches)?;
-    Ok(make(slice, &decision)?)
-}
-
-fn cancel(alloc: Global, slice: &mut Slice) -> Result<Said, Fail> {
-    let decision: Decision = cancel_order(alloc, slice, name(b"O1"))?;
-    Ok(make(slice, &decision)?)
-}
-
-fn open(alloc: Global, slice: &mut Slice, known: bool, free: bool) -> Result<Said, Fail> {
-    let decision: Decision = open_batch(alloc, slice, name(b"O1"), name(b"U1"), known, free)?;
-    Ok(make(slice, &decision)?)
-}
-
-fn close(alloc: Global, slice: &mut Slice, number: u64) -> Result<Said, Fail> {
-    let decision: Decision = close_batch(alloc, slice, name(b"O1"), BatchNo::new(number)?)?;
-    Ok(make(slice, &decision)?)
-}
-
-fn command(alloc: Global, slice: &mut Slice, word: &[u8]) -> Result<Said, Fail> {
-    let Some(command) = StateCommand::read(word) else {
-        return Ok(Said::Repeated);
+fn leads_so(state: State, word: &str, command: &str) -> bool {
+    let Some(read) = StateCommand::read(command.as_bytes()) else {
+        return false;
     };
-    let number = BatchNo::new(1)?;
-    let decision: Decision = command_batch(alloc, slice, name(b"O1"), number, command)?;
-    Ok(make(slice, &decision)?)
+    match next(state, read) {
+        Some(to) => to.word() == led(word, command),
+        None => led(word, command).is_empty(),
+    }
 }
 
-// The rows of an owner with a recipe, and an order of that many batches by it.
-fn with_order(alloc: Global, batches: u64) -> Result<Slice, Fail> {
-    let mut slice = Slice::new(alloc, name(b"ACME"));
-    add(alloc, &mut slice)?;
-    place(alloc, &mut slice, b"R1", batches)?;
-    Ok(slice)
-}
-
-#[test]
-fn commands_lead_from_31_pairs(rt: HostRuntime) {
-    let mut leading = 0u64;
-    let mut not_leading = 0u64;
-    for state in STATES {
-        for word in WORDS {
-            if let Some(command) = StateCommand::read(word.as_bytes()) {
-                match next(state, command) {
-                    Some(_) => leading = leading.saturating_add(1),
-                    None => not_leading = not_leading.saturating_add(1),
-                }
-            }
+fn has_row(state: State, word: &str) -> bool {
+    for command in WORDS {
+        if !leads_so(state, word, command) {
+            return false;
         }
     }
-    assert_eq!(rt; (leading, not_leading), (31, 77));
+    state.word() == word
 }
 
-// A batch that runs, and what its closing says then, after it is done, and again.
-fn closings(alloc: Global, slice: &mut Slice) -> Result<[Said; 3], Fail> {
-    command(alloc, slice, b"start")?;
-    let running = close(alloc, slice, 1)?;
-    command(alloc, slice, b"done")?;
-    let complete = close(alloc, slice, 1)?;
-    Ok([running, complete, close(alloc, slice, 1)?])
+fn has_table() -> bool {
+    for (state, word) in STATES {
+        if !has_row(state, word) {
+            return false;
+        }
+    }
+    true
 }
 
 #[test]
-fn a_complete_batch_is_closed_once(rt: HostRuntime) -> Result<(), Fail> {
-    let mut slice: Slice = with_order(rt.alloc(), 1)?;
-    open(rt.alloc(), &mut slice, true, true)?;
-    let said: [Said; 3] = closings(rt.alloc(), &mut slice)?;
-    assert_eq!(rt; said[0], Said::Refused(Refusal::BadState));
-    assert_eq!(rt; said[1], Said::Accepted);
-    assert_eq!(rt; said[2], Said::Refused(Refusal::BatchClosed));
+fn commands_lead_as_in_the_table(rt: HostRuntime) {
+    assert!(rt; has_table());
+}
+
+#[test]
+fn other_words_are_no_commands(rt: HostRuntime) {
+    assert!(rt; StateCommand::read(b"Start").is_none());
+}
+
+const STATES_OF_A_BATCH: &[(Line, Said)] = &[
+    (Do("pause"), Now(Pausing)),
+    (Do("hold"), Now(Holding)),
+    (Do("done"), Now(Held)),
+    (Do("pause"), Refused(BadState)),
+    (Do("restart"), Now(Restarting)),
+    (Do("stop"), Now(Stopping)),
+    (Do("done"), Now(Stopped)),
+    (Do("reset"), Now(Idle)),
+    (Do("start"), Now(Running)),
+    (Close(1), Refused(BadState)),
+    (Do("done"), Now(Complete)),
+    (Close(1), Accepted),
+    (Close(1), Refused(BatchClosed)),
+    (Open("O", true, true), Refused(NoMoreBatches)),
+];
+
+#[test]
+fn a_batch_is_closed_once_it_may_be(rt: HostRuntime) -> Result<(), Fail> {
+    let wrong: Option<(usize, usize)> = tell(
+        rt.alloc(),
+        &[WITH_RECIPE, WITH_BATCH, STATES_OF_A_BATCH],
+    )?;
+    assert_eq!(rt; wrong, None);
     Ok(())
 }
+
+const CANCELLED: &[(Line, Said)] = &[
+    (Recipe("R-1", 2), Accepted),
+    (Place("O-1", "R-1", 2), Accepted),
+    (Place("O-1", "R-1", 2), Repeated),
+    (Place("O-1", "R-1", 3), Refused(OrderExists)),
+    (Cancel("O-1"), Accepted),
+    (Place("O-1", "R-1", 2), Repeated),
+    (Cancel("O-1"), Refused(OrderCancelled)),
+    (Open("O-1", true, true), Refused(OrderCancelled)),
+];
+
+#[test]
+fn a_cancelled_order_is_not_started(rt: HostRuntime) -> Result<(), Fail> {
+    let wrong: Option<(usize, usize)> = tell(rt.alloc(), &[CANCELLED])?;
+    assert_eq!(rt; wrong, None);
+    Ok(())
+}
+
+const STARTED: &[(Line, Said)] = &[(Cancel("O"), Refused(OrderStarted))];
 
 #[test]
 fn a_started_order_is_not_cancelled(rt: HostRuntime) -> Result<(), Fail> {
-    let mut slice: Slice = with_order(rt.alloc(), 2)?;
-    open(rt.alloc(), &mut slice, true, true)?;
-    let said: Said = cancel(rt.alloc(), &mut slice)?;
-    assert_eq!(rt; said, Said::Refused(Refusal::OrderStarted));
-    let busy: Said = open(rt.alloc(), &mut slice, true, false)?;
-    assert_eq!(rt; busy, Said::Refused(Refusal::UnitBusy));
+    let wrong: Option<(usize, usize)> = tell(rt.alloc(), &[WITH_RECIPE, WITH_BATCH, STARTED])?;
+    assert_eq!(rt; wrong, None);
+    Ok(())
+}
+
+const OF_HOUSE: &[(Line, Said)] = &[
+    (Place("HO", "NONE", 1), Refused(UnknownRecipe)),
+    (Recipe("HB", 1), Accepted),
+    (Place("HO", "HB", 1), Accepted),
+    (Cancel("HO"), Accepted),
+    (Cancel("HO"), Refused(OrderCancelled)),
+];
+
+#[test]
+fn house_has_orders(rt: HostRuntime) -> Result<(), Fail> {
+    let wrong: Option<(usize, usize)> = tell_of(rt.alloc(), "HOUSE", &[OF_HOUSE])?;
+    assert_eq!(rt; wrong, None);
+    Ok(())
+}
+
+// Material of another owner's.
+const OF_BOLT: Usage = Usage {
+    owner: "BOLT",
+    ..FROM_A
+};
+
+const REQUIRED: &[(Line, Said)] = &[
+    (Require("R", OF_BOLT, 1), Refused(RecipeInUse)),
+    (Recipe("R2", 1), Accepted),
+    (Require("R2", OF_BOLT, 1), Refused(CrossOwner)),
+];
+
+#[test]
+fn recipes_name_no_other_owner(rt: HostRuntime) -> Result<(), Fail> {
+    let wrong: Option<(usize, usize)> = tell(rt.alloc(), &[WITH_RECIPE, WITH_BATCH, REQUIRED])?;
+    assert_eq!(rt; wrong, None);
+    Ok(())
+}
+
+const WITH_99_BATCHES: &[(Line, Said)] = &[
+    (Place("O", "R", 99), Accepted),
+    (Open("O", false, false), Refused(UnknownUnit)),
+    (Open("O", true, false), Refused(UnitBusy)),
+    (Batches(99), Number(99)),
+    (Open("O", true, true), Refused(NoMoreBatches)),
+];
+
+#[test]
+fn an_order_has_its_batches_and_no_more(rt: HostRuntime) -> Result<(), Fail> {
+    let wrong: Option<(usize, usize)> = tell(rt.alloc(), &[WITH_RECIPE, WITH_99_BATCHES])?;
+    assert_eq!(rt; wrong, None);
     Ok(())
 }
