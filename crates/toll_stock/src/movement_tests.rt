@@ -1,12 +1,14 @@
 //! Movements, as stories of one lot of milk.
 use crate::story::{
     Names, Said, Story, add_milk, add_ph, has_disposition, has_result, holds, ph_limits, put,
-    put_lot, record_value, reject_it, release_it, settle,
+    put_lot, put_lot_of, record_value, reject_it, release_it, settle,
 };
 use crate::{Totals, lot_totals, on_hand, receive, scrap, ship, split};
 use std::alloc::Global;
 use std::test::Fail;
-use toll_base::{Amount, Day, Disposition, Move, MoveRow, Name, Refusal, Row, Slice};
+use toll_base::{
+    Amount, BatchNo, Day, Disposition, Move, MoveRow, Name, Origin, Refusal, Row, Slice,
+};
 
 // What all movements have.
 #[derive(Clone, Copy)]
@@ -284,9 +286,22 @@ fn has_most_movements(alloc: Global, slice: &mut Slice, names: &Names) -> Result
     )
 }
 
+// Nothing is received into a lot that a batch made.
+fn keeps_its_origin(alloc: Global, slice: &mut Slice, names: &Names) -> Result<bool, Fail> {
+    let made = Origin::Batch {
+        order: Name::parse(b"O")?,
+        number: BatchNo::new(1)?,
+    };
+    add_milk(alloc, slice, names)?;
+    put_lot_of(slice, names, made)?;
+    let received = receive_it(alloc, slice, names, b"K9", 1)?;
+    Ok(matches!(received, Said::Refused(Refusal::WrongOrigin)))
+}
+
 // What a test tells.
 #[derive(Clone, Copy)]
 enum Told {
+    OriginKept,
     KeysKnown,
     StockMoved,
     Life,
@@ -297,6 +312,7 @@ enum Told {
 impl Story for Told {
     fn goes(&self, alloc: Global, slice: &mut Slice, names: &Names) -> Result<bool, Fail> {
         match self {
+            Told::OriginKept => keeps_its_origin(alloc, slice, names),
             Told::KeysKnown => knows_keys(alloc, slice, names),
             Told::StockMoved => moves_stock(alloc, slice, names),
             Told::Life => lives(alloc, slice, names),
@@ -304,6 +320,13 @@ impl Story for Told {
             Told::MostMovements => has_most_movements(alloc, slice, names),
         }
     }
+}
+
+#[test]
+fn a_product_is_not_received(rt: HostRuntime) -> Result<(), Fail> {
+    let held = holds(rt.alloc(), &Told::OriginKept)?;
+    assert!(rt; held);
+    Ok(())
 }
 
 #[test]

@@ -105,12 +105,21 @@ pub(crate) fn add_ph(
     settle(slice, &added)
 }
 
-/// Puts the story's lot, quarantined.
+/// Puts the story's lot, received and quarantined.
 pub(crate) fn put_lot(slice: &mut Slice, names: &Names) -> Result<(), AllocError> {
+    put_lot_of(slice, names, Origin::Receipts)
+}
+
+/// Puts the story's lot of this origin, quarantined.
+pub(crate) fn put_lot_of(
+    slice: &mut Slice,
+    names: &Names,
+    origin: Origin,
+) -> Result<(), AllocError> {
     let lot = LotRow {
         lot: names.lot,
         material: names.material,
-        origin: Origin::Receipts,
+        origin,
         disposition: Disposition::Quarantined,
     };
     put(slice, Row::Lot(lot))
