@@ -3,6 +3,11 @@ use Rattle.std.specs.Prelude.{◌<◌, ℕ, Bool, true, false, List, length, tak
 use Rattle.std.specs.Io.KnownBytes.{Appends}
 use Rattle.std.specs.List.{AllZip}
 use Rattle.toll_base.specs.Bytes.{Bytes}
+use Rattle.toll_base.specs.History.{History}
+use Rattle.toll_base.specs.Verdict.{IsLawful}
+use Rattle.toll_keep.specs.Content.{Content}
+use Rattle.toll_keep.specs.Standing.{StandsFor}
+use Rattle.toll_wire.specs.OfficeRuns.{IsRunOf}
 use Rattle.toll_wire.specs.Telling.{AnswersEvent}
 use Rattle.toll_wire.specs.declared.event.Answer.{Answer}
 use Rattle.toll_wire.specs.declared.event.Event.{Event}
@@ -13,29 +18,32 @@ use Rattle.toll.specs.Script.{AsksFor, IsFirstBad}
 use Rattle.toll.specs.declared.script.ScriptEnd.{ScriptEnd}
 use Rattle.toll.specs.declared.script.ScriptEnd.TheVariants.{Done, Memory, WriteFault}
 
--- the input's events, in order, got these answers
-pub record Runs (input : Bytes) (answers : List Answer) : Type 0 where
-  pub events : List Event
-  pub asked : AsksFor input (deeds_of events)
-  pub answered : AllZip AnswersEvent events answers
+-- over a keep that held and now holds such contents, if it is honest
+module _ (was_held now_held : Content → Type 0) (is_honest : Type 0) where
+  -- the input's events, in order, got these answers, which are those of a run from any content that stands for a lawful history
+  pub record Runs (input : Bytes) (answers : List Answer) : Type 0 where
+    pub events : List Event
+    pub asked : AsksFor input (deeds_of events)
+    pub answered : AllZip AnswersEvent events answers
+    pub run : is_honest → (c : Content) (H : History) → was_held c → StandsFor c H → IsLawful H → IsRunOf now_held H events answers
 
--- a script that was read from one stream was run, and the lines of its answers went to another
-pub record IsRun (unread rest held now_held : Option Bytes) : Type 0 where
-  pub input : Bytes
-  pub whole : IsWhole unread rest input
-  pub answers : List Answer
-  pub runs : Runs input answers
-  pub written : Appends held now_held (printed answers)
+  -- a script that was read from one stream was run, and the lines of its answers went to another
+  pub record IsRun (unread rest written_before written_now : Option Bytes) : Type 0 where
+    pub input : Bytes
+    pub whole : IsWhole unread rest input
+    pub answers : List Answer
+    pub runs : Runs input answers
+    pub written : Appends written_before written_now (printed answers)
 
--- the same, but only a front of the lines went out
-pub record IsCutShort (unread rest held now_held : Option Bytes) : Type 0 where
-  pub input : Bytes
-  pub whole : IsWhole unread rest input
-  pub answers : List Answer
-  pub runs : Runs input answers
-  pub count : ℕ
-  pub short : count < length (printed answers)
-  pub written : Appends held now_held (take count (printed answers))
+  -- the same, but only a front of the lines went out
+  pub record IsCutShort (unread rest written_before written_now : Option Bytes) : Type 0 where
+    pub input : Bytes
+    pub whole : IsWhole unread rest input
+    pub answers : List Answer
+    pub runs : Runs input answers
+    pub count : ℕ
+    pub short : count < length (printed answers)
+    pub written : Appends written_before written_now (take count (printed answers))
 
 -- the line of this number is the first of a script that is bad
 pub record HasBadLine (unread rest : Option Bytes) (number : ℕ) : Type 0 where

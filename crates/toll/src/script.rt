@@ -46,9 +46,9 @@ pub fn script<R: Source, W: Sink, K: Keep>(
     keep: &mut K,
 ) -> ScriptEnd
     ensures done { result ≡ ScriptEnd.Done
-        → IsRun (R.unread reader.old) (R.unread reader.new) (W.held writer.old) (W.held writer.new) }
+        → IsRun (K.holds keep.old) (K.holds keep.new) (K.is_honest keep.new) (R.unread reader.old) (R.unread reader.new) (W.held writer.old) (W.held writer.new) }
     ensures cut_short { result ≡ ScriptEnd.WriteFault
-        → IsCutShort (R.unread reader.old) (R.unread reader.new) (W.held writer.old) (W.held writer.new) }
+        → IsCutShort (K.holds keep.old) (K.holds keep.new) (K.is_honest keep.new) (R.unread reader.old) (R.unread reader.new) (W.held writer.old) (W.held writer.new) }
     ensures bad_line { (number : ℕ) → result ≡ ScriptEnd.BadLine number
         → HasBadLine (R.unread reader.old) (R.unread reader.new) number }
     ensures too_long { result ≡ ScriptEnd.TooLong → IsTooLong (R.unread reader.old) (R.unread reader.new) }
@@ -58,6 +58,7 @@ pub fn script<R: Source, W: Sink, K: Keep>(
     ensures write_fault { result ≡ ScriptEnd.WriteFault → HasFailed (W.has_failed writer.old) (W.has_failed writer.new) }
     ensures silent { IsTrue (is_silent result) → writer.new ≡ writer.old }
     ensures idle { IsTrue (is_idle result) → keep.new ≡ keep.old }
+    ensures honest { K.is_honest keep.new → K.is_honest keep.old }
 {
     let text = match read_input(alloc, reader) {
         Ok(text) => text,
