@@ -1,4 +1,3 @@
-pub mod StreamLemmas
 pub mod PieceLemmas
 pub mod LineLemmas
 pub mod RequestLemmas

@@ -1,4 +1,3 @@
-pub mod Failures
 pub mod Pieces
 pub mod Requests
 pub mod Script

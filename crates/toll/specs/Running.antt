@@ -18,32 +18,41 @@ use Rattle.toll.specs.Script.{AsksFor, IsFirstBad}
 use Rattle.toll.specs.declared.script.ScriptEnd.{ScriptEnd}
 use Rattle.toll.specs.declared.script.ScriptEnd.TheVariants.{Done, Memory, WriteFault}
 
--- over a keep that held and now holds such contents, if it is honest
-module _ (was_held now_held : Content → Type 0) (is_honest : Type 0) where
-  -- the input's events, in order, got these answers, which are those of a run from any content that stands for a lawful history
-  pub record Runs (input : Bytes) (answers : List Answer) : Type 0 where
-    pub events : List Event
-    pub asked : AsksFor input (deeds_of events)
-    pub answered : AllZip AnswersEvent events answers
-    pub run : is_honest → (c : Content) (H : History) → was_held c → StandsFor c H → IsLawful H → IsRunOf now_held H events answers
+-- where the keep is honest so far, and held a content that stands for a lawful history: the events and their answers are a run from that history, and what the run leaves is held
+abbrev pub AreRunOver : (is_honest : Type 0) (held holds : Content → Type 0) → List Event → List Answer → Type 0
+AreRunOver is_honest held holds events answers = is_honest → (c : Content) (H : History) → held c → StandsFor c H → IsLawful H → IsRunOf holds H events answers
 
-  -- a script that was read from one stream was run, and the lines of its answers went to another
-  pub record IsRun (unread rest written_before written_now : Option Bytes) : Type 0 where
-    pub input : Bytes
-    pub whole : IsWhole unread rest input
-    pub answers : List Answer
-    pub runs : Runs input answers
-    pub written : Appends written_before written_now (printed answers)
+-- the input's events, in order, got these answers, and so they ran
+pub record Runs (Ran : List Event → List Answer → Type 0) (input : Bytes) (answers : List Answer) : Type 0 where
+  pub events : List Event
+  pub asked : AsksFor input (deeds_of events)
+  pub answered : AllZip AnswersEvent events answers
+  pub ran : Ran events answers
 
-  -- the same, but only a front of the lines went out
-  pub record IsCutShort (unread rest written_before written_now : Option Bytes) : Type 0 where
-    pub input : Bytes
-    pub whole : IsWhole unread rest input
-    pub answers : List Answer
-    pub runs : Runs input answers
-    pub count : ℕ
-    pub short : count < length (printed answers)
-    pub written : Appends written_before written_now (take count (printed answers))
+-- a script that was read from one stream was run, and the lines of its answers went to another
+pub record IsRun (Ran : List Event → List Answer → Type 0) (unread rest held now_held : Option Bytes) : Type 0 where
+  pub input : Bytes
+  pub whole : IsWhole unread rest input
+  pub answers : List Answer
+  pub runs : Runs Ran input answers
+  pub written : Appends held now_held (printed answers)
+
+-- the same, but only a front of the lines went out
+pub record IsCutShort (Ran : List Event → List Answer → Type 0) (unread rest held now_held : Option Bytes) : Type 0 where
+  pub input : Bytes
+  pub whole : IsWhole unread rest input
+  pub answers : List Answer
+  pub runs : Runs Ran input answers
+  pub count : ℕ
+  pub short : count < length (printed answers)
+  pub written : Appends held now_held (take count (printed answers))
+
+-- a script that was read from a stream was run, and nothing came of its answers
+pub record HasRun (Ran : List Event → List Answer → Type 0) (unread rest : Option Bytes) : Type 0 where
+  pub input : Bytes
+  pub whole : IsWhole unread rest input
+  pub answers : List Answer
+  pub runs : Runs Ran input answers
 
 -- the line of this number is the first of a script that is bad
 pub record HasBadLine (unread rest : Option Bytes) (number : ℕ) : Type 0 where

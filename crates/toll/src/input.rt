@@ -1,13 +1,13 @@
 //! Reading a script whole.
-ghost use Rattle.std.specs.Prelude.{◌≡◌, ◌+◌, ◌<◌, ◌≤◌, length, take, drop, IfOk, OnErr, Err, is_err};
+ghost use Rattle.std.specs.Prelude.{◌≡◌, ◌+◌, ◌<◌, ◌≤◌, length, take, IfOk, OnErr, Err};
 ghost use Rattle.std.specs.Io.KnownBytes.{Consumes, IsAtEnd};
-ghost use Rattle.toll.specs.Failures.{Notes, HasFailed};
+ghost use Rattle.toll_wire.specs.Streams.{HasFailed};
 ghost use Rattle.toll.specs.Inputs.{IsTooLong, IsWhole, script_limit};
 
-use crate::source::Source;
 use std::alloc::{AllocError, Global};
 use std::io;
 use thiserror::Error;
+use toll_wire::{Source, read_behind};
 
 /// How many bytes a script may have.
 const TEXT_LIMIT: usize = 1_048_576;
@@ -68,16 +68,4 @@ fn fill<R: Source>(reader: &mut R, buffer: &mut [u8]) -> io::Result<usize>
         }
     }
     Ok(filled)
-}
-
-// One read, behind what was filled before.
-fn read_behind<R: Source>(reader: &mut R, buffer: &mut [u8], filled: usize) -> io::Result<usize>
-    requires { filled ≤ length buffer.old }
-    ensures front { take filled buffer.new ≡ take filled buffer.old }
-    ensures fits { IfOk result (λ n. filled + n ≤ length buffer.new) }
-    ensures given { IfOk result (λ n. Consumes (R.unread reader.old) (R.unread reader.new) (take n (drop filled buffer.new))) }
-    ensures end { IfOk result (λ n. n ≡ 0 → filled < length buffer.old → IsAtEnd (R.unread reader.new)) }
-    ensures failures { Notes (R.has_failed reader.old) (R.has_failed reader.new) (is_err result) }
-{
-    reader.read_some(&mut buffer[filled..])
 }

@@ -6,12 +6,9 @@
 mod cutting;
 mod events;
 mod input;
-mod output;
 mod printing;
 mod request_line;
 mod script;
-mod sink;
-mod source;
 #[cfg(test)]
 mod tests;
 

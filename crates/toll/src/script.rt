@@ -1,18 +1,15 @@
 //! Running a script.
-ghost use Rattle.std.specs.Prelude.{◌≡◌, ℕ, IsTrue};
-ghost use Rattle.toll.specs.Failures.{HasFailed};
+ghost use Rattle.std.specs.Prelude.{◌≡◌, ◌⊎◌, ℕ, IsTrue};
+ghost use Rattle.toll_wire.specs.Streams.{HasFailed};
 ghost use Rattle.toll.specs.Inputs.{IsTooLong};
-ghost use Rattle.toll.specs.Running.{HasBadLine, IsCutShort, IsRun, is_idle, is_silent};
+ghost use Rattle.toll.specs.Running.{AreRunOver, HasBadLine, HasRun, IsCutShort, IsRun, is_idle, is_silent};
 
 use crate::events::{ScriptFault, events_of};
 use crate::input::{InputFault, read_input};
-use crate::output::write_output;
 use crate::printing::printed;
-use crate::sink::Sink;
-use crate::source::Source;
 use std::alloc::Global;
 use toll_keep::Keep;
-use toll_wire::run_events;
+use toll_wire::{Sink, Source, run_events, write_reply};
 
 /// How a script ended.
 #[derive(Clone, Copy, Debug, PartialEq, Eq)]
@@ -46,9 +43,12 @@ pub fn script<R: Source, W: Sink, K: Keep>(
     keep: &mut K,
 ) -> ScriptEnd
     ensures done { result ≡ ScriptEnd.Done
-        → IsRun (K.holds keep.old) (K.holds keep.new) (K.is_honest keep.new) (R.unread reader.old) (R.unread reader.new) (W.held writer.old) (W.held writer.new) }
+        → IsRun (AreRunOver (K.is_honest keep.new) (K.holds keep.old) (K.holds keep.new)) (R.unread reader.old) (R.unread reader.new) (W.held writer.old) (W.held writer.new) }
     ensures cut_short { result ≡ ScriptEnd.WriteFault
-        → IsCutShort (K.holds keep.old) (K.holds keep.new) (K.is_honest keep.new) (R.unread reader.old) (R.unread reader.new) (W.held writer.old) (W.held writer.new) }
+        → IsCutShort (AreRunOver (K.is_honest keep.new) (K.holds keep.old) (K.holds keep.new)) (R.unread reader.old) (R.unread reader.new) (W.held writer.old) (W.held writer.new) }
+    ensures memory { result ≡ ScriptEnd.Memory
+        → (keep.new ≡ keep.old) ⊎ HasRun (AreRunOver (K.is_honest keep.new) (K.holds keep.old) (K.holds keep.new)) (R.unread reader.old) (R.unread reader.new) }
+    ensures honest { K.is_honest keep.new → K.is_honest keep.old }
     ensures bad_line { (number : ℕ) → result ≡ ScriptEnd.BadLine number
         → HasBadLine (R.unread reader.old) (R.unread reader.new) number }
     ensures too_long { result ≡ ScriptEnd.TooLong → IsTooLong (R.unread reader.old) (R.unread reader.new) }
@@ -58,7 +58,6 @@ pub fn script<R: Source, W: Sink, K: Keep>(
     ensures write_fault { result ≡ ScriptEnd.WriteFault → HasFailed (W.has_failed writer.old) (W.has_failed writer.new) }
     ensures silent { IsTrue (is_silent result) → writer.new ≡ writer.old }
     ensures idle { IsTrue (is_idle result) → keep.new ≡ keep.old }
-    ensures honest { K.is_honest keep.new → K.is_honest keep.old }
 {
     let text = match read_input(alloc, reader) {
         Ok(text) => text,
@@ -77,7 +76,7 @@ pub fn script<R: Source, W: Sink, K: Keep>(
     let Ok(output) = printed(alloc, &answers) else {
         return ScriptEnd::Memory;
     };
-    match write_output(writer, &output) {
+    match write_reply(writer, &output) {
         Ok(()) => ScriptEnd::Done,
         Err(_) => ScriptEnd::WriteFault,
     }

@@ -1,5 +1,6 @@
 pub mod FieldLemmas
 pub mod Fronts
+pub mod StreamLemmas
 pub mod Takes
 pub mod Seeks
 pub mod PlaceLemmas

@@ -1,6 +1,7 @@
 pub mod Limits
 pub mod Verbs
 pub mod Failures
+pub mod Streams
 pub mod Head
 pub mod Fields
 pub mod Found

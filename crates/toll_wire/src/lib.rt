@@ -18,6 +18,8 @@ mod reply_body;
 mod route;
 mod run;
 mod settled;
+mod sink;
+mod source;
 #[cfg(test)]
 mod tests;
 mod verb;
@@ -32,4 +34,6 @@ pub use laws::{
 pub use outgoing::Out;
 pub use reading::{ReadFault, read_request};
 pub use run::run_events;
+pub use sink::Sink;
+pub use source::{Source, read_behind};
 pub use writing::{WriteFault, write_reply};

@@ -1,11 +1,10 @@
 //! Readers and writers over memory, which may fail.
 use crate::script::{ScriptEnd, script};
-use crate::sink::Sink;
-use crate::source::Source;
 use std::alloc::Global;
 use std::io;
 use std::io::ErrorKind;
 use toll_keep::MemKeep;
+use toll_wire::{Sink, Source};
 
 /// Gives its text, so many bytes at most with each read, and fails after so many reads.
 #[derive(Drop)]

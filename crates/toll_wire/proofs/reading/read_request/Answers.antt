@@ -9,5 +9,5 @@ pub returns-in-Ok-fill-clause-same : goal.returns-in-Ok-fill-clause-same
 returns-in-Ok-fill-clause-same g c =
     let filled = c.in-Ok-fill.filled in
     let whole = ◌∙◌ {A = List ℕ} c.truncate.ensures.items (ap (take filled) (with_items_is c.in-Ok.text c.fill.new.text (search (rules, places)))) in
-    subst (λ (text : List ℕ). IfSome (g.R.Read.remaining c.args.reader.now) (λ stream. (asked : Asked) → Reads text asked ↔ Reads stream asked))
+    subst (λ (text : List ℕ). IfSome (g.R.Source.unread c.args.reader.now) (λ stream. (asked : Asked) → Reads text asked ↔ Reads stream asked))
     (sym whole) (same_as_stream _ _ _ c.in-Ok-fill.ensures.given c.in-Ok-fill.ensures.enough)

@@ -1,8 +1,8 @@
-//! Where the answers to a script are written.
+//! Where bytes are written.
 ghost use Rattle.std.specs.Prelude.{ℕ, Bool, List, Option, None};
 ghost use Rattle.std.specs.Io.{WritesAtMost};
 ghost use Rattle.std.specs.Io.KnownBytes.{WriteAppends};
-ghost use Rattle.toll.specs.Failures.{Notes, takes_nothing};
+ghost use Rattle.toll_wire.specs.Streams.{Notes, takes_nothing};
 
 use std::io;
 use std::io::Write;

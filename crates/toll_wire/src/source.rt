@@ -1,0 +1,46 @@
+//! Where bytes are read from.
+ghost use Rattle.std.specs.Prelude.{◌≡◌, ◌+◌, ◌<◌, ◌≤◌, ℕ, Bool, List, Option, None, length, take, drop, is_err, IfOk, OnErr};
+ghost use Rattle.std.specs.Io.{ReadsAtMost};
+ghost use Rattle.std.specs.Io.KnownBytes.{Consumes, IsAtEnd, Keeps, ReadConsumes};
+ghost use Rattle.toll_wire.specs.Streams.{Notes};
+
+use std::io;
+use std::io::Read;
+
+/// A reader that may tell its bytes and its failures. Every reader is one, though it tells no
+/// failures.
+pub trait Source {
+    // The bytes that reads will give from here on, where they are known.
+    ghost unread: { Self → Option (List ℕ) } = { λ _. None };
+
+    // Whether a read has failed, where that is known.
+    ghost has_failed: { Self → Option Bool } = { λ _. None };
+
+    /// Reads some bytes into the front of the buffer, and tells how many: none at the end alone,
+    /// where there is room.
+    fn read_some(&mut self, buffer: &mut [u8]) -> io::Result<usize>
+        ensures bound { ReadsAtMost result buffer.new }
+        ensures bytes { ReadConsumes (unread self.old) (unread self.new) result buffer.new }
+        ensures failures { Notes (has_failed self.old) (has_failed self.new) (is_err result) };
+}
+
+impl<R: Read> Source for R {
+    ghost unread = { R.remaining };
+
+    fn read_some(&mut self, buffer: &mut [u8]) -> io::Result<usize> {
+        self.read(buffer)
+    }
+}
+
+/// One read, behind what was filled before.
+pub fn read_behind<R: Source>(reader: &mut R, buffer: &mut [u8], filled: usize) -> io::Result<usize>
+    requires { filled ≤ length buffer.old }
+    ensures front { take filled buffer.new ≡ take filled buffer.old }
+    ensures fits { IfOk result (λ n. filled + n ≤ length buffer.new) }
+    ensures given { IfOk result (λ n. Consumes (R.unread reader.old) (R.unread reader.new) (take n (drop filled buffer.new))) }
+    ensures end { IfOk result (λ n. n ≡ 0 → filled < length buffer.old → IsAtEnd (R.unread reader.new)) }
+    ensures kept { OnErr result (Keeps (R.unread reader.old) (R.unread reader.new)) }
+    ensures failures { Notes (R.has_failed reader.old) (R.has_failed reader.new) (is_err result) }
+{
+    reader.read_some(&mut buffer[filled..])
+}
