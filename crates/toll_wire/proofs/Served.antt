@@ -25,6 +25,21 @@ pub so_of_text : (out : Out) (text : Bytes) (P : Bytes → Type 0) → IsText ou
 so_of_text (Text told) text P is so = subst P (sym is) so
 so_of_text Unavailable text P is so = tt
 
+-- what is so is so where a text is told
+pub so_where_told : {P : Type 0} (out : Out) → P → OnOk (outcome_of out) P
+so_where_told (Text text) so = so
+so_where_told Unavailable so = tt
+
+-- where a text is told, a reply was planned
+pub so_of_told : {P : Type 0} (planned : Result Told KeepFault) (text : Vec ℕ) → IsText (Text text) (text_if_told planned) → OnOk planned P → P
+so_of_told (Ok told) text is so = so
+so_of_told (Err fault) text is so = absurd is
+
+-- a store that lives when a plan stands lives on when its changes were made
+pub lives_on : {K : Type 0} (is_live : K → Type 0) (middle new : K) (changes : List Change) → is_live middle → (changes ≡ [] → new ≡ middle) → ((changes ≡ [] → ⊥) → is_live new) → is_live new
+lives_on is_live middle new [] live idle shown = subst is_live (sym (idle refl)) live
+lives_on is_live middle new (change ∷ changes) live idle shown = shown (λ none. cc none)
+
 module _ (holds : Content → Type 0) (was_live : Type 0) (leaves : List Content → Type 0) (c : Content) (held : holds c) where
   -- nothing was done
   pub none_done : {X E : Type 0} (G : History) (e : E) (IsTold : X → Type 0) → (was_live → leaves (c ∷ [])) → IsDone holds was_live leaves c G (Err e) IsTold

@@ -1,11 +1,11 @@
 //! Answering a request.
-ghost use Rattle.std.specs.Prelude.{◌⊎◌};
+ghost use Rattle.std.specs.Prelude.{◌⊎◌, OnOk};
 ghost use Rattle.toll_base.specs.History.{History};
 ghost use Rattle.toll_base.specs.Verdict.{IsLawful};
 ghost use Rattle.toll_keep.specs.Content.{Content};
 ghost use Rattle.toll_keep.specs.Standing.{StandsFor};
 ghost use Rattle.toll_wire.specs.Runs.{By};
-ghost use Rattle.toll_wire.specs.Steps.{asking_of, IsAnswered, IsServed, IsUnread};
+ghost use Rattle.toll_wire.specs.Steps.{asking_of, outcome_of, IsAnswered, IsServed, IsUnread};
 ghost use Rattle.toll_wire.specs.Telling.{AnswersBytes, MayBeServed, Tells};
 
 use crate::asked::{Asked, Asks, read};
@@ -24,6 +24,7 @@ use toll_keep::Keep;
 pub fn answer<K: Keep>(alloc: Global, keep: &mut K, bytes: &[u8]) -> Out
     ensures tells { Tells (AnswersBytes bytes.now) result }
     ensures honest { K.is_honest keep.new → K.is_honest keep.old }
+    ensures live { K.is_honest keep.new → OnOk (outcome_of result) (K.is_live keep.old → K.is_live keep.new) }
     ensures step { K.is_honest keep.new → (c : Content) (H : History) → K.holds keep.old c → StandsFor c H → IsLawful H →
         IsAnswered (K.holds keep.new) (K.is_live keep.old) (K.leaves keep.new) c H bytes.now result ⊎ IsUnread keep.old keep.new result }
 {
@@ -41,6 +42,7 @@ pub fn answer<K: Keep>(alloc: Global, keep: &mut K, bytes: &[u8]) -> Out
 fn serve<K: Keep>(alloc: Global, keep: &mut K, owner: &[u8], key: &[u8], asks: &Asks) -> Out
     ensures tells { Tells (MayBeServed asks.now) result }
     ensures honest { K.is_honest keep.new → K.is_honest keep.old }
+    ensures live { K.is_honest keep.new → OnOk (outcome_of result) (K.is_live keep.old → K.is_live keep.new) }
     ensures step { K.is_honest keep.new → (c : Content) (H : History) → K.holds keep.old c → StandsFor c H → IsLawful H →
         IsServed (K.holds keep.new) (K.is_live keep.old) (K.leaves keep.new) c H (By owner.now key.now (asking_of asks.now)) result }
 {
@@ -64,6 +66,7 @@ fn serve_request<K: Keep>(
 ) -> Out
     ensures tells { Tells (MayBeServed (Asks.For request.now)) result }
     ensures honest { K.is_honest keep.new → K.is_honest keep.old }
+    ensures live { K.is_honest keep.new → OnOk (outcome_of result) (K.is_live keep.old → K.is_live keep.new) }
     ensures step { K.is_honest keep.new → (c : Content) (H : History) → K.holds keep.old c → StandsFor c H → IsLawful H →
         IsServed (K.holds keep.new) (K.is_live keep.old) (K.leaves keep.new) c H (By owner.now key.now (asking_of (Asks.For request.now))) result }
 {

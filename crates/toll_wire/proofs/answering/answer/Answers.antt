@@ -2,7 +2,7 @@ use Rattle.std.proofs.Common.{inl, refl}
 use Rattle.toll_wire.specs.declared.failure.Failure.TheVariants.{Forbidden}
 use Rattle.toll_wire.specs.ReplyTexts.{text_of_failure}
 use Rattle.toll_wire.specs.Runs.{Nobody}
-use Rattle.toll_wire.proofs.Served.{nobody_served}
+use Rattle.toll_wire.proofs.Served.{nobody_served, so_where_told}
 use Rattle.toll_wire.proofs.answering.answer.Goals as goal
 use Rattle.toll_wire.proofs.answering.answer.Goals.{in_default-via-in-Some+in_default, in_default-via-in_default}
 
@@ -30,3 +30,9 @@ returns-in-Some-Some-clause-step g c honest content H held stands lawful = inl (
   says = (_, rw (c.in-Ok-Claimed.field-0-is, c.in-Some-Some.is-0, c.in-Some-Some.is-1) at c.in-Ok-Claimed.ensures.reads, refl);
   served = c.serve.ensures.step honest content H held stands lawful;
 })
+
+pub returns-in-Ok-Refused-clause-live : goal.returns-in-Ok-Refused-clause-live
+returns-in-Ok-Refused-clause-live g c honest = so_where_told c.fail.result (λ live. live)
+
+pub returns-in_default-clause-live : goal.returns-in_default-clause-live
+returns-in_default-clause-live g c honest = so_where_told c.fail-in_default.result (λ live. live)
