@@ -29,7 +29,7 @@ use Rattle.toll_keep.specs.Content.{Content, after, after_owners}
 use Rattle.toll_keep.specs.Standing.{StandsFor, AreOwnersOf}
 use Rattle.toll_keep.proofs.Knowing.{standing_knows}
 use Rattle.toll_desk.specs.Plans.{LeadsTo}
-use Rattle.toll_desk.proofs.Unknown.{nothing_of_unknown}
+use Rattle.toll_desk.proofs.Unknown.{neither, nothing_of_unknown}
 
 -- an owner whose only command added it has no rows yet
 rows_of_new : (o key : Bytes) → IsRowsOf (by o (AddOwner key) ∷ []) (empty_slice o)
@@ -61,11 +61,7 @@ module _ (c : Content) (H : History) (stands : StandsFor c H) (lawful : IsLawful
   G = command ∷ H
 
   new : is_some (row_at bytes_cmp (λ r. r.owner) c.owners o) ≡ false
-  new = last (same_bytes o house_name) _ (standing_knows H c stands o ∙ absent)
-    where
-      last : (b d : Bool) → (b || d) ≡ false → d ≡ false
-      last true d h = absurd (false≢true (sym h))
-      last false d h = h
+  new = (neither (same_bytes o house_name) _ (standing_knows H c stands o ∙ absent)).1
 
   owners_of : AreOwnersOf G (put_row bytes_cmp (λ r. r.owner) c.owners row)
   owners_of = record {
@@ -83,11 +79,7 @@ module _ (c : Content) (H : History) (stands : StandsFor c H) (lawful : IsLawful
   lawful_after = (lawful, tt, accepted)
 
   not_house : same_bytes o house_name ≡ false
-  not_house = first (same_bytes o house_name) _ absent
-    where
-      first : (b d : Bool) → (b || d) ≡ false → b ≡ false
-      first true d h = h
-      first false d h = refl
+  not_house = (neither (same_bytes o house_name) _ absent).0
 
   -- what the history gives to the owner is what its one command gives
   rows_of_added : IsRowsOf G (empty_slice o)

@@ -22,8 +22,8 @@ needed (AddOwner key) known adds unknown passes = false≢true (sym adds)
 needed a true adds unknown passes = false≢true (sym unknown)
 needed a false adds unknown passes = false≢true (sym passes)
 
--- neither is so where one or the other is not
-neither : (b c : Bool) → (b || c) ≡ false → (b ≡ false) × (c ≡ false)
+-- where not one or the other is so, neither is
+pub neither : (b c : Bool) → (b || c) ≡ false → (b ≡ false) × (c ≡ false)
 neither true c h = absurd (false≢true (sym h))
 neither false c h = (refl, h)
 
