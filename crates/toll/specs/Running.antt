@@ -3,8 +3,8 @@ use Rattle.std.specs.Prelude.{◌<◌, ℕ, Bool, true, false, List, length, tak
 use Rattle.std.specs.Io.KnownBytes.{Appends}
 use Rattle.std.specs.List.{AllZip}
 use Rattle.toll_base.specs.Bytes.{Bytes}
-use Rattle.toll_base.specs.History.{History}
-use Rattle.toll_base.specs.Verdict.{IsLawful}
+use Rattle.toll_history.specs.History.{History}
+use Rattle.toll_history.specs.Verdict.{IsLawful}
 use Rattle.toll_keep.specs.Content.{Content}
 use Rattle.toll_keep.specs.Standing.{StandsFor}
 use Rattle.toll_wire.specs.OfficeRuns.{IsRunOf}

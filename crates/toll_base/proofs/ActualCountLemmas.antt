@@ -8,7 +8,7 @@ use Rattle.toll_base.specs.Table.{row_at, put_row}
 use Rattle.toll_base.specs.ActualCounts.{counted, count_of, AreCountsOf, HasKnown}
 use Rattle.toll_base.specs.SliceRules.{is_actual_of}
 use Rattle.toll_base.specs.Words.{is_some_where}
-use Rattle.toll_base.specs.declared.rows.MoveRow.{MoveRow}
+use Rattle.toll_base.specs.declared.movement.MoveRow.{MoveRow}
 use Rattle.toll_base.specs.declared.actual_count.ActualCount.{ActualCount}
 use Rattle.toll_base.proofs.Bools.{both, and_is}
 use Rattle.toll_base.proofs.KeyOrder.{row_at-put_row, none_of}

@@ -10,9 +10,9 @@ use Rattle.toll_base.specs.Words.{is_some_where, none_or}
 use Rattle.toll_base.specs.declared.rows.SublotRow.{SublotRow}
 use Rattle.toll_base.specs.Slice.{Slice, empty_slice, with_row, material_at, lot_at, sublot_at, move_at}
 use Rattle.toll_base.specs.SliceRules.{KeepsRules, row_fits, batch_has_room, is_actual_of, count_actuals}
-use Rattle.toll_base.specs.declared.rows.MoveRow.{MoveRow}
-use Rattle.toll_base.specs.declared.rows.Move.{Move as Moved}
-use Rattle.toll_base.specs.declared.rows.Move.TheVariants.{Actual}
+use Rattle.toll_base.specs.declared.movement.MoveRow.{MoveRow}
+use Rattle.toll_base.specs.declared.movement.Move.{Move as Moved}
+use Rattle.toll_base.specs.declared.movement.Move.TheVariants.{Actual}
 use Rattle.toll_base.specs.declared.rows.Row.{Row}
 use Rattle.toll_base.specs.declared.rows.Row.TheVariants.{Material, Test, Recipe, Requirement, Order, Batch, Lot, Sublot, Move, Result, Void}
 use Rattle.toll_base.proofs.Bools.{both, and_is, all_three}

@@ -5,8 +5,8 @@ use Rattle.toll_base.specs.Bytes.{Bytes}
 use Rattle.toll_base.specs.Keys.{batch_cmp}
 use Rattle.toll_base.specs.Table.{row_at}
 use Rattle.toll_base.specs.SliceRules.{count_actuals, is_actual_of}
-use Rattle.toll_base.specs.declared.rows.MoveRow.{MoveRow}
-use Rattle.toll_base.specs.declared.rows.Move.{Move as Moved}
+use Rattle.toll_base.specs.declared.movement.MoveRow.{MoveRow}
+use Rattle.toll_base.specs.declared.movement.Move.{Move as Moved}
 use Rattle.toll_base.specs.declared.actual_count.ActualCount.{ActualCount}
 
 -- the row that counts this batch's actuals

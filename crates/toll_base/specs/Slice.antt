@@ -1,5 +1,6 @@
 -- All rows of one owner.
 use Rattle.std.specs.Prelude.{ℕ, Option, List, []}
+use Rattle.std.specs.Option.{option_map_or}
 use Rattle.toll_base.specs.Bytes.{Bytes, bytes_cmp}
 use Rattle.toll_base.specs.Keys.{pair_cmp, batch_cmp, result_cmp, RequirementKey, requirement_cmp}
 use Rattle.toll_base.specs.Table.{row_at, put_row}
@@ -11,7 +12,7 @@ use Rattle.toll_base.specs.declared.rows.OrderRow.{OrderRow}
 use Rattle.toll_base.specs.declared.rows.BatchRow.{BatchRow}
 use Rattle.toll_base.specs.declared.rows.LotRow.{LotRow}
 use Rattle.toll_base.specs.declared.rows.SublotRow.{SublotRow}
-use Rattle.toll_base.specs.declared.rows.MoveRow.{MoveRow}
+use Rattle.toll_base.specs.declared.movement.MoveRow.{MoveRow}
 use Rattle.toll_base.specs.declared.rows.ResultRow.{ResultRow}
 use Rattle.toll_base.specs.declared.rows.VoidRow.{VoidRow}
 use Rattle.toll_base.specs.declared.rows.Row.{Row}
@@ -74,6 +75,10 @@ lot_at s k = row_at bytes_cmp (λ row. row.lot) s.lots k
 
 abbrev pub sublot_at : Slice → Bytes × Bytes → Option SublotRow
 sublot_at s k = row_at pair_cmp (λ row. (row.lot, row.sublot)) s.sublots k
+
+-- how much is in the sublot, 0 where there is none
+abbrev pub amount_at : Slice → Bytes × Bytes → ℕ
+amount_at s k = option_map_or (λ row. row.amount) (sublot_at s k) 0
 
 abbrev pub move_at : Slice → Bytes → Option MoveRow
 move_at s k = row_at bytes_cmp (λ row. row.key) s.moves k

@@ -5,11 +5,11 @@ use Rattle.toll_base.specs.Keys.{pair_cmp, result_cmp, requirement_cmp}
 use Rattle.toll_base.specs.Table.{has_room}
 use Rattle.toll_base.specs.Words.{count, is_some_where, none_or}
 use Rattle.toll_base.specs.Slice.{Slice, material_at, lot_at, sublot_at, move_at}
-use Rattle.toll_base.specs.declared.rows.MoveRow.{MoveRow}
+use Rattle.toll_base.specs.declared.movement.MoveRow.{MoveRow}
 use Rattle.toll_base.specs.declared.rows.Row.{Row}
 use Rattle.toll_base.specs.declared.rows.Row.TheVariants.{Material, Test, Recipe, Requirement, Order, Batch, Lot, Sublot, Move, Result, Void}
-use Rattle.toll_base.specs.declared.rows.Move.{Move as Moved}
-use Rattle.toll_base.specs.declared.rows.Move.TheVariants.{Actual}
+use Rattle.toll_base.specs.declared.movement.Move.{Move as Moved}
+use Rattle.toll_base.specs.declared.movement.Move.TheVariants.{Actual}
 
 -- an actual of this batch
 abbrev pub is_actual_of : Bytes → ℕ → Moved → Bool

@@ -5,8 +5,8 @@ ghost use Rattle.toll_base.specs.SliceRules.{is_actual_of};
 ghost use Rattle.toll_base.specs.ActualCounts.{counted, count_of, HasRowFor, HaveSameBatches};
 
 use crate::bounded::BatchNo;
+use crate::movement::Move;
 use crate::name::Name;
-use crate::rows::Move;
 use crate::table::{Keyed, Table};
 use std::alloc::AllocError;
 

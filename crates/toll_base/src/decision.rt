@@ -1,6 +1,6 @@
 //! Decisions, and the changes that they make.
 ghost use Rattle.std.specs.Prelude.{◌≡◌, [], ◌∷◌, IfOk};
-ghost use Rattle.toll_base.specs.Decision.{IsAccepted};
+ghost use Rattle.toll_base.specs.Changes.{IsAccepted};
 
 use crate::name::Name;
 use crate::refusal::Refusal;

@@ -30,7 +30,7 @@ pub struct LotId {
 
 impl LotId {
     ghost use Rattle.std.specs.Prelude.{◌≡◌};
-    ghost use Rattle.toll_base.specs.Movements.{same_lot};
+    ghost use Rattle.toll_base.specs.Lots.{same_lot};
 
     /// Whether it is the same lot.
     pub fn is_same(&self, other: &LotId) -> bool

@@ -8,8 +8,8 @@ ghost use Rattle.toll_base.specs.Words.{is_some_where};
 
 use crate::actual_count::{ActualCount, add_one, add_row, count_in, take_one};
 use crate::bounded::BatchNo;
+use crate::movement::{Move, MoveRow};
 use crate::name::Name;
-use crate::rows::{Move, MoveRow};
 use crate::table::Table;
 use std::alloc::{AllocError, Global};
 use std::marker::Model;
@@ -23,7 +23,7 @@ pub struct Moves {
 
 impl Model for Moves {
     ghost use Rattle.std.specs.Prelude.{List};
-    ghost use Rattle.toll_base.specs.declared.rows.MoveRow.{MoveRow};
+    ghost use Rattle.toll_base.specs.declared.movement.MoveRow.{MoveRow};
     ghost use Rattle.toll_base.specs.ActualCounts.{AreCountsOf};
     ghost use Rattle.toll_base.specs.Bytes.{bytes_cmp};
     ghost use Rattle.toll_base.specs.Table.{IsInKeyOrder};

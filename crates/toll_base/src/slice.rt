@@ -4,20 +4,17 @@ ghost use Rattle.toll_base.specs.Bytes.{bytes_cmp};
 ghost use Rattle.toll_base.specs.Keys.{pair_cmp, batch_cmp, result_cmp, requirement_cmp};
 ghost use Rattle.toll_base.specs.Table.{IsInKeyOrder};
 ghost use Rattle.toll_base.specs.Words.{is_some_where};
-ghost use Rattle.toll_base.specs.Tables.{tables_of};
-ghost use Rattle.toll_base.specs.Bounds.{sublot_bounds};
-ghost use Rattle.toll_base.specs.Verdict.{amount_in, first_of, Accepted, Refused};
-ghost use Rattle.toll_base.specs.declared.refusal.Refusal.TheVariants.{LimitReached};
-ghost use Rattle.toll_base.specs.Slice.{empty_slice, with_row, material_at, test_at, recipe_at, requirement_at, order_at, batch_at, lot_at, sublot_at, move_at, result_at, void_at};
+ghost use Rattle.toll_base.specs.Slice.{empty_slice, with_row, material_at, test_at, recipe_at, requirement_at, order_at, batch_at, lot_at, sublot_at, move_at, result_at, void_at, amount_at};
 ghost use Rattle.toll_base.specs.SliceRules.{KeepsRules, row_fits, batch_has_room, count_actuals, is_actual_of};
 
 use crate::bounded::{Amount, BatchNo, Segment};
+use crate::movement::{Move, MoveRow};
 use crate::moves::Moves;
 use crate::name::Name;
 use crate::role::Role;
 use crate::rows::{
-    BatchRow, LotRow, MaterialRow, Move, MoveRow, OrderRow, RecipeRow, RequirementRow, ResultRow,
-    Row, SublotRow, TestRow, VoidRow,
+    BatchRow, LotRow, MaterialRow, OrderRow, RecipeRow, RequirementRow, ResultRow, Row, SublotRow,
+    TestRow, VoidRow,
 };
 use crate::table::Table;
 use std::alloc::{AllocError, Global};
@@ -372,7 +369,7 @@ impl Slice {
 
     /// How much is in the sublot, 0 where there is none: at most 20,000,000,000,000.
     pub fn amount_in(&self, lot: &Name, sublot: &Name) -> u64
-        ensures amount { result ≡ amount_in (tables_of self.now) lot.now sublot.now }
+        ensures amount { result ≡ amount_at self.now (lot.now, sublot.now) }
         ensures bound { result ≤ 20000000000000 }
     {
         let _owner = &self.owner;
@@ -380,17 +377,6 @@ impl Slice {
             Some(row) => row.amount,
             None => 0,
         }
-    }
-
-    /// Whether there is room for the amount in the sublot, which may be a new one.
-    pub fn has_room_in(&self, lot: &Name, sublot: &Name, amount: Amount) -> bool
-        ensures { (if result then Accepted else Refused LimitReached) ≡ first_of (sublot_bounds (tables_of self.now) lot.now sublot.now amount) }
-    {
-        let _owner = &self.owner;
-        if self.sublot(lot, sublot).is_none() && self.sublots().len() >= MOST_SUBLOTS {
-            return false;
-        }
-        self.amount_in(lot, sublot) + amount.get() <= MOST_STOCK
     }
 
     /// Whether the movement with this key is voided.

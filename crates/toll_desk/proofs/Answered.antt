@@ -6,21 +6,22 @@ use mathlib.Core.Bool.{false≢true}
 use Rattle.toll_base.specs.Bytes.{Bytes, bytes_cmp, same_bytes}
 use Rattle.toll_base.specs.Words.{or_else, where_so}
 use Rattle.toll_base.specs.Table.{row_at, IsInKeyOrder}
-use Rattle.toll_base.specs.Command.{Action, PlaceOrder, CancelOrder, Command, by}
-use Rattle.toll_base.specs.History.{History, acts, owner_known}
+use Rattle.toll_history.specs.Command.{Action, PlaceOrder, CancelOrder, Command, by}
+use Rattle.toll_history.specs.History.{History, acts, owner_known}
 use Rattle.toll_base.specs.Slice.{Slice, order_at}
-use Rattle.toll_base.specs.Work.{order_of, cancels}
-use Rattle.toll_base.specs.Tables.{Tables, IsRowsOf}
-use Rattle.toll_base.specs.Verdict.{Verdict, Accepted, Repeated, Refused, verdict, grown, IsLawful, IsValid}
-use Rattle.toll_base.specs.Decision.{changes_of, verdict_of, Decides, IsRightOver, DecisionKeepsRules}
-use Rattle.toll_base.specs.OwnChanges.{PutsOnly}
+use Rattle.toll_history.specs.Work.{order_of, cancels}
+use Rattle.toll_history.specs.Tables.{Tables, IsRowsOf}
+use Rattle.toll_history.specs.Verdict.{Verdict, Accepted, Repeated, Refused, verdict, grown, IsLawful, IsValid}
+use Rattle.toll_base.specs.Changes.{changes_of}
+use Rattle.toll_history.specs.Decision.{verdict_of, Decides, IsRightOver, DecisionKeepsRules}
+use Rattle.toll_history.specs.OwnChanges.{PutsOnly}
 use Rattle.toll_base.specs.declared.decision.Decision.{Decision}
 use Rattle.toll_base.specs.declared.refusal.Refusal.{Refusal}
 use Rattle.toll_base.specs.declared.rows.OrderRow.{OrderRow}
-use Rattle.toll_base.proofs.Acts.{along_acts}
-use Rattle.toll_base.proofs.Options.{map_none, none_of}
-use Rattle.toll_base.proofs.Own.{acts-own}
-use Rattle.toll_base.proofs.Passed.{accepted_passes}
+use Rattle.toll_history.proofs.Acts.{along_acts}
+use Rattle.toll_history.proofs.Options.{map_none, none_of}
+use Rattle.toll_history.proofs.Own.{acts-own}
+use Rattle.toll_history.proofs.Passed.{accepted_passes}
 use Rattle.toll_base.proofs.Texts.{same_bytes-exact, same_bytes-refl}
 use Rattle.toll_desk.specs.Told.{AskOrders, AskOrder, AskPlace, Told, TellOrders, TellOrder, TellRefused}
 use Rattle.toll_desk.specs.Replies.{IsOrderOr, IsWritten}

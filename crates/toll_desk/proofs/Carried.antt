@@ -1,6 +1,6 @@
 -- A plan that is carried out.
 use Rattle.std.proofs.Common.{◌≡◌, ◌==◌, true, List, [], ◌∷◌, length, Result, Ok, Err, OnOk, OnErr, IfOk, refl, sym, subst, arith}
-use Rattle.toll_base.specs.History.{History}
+use Rattle.toll_history.specs.History.{History}
 use Rattle.toll_base.specs.declared.decision.Change.{Change}
 use Rattle.toll_base.proofs.Texts.{nat_eq-exact}
 use Rattle.toll_keep.specs.Content.{Content, after, Fits}

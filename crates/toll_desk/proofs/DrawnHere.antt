@@ -6,11 +6,11 @@ use Rattle.std.specs.List.Sorted.{IsStrictlySortedBy}
 use Rattle.std.specs.Ordering.{is_eq}
 use Rattle.std.proofs.lemmas.Bool.{not-true}
 use Rattle.std.proofs.lemmas.Cmp.{tied_itself}
-use Rattle.toll_base.specs.Command.{Action, Record}
-use Rattle.toll_base.specs.Movements.{movement_recorded, voided_in}
+use Rattle.toll_history.specs.Command.{Action, Record}
+use Rattle.toll_history.specs.Movements.{movement_recorded, voided_in}
 use Rattle.toll_base.specs.declared.lot.LotId.{LotId}
 use Rattle.toll_base.specs.declared.lot.Edge.{Edge}
-use Rattle.toll_base.specs.declared.rows.MoveRow.{MoveRow}
+use Rattle.toll_base.specs.declared.movement.MoveRow.{MoveRow}
 use Rattle.toll_trace.specs.declared.way.Way.{Way}
 use Rattle.toll_trace.specs.Chain.{edge_of, IsJoined}
 use Rattle.toll_trace.specs.Edges.{AreEdges}

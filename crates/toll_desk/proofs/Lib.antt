@@ -15,3 +15,4 @@ pub mod OwnerPlans
 pub mod Unknown
 pub mod OwnerAdded
 pub mod PlantPlans
+pub mod SameRows

@@ -6,19 +6,20 @@ use Rattle.std.specs.Option.{option_map}
 use Rattle.toll_base.specs.Bytes.{Bytes, same_bytes}
 use Rattle.toll_base.specs.Values.{house_name}
 use Rattle.toll_base.specs.Words.{or_else, where_so}
-use Rattle.toll_base.specs.Command.{Action, AddOwner, AddUnit, by}
-use Rattle.toll_base.specs.History.{History, acts, key_added, adds_owner, owner_key, owner_known, count_owners, unit_known, count_units}
+use Rattle.toll_history.specs.Command.{Action, AddOwner, AddUnit, by}
+use Rattle.toll_history.specs.History.{History, acts, key_added, adds_owner, owner_key, owner_known, count_owners, unit_known, count_units}
 use Rattle.toll_base.specs.Slice.{Slice, empty_slice, with_row}
 use Rattle.toll_base.specs.SliceRules.{KeepsRules}
-use Rattle.toll_base.specs.Tables.{IsRowsOf}
-use Rattle.toll_base.specs.Verdict.{Verdict, Accepted, Repeated, Refused, verdict, grown, grow, IsLawful}
-use Rattle.toll_base.specs.Decision.{after_change, after_changes, ChangesKeepRules}
-use Rattle.toll_base.specs.OwnChanges.{is_put_of, PutsOnly}
+use Rattle.toll_history.specs.Tables.{IsRowsOf}
+use Rattle.toll_history.specs.Verdict.{Verdict, Accepted, Repeated, Refused, verdict, grown, grow, IsLawful}
+use Rattle.toll_base.specs.Changes.{after_change, after_changes}
+use Rattle.toll_history.specs.Decision.{ChangesKeepRules}
+use Rattle.toll_history.specs.OwnChanges.{is_put_of, PutsOnly}
 use Rattle.toll_base.specs.declared.rows.OwnerRow.{OwnerRow}
 use Rattle.toll_base.specs.declared.rows.UnitRow.{UnitRow}
 use Rattle.toll_base.specs.declared.decision.Change.{Change}
 use Rattle.toll_base.specs.declared.decision.Change.TheVariants.{Owner, Unit as UnitAdded, Put}
-use Rattle.toll_base.proofs.Acts.{first_acts, any_acts}
+use Rattle.toll_history.proofs.Acts.{first_acts, any_acts}
 use Rattle.toll_base.proofs.Texts.{same_bytes-exact}
 use Rattle.toll_keep.specs.Content.{Content, knows, after_owners, after_units, PutsToKnown}
 use Rattle.toll_keep.specs.Standing.{StandsFor, AreOwnersOf, AreUnitsOf}

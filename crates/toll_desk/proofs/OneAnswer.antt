@@ -3,10 +3,10 @@ use Rattle.std.proofs.Common.{◌≡◌, ℕ, Some, List, [], ◌∷◌, map, re
 use Rattle.std.specs.Cmp.Lexicographic.{nat_list_cmp_total}
 use Rattle.toll_base.specs.Bytes.{Bytes, bytes_cmp}
 use Rattle.toll_base.specs.Keys.{pair_cmp}
-use Rattle.toll_base.specs.History.{History, acts}
-use Rattle.toll_base.specs.Work.{order_of, batch_of}
-use Rattle.toll_base.specs.Tables.{tables_given, lot_row, sublot_row}
-use Rattle.toll_base.specs.Verdict.{Verdict, Accepted, Repeated, Refused, first_of, known_batch_checks}
+use Rattle.toll_history.specs.History.{History, acts}
+use Rattle.toll_history.specs.Work.{order_of, batch_of}
+use Rattle.toll_history.specs.Tables.{tables_given, lot_row, sublot_row}
+use Rattle.toll_history.specs.Verdict.{Verdict, Accepted, Repeated, Refused, first_of, known_batch_checks}
 use Rattle.toll_base.specs.declared.lot.LotId.{LotId}
 use Rattle.toll_base.proofs.Texts.{pair_cmp_total}
 use Rattle.toll_trace.proofs.Unique.{trace_unique}

@@ -5,9 +5,9 @@ use Rattle.std.specs.Cmp.Lexicographic.{nat_list_cmp_total}
 use Rattle.std.specs.declared.cmp.Ordering.{Ordering}
 use Rattle.toll_base.specs.Bytes.{Bytes, bytes_cmp}
 use Rattle.toll_base.specs.Keys.{RequirementKey, requirement_cmp, result_cmp, pair_cmp}
-use Rattle.toll_base.specs.Command.{Release, Reject, by}
-use Rattle.toll_base.specs.History.{History}
-use Rattle.toll_base.specs.Verdict.{Verdict, Accepted, Repeated, Refused, grow}
+use Rattle.toll_history.specs.Command.{Release, Reject, by}
+use Rattle.toll_history.specs.History.{History}
+use Rattle.toll_history.specs.Verdict.{Verdict, Accepted, Repeated, Refused, grow}
 use Rattle.toll_base.specs.declared.lot.LotId.{LotId}
 use Rattle.toll_base.specs.declared.rows.OrderRow.{OrderRow}
 use Rattle.toll_base.specs.declared.rows.LotRow.{LotRow}
@@ -15,7 +15,7 @@ use Rattle.toll_base.specs.declared.rows.BatchRow.{BatchRow}
 use Rattle.toll_base.specs.declared.rows.ResultRow.{ResultRow}
 use Rattle.toll_base.specs.declared.rows.SublotRow.{SublotRow}
 use Rattle.toll_base.proofs.Texts.{pair_cmp_total, result_cmp_total, requirement_cmp_total}
-use Rattle.toll_base.proofs.SameRows.{same_rows}
+use Rattle.toll_desk.proofs.SameRows.{same_rows}
 use Rattle.toll_trace.proofs.Unique.{trace_unique}
 use Rattle.toll_base.specs.Table.{AreRowsGiven}
 use Rattle.toll_desk.specs.Told.{Asked, AskOrders, AskOrder, AskPlace, AskCancel, AskBatch, AskStock, AskLot, AskRelease, AskReject, AskBack, AskForward, AskHouseForward, RequirementLine, StockLine, Told, TellOrders, TellBatch, TellStock, TellLot, TellTrace}

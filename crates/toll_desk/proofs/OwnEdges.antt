@@ -4,16 +4,16 @@ use Rattle.std.specs.Prelude.{Contains}
 use mathlib.Core.Bool.{false≢true}
 use Rattle.toll_base.specs.Bytes.{Bytes, same_bytes}
 use Rattle.toll_base.specs.Values.{house_name}
-use Rattle.toll_base.specs.Command.{Record}
-use Rattle.toll_base.specs.History.{History, acts}
-use Rattle.toll_base.specs.Verdict.{IsLawful, crosses}
+use Rattle.toll_history.specs.Command.{Record}
+use Rattle.toll_history.specs.History.{History, acts}
+use Rattle.toll_history.specs.Verdict.{IsLawful, crosses}
 use Rattle.toll_base.specs.declared.lot.LotId.{LotId}
 use Rattle.toll_base.specs.declared.role.Role.{Role}
 use Rattle.toll_base.specs.declared.role.Role.TheVariants.{Consumed, Produced}
-use Rattle.toll_base.specs.declared.rows.MoveRow.{MoveRow}
-use Rattle.toll_base.proofs.Own.{acts-own, acts-other}
+use Rattle.toll_base.specs.declared.movement.MoveRow.{MoveRow}
+use Rattle.toll_history.proofs.Own.{acts-own, acts-other}
 use Rattle.toll_base.proofs.Texts.{same_bytes-exact, same_bytes-refl}
-use Rattle.toll_base.proofs.Crossing.{crosses_by, is_crossing, accepted_not_crossing, is_the_owner}
+use Rattle.toll_history.proofs.Crossing.{crosses_by, is_crossing, accepted_not_crossing, is_the_owner}
 use Rattle.toll_trace.specs.declared.way.Way.{Way}
 use Rattle.toll_trace.specs.declared.way.Way.TheVariants.{Back, Forward}
 use Rattle.toll_trace.specs.Chain.{IsChain}

@@ -5,18 +5,18 @@ use Rattle.std.specs.Option.{option_map, option_map_or, option_and_then}
 use Rattle.toll_base.specs.Bytes.{Bytes, same_bytes}
 use Rattle.toll_base.specs.Values.{house_name}
 use Rattle.toll_base.specs.Words.{where_so, is_some_where}
-use Rattle.toll_base.specs.Command.{Action, PlaceOrder, CancelOrder, Release, Reject, Command, by}
-use Rattle.toll_base.specs.History.{History, part, acts, owner_known, owner_key, adds_owner}
-use Rattle.toll_base.specs.Work.{material_of, order_of, batch_of, requirement_of}
-use Rattle.toll_base.specs.Movements.{lot_id}
-use Rattle.toll_base.specs.Tables.{Tables, tables_given, lot_row}
-use Rattle.toll_base.specs.Verdict.{Verdict, Accepted, Repeated, Refused, Checks, first_of, checks, verdict, grow, grown, IsLawful, IsValid, order_checks, cancel_checks, release_checks, reject_checks, known_batch_checks}
+use Rattle.toll_history.specs.Command.{Action, PlaceOrder, CancelOrder, Release, Reject, Command, by}
+use Rattle.toll_history.specs.History.{History, part, acts, owner_known, owner_key, adds_owner}
+use Rattle.toll_history.specs.Work.{material_of, order_of, batch_of, requirement_of}
+use Rattle.toll_base.specs.Lots.{lot_id}
+use Rattle.toll_history.specs.Tables.{Tables, tables_given, lot_row}
+use Rattle.toll_history.specs.Verdict.{Verdict, Accepted, Repeated, Refused, Checks, first_of, checks, verdict, grow, grown, IsLawful, IsValid, order_checks, cancel_checks, release_checks, reject_checks, known_batch_checks}
 use Rattle.toll_base.specs.declared.refusal.Refusal.TheVariants.{UnknownOwner}
 use Rattle.toll_base.specs.declared.rows.OrderRow.{OrderRow}
 use Rattle.toll_base.specs.declared.rows.LotRow.{LotRow}
 use Rattle.toll_base.specs.declared.rows.BatchRow.{BatchRow}
-use Rattle.toll_base.proofs.Own.{acts-part, part-own}
-use Rattle.toll_base.proofs.OwnTables.{lot_row-part, sublot_row-part, tables-part}
+use Rattle.toll_history.proofs.Own.{acts-part, part-own}
+use Rattle.toll_history.proofs.OwnTables.{lot_row-part, sublot_row-part, tables-part}
 use Rattle.toll_base.proofs.Texts.{same_bytes-refl}
 use Rattle.toll_trace.specs.declared.way.Way.TheVariants.{Back, Forward}
 use Rattle.toll_desk.specs.Told.{Asked, AskOrders, AskOrder, AskPlace, AskCancel, AskBatch, AskStock, AskLot, AskRelease, AskReject, AskBack, AskForward, AskHouseForward, Told, TellForbidden}

@@ -9,20 +9,20 @@ use Rattle.toll_base.specs.Bytes.{Bytes, bytes_cmp, same_bytes}
 use Rattle.toll_base.specs.Values.{house_name}
 use Rattle.toll_base.specs.Words.{or_else}
 use Rattle.toll_base.specs.Table.{row_at, put_row}
-use Rattle.toll_base.specs.Command.{AddOwner, Command, by}
-use Rattle.toll_base.specs.History.{History, part, acts, key_added, adds_owner, owner_key, owner_known}
-use Rattle.toll_base.specs.Movements.{stock, sublot_known, lot_made, count_lots, count_sublots, material_used}
+use Rattle.toll_history.specs.Command.{AddOwner, Command, by}
+use Rattle.toll_history.specs.History.{History, part, acts, key_added, adds_owner, owner_key, owner_known}
+use Rattle.toll_history.specs.Movements.{stock, sublot_known, lot_made, count_lots, count_sublots, material_used}
 use Rattle.toll_base.specs.Slice.{Slice, empty_slice}
-use Rattle.toll_base.specs.Tables.{IsRowsOf, tables_given, tables_of}
-use Rattle.toll_base.specs.Verdict.{Accepted, verdict, IsLawful}
+use Rattle.toll_history.specs.Tables.{IsRowsOf, tables_given, tables_of}
+use Rattle.toll_history.specs.Verdict.{Accepted, verdict, IsLawful}
 use Rattle.toll_base.specs.declared.rows.OwnerRow.{OwnerRow}
 use Rattle.toll_base.specs.declared.decision.Change.{Change}
 use Rattle.toll_base.specs.declared.decision.Change.TheVariants.{Owner}
-use Rattle.toll_base.proofs.Acts.{first_acts, any_acts}
-use Rattle.toll_base.proofs.Grown.{tables-own, tables-others}
+use Rattle.toll_history.proofs.Acts.{first_acts, any_acts}
+use Rattle.toll_history.proofs.Grown.{tables-own, tables-others}
 use Rattle.toll_base.proofs.KeyOrder.{row_at-put_row, put_row_ordered}
-use Rattle.toll_base.proofs.Own.{part-own}
-use Rattle.toll_base.proofs.OwnTables.{tables-part}
+use Rattle.toll_history.proofs.Own.{part-own}
+use Rattle.toll_history.proofs.OwnTables.{tables-part}
 use Rattle.toll_base.proofs.PutTables.{length-new}
 use Rattle.toll_base.proofs.Texts.{same_bytes-exact, same_bytes-refl, same_bytes-symm}
 use Rattle.toll_keep.specs.Content.{Content, after, after_owners}

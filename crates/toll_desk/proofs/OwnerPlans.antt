@@ -6,18 +6,19 @@ use Rattle.toll_base.specs.Bytes.{Bytes, bytes_cmp, same_bytes}
 use Rattle.toll_base.specs.Values.{house_name}
 use Rattle.toll_base.specs.Words.{is_some_where, where_so}
 use Rattle.toll_base.specs.Table.{row_at}
-use Rattle.toll_base.specs.Command.{PlaceOrder, CancelOrder, Release, Reject}
-use Rattle.toll_base.specs.History.{History, acts, owner_key, owner_known}
+use Rattle.toll_history.specs.Command.{PlaceOrder, CancelOrder, Release, Reject}
+use Rattle.toll_history.specs.History.{History, acts, owner_key, owner_known}
 use Rattle.toll_base.specs.Slice.{Slice}
-use Rattle.toll_base.specs.Tables.{IsRowsOf}
-use Rattle.toll_base.specs.Verdict.{IsLawful}
-use Rattle.toll_base.specs.Decision.{after_changes, ChangesKeepRules}
+use Rattle.toll_history.specs.Tables.{IsRowsOf}
+use Rattle.toll_history.specs.Verdict.{IsLawful}
+use Rattle.toll_base.specs.Changes.{after_changes}
+use Rattle.toll_history.specs.Decision.{ChangesKeepRules}
 use Rattle.toll_base.specs.declared.decision.Change.{Change}
 use Rattle.toll_base.specs.declared.rows.OwnerRow.{OwnerRow}
 use Rattle.toll_keep.specs.Content.{Content, knows, slice_of}
 use Rattle.toll_keep.specs.Standing.{StandsFor}
 use Rattle.toll_keep.proofs.Knowing.{standing_knows}
-use Rattle.toll_base.specs.OwnChanges.{PutsOnly}
+use Rattle.toll_history.specs.OwnChanges.{PutsOnly}
 use Rattle.toll_desk.specs.Told.{Asked, AskPlace, AskCancel, AskRelease, AskReject, Told, TellForbidden}
 use Rattle.toll_desk.specs.Replies.{has_key, IsAnswer, after_answer, IsReply, after_reply}
 use Rattle.toll_desk.specs.Plans.{is_admitted, IsPlanOver, IsPlanFor, IsPlan}

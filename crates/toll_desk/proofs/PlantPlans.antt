@@ -2,20 +2,21 @@
 use Rattle.std.specs.Prelude.{nat_le}
 use Rattle.std.proofs.Common.{◌≡◌, true, false, Some, List, [], ◌∷◌, refl, sym, ap, subst, ◌∙◌}
 use Rattle.toll_base.specs.Bytes.{Bytes}
-use Rattle.toll_base.specs.Command.{Action, AddOwner, Command, by}
-use Rattle.toll_base.specs.History.{History, owner_known}
+use Rattle.toll_history.specs.Command.{Action, AddOwner, Command, by}
+use Rattle.toll_history.specs.History.{History, owner_known}
 use Rattle.toll_base.specs.Slice.{Slice}
-use Rattle.toll_base.specs.Tables.{IsRowsOf}
-use Rattle.toll_base.specs.Verdict.{Verdict, Accepted, Repeated, Refused, first_of, checks, needs_owner, verdict, grown, IsLawful, IsValid}
-use Rattle.toll_base.specs.Decision.{verdict_of, changes_of, changes_if, after_changes, ChangesKeepRules, IsDecided, Decides, DecisionKeepsRules}
-use Rattle.toll_base.specs.OwnChanges.{PutsOnly}
+use Rattle.toll_history.specs.Tables.{IsRowsOf}
+use Rattle.toll_history.specs.Verdict.{Verdict, Accepted, Repeated, Refused, first_of, checks, needs_owner, verdict, grown, IsLawful, IsValid}
+use Rattle.toll_base.specs.Changes.{changes_of, after_changes}
+use Rattle.toll_history.specs.Decision.{verdict_of, changes_if, ChangesKeepRules, IsDecided, Decides, DecisionKeepsRules}
+use Rattle.toll_history.specs.OwnChanges.{PutsOnly}
 use Rattle.toll_base.specs.declared.rows.OwnerRow.{OwnerRow}
 use Rattle.toll_base.specs.declared.decision.Change.{Change}
 use Rattle.toll_base.specs.declared.decision.Change.TheVariants.{Owner}
 use Rattle.toll_base.specs.declared.decision.Decision.{Decision}
 use Rattle.toll_base.specs.declared.decision.Decision.TheVariants.{Refuse}
 use Rattle.toll_base.specs.declared.refusal.Refusal.TheVariants.{UnknownOwner, OwnerExists, LimitReached}
-use Rattle.toll_base.proofs.Passed.{accepted_passes}
+use Rattle.toll_history.proofs.Passed.{accepted_passes}
 use Rattle.toll_keep.specs.Content.{Content}
 use Rattle.toll_keep.specs.Standing.{StandsFor}
 use Rattle.toll_keep.proofs.Knowing.{standing_knows}

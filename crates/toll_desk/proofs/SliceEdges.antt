@@ -3,17 +3,17 @@ use Rattle.std.proofs.Common.{◌≡◌, ℕ, ◌+◌, ◌≤◌, Bool, true, fa
 use Rattle.std.specs.Prelude.{Contains}
 use Rattle.toll_base.specs.Bytes.{Bytes, same_bytes}
 use Rattle.toll_base.specs.Words.{count, or_else}
-use Rattle.toll_base.specs.Command.{Action, Record}
-use Rattle.toll_base.specs.History.{History, acts}
-use Rattle.toll_base.specs.Movements.{movement_of}
+use Rattle.toll_history.specs.Command.{Action, Record}
+use Rattle.toll_history.specs.History.{History, acts}
+use Rattle.toll_history.specs.Movements.{movement_of}
 use Rattle.toll_base.specs.Slice.{Slice}
-use Rattle.toll_base.specs.Tables.{Tables, IsRowsOf}
-use Rattle.toll_base.specs.Verdict.{IsLawful}
-use Rattle.toll_base.specs.Laws.{has_this_key}
+use Rattle.toll_history.specs.Tables.{Tables, IsRowsOf}
+use Rattle.toll_history.specs.Verdict.{IsLawful}
+use Rattle.toll_history.specs.Laws.{has_this_key}
 use Rattle.toll_base.specs.declared.lot.Edge.{Edge}
-use Rattle.toll_base.specs.declared.rows.MoveRow.{MoveRow}
+use Rattle.toll_base.specs.declared.movement.MoveRow.{MoveRow}
 use Rattle.toll_base.proofs.Texts.{same_bytes-refl}
-use Rattle.toll_base.proofs.KeysOnce.{found_once}
+use Rattle.toll_history.proofs.KeysOnce.{found_once}
 use Rattle.toll_trace.specs.Edges.{Stands, IsEdge, AreEdges}
 use Rattle.toll_trace.proofs.Members.{Contains-none, Contains-here, Contains-later, Contains-cases}
 use Rattle.toll_trace.proofs.Unique.{drawn_same, edges_same}

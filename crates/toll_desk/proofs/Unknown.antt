@@ -4,12 +4,12 @@ use mathlib.Core.Bool.{false≢true}
 use Rattle.std.specs.List.{list_any}
 use Rattle.toll_base.specs.Bytes.{Bytes, same_bytes}
 use Rattle.toll_base.specs.Values.{house_name}
-use Rattle.toll_base.specs.Command.{Action, AddOwner, Command}
-use Rattle.toll_base.specs.History.{History, part, acts, adds_owner, owner_known}
-use Rattle.toll_base.specs.Verdict.{Accepted, checks, needs_owner, verdict, IsLawful}
-use Rattle.toll_base.proofs.Accepted.{none_applies}
-use Rattle.toll_base.proofs.Acts.{any_acts}
-use Rattle.toll_base.proofs.Own.{part-own, part-other}
+use Rattle.toll_history.specs.Command.{Action, AddOwner, Command}
+use Rattle.toll_history.specs.History.{History, part, acts, adds_owner, owner_known}
+use Rattle.toll_history.specs.Verdict.{Accepted, checks, needs_owner, verdict, IsLawful}
+use Rattle.toll_history.proofs.Accepted.{none_applies}
+use Rattle.toll_history.proofs.Acts.{any_acts}
+use Rattle.toll_history.proofs.Own.{part-own, part-other}
 use Rattle.toll_base.proofs.Texts.{same_bytes-exact}
 
 -- the owner of an accepted command is known, or added by it

@@ -2,11 +2,11 @@
 use Rattle.std.proofs.Common.{◌≡◌, List, [], ◌∷◌, refl, sym, subst}
 use Rattle.std.specs.Prelude.{Contains, codes}
 use Rattle.toll_base.specs.Values.{house_name}
-use Rattle.toll_base.specs.History.{part, acts}
-use Rattle.toll_base.specs.Movements.{stock, sublot_known, lot_made, count_lots, count_sublots, material_used}
-use Rattle.toll_base.specs.Holders.{holder}
-use Rattle.toll_base.specs.Verdict.{checks}
-use Rattle.toll_base.specs.Worked.{verdicts, all_accepted, acme, one_product}
+use Rattle.toll_history.specs.History.{part, acts}
+use Rattle.toll_history.specs.Movements.{stock, sublot_known, lot_made, count_lots, count_sublots, material_used}
+use Rattle.toll_history.specs.Holders.{holder}
+use Rattle.toll_history.specs.Verdict.{checks}
+use Rattle.toll_history.specs.Worked.{verdicts, all_accepted, acme, one_product}
 use Rattle.toll_base.specs.declared.lot.Edge.{Edge}
 use Rattle.toll_desk.specs.Worked.{of_acme, of_house, circle, consumed_in_a_circle, house_material, made_of_house_material}
 use Rattle.toll_desk.proofs.DrawnHere.{drawn_here, turned}

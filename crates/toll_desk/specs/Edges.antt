@@ -1,12 +1,12 @@
 -- Genealogy over a history.
 use Rattle.std.specs.Prelude.{◌≡◌, false, List, Contains}
 use Rattle.toll_base.specs.Bytes.{Bytes}
-use Rattle.toll_base.specs.History.{History, acts}
-use Rattle.toll_base.specs.Command.{Action, Record}
-use Rattle.toll_base.specs.Movements.{voided_in}
+use Rattle.toll_history.specs.History.{History, acts}
+use Rattle.toll_history.specs.Command.{Action, Record}
+use Rattle.toll_history.specs.Movements.{voided_in}
 use Rattle.toll_base.specs.declared.lot.LotId.{LotId}
 use Rattle.toll_base.specs.declared.lot.Edge.{Edge}
-use Rattle.toll_base.specs.declared.rows.MoveRow.{MoveRow}
+use Rattle.toll_base.specs.declared.movement.MoveRow.{MoveRow}
 use Rattle.toll_trace.specs.declared.way.Way.{Way}
 use Rattle.toll_trace.specs.Edges.{IsDrawn}
 use Rattle.toll_trace.specs.Chain.{edge_of}

@@ -4,13 +4,14 @@ use Rattle.toll_base.specs.Bytes.{Bytes, bytes_cmp, same_bytes}
 use Rattle.toll_base.specs.Values.{house_name}
 use Rattle.toll_base.specs.Words.{is_some_where}
 use Rattle.toll_base.specs.Table.{row_at}
-use Rattle.toll_base.specs.Command.{AddOwner, AddRecipe, by}
-use Rattle.toll_base.specs.History.{History}
+use Rattle.toll_history.specs.Command.{AddOwner, AddRecipe, by}
+use Rattle.toll_history.specs.History.{History}
 use Rattle.toll_base.specs.Slice.{Slice}
-use Rattle.toll_base.specs.Tables.{IsRowsOf}
-use Rattle.toll_base.specs.Verdict.{Checks, Accepted, Repeated, Refused as RefusedFor, IsValid}
-use Rattle.toll_base.specs.Decision.{verdict_of, changes_of, after_changes, ChangesKeepRules}
-use Rattle.toll_base.specs.OwnChanges.{PutsOnly}
+use Rattle.toll_history.specs.Tables.{IsRowsOf}
+use Rattle.toll_history.specs.Verdict.{Checks, Accepted, Repeated, Refused as RefusedFor, IsValid}
+use Rattle.toll_base.specs.Changes.{changes_of, after_changes}
+use Rattle.toll_history.specs.Decision.{verdict_of, ChangesKeepRules}
+use Rattle.toll_history.specs.OwnChanges.{PutsOnly}
 use Rattle.toll_base.specs.declared.rows.OwnerRow.{OwnerRow}
 use Rattle.toll_base.specs.declared.decision.Change.{Change}
 use Rattle.toll_base.specs.declared.decision.Decision.{Decision}

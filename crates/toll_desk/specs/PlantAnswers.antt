@@ -3,11 +3,11 @@ use Rattle.std.specs.Prelude.{◌≡◌, ℕ, not, Option, Some, is_none, List, 
 use Rattle.std.specs.Option.{option_map}
 use Rattle.toll_base.specs.Bytes.{Bytes, bytes_cmp}
 use Rattle.toll_base.specs.Keys.{pair_cmp}
-use Rattle.toll_base.specs.Command.{Command}
-use Rattle.toll_base.specs.History.{History, acts, owner_known}
-use Rattle.toll_base.specs.Work.{order_of, batch_of}
-use Rattle.toll_base.specs.Tables.{tables_given, lot_row, sublot_row}
-use Rattle.toll_base.specs.Verdict.{Verdict, Refused, Checks, first_of, verdict, grow, known_batch_checks}
+use Rattle.toll_history.specs.Command.{Command}
+use Rattle.toll_history.specs.History.{History, acts, owner_known}
+use Rattle.toll_history.specs.Work.{order_of, batch_of}
+use Rattle.toll_history.specs.Tables.{tables_given, lot_row, sublot_row}
+use Rattle.toll_history.specs.Verdict.{Verdict, Refused, Checks, first_of, verdict, grow, known_batch_checks}
 use Rattle.toll_base.specs.declared.refusal.Refusal.{Refusal}
 use Rattle.toll_base.specs.declared.refusal.Refusal.TheVariants.{UnknownOwner, UnknownLot}
 use Rattle.toll_base.specs.declared.lot.LotId.{LotId}
@@ -20,7 +20,7 @@ use Rattle.toll_trace.specs.declared.way.Way.TheVariants.{Forward}
 use Rattle.toll_trace.specs.declared.step.Step.{Step}
 use Rattle.toll_trace.specs.Trace.{IsTrace}
 use Rattle.toll_base.specs.Table.{AreRowsGiven}
-use Rattle.toll_base.specs.Amounts.{on_hand, shipped}
+use Rattle.toll_history.specs.Amounts.{on_hand, shipped}
 use Rattle.toll_desk.specs.Told.{Told}
 use Rattle.toll_desk.specs.Edges.{IsPlantJoined}
 use Rattle.toll_desk.specs.Replies.{IsBatchOr}

@@ -6,13 +6,14 @@ use Rattle.toll_base.specs.Bytes.{Bytes, same_bytes, bytes_cmp}
 use Rattle.toll_base.specs.Values.{house_name}
 use Rattle.toll_base.specs.Words.{is_some_where, where_so}
 use Rattle.toll_base.specs.Keys.{RequirementKey, requirement_cmp, result_cmp, pair_cmp}
-use Rattle.toll_base.specs.Command.{Action, PlaceOrder, CancelOrder, Release, Reject, by}
-use Rattle.toll_base.specs.History.{History, acts, owner_key}
-use Rattle.toll_base.specs.Work.{material_of, order_of, batch_of, requirement_of}
-use Rattle.toll_base.specs.Movements.{lot_id, same_lot, movement_recorded, voided_in}
-use Rattle.toll_base.specs.Dispositions.{result_of}
-use Rattle.toll_base.specs.Tables.{tables_given, lot_row, sublot_row}
-use Rattle.toll_base.specs.Verdict.{Verdict, Refused, first_of, verdict, grow, known_batch_checks}
+use Rattle.toll_history.specs.Command.{Action, PlaceOrder, CancelOrder, Release, Reject, by}
+use Rattle.toll_history.specs.History.{History, acts, owner_key}
+use Rattle.toll_history.specs.Work.{material_of, order_of, batch_of, requirement_of}
+use Rattle.toll_base.specs.Lots.{lot_id, same_lot}
+use Rattle.toll_history.specs.Movements.{movement_recorded, voided_in}
+use Rattle.toll_history.specs.Dispositions.{result_of}
+use Rattle.toll_history.specs.Tables.{tables_given, lot_row, sublot_row}
+use Rattle.toll_history.specs.Verdict.{Verdict, Refused, first_of, verdict, grow, known_batch_checks}
 use Rattle.toll_base.specs.declared.refusal.Refusal.TheVariants.{UnknownOrder, UnknownLot}
 use Rattle.toll_base.specs.declared.lot.LotId.{LotId}
 use Rattle.toll_base.specs.declared.rows.OrderRow.{OrderRow}
@@ -20,14 +21,14 @@ use Rattle.toll_base.specs.declared.rows.BatchRow.{BatchRow}
 use Rattle.toll_base.specs.declared.rows.LotRow.{LotRow}
 use Rattle.toll_base.specs.declared.rows.ResultRow.{ResultRow}
 use Rattle.toll_base.specs.declared.rows.SublotRow.{SublotRow}
-use Rattle.toll_base.specs.declared.rows.Move.{Move}
-use Rattle.toll_base.specs.declared.rows.Move.TheVariants.{Actual}
+use Rattle.toll_base.specs.declared.movement.Move.{Move}
+use Rattle.toll_base.specs.declared.movement.Move.TheVariants.{Actual}
 use Rattle.toll_base.specs.declared.role.Role.TheVariants.{Consumed}
 use Rattle.toll_trace.specs.declared.way.Way.TheVariants.{Back, Forward}
 use Rattle.toll_trace.specs.declared.step.Step.{Step}
 use Rattle.toll_trace.specs.Trace.{IsTrace}
 use Rattle.toll_base.specs.Table.{AreRowsGiven}
-use Rattle.toll_base.specs.Amounts.{on_hand, actual_of}
+use Rattle.toll_history.specs.Amounts.{on_hand, actual_of}
 use Rattle.toll_desk.specs.Told.{Asked, AskOrders, AskOrder, AskPlace, AskCancel, AskBatch, AskStock, AskLot, AskRelease, AskReject, AskBack, AskForward, AskHouseForward, RequirementLine, StockLine, Told, TellForbidden, TellOrders, TellOrder, TellBatch, TellStock, TellLot, TellTrace, TellRefused}
 use Rattle.toll_desk.specs.Edges.{IsOwnJoined}
 

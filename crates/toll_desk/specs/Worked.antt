@@ -2,13 +2,13 @@
 use Rattle.std.specs.Prelude.{List, [], ◌∷◌, codes}
 use Rattle.toll_base.specs.Bytes.{Bytes}
 use Rattle.toll_base.specs.Values.{house_name}
-use Rattle.toll_base.specs.Command.{AddOwner, AddUnit, AddRecipe, PlaceOrder, OpenBatch, CommandBatch, Release, Command, by}
-use Rattle.toll_base.specs.History.{History}
-use Rattle.toll_base.specs.Movements.{lot_id}
-use Rattle.toll_base.specs.Worked.{after, acme, material, require, receives, moves}
+use Rattle.toll_history.specs.Command.{AddOwner, AddUnit, AddRecipe, PlaceOrder, OpenBatch, CommandBatch, Release, Command, by}
+use Rattle.toll_history.specs.History.{History}
+use Rattle.toll_base.specs.Lots.{lot_id}
+use Rattle.toll_history.specs.Worked.{after, acme, material, require, receives, moves}
 use Rattle.toll_base.specs.declared.lot.LotId.{LotId}
 use Rattle.toll_base.specs.declared.role.Role.TheVariants.{Consumed, Produced}
-use Rattle.toll_base.specs.declared.rows.Move.TheVariants.{Actual}
+use Rattle.toll_base.specs.declared.movement.Move.TheVariants.{Actual}
 use Rattle.toll_base.specs.declared.state_command.StateCommand.TheVariants.{Start}
 
 -- a lot of ACME, and one of HOUSE

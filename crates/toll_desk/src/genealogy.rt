@@ -2,10 +2,10 @@
 ghost use Rattle.std.specs.Prelude.{◌≡◌, ◌↔◌, false, List, map, Contains};
 ghost use Rattle.toll_base.specs.Bytes.{Bytes, same_bytes};
 ghost use Rattle.toll_base.specs.Values.{house_name};
-ghost use Rattle.toll_base.specs.History.{History, acts};
+ghost use Rattle.toll_history.specs.History.{History, acts};
 ghost use Rattle.toll_base.specs.Slice.{Slice};
-ghost use Rattle.toll_base.specs.Tables.{IsRowsOf};
-ghost use Rattle.toll_base.specs.Verdict.{IsLawful};
+ghost use Rattle.toll_history.specs.Tables.{IsRowsOf};
+ghost use Rattle.toll_history.specs.Verdict.{IsLawful};
 ghost use Rattle.toll_base.specs.declared.lot.Edge.{Edge};
 ghost use Rattle.toll_base.specs.declared.lot.LotId.{LotId};
 ghost use Rattle.toll_trace.specs.declared.way.Way.{Way};

@@ -2,8 +2,8 @@
 ghost use Rattle.std.specs.Prelude.{◌≡◌, ◌↔◌, false};
 ghost use Rattle.toll_base.specs.Bytes.{Bytes, same_bytes};
 ghost use Rattle.toll_base.specs.Values.{house_name};
-ghost use Rattle.toll_base.specs.History.{History, part};
-ghost use Rattle.toll_base.specs.Verdict.{IsLawful};
+ghost use Rattle.toll_history.specs.History.{History, part};
+ghost use Rattle.toll_history.specs.Verdict.{IsLawful};
 ghost use Rattle.toll_desk.specs.Told.{Asked, Told};
 ghost use Rattle.toll_desk.specs.Replies.{IsReply, after_reply};
 

@@ -1,8 +1,8 @@
 //! Owners' requests over a keep.
 ghost use Rattle.std.specs.Prelude.{◌≡◌, ◌≢◌, [], ◌∷◌, true, Ok, Err, IfOk, OnOk, OnErr, IfSome, Option, List};
 ghost use Rattle.toll_base.specs.Words.{where_so};
-ghost use Rattle.toll_base.specs.History.{History, owner_known};
-ghost use Rattle.toll_base.specs.Verdict.{IsLawful};
+ghost use Rattle.toll_history.specs.History.{History, owner_known};
+ghost use Rattle.toll_history.specs.Verdict.{IsLawful};
 ghost use Rattle.toll_keep.specs.Content.{Content, after, Fits, ContentKeepsRules};
 ghost use Rattle.toll_keep.specs.Goes.{Goes, Keeps};
 ghost use Rattle.toll_keep.specs.Standing.{StandsFor};

@@ -1,9 +1,9 @@
 //! The plant's commands over a keep.
 ghost use Rattle.std.specs.Prelude.{◌≡◌, ◌≢◌, [], ◌∷◌, true, Err, IfOk, OnOk, OnErr};
-ghost use Rattle.toll_base.specs.Command.{AddOwner, AddRecipe, by};
-ghost use Rattle.toll_base.specs.Decision.{IsDecided};
-ghost use Rattle.toll_base.specs.History.{History};
-ghost use Rattle.toll_base.specs.Verdict.{IsLawful};
+ghost use Rattle.toll_history.specs.Command.{AddOwner, AddRecipe, by};
+ghost use Rattle.toll_history.specs.Decision.{IsDecided};
+ghost use Rattle.toll_history.specs.History.{History};
+ghost use Rattle.toll_history.specs.Verdict.{IsLawful};
 ghost use Rattle.toll_base.specs.declared.decision.Change.TheVariants as Change;
 ghost use Rattle.toll_keep.specs.Content.{Content, ContentKeepsRules};
 ghost use Rattle.toll_keep.specs.Goes.{Goes, Keeps};

@@ -1,6 +1,7 @@
 //! The plant's commands, and the replies to them.
 ghost use Rattle.std.specs.Prelude.{◌≡◌, [], Ok, Some};
-ghost use Rattle.toll_base.specs.Decision.{changes_of, verdict_of};
+ghost use Rattle.toll_base.specs.Changes.{changes_of};
+ghost use Rattle.toll_history.specs.Decision.{verdict_of};
 ghost use Rattle.toll_desk.specs.PlantAnswers.{Judged};
 ghost use Rattle.toll_desk.specs.Plans.{plant_told};
 

@@ -1,8 +1,8 @@
 //! Worked examples of genealogy: what the definitions say of them, computed.
 ghost use Rattle.std.specs.Prelude.{◌≡◌, [], ◌∷◌, codes};
 ghost use Rattle.toll_base.specs.Values.{house_name};
-ghost use Rattle.toll_base.specs.History.{acts};
-ghost use Rattle.toll_base.specs.Worked.{verdicts, all_accepted, acme, one_product};
+ghost use Rattle.toll_history.specs.History.{acts};
+ghost use Rattle.toll_history.specs.Worked.{verdicts, all_accepted, acme, one_product};
 ghost use Rattle.toll_trace.specs.declared.way.Way.TheVariants.{Back, Forward};
 ghost use Rattle.toll_trace.specs.Edges.{AreEdges};
 ghost use Rattle.toll_trace.specs.Search.{step_at};

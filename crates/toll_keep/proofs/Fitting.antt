@@ -5,7 +5,8 @@ use Rattle.toll_base.specs.Bytes.{Bytes, bytes_cmp, same_bytes}
 use Rattle.toll_base.specs.Values.{house_name}
 use Rattle.toll_base.specs.Slice.{Slice, with_row}
 use Rattle.toll_base.specs.SliceRules.{KeepsRules}
-use Rattle.toll_base.specs.Decision.{after_change, ChangesKeepRules}
+use Rattle.toll_base.specs.Changes.{after_change}
+use Rattle.toll_history.specs.Decision.{ChangesKeepRules}
 use Rattle.toll_base.specs.declared.rows.Row.{Row}
 use Rattle.toll_base.specs.declared.decision.Change.{Change}
 use Rattle.toll_base.specs.declared.decision.Change.TheVariants.{Owner, Unit as UnitAdded, Put}

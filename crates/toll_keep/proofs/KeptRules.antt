@@ -6,17 +6,18 @@ use Rattle.toll_base.specs.Bytes.{Bytes}
 use Rattle.toll_base.specs.Words.{none_or, where_so}
 use Rattle.toll_base.specs.Slice.{Slice}
 use Rattle.toll_base.specs.SliceRules.{KeepsRules}
-use Rattle.toll_base.specs.History.{History, acts, owner_known}
-use Rattle.toll_base.specs.Work.{material_of}
-use Rattle.toll_base.specs.Movements.{lot_id, lot_made, sublot_known, stock}
-use Rattle.toll_base.specs.Tables.{Tables, lot_row, sublot_row, IsRowsOf}
-use Rattle.toll_base.specs.Verdict.{IsLawful}
+use Rattle.toll_history.specs.History.{History, acts, owner_known}
+use Rattle.toll_history.specs.Work.{material_of}
+use Rattle.toll_base.specs.Lots.{lot_id}
+use Rattle.toll_history.specs.Movements.{lot_made, sublot_known, stock}
+use Rattle.toll_history.specs.Tables.{Tables, lot_row, sublot_row, IsRowsOf}
+use Rattle.toll_history.specs.Verdict.{IsLawful}
 use Rattle.toll_base.specs.declared.rows.LotRow.{LotRow}
 use Rattle.toll_base.specs.declared.rows.SublotRow.{SublotRow}
-use Rattle.toll_base.proofs.LimitsKept.{limits_kept}
-use Rattle.toll_base.proofs.LotMaterials.{lot_material}
-use Rattle.toll_base.proofs.Lots.{sublot_lot}
-use Rattle.toll_base.proofs.Stock.{stock_bounded}
+use Rattle.toll_history.proofs.LimitsKept.{limits_kept}
+use Rattle.toll_history.proofs.LotMaterials.{lot_material}
+use Rattle.toll_history.proofs.Lots.{sublot_lot}
+use Rattle.toll_history.proofs.Stock.{stock_bounded}
 use Rattle.toll_base.proofs.SliceFits.{empty_keeps}
 use Rattle.toll_keep.specs.Content.{Content, ContentKeepsRules}
 use Rattle.toll_keep.specs.Standing.{StandsFor}

@@ -4,8 +4,8 @@ use Rattle.std.specs.List.{list_any}
 use Rattle.toll_base.specs.Bytes.{Bytes, same_bytes}
 use Rattle.toll_base.specs.Values.{house_name}
 use Rattle.toll_base.specs.Words.{or_else}
-use Rattle.toll_base.specs.Command.{Action, AddOwner}
-use Rattle.toll_base.specs.History.{History, acts, key_added, adds_owner, owner_key, owner_known}
+use Rattle.toll_history.specs.Command.{Action, AddOwner}
+use Rattle.toll_history.specs.History.{History, acts, key_added, adds_owner, owner_key, owner_known}
 use Rattle.toll_keep.specs.Content.{Content, knows}
 use Rattle.toll_keep.specs.Standing.{StandsFor}
 use Rattle.toll_keep.proofs.KeptRules.{some_mapped}

@@ -7,7 +7,7 @@ use Rattle.std.proofs.lemmas.Bool.Decides.{nat_tests}
 use Rattle.std.proofs.lemmas.List.Quantifiers.{position-Some}
 use Rattle.toll_base.specs.Bytes.{Bytes, same_bytes}
 use Rattle.toll_base.specs.Slice.{Slice, empty_slice, with_row}
-use Rattle.toll_base.specs.Decision.{after_change}
+use Rattle.toll_base.specs.Changes.{after_change}
 use Rattle.toll_base.specs.declared.rows.Row.{Row}
 use Rattle.toll_base.specs.declared.rows.Row.TheVariants.{Material, Test, Recipe, Requirement, Order, Batch, Lot, Sublot, Move, Result, Void}
 use Rattle.toll_base.specs.declared.decision.Change.TheVariants.{Put}

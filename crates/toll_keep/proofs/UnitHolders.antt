@@ -10,16 +10,16 @@ use Rattle.toll_base.specs.Bytes.{Bytes, same_bytes}
 use Rattle.toll_base.specs.Words.{is_some_where, none_or, or_else}
 use Rattle.toll_base.specs.Table.{row_at}
 use Rattle.toll_base.specs.Slice.{batch_at}
-use Rattle.toll_base.specs.Command.{Action, OpenBatch, Command}
-use Rattle.toll_base.specs.History.{History, acts, adds_owner, owner_known}
+use Rattle.toll_history.specs.Command.{Action, OpenBatch, Command}
+use Rattle.toll_history.specs.History.{History, acts, adds_owner, owner_known}
 use Rattle.toll_base.specs.Values.{house_name}
-use Rattle.toll_base.specs.Work.{opens, count_opened, unit_opened, unit_of, is_closed, batch_of}
-use Rattle.toll_base.specs.Holders.{OpenedBatch, opened_by, opened, holder}
-use Rattle.toll_base.specs.Tables.{Tables, tables_of, tables_given}
-use Rattle.toll_base.specs.Verdict.{Accepted, needs_owner, checks, verdict, IsLawful}
-use Rattle.toll_base.proofs.Accepted.{none_applies}
-use Rattle.toll_base.proofs.Acts.{any_acts}
-use Rattle.toll_base.proofs.Own.{acts-own, acts-other}
+use Rattle.toll_history.specs.Work.{opens, count_opened, unit_opened, unit_of, is_closed, batch_of}
+use Rattle.toll_history.specs.Holders.{OpenedBatch, opened_by, opened, holder}
+use Rattle.toll_history.specs.Tables.{Tables, tables_of, tables_given}
+use Rattle.toll_history.specs.Verdict.{Accepted, needs_owner, checks, verdict, IsLawful}
+use Rattle.toll_history.proofs.Accepted.{none_applies}
+use Rattle.toll_history.proofs.Acts.{any_acts}
+use Rattle.toll_history.proofs.Own.{acts-own, acts-other}
 use Rattle.toll_base.proofs.Texts.{same_bytes-exact, same_bytes-refl, nat_eq-exact}
 use Rattle.toll_trace.proofs.Members.{Contains-none, Contains-here, Contains-cases}
 use Rattle.toll_keep.specs.declared.holder.Holder.{Holder}

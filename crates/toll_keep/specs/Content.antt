@@ -5,7 +5,7 @@ use Rattle.toll_base.specs.Values.{house_name}
 use Rattle.toll_base.specs.Table.{row_at, put_row}
 use Rattle.toll_base.specs.Slice.{Slice, empty_slice, with_row}
 use Rattle.toll_base.specs.SliceRules.{KeepsRules}
-use Rattle.toll_base.specs.Decision.{after_changes}
+use Rattle.toll_base.specs.Changes.{after_changes}
 use Rattle.toll_base.specs.declared.rows.OwnerRow.{OwnerRow}
 use Rattle.toll_base.specs.declared.rows.UnitRow.{UnitRow}
 use Rattle.toll_base.specs.declared.decision.Change.{Change}

@@ -5,8 +5,8 @@ use Rattle.toll_base.specs.Bytes.{Bytes, bytes_cmp}
 use Rattle.toll_base.specs.Words.{where_so}
 use Rattle.toll_base.specs.Table.{IsInKeyOrder, row_at}
 use Rattle.toll_base.specs.Slice.{empty_slice}
-use Rattle.toll_base.specs.History.{History, acts, owner_key, owner_known, count_owners, unit_known, count_units}
-use Rattle.toll_base.specs.Tables.{IsRowsOf}
+use Rattle.toll_history.specs.History.{History, acts, owner_key, owner_known, count_owners, unit_known, count_units}
+use Rattle.toll_history.specs.Tables.{IsRowsOf}
 use Rattle.toll_base.specs.declared.rows.OwnerRow.{OwnerRow}
 use Rattle.toll_base.specs.declared.rows.UnitRow.{UnitRow}
 use Rattle.toll_keep.specs.Content.{Content}

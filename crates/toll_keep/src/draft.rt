@@ -2,7 +2,7 @@
 ghost use Rattle.std.specs.Prelude.{◌≡◌, ◌+◌, ◌<◌, ◌≤◌, ◌++◌, IfOk, OnOk, IsOkUnless, vec_len, vec_capacity, position};
 ghost use Rattle.toll_base.specs.Bytes.{Bytes};
 ghost use Rattle.toll_base.specs.Slice.{with_row};
-ghost use Rattle.toll_base.specs.Decision.{after_change, after_changes};
+ghost use Rattle.toll_base.specs.Changes.{after_change, after_changes};
 ghost use Rattle.toll_keep.specs.Slices.{is_of, rows_in, put_slice, put_slices};
 
 use crate::fault::KeepFault;

@@ -1,10 +1,10 @@
 //! Laws of contents.
 ghost use Rattle.std.specs.Prelude.{◌≡◌, Option, is_some, List, []};
 ghost use Rattle.toll_base.specs.Bytes.{Bytes};
-ghost use Rattle.toll_base.specs.Decision.{ChangesKeepRules};
-ghost use Rattle.toll_base.specs.History.{History, owner_known};
-ghost use Rattle.toll_base.specs.Holders.{holder};
-ghost use Rattle.toll_base.specs.Verdict.{IsLawful};
+ghost use Rattle.toll_history.specs.Decision.{ChangesKeepRules};
+ghost use Rattle.toll_history.specs.History.{History, owner_known};
+ghost use Rattle.toll_history.specs.Holders.{holder};
+ghost use Rattle.toll_history.specs.Verdict.{IsLawful};
 ghost use Rattle.toll_base.specs.declared.decision.Change.{Change};
 ghost use Rattle.toll_keep.specs.Content.{Content, nothing, knows, ContentKeepsRules, Fits, PutsToKnown};
 ghost use Rattle.toll_keep.specs.Holding.{IsHolder};

@@ -10,3 +10,4 @@ pub mod Sums
 pub mod OnHandTotals
 pub mod ShippedTotals
 pub mod TotalsLaw
+pub mod Withdrawn

@@ -3,22 +3,22 @@ use Rattle.std.proofs.Common.{◌≡◌, suc, cond, Some, is_some, [], ◌∷◌
 use Rattle.std.proofs.lemmas.Bool.{or_right}
 use Rattle.std.specs.Cmp.Lexicographic.{nat_list_cmp_total}
 use Rattle.toll_base.specs.Bytes.{same_bytes, bytes_cmp}
-use Rattle.toll_base.specs.Command.{AddMaterial, by}
-use Rattle.toll_base.specs.History.{History, acts}
+use Rattle.toll_history.specs.Command.{AddMaterial, by}
+use Rattle.toll_history.specs.History.{History, acts}
 use Rattle.toll_base.specs.Slice.{Slice, material_at, with_row}
 use Rattle.toll_base.specs.SliceRules.{KeepsRules}
-use Rattle.toll_base.specs.Work.{material_of}
-use Rattle.toll_base.specs.Tables.{Tables, tables_of, tables_given}
-use Rattle.toll_base.specs.Decision.{IsDecided, Decides, DecisionKeepsRules}
-use Rattle.toll_base.specs.Verdict.{material_checks}
+use Rattle.toll_history.specs.Work.{material_of}
+use Rattle.toll_history.specs.Tables.{Tables, tables_of, tables_given}
+use Rattle.toll_history.specs.Decision.{IsDecided, Decides, DecisionKeepsRules}
+use Rattle.toll_history.specs.Verdict.{material_checks}
 use Rattle.toll_base.specs.declared.decision.Change.TheVariants.{Put}
 use Rattle.toll_base.specs.declared.decision.Decision.{Decision}
 use Rattle.toll_base.specs.declared.rows.MaterialRow.{MaterialRow}
 use Rattle.toll_base.specs.declared.rows.Row.TheVariants.{Material}
-use Rattle.toll_base.proofs.Accepted.{none_applies}
-use Rattle.toll_base.proofs.Passed.{accepted_passes}
-use Rattle.toll_base.proofs.Decided.{verdict_is, Grows, decides, keeps_rules, less_of}
-use Rattle.toll_base.proofs.Grown.{tables-own, tables-others, put_first}
+use Rattle.toll_history.proofs.Accepted.{none_applies}
+use Rattle.toll_history.proofs.Passed.{accepted_passes}
+use Rattle.toll_history.proofs.Decided.{verdict_is, Grows, decides, keeps_rules, less_of}
+use Rattle.toll_history.proofs.Grown.{tables-own, tables-others, put_first}
 use Rattle.toll_base.proofs.KeyOrder.{row_at-put_row}
 use Rattle.toll_base.proofs.PutTables.{length-new}
 

@@ -7,10 +7,11 @@ use Rattle.toll_base.specs.Keys.{pair_cmp}
 use Rattle.toll_base.specs.Table.{IsInKeyOrder}
 use Rattle.toll_base.specs.SliceRules.{KeepsRules}
 use Rattle.toll_base.specs.Words.{where_so, none_or}
-use Rattle.toll_base.specs.History.{History}
-use Rattle.toll_base.specs.Movements.{lot_id, sublot_known, stock}
+use Rattle.toll_history.specs.History.{History}
+use Rattle.toll_base.specs.Lots.{lot_id}
+use Rattle.toll_history.specs.Movements.{sublot_known, stock}
 use Rattle.toll_base.specs.Slice.{Slice, sublot_at}
-use Rattle.toll_base.specs.Tables.{Tables, IsRowsOf}
+use Rattle.toll_history.specs.Tables.{Tables, IsRowsOf}
 use Rattle.toll_base.specs.declared.rows.SublotRow.{SublotRow}
 use Rattle.toll_base.proofs.Texts.{pair_cmp_total}
 use Rattle.toll_stock.specs.LotTotals.{on_hand_in}

@@ -7,18 +7,19 @@ use Rattle.std.proofs.lemmas.Bool.{false_from_ne_true}
 use Rattle.toll_base.specs.Bytes.{Bytes, same_bytes, bytes_cmp}
 use Rattle.toll_base.specs.Table.{IsInKeyOrder}
 use Rattle.toll_base.specs.Words.{total, is_some_where}
-use Rattle.toll_base.specs.History.{History, acts}
-use Rattle.toll_base.specs.Movements.{lot_id, Movement, has_key, movement_of, standing, voided_in}
+use Rattle.toll_history.specs.History.{History, acts}
+use Rattle.toll_base.specs.Lots.{lot_id}
+use Rattle.toll_history.specs.Movements.{Movement, has_key, movement_of, standing, voided_in}
 use Rattle.toll_base.specs.Slice.{Slice, move_at}
-use Rattle.toll_base.specs.Tables.{Tables, IsRowsOf}
-use Rattle.toll_base.specs.Verdict.{IsLawful, is_actual}
-use Rattle.toll_base.specs.declared.rows.Move.{Move}
-use Rattle.toll_base.specs.declared.rows.Move.TheVariants.{Receive, Split, Ship, Scrap, Actual}
-use Rattle.toll_base.specs.declared.rows.MoveRow.{MoveRow}
-use Rattle.toll_base.proofs.KeysOnce.{all_found, void_of_actual}
-use Rattle.toll_base.proofs.StandsOnce.{stands_once}
+use Rattle.toll_history.specs.Tables.{Tables, IsRowsOf}
+use Rattle.toll_history.specs.Verdict.{IsLawful, is_actual}
+use Rattle.toll_base.specs.declared.movement.Move.{Move}
+use Rattle.toll_base.specs.declared.movement.Move.TheVariants.{Receive, Split, Ship, Scrap, Actual}
+use Rattle.toll_base.specs.declared.movement.MoveRow.{MoveRow}
+use Rattle.toll_history.proofs.KeysOnce.{all_found, void_of_actual}
+use Rattle.toll_history.proofs.StandsOnce.{stands_once}
 use Rattle.toll_base.proofs.Texts.{same_bytes-exact, same_bytes-refl, same_bytes-symm}
-use Rattle.toll_base.specs.Amounts.{ships_from, shipped}
+use Rattle.toll_history.specs.Amounts.{ships_from, shipped}
 use Rattle.toll_stock.specs.LotTotals.{is_shipment_of, shipped_in}
 use Rattle.toll_stock.proofs.Sums.{total-along, total-each, total-zero, total-swapped, cond-total, cond_zero, along, each_found, total_at}
 use Rattle.toll_stock.proofs.OnHandTotals.{each_standing}

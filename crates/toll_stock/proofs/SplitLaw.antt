@@ -1,27 +1,27 @@
 -- What a split owes.
 use Rattle.std.proofs.Common.{◌≡◌, ℕ, ◌+◌, ◌-◌, ◌&&◌, is_some, List, [], ◌∷◌, ◌++◌, false, refl, sym, ap, ◌∙◌}
-use Rattle.toll_base.specs.Bounds.{sublot_bounds}
+use Rattle.toll_history.specs.Bounds.{sublot_bounds}
 use Rattle.toll_base.specs.Bytes.{Bytes, same_bytes}
-use Rattle.toll_base.specs.Command.{Record, by}
-use Rattle.toll_base.specs.History.{History}
+use Rattle.toll_history.specs.Command.{Record, by}
+use Rattle.toll_history.specs.History.{History}
 use Rattle.toll_base.specs.Slice.{Slice}
 use Rattle.toll_base.specs.SliceRules.{KeepsRules}
-use Rattle.toll_base.specs.Tables.{Tables, tables_of, tables_given}
-use Rattle.toll_base.specs.Decision.{IsDecided, Decides, DecisionKeepsRules}
-use Rattle.toll_base.specs.Verdict.{Accepted, Checks, first_of, key_checks, split_checks, amount_in, verdict, IsLawful, IsValid}
+use Rattle.toll_history.specs.Tables.{Tables, tables_of, tables_given}
+use Rattle.toll_history.specs.Decision.{IsDecided, Decides, DecisionKeepsRules}
+use Rattle.toll_history.specs.Verdict.{Accepted, Checks, first_of, key_checks, split_checks, amount_in, verdict, IsLawful, IsValid}
 use Rattle.toll_base.specs.declared.decision.Change.TheVariants.{Put}
 use Rattle.toll_base.specs.declared.decision.Decision.{Decision}
-use Rattle.toll_base.specs.declared.rows.MoveRow.{MoveRow}
-use Rattle.toll_base.specs.declared.rows.Move.TheVariants.{Split}
+use Rattle.toll_base.specs.declared.movement.MoveRow.{MoveRow}
+use Rattle.toll_base.specs.declared.movement.Move.TheVariants.{Split}
 use Rattle.toll_base.specs.declared.rows.SublotRow.{SublotRow}
 use Rattle.toll_base.specs.declared.rows.Row.{Row}
 use Rattle.toll_base.specs.declared.rows.Row.TheVariants.{Sublot, Move}
-use Rattle.toll_base.proofs.Accepted.{none_applies}
-use Rattle.toll_base.proofs.Decided.{verdict_is, Grows, LeavesOthers, decides, keeps_rules}
-use Rattle.toll_base.proofs.Passed.{accepted_passes, move_fits}
-use Rattle.toll_base.proofs.PutMoves.{with_move, with_sublot, put_went_over}
-use Rattle.toll_base.proofs.Recorded.{went_over, tables-untaken}
-use Rattle.toll_base.proofs.Room.{unbounded, sublot_room, went_over_fit}
+use Rattle.toll_history.proofs.Accepted.{none_applies}
+use Rattle.toll_history.proofs.Decided.{verdict_is, Grows, LeavesOthers, decides, keeps_rules}
+use Rattle.toll_history.proofs.Passed.{accepted_passes, move_fits}
+use Rattle.toll_history.proofs.PutMoves.{with_move, with_sublot, put_went_over}
+use Rattle.toll_history.proofs.Recorded.{went_over, tables-untaken}
+use Rattle.toll_history.proofs.Room.{unbounded, sublot_room, went_over_fit}
 use Rattle.toll_base.proofs.Texts.{same_bytes-refl, same_bytes-symm}
 use Rattle.std.proofs.lemmas.Bool.{and_right}
 

@@ -5,13 +5,14 @@ use Rattle.toll_base.specs.Bytes.{Bytes, bytes_cmp}
 use Rattle.toll_base.specs.Keys.{pair_cmp}
 use Rattle.toll_base.specs.Table.{IsInKeyOrder}
 use Rattle.toll_base.specs.Words.{where_so}
-use Rattle.toll_base.specs.History.{History}
-use Rattle.toll_base.specs.Movements.{lot_id, lot_made}
+use Rattle.toll_history.specs.History.{History}
+use Rattle.toll_base.specs.Lots.{lot_id}
+use Rattle.toll_history.specs.Movements.{lot_made}
 use Rattle.toll_base.specs.Slice.{Slice, lot_at}
-use Rattle.toll_base.specs.Tables.{Tables, IsRowsOf}
-use Rattle.toll_base.specs.Verdict.{IsLawful}
+use Rattle.toll_history.specs.Tables.{Tables, IsRowsOf}
+use Rattle.toll_history.specs.Verdict.{IsLawful}
 use Rattle.toll_base.specs.declared.rows.LotRow.{LotRow}
-use Rattle.toll_base.specs.Amounts.{on_hand, shipped}
+use Rattle.toll_history.specs.Amounts.{on_hand, shipped}
 use Rattle.toll_stock.specs.LotTotals.{totals_given, on_hand_in, shipped_in}
 use Rattle.toll_stock.specs.declared.stock.Totals.{Totals}
 use Rattle.toll_stock.proofs.OnHandTotals.{on_hand_is}

@@ -1,9 +1,9 @@
 -- The rows that a decision on a lot puts.
 use Rattle.std.specs.Prelude.{ℕ, ◌+◌, ℤ, ◌&&◌, if◌then◌else◌, Option, Some, None, List, [], ◌∷◌}
 use Rattle.toll_base.specs.Bytes.{Bytes}
-use Rattle.toll_base.specs.Dispositions.{is_outside}
-use Rattle.toll_base.specs.Tables.{Tables}
-use Rattle.toll_base.specs.Verdict.{is_released}
+use Rattle.toll_history.specs.Dispositions.{is_outside}
+use Rattle.toll_history.specs.Tables.{Tables}
+use Rattle.toll_history.specs.Verdict.{is_released}
 use Rattle.toll_base.specs.Words.{is_some_where}
 use Rattle.toll_base.specs.declared.lot.Disposition.{Disposition}
 use Rattle.toll_base.specs.declared.lot.Disposition.TheVariants.{Quarantined}

@@ -2,13 +2,13 @@
 use Rattle.std.specs.Prelude.{ℕ, Bool, false, if◌then◌else◌, Option, is_some}
 use Rattle.toll_base.specs.Bytes.{Bytes, same_bytes}
 use Rattle.toll_base.specs.Words.{total, where_so}
-use Rattle.toll_base.specs.Amounts.{on_hand, shipped}
-use Rattle.toll_base.specs.History.{History}
-use Rattle.toll_base.specs.Movements.{lot_made}
+use Rattle.toll_history.specs.Amounts.{on_hand, shipped}
+use Rattle.toll_history.specs.History.{History}
+use Rattle.toll_history.specs.Movements.{lot_made}
 use Rattle.toll_base.specs.Slice.{Slice, lot_at}
 use Rattle.toll_base.specs.declared.lot.LotId.{LotId}
-use Rattle.toll_base.specs.declared.rows.Move.{Move}
-use Rattle.toll_base.specs.declared.rows.Move.TheVariants.{Ship}
+use Rattle.toll_base.specs.declared.movement.Move.{Move}
+use Rattle.toll_base.specs.declared.movement.Move.TheVariants.{Ship}
 use Rattle.toll_stock.specs.declared.stock.Totals.{Totals}
 
 -- ---- over a history

@@ -1,15 +1,15 @@
 //! Receipts.
 ghost use Rattle.std.specs.Prelude.{◌≡◌, ◌+◌, [], ◌∷◌, ◌++◌, IfOk};
-ghost use Rattle.toll_base.specs.Bounds.{sublot_bounds};
-ghost use Rattle.toll_base.specs.Command.{Record, by};
-ghost use Rattle.toll_base.specs.Decision.{IsDecided, Decides, DecisionKeepsRules, said};
+ghost use Rattle.toll_history.specs.Bounds.{sublot_bounds};
+ghost use Rattle.toll_history.specs.Command.{Record, by};
+ghost use Rattle.toll_history.specs.Decision.{IsDecided, Decides, DecisionKeepsRules, said};
 ghost use Rattle.toll_base.specs.SliceRules.{KeepsRules};
-ghost use Rattle.toll_base.specs.Tables.{tables_of};
-ghost use Rattle.toll_base.specs.Verdict.{first_of, key_checks, receive_checks, amount_in};
+ghost use Rattle.toll_history.specs.Tables.{tables_of};
+ghost use Rattle.toll_history.specs.Verdict.{first_of, key_checks, receive_checks, amount_in};
 ghost use Rattle.toll_base.specs.declared.decision.Change.TheVariants as Change;
 ghost use Rattle.toll_base.specs.declared.lot.Disposition.TheVariants as Disposition;
 ghost use Rattle.toll_base.specs.declared.lot.Origin.TheVariants as Origin;
-ghost use Rattle.toll_base.specs.declared.rows.Move.TheVariants as Move;
+ghost use Rattle.toll_base.specs.declared.movement.Move.TheVariants as Move;
 ghost use Rattle.toll_base.specs.declared.rows.Row.TheVariants as Row;
 
 use std::alloc::{AllocError, Global};
@@ -17,6 +17,7 @@ use toll_base::{
     Amount, Change, Day, Decision, Disposition, LotRow, Move, MoveRow, Name, Origin, Refusal, Row,
     Slice, SublotRow,
 };
+use toll_history::{decide_known, has_room_in};
 
 const MOST_MOVEMENTS: usize = 20_000;
 
@@ -72,7 +73,7 @@ fn plan_receipt(
     ensures kept { KeepsRules slice.now }
 {
     let owner = *slice.owner();
-    if let Some(known) = slice.decided(row) {
+    if let Some(known) = decide_known(slice, row) {
         return Ok(known);
     }
     if let Err(why) = check_receipt(slice, &material, &lot, &sublot, row.amount) {
@@ -127,7 +128,7 @@ fn check_receipt(
     } else if slice.lots().len() >= MOST_LOTS {
         return Err(Refusal::LimitReached);
     }
-    if slice.moves().len() >= MOST_MOVEMENTS || !slice.has_room_in(lot, sublot, amount) {
+    if slice.moves().len() >= MOST_MOVEMENTS || !has_room_in(slice, lot, sublot, amount) {
         return Err(Refusal::LimitReached);
     }
     Ok(())

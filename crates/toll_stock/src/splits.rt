@@ -1,13 +1,13 @@
 //! Splits.
 ghost use Rattle.std.specs.Prelude.{◌≡◌, ◌+◌, ◌-◌, [], ◌∷◌, ◌++◌, IfOk};
-ghost use Rattle.toll_base.specs.Bounds.{sublot_bounds};
-ghost use Rattle.toll_base.specs.Command.{Record, by};
-ghost use Rattle.toll_base.specs.Decision.{IsDecided, Decides, DecisionKeepsRules, said};
+ghost use Rattle.toll_history.specs.Bounds.{sublot_bounds};
+ghost use Rattle.toll_history.specs.Command.{Record, by};
+ghost use Rattle.toll_history.specs.Decision.{IsDecided, Decides, DecisionKeepsRules, said};
 ghost use Rattle.toll_base.specs.SliceRules.{KeepsRules};
-ghost use Rattle.toll_base.specs.Tables.{tables_of};
-ghost use Rattle.toll_base.specs.Verdict.{first_of, key_checks, split_checks, amount_in};
+ghost use Rattle.toll_history.specs.Tables.{tables_of};
+ghost use Rattle.toll_history.specs.Verdict.{first_of, key_checks, split_checks, amount_in};
 ghost use Rattle.toll_base.specs.declared.decision.Change.TheVariants as Change;
-ghost use Rattle.toll_base.specs.declared.rows.Move.TheVariants as Move;
+ghost use Rattle.toll_base.specs.declared.movement.Move.TheVariants as Move;
 ghost use Rattle.toll_base.specs.declared.rows.Row.TheVariants as Row;
 
 use crate::taking::check_taking;
@@ -15,6 +15,7 @@ use std::alloc::{AllocError, Global};
 use toll_base::{
     Amount, Change, Day, Decision, Move, MoveRow, Name, Refusal, Row, Slice, SublotRow,
 };
+use toll_history::{decide_known, has_room_in};
 
 /// Moves an amount from a sublot to another one of the same lot, new or known.
 ///
@@ -65,7 +66,7 @@ fn plan_split(
     ensures kept { KeepsRules slice.now }
 {
     let owner = *slice.owner();
-    if let Some(known) = slice.decided(row) {
+    if let Some(known) = decide_known(slice, row) {
         return Ok(known);
     }
     if let Err(why) = check_split(slice, &lot, &sublot, &target, row.amount) {
@@ -114,7 +115,7 @@ fn check_split(
     if let Err(why) = check_taking(slice, lot, sublot, amount) {
         return Err(why);
     }
-    if !slice.has_room_in(lot, target, amount) {
+    if !has_room_in(slice, lot, target, amount) {
         return Err(Refusal::LimitReached);
     }
     Ok(())

@@ -1,8 +1,8 @@
 //! What all that takes from a sublot has in common.
 ghost use Rattle.std.specs.Prelude.{◌≡◌, [], ◌∷◌, nat_le, nat_lt, length, Some};
-ghost use Rattle.toll_base.specs.Decision.{said};
-ghost use Rattle.toll_base.specs.Tables.{tables_of};
-ghost use Rattle.toll_base.specs.Verdict.{first_of, amount_in};
+ghost use Rattle.toll_history.specs.Decision.{said};
+ghost use Rattle.toll_history.specs.Tables.{tables_of};
+ghost use Rattle.toll_history.specs.Verdict.{first_of, amount_in};
 ghost use Rattle.toll_base.specs.declared.refusal.Refusal.TheVariants as Refusal;
 
 use toll_base::{Amount, Name, Refusal, Slice};

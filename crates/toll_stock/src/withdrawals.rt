@@ -1,12 +1,13 @@
 //! Shipments and scrapping.
 ghost use Rattle.std.specs.Prelude.{◌≡◌, ◌-◌, [], ◌∷◌, ◌++◌, IfOk};
-ghost use Rattle.toll_base.specs.Command.{Record, by};
-ghost use Rattle.toll_base.specs.Decision.{IsAccepted, IsDecided, Decides, DecisionKeepsRules, said};
+ghost use Rattle.toll_history.specs.Command.{Record, by};
+ghost use Rattle.toll_base.specs.Changes.{IsAccepted};
+ghost use Rattle.toll_history.specs.Decision.{IsDecided, Decides, DecisionKeepsRules, said};
 ghost use Rattle.toll_base.specs.SliceRules.{KeepsRules};
-ghost use Rattle.toll_base.specs.Tables.{tables_of};
-ghost use Rattle.toll_base.specs.Verdict.{first_of, key_checks, ship_checks, scrap_checks, amount_in};
+ghost use Rattle.toll_history.specs.Tables.{tables_of};
+ghost use Rattle.toll_history.specs.Verdict.{first_of, key_checks, ship_checks, scrap_checks, amount_in};
 ghost use Rattle.toll_base.specs.declared.decision.Change.TheVariants as Change;
-ghost use Rattle.toll_base.specs.declared.rows.Move.TheVariants as Move;
+ghost use Rattle.toll_base.specs.declared.movement.Move.TheVariants as Move;
 ghost use Rattle.toll_base.specs.declared.rows.Row.TheVariants as Row;
 
 use crate::taking::check_taking;
@@ -14,6 +15,7 @@ use std::alloc::{AllocError, Global};
 use toll_base::{
     Amount, Change, Day, Decision, Disposition, Move, MoveRow, Name, Refusal, Row, Slice, SublotRow,
 };
+use toll_history::decide_known;
 
 /// Ships an amount from a sublot of a released lot.
 ///
@@ -83,7 +85,7 @@ fn plan_shipment(
     ensures kept { KeepsRules slice.now }
 {
     let _owner = slice.owner();
-    if let Some(known) = slice.decided(row) {
+    if let Some(known) = decide_known(slice, row) {
         return Ok(known);
     }
     match check_shipment(slice, &lot, &sublot, row.amount) {
@@ -107,7 +109,7 @@ fn plan_scrapping(
     ensures kept { KeepsRules slice.now }
 {
     let _owner = slice.owner();
-    if let Some(known) = slice.decided(row) {
+    if let Some(known) = decide_known(slice, row) {
         return Ok(known);
     }
     match check_scrapping(slice, &lot, &sublot, row.amount) {

@@ -7,7 +7,7 @@ use Rattle.toll_base.specs.declared.lot.LotId.{LotId}
 use Rattle.toll_base.specs.declared.lot.Edge.{Edge}
 use Rattle.toll_base.specs.declared.role.Role.{Role}
 use Rattle.toll_base.specs.declared.role.Role.TheVariants.{Consumed, Produced}
-use Rattle.toll_base.specs.declared.rows.MoveRow.{MoveRow}
+use Rattle.toll_base.specs.declared.movement.MoveRow.{MoveRow}
 use Rattle.toll_trace.specs.declared.edges.Use.{Use}
 use Rattle.toll_trace.specs.Edges.{IsActual, IsDrawn}
 use Rattle.toll_trace.specs.Uses.{Batch, use_as, edges_from}

@@ -3,8 +3,8 @@ use Rattle.std.proofs.Common.{◌≡◌, false, List, [], ◌∷◌, refl, sym, 
 use mathlib.Core.Bool.{false≢true}
 use Rattle.toll_base.specs.Bytes.{Bytes, same_bytes}
 use Rattle.toll_base.specs.Values.{house_name}
-use Rattle.toll_base.specs.History.{History, part}
-use Rattle.toll_base.specs.Verdict.{IsLawful}
+use Rattle.toll_history.specs.History.{History, part}
+use Rattle.toll_history.specs.Verdict.{IsLawful}
 use Rattle.toll_desk.specs.PlantAnswers.{Does, AsksOrders, AsksStock, AsksBatch, AsksTrace, AsksRecall, CannotRead}
 use Rattle.toll_desk.proofs.OneReply.{one_reply}
 use Rattle.toll_desk.proofs.OneAnswer.{one_plant_answer}

@@ -3,10 +3,10 @@ use Rattle.std.proofs.Common.{◌≡◌, Bool, true, false, ◌&&◌, cond, List
 use mathlib.Core.Bool.{false≢true}
 use Rattle.toll_base.specs.Bytes.{Bytes, same_bytes}
 use Rattle.toll_base.specs.Values.{house_name}
-use Rattle.toll_base.specs.Command.{PlaceOrder, CancelOrder, Release, Reject, Command, by}
-use Rattle.toll_base.specs.History.{History, part}
-use Rattle.toll_base.specs.Verdict.{Verdict, Accepted, Repeated, Refused, verdict, grow, grown, IsLawful}
-use Rattle.toll_base.proofs.Own.{part-own, part-other}
+use Rattle.toll_history.specs.Command.{PlaceOrder, CancelOrder, Release, Reject, Command, by}
+use Rattle.toll_history.specs.History.{History, part}
+use Rattle.toll_history.specs.Verdict.{Verdict, Accepted, Repeated, Refused, verdict, grow, grown, IsLawful}
+use Rattle.toll_history.proofs.Own.{part-own, part-other}
 use Rattle.toll_base.proofs.Texts.{same_bytes-exact}
 use Rattle.toll_desk.specs.Told.{Asked, AskPlace, AskCancel, AskRelease, AskReject}
 use Rattle.toll_desk.specs.Replies.{has_key, IsReply, after_answer, after_reply}

@@ -3,9 +3,9 @@ use Rattle.std.specs.Prelude.{◌≡◌, ◌⊎◌, Bool, false, true, ◌&&◌,
 use Rattle.toll_base.specs.Bytes.{Bytes, same_bytes}
 use Rattle.toll_base.specs.Values.{house_name}
 use Rattle.toll_base.specs.Words.{is_some_where}
-use Rattle.toll_base.specs.Command.{PlaceOrder}
-use Rattle.toll_base.specs.History.{History, part}
-use Rattle.toll_base.specs.Verdict.{Accepted, IsValid}
+use Rattle.toll_history.specs.Command.{PlaceOrder}
+use Rattle.toll_history.specs.History.{History, part}
+use Rattle.toll_history.specs.Verdict.{Accepted, IsValid}
 use Rattle.toll_desk.specs.Told.{Asked, AskPlace, Told}
 use Rattle.toll_desk.specs.Replies.{has_key, IsReply, after_reply}
 use Rattle.toll_desk.specs.PlantAnswers.{PlantAsked, Does, PlantTold, Judged, IsPlantAnswer, after_plant}

@@ -1,7 +1,7 @@
 -- A request is one step of a run.
 use Rattle.std.specs.Prelude.{◌≡◌, Some, None, List, Result, Ok, Err}
 use Rattle.toll_base.specs.Bytes.{Bytes}
-use Rattle.toll_base.specs.History.{History}
+use Rattle.toll_history.specs.History.{History}
 use Rattle.toll_keep.specs.Content.{Content}
 use Rattle.toll_desk.specs.Plans.{asked_of, IsDone}
 use Rattle.toll_wire.specs.declared.failure.Failure.TheVariants.{Forbidden}

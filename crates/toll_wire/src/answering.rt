@@ -1,7 +1,7 @@
 //! Answering a request.
 ghost use Rattle.std.specs.Prelude.{◌⊎◌, OnOk};
-ghost use Rattle.toll_base.specs.History.{History};
-ghost use Rattle.toll_base.specs.Verdict.{IsLawful};
+ghost use Rattle.toll_history.specs.History.{History};
+ghost use Rattle.toll_history.specs.Verdict.{IsLawful};
 ghost use Rattle.toll_keep.specs.Content.{Content};
 ghost use Rattle.toll_keep.specs.Standing.{StandsFor};
 ghost use Rattle.toll_wire.specs.Runs.{By};

@@ -2,8 +2,8 @@
 ghost use Rattle.std.specs.Prelude.{◌≡◌, false, List};
 ghost use Rattle.toll_base.specs.Bytes.{Bytes, same_bytes};
 ghost use Rattle.toll_base.specs.Values.{house_name};
-ghost use Rattle.toll_base.specs.History.{History, part};
-ghost use Rattle.toll_base.specs.Verdict.{IsLawful};
+ghost use Rattle.toll_history.specs.History.{History, part};
+ghost use Rattle.toll_history.specs.Verdict.{IsLawful};
 ghost use Rattle.toll_wire.specs.Runs.{Happening, Answered, Wire, IsRun, IsRunUpToFault, IsPrivate, AreValid, NoFaults, own_events, told};
 
 /// Every run over a lawful history is private: the replies to each owner besides HOUSE are those that

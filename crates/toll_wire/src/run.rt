@@ -1,8 +1,8 @@
 //! Runs of events.
 ghost use Rattle.std.specs.Prelude.{◌≡◌, IfOk, OnErr};
 ghost use Rattle.std.specs.List.{AllZip};
-ghost use Rattle.toll_base.specs.History.{History};
-ghost use Rattle.toll_base.specs.Verdict.{IsLawful};
+ghost use Rattle.toll_history.specs.History.{History};
+ghost use Rattle.toll_history.specs.Verdict.{IsLawful};
 ghost use Rattle.toll_keep.specs.Content.{Content};
 ghost use Rattle.toll_keep.specs.Standing.{StandsFor};
 ghost use Rattle.toll_wire.specs.OfficeRuns.{IsRunOf, IsStepOf};

@@ -13,3 +13,5 @@ pub mod RightWhere
 pub mod StandingSums
 pub mod Sums
 pub mod ViewLaw
+pub mod Voided
+pub mod PutsOwn

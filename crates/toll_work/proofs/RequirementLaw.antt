@@ -3,22 +3,22 @@ use Rattle.std.proofs.Common.{◌≡◌, suc, false, cond, Some, is_some, [], �
 use Rattle.std.proofs.lemmas.Bool.{or_right}
 use Rattle.toll_base.specs.Bytes.{Bytes}
 use Rattle.toll_base.specs.Keys.{requirement_cmp}
-use Rattle.toll_base.specs.Command.{Require, by}
-use Rattle.toll_base.specs.History.{History, acts}
+use Rattle.toll_history.specs.Command.{Require, by}
+use Rattle.toll_history.specs.History.{History, acts}
 use Rattle.toll_base.specs.Slice.{Slice, requirement_at, with_row}
 use Rattle.toll_base.specs.SliceRules.{KeepsRules}
-use Rattle.toll_base.specs.Work.{requirement_of, same_requirement}
-use Rattle.toll_base.specs.Tables.{Tables, tables_of, tables_given}
-use Rattle.toll_base.specs.Decision.{IsDecided, DecidesWith, DecisionKeepsRules}
-use Rattle.toll_base.specs.Verdict.{Checks, requirement_key, requirement_checks, tables_for}
+use Rattle.toll_history.specs.Work.{requirement_of, same_requirement}
+use Rattle.toll_history.specs.Tables.{Tables, tables_of, tables_given}
+use Rattle.toll_history.specs.Decision.{IsDecided, DecidesWith, DecisionKeepsRules}
+use Rattle.toll_history.specs.Verdict.{Checks, requirement_key, requirement_checks, tables_for}
 use Rattle.toll_base.specs.declared.decision.Change.TheVariants.{Put}
 use Rattle.toll_base.specs.declared.decision.Decision.{Decision}
 use Rattle.toll_base.specs.declared.rows.RequirementRow.{RequirementRow}
 use Rattle.toll_base.specs.declared.rows.Row.TheVariants.{Requirement}
-use Rattle.toll_base.proofs.Accepted.{none_applies}
-use Rattle.toll_base.proofs.Passed.{accepted_passes}
-use Rattle.toll_base.proofs.Decided.{verdict_is, Grows, decides_with, keeps_rules, less_of}
-use Rattle.toll_base.proofs.Grown.{tables-own, tables-others, put_first}
+use Rattle.toll_history.proofs.Accepted.{none_applies}
+use Rattle.toll_history.proofs.Passed.{accepted_passes}
+use Rattle.toll_history.proofs.Decided.{verdict_is, Grows, decides_with, keeps_rules, less_of}
+use Rattle.toll_history.proofs.Grown.{tables-own, tables-others, put_first}
 use Rattle.toll_base.proofs.KeyOrder.{row_at-put_row}
 use Rattle.toll_base.proofs.PutTables.{length-new}
 use Rattle.toll_base.proofs.Texts.{requirement_cmp_total}

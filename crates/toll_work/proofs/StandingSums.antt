@@ -5,15 +5,15 @@ use Rattle.std.specs.Cmp.Lexicographic.{nat_list_cmp_total}
 use Rattle.toll_base.specs.Bytes.{Bytes, same_bytes, bytes_cmp}
 use Rattle.toll_base.specs.Table.{row_at, IsInKeyOrder}
 use Rattle.toll_base.specs.Words.{total, is_some_where, or_else, where_so}
-use Rattle.toll_base.specs.Command.{Action, Record, Void, by}
-use Rattle.toll_base.specs.History.{History, acts}
-use Rattle.toll_base.specs.Movements.{Movement, has_key, movement_of, standing_after, standing, voided_in}
-use Rattle.toll_base.specs.Verdict.{Accepted, IsLawful, IsValid, verdict, is_actual}
-use Rattle.toll_base.specs.declared.rows.MoveRow.{MoveRow}
-use Rattle.toll_base.proofs.Acts.{acts-cons, along_acts}
-use Rattle.toll_base.proofs.Found.{key_is_new}
-use Rattle.toll_base.proofs.KeysOnce.{void_of_actual}
-use Rattle.toll_base.proofs.Own.{other_than}
+use Rattle.toll_history.specs.Command.{Action, Record, Void, by}
+use Rattle.toll_history.specs.History.{History, acts}
+use Rattle.toll_history.specs.Movements.{Movement, has_key, movement_of, standing_after, standing, voided_in}
+use Rattle.toll_history.specs.Verdict.{Accepted, IsLawful, IsValid, verdict, is_actual}
+use Rattle.toll_base.specs.declared.movement.MoveRow.{MoveRow}
+use Rattle.toll_history.proofs.Acts.{acts-cons, along_acts}
+use Rattle.toll_history.proofs.Found.{key_is_new}
+use Rattle.toll_history.proofs.KeysOnce.{void_of_actual}
+use Rattle.toll_history.proofs.Own.{other_than}
 use Rattle.toll_base.proofs.Texts.{same_bytes-exact, same_bytes-refl, same_bytes-symm}
 use Rattle.toll_work.proofs.KeyedRows.{row_at-filter, filter_ordered, head_found, total_taken}
 use Rattle.toll_work.proofs.Sums.{total-filtered, total-alike}

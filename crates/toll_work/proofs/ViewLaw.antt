@@ -7,19 +7,19 @@ use Rattle.toll_base.specs.Bytes.{Bytes, same_bytes, bytes_cmp}
 use Rattle.toll_base.specs.Keys.{RequirementKey, requirement_cmp}
 use Rattle.toll_base.specs.Table.{IsInKeyOrder, AreRowsGiven}
 use Rattle.toll_base.specs.Words.{where_so}
-use Rattle.toll_base.specs.History.{History, acts}
+use Rattle.toll_history.specs.History.{History, acts}
 use Rattle.toll_base.specs.Slice.{Slice, order_at, batch_at, void_at}
 use Rattle.toll_base.specs.SliceRules.{is_actual_of}
-use Rattle.toll_base.specs.Movements.{standing, voided_in}
-use Rattle.toll_base.specs.Tables.{Tables, IsRowsOf}
-use Rattle.toll_base.specs.Verdict.{IsLawful, requirement_key}
+use Rattle.toll_history.specs.Movements.{standing, voided_in}
+use Rattle.toll_history.specs.Tables.{Tables, IsRowsOf}
+use Rattle.toll_history.specs.Verdict.{IsLawful, requirement_key}
 use Rattle.toll_base.specs.declared.rows.BatchRow.{BatchRow}
 use Rattle.toll_base.specs.declared.rows.OrderRow.{OrderRow}
-use Rattle.toll_base.specs.declared.rows.MoveRow.{MoveRow}
+use Rattle.toll_base.specs.declared.movement.MoveRow.{MoveRow}
 use Rattle.toll_base.specs.declared.rows.RequirementRow.{RequirementRow}
 use Rattle.toll_base.proofs.Bools.{both}
 use Rattle.toll_base.proofs.Texts.{same_bytes-exact, is_eq-then}
-use Rattle.toll_base.specs.Amounts.{meets, actual_of}
+use Rattle.toll_history.specs.Amounts.{meets, actual_of}
 use Rattle.toll_work.specs.BatchView.{amount_for, standing_in, line, lines_in, IsViewIn, TellsInSlice, line_of, line_key, IsViewOver, TellsOverHistories}
 use Rattle.toll_work.specs.declared.views.BatchView.{BatchView}
 use Rattle.toll_work.proofs.KeyedRows.{made_at, made_ordered}

@@ -2,20 +2,22 @@
 use Rattle.std.proofs.Common.{◌≡◌, ℕ, ◌+◌, ◌-◌, ◌≤◌, Bool, true, false, not, ◌&&◌, ◌||◌, cond, nat_le, nat_lt, Option, Some, None, is_some, is_none, List, [], ◌∷◌, ◌++◌, length, refl, sym, ap, subst, ◌∙◌, arith}
 use mathlib.Core.Bool.{false≢true}
 use Rattle.std.proofs.lemmas.Bool.Decides.{nat_tests}
-use Rattle.toll_base.specs.Bounds.{returning_bounds}
+use Rattle.toll_history.specs.Bounds.{returning_bounds}
 use Rattle.toll_base.specs.Bytes.{Bytes, same_bytes, bytes_cmp}
 use Rattle.toll_base.specs.Keys.{pair_cmp}
 use Rattle.toll_base.specs.Values.{house_name}
-use Rattle.toll_base.specs.Command.{Void, by}
-use Rattle.toll_base.specs.History.{History, acts, owner_known}
-use Rattle.toll_base.specs.Movements.{lot_id, same_lot, movement_of, voided_in, brings_into, takes_from, sublot_known, stock}
+use Rattle.toll_history.specs.Command.{Void, by}
+use Rattle.toll_history.specs.History.{History, acts, owner_known}
+use Rattle.toll_base.specs.Lots.{lot_id, same_lot}
+use Rattle.toll_history.specs.Movements.{movement_of, voided_in, brings_into, takes_from, sublot_known, stock}
 use Rattle.toll_base.specs.Slice.{Slice, with_row, lot_at, sublot_at, move_at}
 use Rattle.toll_base.specs.SliceRules.{KeepsRules, row_fits}
-use Rattle.toll_base.specs.Tables.{Tables, tables_of, tables_given, sublot_row, IsRowsOf}
+use Rattle.toll_history.specs.Tables.{Tables, tables_of, tables_given, sublot_row, IsRowsOf}
 use Rattle.toll_base.specs.Words.{where_so, is_some_where, none_or}
-use Rattle.toll_base.specs.Decision.{IsDecided, after_changes, ChangesKeepRules, DecidesWith, DecisionKeepsRules}
-use Rattle.toll_base.specs.Verdict.{Accepted, Refused, Checks, first_of, is_actual, is_of_closed, takes_too_much, tables_for, amount_in, verdict, IsLawful, IsValid}
-use Rattle.toll_base.specs.Laws.{BringsOwn, TakesKnown}
+use Rattle.toll_base.specs.Changes.{after_changes}
+use Rattle.toll_history.specs.Decision.{IsDecided, ChangesKeepRules, DecidesWith, DecisionKeepsRules}
+use Rattle.toll_history.specs.Verdict.{Accepted, Refused, Checks, first_of, is_actual, is_of_closed, takes_too_much, tables_for, amount_in, verdict, IsLawful, IsValid}
+use Rattle.toll_history.specs.Laws.{BringsOwn, TakesKnown}
 use Rattle.toll_work.specs.Voiding.{open_checks}
 use Rattle.toll_base.specs.declared.decision.Change.{Change}
 use Rattle.toll_base.specs.declared.decision.Change.TheVariants.{Put}
@@ -26,26 +28,26 @@ use Rattle.toll_base.specs.declared.lot.LotId.{LotId}
 use Rattle.toll_base.specs.declared.refusal.Refusal.TheVariants.{UnknownKey, Voided, BatchClosed, NotEnough, LimitReached}
 use Rattle.toll_base.specs.declared.role.Role.{Role}
 use Rattle.toll_base.specs.declared.role.Role.TheVariants.{Consumed, Produced}
-use Rattle.toll_base.specs.declared.rows.MoveRow.{MoveRow}
-use Rattle.toll_base.specs.declared.rows.Move.{Move as Moved}
-use Rattle.toll_base.specs.declared.rows.Move.TheVariants.{Receive, Split, Ship, Scrap, Actual}
+use Rattle.toll_base.specs.declared.movement.MoveRow.{MoveRow}
+use Rattle.toll_base.specs.declared.movement.Move.{Move as Moved}
+use Rattle.toll_base.specs.declared.movement.Move.TheVariants.{Receive, Split, Ship, Scrap, Actual}
 use Rattle.toll_base.specs.declared.rows.SublotRow.{SublotRow}
 use Rattle.toll_base.specs.declared.rows.Row.TheVariants.{Sublot, Void as VoidPut}
 use Rattle.toll_base.proofs.Bools.{both}
-use Rattle.toll_base.proofs.EachMove.{of_found}
-use Rattle.toll_base.proofs.Owned.{all_bring_own, all_take_known}
-use Rattle.toll_base.proofs.Moving.{tables_for_are, held_is}
-use Rattle.toll_base.proofs.Stock.{stock_bounded}
-use Rattle.toll_base.proofs.StockChanges.{stock-voided}
-use Rattle.toll_base.proofs.Accepted.{none_applies}
-use Rattle.toll_base.proofs.Room.{unbounded, sublot_room_in, less_fit}
+use Rattle.toll_history.proofs.EachMove.{of_found}
+use Rattle.toll_history.proofs.Owned.{all_bring_own, all_take_known}
+use Rattle.toll_history.proofs.Moving.{tables_for_are, held_is}
+use Rattle.toll_history.proofs.Stock.{stock_bounded}
+use Rattle.toll_history.proofs.StockChanges.{stock-voided}
+use Rattle.toll_history.proofs.Accepted.{none_applies}
+use Rattle.toll_history.proofs.Room.{unbounded, sublot_room_in, less_fit}
 use Rattle.toll_work.proofs.FoundRow.{row_at-key}
-use Rattle.toll_base.proofs.Decided.{verdict_is, right_over, taken_in, left_out, rules_by, keeps_put, keeps_skip}
-use Rattle.toll_base.proofs.Passed.{accepted_passes}
-use Rattle.toll_base.proofs.PutMoves.{with_sublot, with_void, is_at, put_sublot, put_void}
+use Rattle.toll_history.proofs.Decided.{verdict_is, right_over, taken_in, left_out, rules_by, keeps_put, keeps_skip}
+use Rattle.toll_history.proofs.Passed.{accepted_passes}
+use Rattle.toll_history.proofs.PutMoves.{with_sublot, with_void, is_at, put_sublot, put_void}
 use Rattle.toll_base.proofs.Texts.{same_bytes-exact, same_bytes-refl, same_bytes-symm, is_eq-then}
-use Rattle.toll_base.proofs.Grown.{more}
-use Rattle.toll_base.proofs.Voided.{own_but_sublots, others_but_sublots, given_back, taken_out, stayed_at}
+use Rattle.toll_history.proofs.Grown.{more}
+use Rattle.toll_work.proofs.Voided.{own_but_sublots, others_but_sublots, given_back, taken_out, stayed_at}
 
 -- ---- the rows of all, where the void changes one sublot of this owner
 

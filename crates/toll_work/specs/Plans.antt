@@ -3,7 +3,7 @@ use Rattle.std.specs.Prelude.{ℕ, ◌+◌, true, false, List, [], ◌∷◌}
 use Rattle.std.specs.Option.{option_map_or}
 use Rattle.toll_base.specs.Bytes.{Bytes}
 use Rattle.toll_base.specs.States.{followed}
-use Rattle.toll_base.specs.Tables.{Tables}
+use Rattle.toll_history.specs.Tables.{Tables}
 use Rattle.toll_base.specs.declared.state.State.TheVariants.{Idle}
 use Rattle.toll_base.specs.declared.state_command.StateCommand.{StateCommand}
 use Rattle.toll_base.specs.declared.rows.OrderRow.{OrderRow}

@@ -1,8 +1,8 @@
 -- What a void of an actual checks of either role.
 use Rattle.std.specs.Prelude.{ℕ, Some, [], ◌∷◌}
 use Rattle.toll_base.specs.Bytes.{Bytes}
-use Rattle.toll_base.specs.Tables.{Tables}
-use Rattle.toll_base.specs.Verdict.{Checks}
+use Rattle.toll_history.specs.Tables.{Tables}
+use Rattle.toll_history.specs.Verdict.{Checks}
 use Rattle.toll_base.specs.Words.{is_some_where}
 use Rattle.toll_base.specs.declared.refusal.Refusal.TheVariants.{BatchClosed, Voided}
 

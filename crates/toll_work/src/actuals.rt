@@ -1,16 +1,16 @@
 //! Actuals.
 ghost use Rattle.std.specs.Prelude.{◌≡◌, ◌+◌, ◌-◌, true, false, [], ◌∷◌, ◌++◌, nat_lt, is_none, Some, IfOk};
-ghost use Rattle.toll_base.specs.Bounds.{lot_bounds};
+ghost use Rattle.toll_history.specs.Bounds.{lot_bounds};
 ghost use Rattle.toll_base.specs.Bytes.{same_bytes};
-ghost use Rattle.toll_base.specs.Command.{Record, by};
-ghost use Rattle.toll_base.specs.Decision.{IsDecided, DecidesWith, DecisionKeepsRules, said};
+ghost use Rattle.toll_history.specs.Command.{Record, by};
+ghost use Rattle.toll_history.specs.Decision.{IsDecided, DecidesWith, DecisionKeepsRules, said};
 ghost use Rattle.toll_base.specs.Slice.{recipe_at, requirement_at, batch_at};
 ghost use Rattle.toll_base.specs.SliceRules.{KeepsRules};
-ghost use Rattle.toll_base.specs.Tables.{tables_of};
-ghost use Rattle.toll_base.specs.Verdict.{first_of, key_checks, actual_checks, consumed_checks, produced_checks, open_batch_checks, recipe_of_order, tables_for, amount_in, actuals_full, is_actual};
+ghost use Rattle.toll_history.specs.Tables.{tables_of};
+ghost use Rattle.toll_history.specs.Verdict.{first_of, key_checks, actual_checks, consumed_checks, produced_checks, open_batch_checks, recipe_of_order, tables_for, amount_in, actuals_full, is_actual};
 ghost use Rattle.toll_base.specs.States.{is_idle};
 ghost use Rattle.toll_base.specs.Words.{is_some_where};
-ghost use Rattle.toll_base.specs.Verdict as verdict;
+ghost use Rattle.toll_history.specs.Verdict as verdict;
 ghost use Rattle.toll_base.specs.declared.decision.Change.TheVariants as Change;
 ghost use Rattle.toll_base.specs.declared.lot.Disposition.TheVariants as Disposition;
 ghost use Rattle.toll_base.specs.declared.lot.Origin.TheVariants as Origin;
@@ -24,6 +24,7 @@ use toll_base::{
     Amount, BatchNo, Change, Decision, Disposition, LotId, LotRow, Move, MoveRow, Name, Origin,
     Refusal, Role, Row, Segment, Slice, State, SublotRow,
 };
+use toll_history::{decide_known, has_room_in};
 
 const MOST_MOVEMENTS: usize = 20_000;
 
@@ -113,7 +114,7 @@ fn plan_consumption(
 {
     let owner = *own.owner();
     let _house = house.owner();
-    if let Some(known) = own.decided(row) {
+    if let Some(known) = decide_known(own, row) {
         return Ok(known);
     }
     let source = slice_for(own, house, &used.lot.owner);
@@ -153,7 +154,7 @@ fn plan_production(
     ensures kept { KeepsRules own.now }
 {
     let owner = *own.owner();
-    if let Some(repeated) = own.decided(row) {
+    if let Some(repeated) = decide_known(own, row) {
         return Ok(repeated);
     }
     if let Err(why) = check_production(own, used, row.amount) {
@@ -316,7 +317,7 @@ fn check_target(own: &Slice, used: &Use, amount: Amount) -> Result<(), Refusal>
     }
     if is_full(own, used)
         || own.material(&used.material).is_none()
-        || !own.has_room_in(&used.lot.lot, &used.sublot, amount)
+        || !has_room_in(own, &used.lot.lot, &used.sublot, amount)
     {
         return Err(Refusal::LimitReached);
     }

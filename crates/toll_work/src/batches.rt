@@ -1,10 +1,10 @@
 //! Batches.
 ghost use Rattle.std.specs.Prelude.{◌≡◌, ◌+◌, nat_le, not, Some, None, if◌then◌else◌, map, IfOk};
-ghost use Rattle.toll_base.specs.Command.{CommandBatch, CloseBatch, by};
-ghost use Rattle.toll_base.specs.Decision.{IsDecided, Decides, DecisionKeepsRules};
+ghost use Rattle.toll_history.specs.Command.{CommandBatch, CloseBatch, by};
+ghost use Rattle.toll_history.specs.Decision.{IsDecided, Decides, DecisionKeepsRules};
 ghost use Rattle.toll_base.specs.SliceRules.{KeepsRules};
-ghost use Rattle.toll_base.specs.Tables.{tables_of};
-ghost use Rattle.toll_base.specs.Verdict.{open_checks, batch_command_checks, close_checks};
+ghost use Rattle.toll_history.specs.Tables.{tables_of};
+ghost use Rattle.toll_history.specs.Verdict.{open_checks, batch_command_checks, close_checks};
 ghost use Rattle.toll_base.specs.States as states;
 ghost use Rattle.toll_base.specs.declared.decision.Change.TheVariants as Change;
 ghost use Rattle.toll_work.specs.Opening.{DecidesOpening};

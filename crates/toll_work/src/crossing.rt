@@ -1,6 +1,6 @@
 //! Which other owner's material a recipe may name.
 ghost use Rattle.std.specs.Prelude.{◌≡◌};
-ghost use Rattle.toll_base.specs.Verdict as verdict;
+ghost use Rattle.toll_history.specs.Verdict as verdict;
 
 use toll_base::{Name, Role};
 

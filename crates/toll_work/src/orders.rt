@@ -1,11 +1,12 @@
 //! Orders.
 ghost use Rattle.std.specs.Prelude.{◌≡◌, [], ◌∷◌, map, IfOk};
-ghost use Rattle.toll_base.specs.Command.{PlaceOrder, CancelOrder, by};
-ghost use Rattle.toll_base.specs.Decision.{IsDecided, Decides, DecisionKeepsRules, changes_of};
-ghost use Rattle.toll_base.specs.OwnChanges.{PutsOnly};
+ghost use Rattle.toll_history.specs.Command.{PlaceOrder, CancelOrder, by};
+ghost use Rattle.toll_base.specs.Changes.{changes_of};
+ghost use Rattle.toll_history.specs.Decision.{IsDecided, Decides, DecisionKeepsRules};
+ghost use Rattle.toll_history.specs.OwnChanges.{PutsOnly};
 ghost use Rattle.toll_base.specs.SliceRules.{KeepsRules};
-ghost use Rattle.toll_base.specs.Tables.{tables_of};
-ghost use Rattle.toll_base.specs.Verdict.{order_checks, cancel_checks};
+ghost use Rattle.toll_history.specs.Tables.{tables_of};
+ghost use Rattle.toll_history.specs.Verdict.{order_checks, cancel_checks};
 ghost use Rattle.toll_base.specs.declared.decision.Change.TheVariants as Change;
 ghost use Rattle.toll_base.specs.declared.rows.Row.TheVariants as Row;
 ghost use Rattle.toll_work.specs.Plans.{cancelled_rows};

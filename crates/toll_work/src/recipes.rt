@@ -1,11 +1,12 @@
 //! Recipes.
 ghost use Rattle.std.specs.Prelude.{◌≡◌, is_some, [], ◌∷◌, IfOk};
-ghost use Rattle.toll_base.specs.Command.{AddRecipe, Require, by};
-ghost use Rattle.toll_base.specs.Decision.{IsDecided, Decides, DecidesWith, DecisionKeepsRules, changes_of};
-ghost use Rattle.toll_base.specs.OwnChanges.{PutsOnly};
+ghost use Rattle.toll_history.specs.Command.{AddRecipe, Require, by};
+ghost use Rattle.toll_base.specs.Changes.{changes_of};
+ghost use Rattle.toll_history.specs.Decision.{IsDecided, Decides, DecidesWith, DecisionKeepsRules};
+ghost use Rattle.toll_history.specs.OwnChanges.{PutsOnly};
 ghost use Rattle.toll_base.specs.SliceRules.{KeepsRules};
-ghost use Rattle.toll_base.specs.Tables.{tables_of};
-ghost use Rattle.toll_base.specs.Verdict.{recipe_checks, requirement_checks, tables_for};
+ghost use Rattle.toll_history.specs.Tables.{tables_of};
+ghost use Rattle.toll_history.specs.Verdict.{recipe_checks, requirement_checks, tables_for};
 ghost use Rattle.toll_base.specs.declared.decision.Change.TheVariants as Change;
 ghost use Rattle.toll_base.specs.declared.rows.Row.TheVariants as Row;
 

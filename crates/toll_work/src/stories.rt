@@ -1,7 +1,7 @@
 //! Stories of an owner's batches: lines of what is decided or looked at in turn, and what is said to
 //! each.
 ghost use Rattle.std.specs.Prelude.{◌≡◌, true, IfOk};
-ghost use Rattle.toll_base.specs.Verdict.{is_actual};
+ghost use Rattle.toll_history.specs.Verdict.{is_actual};
 
 use crate::{
     BatchView, add_recipe, batch_view, cancel_order, close_batch, command_batch, open_batch,

@@ -1,11 +1,11 @@
 //! Voids.
 ghost use Rattle.std.specs.Prelude.{◌≡◌, ◌+◌, ◌-◌, false, nat_lt, is_none, Some, [], ◌∷◌, ◌++◌, IfOk};
-ghost use Rattle.toll_base.specs.Bounds.{returning_bounds};
+ghost use Rattle.toll_history.specs.Bounds.{returning_bounds};
 ghost use Rattle.toll_base.specs.Bytes.{same_bytes};
-ghost use Rattle.toll_base.specs.Command.{Void, by};
-ghost use Rattle.toll_base.specs.Decision.{IsDecided, DecidesWith, DecisionKeepsRules, said};
-ghost use Rattle.toll_base.specs.Tables.{tables_of};
-ghost use Rattle.toll_base.specs.Verdict.{first_of, tables_for, amount_in};
+ghost use Rattle.toll_history.specs.Command.{Void, by};
+ghost use Rattle.toll_history.specs.Decision.{IsDecided, DecidesWith, DecisionKeepsRules, said};
+ghost use Rattle.toll_history.specs.Tables.{tables_of};
+ghost use Rattle.toll_history.specs.Verdict.{first_of, tables_for, amount_in};
 ghost use Rattle.toll_base.specs.declared.decision.Change.TheVariants as Change;
 ghost use Rattle.toll_base.specs.declared.refusal.Refusal.TheVariants as Refusal;
 ghost use Rattle.toll_base.specs.declared.rows.Row.TheVariants as Row;
@@ -16,6 +16,7 @@ use std::alloc::{AllocError, Global};
 use toll_base::{
     Amount, BatchNo, Change, Decision, Move, Name, Refusal, Role, Row, Slice, SublotRow, VoidRow,
 };
+use toll_history::has_room_in;
 
 /// Voids the actual with this key of a batch that isn't closed: what it consumed is given back to its
 /// sublot, whatever the lot's disposition, and what it produced is taken out. A lot that it produced
@@ -88,7 +89,7 @@ fn give_back(
     }
     let source = slice_for(own, house, &used.lot.owner);
     if source.sublot(&used.lot.lot, &used.sublot).is_none()
-        || !source.has_room_in(&used.lot.lot, &used.sublot, amount)
+        || !has_room_in(source, &used.lot.lot, &used.sublot, amount)
     {
         return Ok(Decision::Refuse(Refusal::LimitReached));
     }

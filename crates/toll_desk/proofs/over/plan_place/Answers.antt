@@ -1,6 +1,7 @@
 use Rattle.std.proofs.Common.{sym, ap, subst, ◌∙◌}
 use Rattle.std.proofs.lemmas.Result.{IfOk-weaker}
-use Rattle.toll_base.specs.Decision.{verdict_of, changes_of}
+use Rattle.toll_base.specs.Changes.{changes_of}
+use Rattle.toll_history.specs.Decision.{verdict_of}
 use Rattle.toll_desk.specs.Told.{AskPlace}
 use Rattle.toll_desk.specs.Plans.{told_of, IsPlanOver}
 use Rattle.toll_desk.proofs.Answered.{accepted_over, repeated_over, refused_over}

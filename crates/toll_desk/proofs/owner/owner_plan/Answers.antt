@@ -1,6 +1,6 @@
 use Rattle.std.proofs.Common.{◌≡◌, true, sym, subst, ◌∙◌}
 use Rattle.std.proofs.lemmas.Result.{IfOk-weaker}
-use Rattle.toll_base.specs.History.{owner_known}
+use Rattle.toll_history.specs.History.{owner_known}
 use Rattle.toll_desk.specs.Replies.{has_key}
 use Rattle.toll_desk.specs.Plans.{asked_of, told_of, IsPlanFor}
 use Rattle.toll_desk.proofs.OwnerPlans.{right_key, wrong_key, key_known, plan_admitted, plan_forbidden}

@@ -1,8 +1,8 @@
 use Rattle.std.proofs.Common.{◌≡◌, true, sym, ap, subst, ◌∙◌}
 use mathlib.Core.Bool.{false≢true}
 use Rattle.std.proofs.lemmas.Result.{IfOk-weaker}
-use Rattle.toll_base.specs.History.{owner_known}
-use Rattle.toll_base.specs.Tables.{IsRowsOf}
+use Rattle.toll_history.specs.History.{owner_known}
+use Rattle.toll_history.specs.Tables.{IsRowsOf}
 use Rattle.toll_desk.specs.Plans.{asked_of, told_of}
 use Rattle.toll_desk.proofs.OwnerPlans.{slice_read, none_read, plan_lift}
 use Rattle.toll_desk.proofs.owner.plan_for.Goals as goal

@@ -1,5 +1,5 @@
 use Rattle.std.proofs.Common.{[], ◌∷◌, subst, ◌∙◌}
-use Rattle.toll_base.specs.Decision.{IsDecided}
+use Rattle.toll_history.specs.Decision.{IsDecided}
 use Rattle.toll_base.specs.declared.decision.Change.TheVariants.{Owner}
 use Rattle.toll_base.specs.declared.rows.OwnerRow.{OwnerRow}
 use Rattle.toll_desk.specs.Plans.{owner_row_checks}

@@ -1,5 +1,5 @@
 use Rattle.std.proofs.Common.{refl, sym, ◌∙◌}
-use Rattle.toll_base.specs.Command.{AddRecipe}
+use Rattle.toll_history.specs.Command.{AddRecipe}
 use Rattle.toll_desk.proofs.OwnerPlans.{slice_read, some_read, none_read}
 use Rattle.toll_desk.proofs.PlantPlans.{decided_here, decided_unknown}
 use Rattle.toll_desk.proofs.plant.decide_recipe.Goals as goal

@@ -1,7 +1,7 @@
 use Rattle.std.proofs.Common.{[], ◌∷◌, refl}
 use Rattle.std.specs.List.Sorted.{IsStrictlySortedBy}
-use Rattle.toll_base.specs.History.{acts}
-use Rattle.toll_base.specs.Worked.{acme, one_product}
+use Rattle.toll_history.specs.History.{acts}
+use Rattle.toll_history.specs.Worked.{acme, one_product}
 use Rattle.toll_desk.proofs.DrawnHere.{edges_are_drawn}
 use Rattle.toll_desk.proofs.WorkedEdges.{from_a, from_house, to_listed, from_listed}
 use Rattle.toll_desk.proofs.worked.edges_of_a_batch.Goals as goal

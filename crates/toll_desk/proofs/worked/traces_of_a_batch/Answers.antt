@@ -1,8 +1,8 @@
 use Rattle.std.proofs.Common.{[], ◌∷◌, refl}
 use Rattle.std.specs.Prelude.{codes}
 use Rattle.std.specs.List.Sorted.{IsStrictlySortedBy}
-use Rattle.toll_base.specs.History.{acts}
-use Rattle.toll_base.specs.Worked.{acme, one_product}
+use Rattle.toll_history.specs.History.{acts}
+use Rattle.toll_history.specs.Worked.{acme, one_product}
 use Rattle.toll_trace.specs.declared.way.Way.TheVariants.{Back, Forward}
 use Rattle.toll_desk.specs.Worked.{of_acme, of_house}
 use Rattle.toll_desk.proofs.DrawnHere.{trace_of_a_level}

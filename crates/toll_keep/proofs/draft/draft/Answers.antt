@@ -1,5 +1,5 @@
 use Rattle.std.proofs.Common.{◌++◌, ap, sym, ◌∙◌}
-use Rattle.toll_base.specs.Decision.{after_change}
+use Rattle.toll_base.specs.Changes.{after_change}
 use Rattle.toll_keep.specs.Slices.{rows_in}
 use Rattle.toll_keep.proofs.Outcomes.{on_ok}
 use Rattle.toll_keep.proofs.Slicing.{drafted_once}

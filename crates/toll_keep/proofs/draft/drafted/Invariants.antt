@@ -1,6 +1,6 @@
 use Rattle.std.proofs.Common.{◌≡◌, ◌++◌, drop}
 use Rattle.toll_base.specs.Bytes.{Bytes}
-use Rattle.toll_base.specs.Decision.{after_changes}
+use Rattle.toll_base.specs.Changes.{after_changes}
 use Rattle.toll_keep.specs.Slices.{rows_in}
 use Rattle.toll_keep.proofs.draft.drafted.Given as goal
 

@@ -1,8 +1,8 @@
 -- The events so far were answered, as a run, and there is room for the others.
 use Rattle.std.proofs.Common.{◌≡◌, ◌≤◌, length, take, vec_len, vec_capacity}
 use Rattle.std.specs.List.{AllZip}
-use Rattle.toll_base.specs.History.{History}
-use Rattle.toll_base.specs.Verdict.{IsLawful}
+use Rattle.toll_history.specs.History.{History}
+use Rattle.toll_history.specs.Verdict.{IsLawful}
 use Rattle.toll_keep.specs.Content.{Content}
 use Rattle.toll_keep.specs.Standing.{StandsFor}
 use Rattle.toll_wire.specs.Telling.{AnswersEvent}

@@ -1,6 +1,6 @@
 use Rattle.std.proofs.lemmas.Result.{IfOk-weaker}
-use Rattle.toll_base.specs.Command.{Record, by}
-use Rattle.toll_base.specs.Decision.{DecidesWith, DecisionKeepsRules}
+use Rattle.toll_history.specs.Command.{Record, by}
+use Rattle.toll_history.specs.Decision.{DecidesWith, DecisionKeepsRules}
 use Rattle.toll_work.proofs.ConsumptionLaw.{of_consumption, consumption_decided, consumption_keeps, consumption_keeps_house}
 use Rattle.toll_work.proofs.ProductionLaw.{of_production, production_decided, production_keeps, production_keeps_house}
 use Rattle.toll_work.proofs.actuals.record_actual.Goals as goal

@@ -1,6 +1,6 @@
 use Rattle.std.proofs.lemmas.Result.{IfOk-weaker}
 use Rattle.toll_base.proofs.Texts.{same_bytes-refl}
-use Rattle.toll_base.proofs.PutsOwn.{puts_own}
+use Rattle.toll_work.proofs.PutsOwn.{puts_own}
 use Rattle.toll_work.proofs.OrderLaw.{order_decided, order_keeps}
 use Rattle.toll_work.proofs.orders.place_order.Goals as goal
 

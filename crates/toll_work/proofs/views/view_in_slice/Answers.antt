@@ -1,5 +1,5 @@
 use Rattle.std.proofs.Common.{List, ◌≤◌, length, sym, subst, ◌∙◌}
-use Rattle.toll_base.specs.declared.rows.MoveRow.{MoveRow}
+use Rattle.toll_base.specs.declared.movement.MoveRow.{MoveRow}
 use Rattle.toll_work.proofs.Sums.{length-filter_le}
 use Rattle.toll_work.proofs.views.view_in_slice.Goals as goal
 

@@ -1,9 +1,9 @@
 use Rattle.std.proofs.Common.{◌∙◌, sym, ap}
 use Rattle.std.proofs.lemmas.Result.{IfOk-weaker}
-use Rattle.toll_base.specs.Verdict.{is_actual}
+use Rattle.toll_history.specs.Verdict.{is_actual}
 use Rattle.toll_base.specs.Words.{is_some_where}
 use Rattle.toll_base.specs.declared.refusal.Refusal.TheVariants.{UnknownKey}
-use Rattle.toll_base.specs.declared.rows.MoveRow.{MoveRow}
+use Rattle.toll_base.specs.declared.movement.MoveRow.{MoveRow}
 use Rattle.toll_work.proofs.VoidLaw.{not_actual, unknown_decided, unknown_keeps, giving_decided, giving_keeps, giving_keeps_house, taking_decided, taking_keeps, taking_keeps_house}
 use Rattle.toll_work.proofs.voids.void_actual.Goals as goal
 

@@ -1,6 +1,6 @@
 use Rattle.std.proofs.Common.{◌≡◌, ◌++◌, ap, sym, subst, ◌∙◌}
 use Rattle.toll_base.specs.Bytes.{Bytes}
-use Rattle.toll_base.specs.Decision.{after_changes}
+use Rattle.toll_base.specs.Changes.{after_changes}
 use Rattle.toll_keep.specs.Content.{after_owners, after_units}
 use Rattle.toll_keep.specs.Slices.{rows_in, put_slices, IsOneEach}
 use Rattle.toll_keep.proofs.Slicing.{rows_in-put_slices, one_each-put_slices}

@@ -1,5 +1,0 @@
-use Rattle.toll_base.proofs.StandsOnce.{total_voided}
-use Rattle.toll_base.proofs.laws.a_void_takes_back_its_movement.Goals as goal
-
-pub returns : goal.returns
-returns c = total_voided

@@ -1,8 +1,0 @@
-use Rattle.toll_base.proofs.Stock.{bounded, stock_bounded}
-use Rattle.toll_base.proofs.laws.amounts_are_bounded.Goals as goal
-
-pub returns-clause-brought : goal.returns-clause-brought
-returns-clause-brought c = bounded
-
-pub returns-clause-stock : goal.returns-clause-stock
-returns-clause-stock c = stock_bounded

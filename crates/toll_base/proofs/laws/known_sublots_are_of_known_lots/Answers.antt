@@ -1,9 +1,0 @@
-use Rattle.toll_base.proofs.Moving.{unbrought}
-use Rattle.toll_base.proofs.Lots.{sublot_lot}
-use Rattle.toll_base.proofs.laws.known_sublots_are_of_known_lots.Goals as goal
-
-pub returns-clause-unknown : goal.returns-clause-unknown
-returns-clause-unknown c = unbrought
-
-pub returns-clause-known : goal.returns-clause-known
-returns-clause-known c = sublot_lot

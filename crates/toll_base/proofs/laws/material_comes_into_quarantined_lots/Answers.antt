@@ -1,5 +1,0 @@
-use Rattle.toll_base.proofs.CameIn.{came_in}
-use Rattle.toll_base.proofs.laws.material_comes_into_quarantined_lots.Goals as goal
-
-pub returns : goal.returns
-returns c = came_in

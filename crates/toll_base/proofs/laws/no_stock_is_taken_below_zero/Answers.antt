@@ -1,5 +1,0 @@
-use Rattle.toll_base.proofs.Stock.{covered}
-use Rattle.toll_base.proofs.laws.no_stock_is_taken_below_zero.Goals as goal
-
-pub returns : goal.returns
-returns c = covered

@@ -1,9 +1,0 @@
-use Rattle.toll_base.specs.History.{acts}
-use Rattle.toll_base.proofs.Untouched.{untouched, still_quarantined}
-use Rattle.toll_base.proofs.laws.unknown_lots_are_untouched.Goals as goal
-
-pub returns-clause-untouched : goal.returns-clause-untouched
-returns-clause-untouched c = untouched
-
-pub returns-clause-quarantined : goal.returns-clause-quarantined
-returns-clause-quarantined c = λ H o l lawful none material. still_quarantined (acts o H) material l (untouched H o l lawful none)

@@ -1,0 +1,163 @@
+//! Movements of material.
+use crate::bounded::{Amount, BatchNo, Day, Segment};
+use crate::lot::LotId;
+use crate::name::Name;
+use crate::role::Role;
+use crate::table::Keyed;
+
+/// What a movement moves.
+#[derive(Clone, Copy, Debug, PartialEq, Eq)]
+pub enum Move {
+    /// Material comes from outside into a sublot.
+    Receive {
+        material: Name,
+        lot: Name,
+        sublot: Name,
+    },
+    /// Material goes from a sublot to another one of the same lot.
+    Split {
+        lot: Name,
+        sublot: Name,
+        target: Name,
+    },
+    /// Material leaves the plant.
+    Ship {
+        lot: Name,
+        sublot: Name,
+    },
+    /// Material is thrown away.
+    Scrap {
+        lot: Name,
+        sublot: Name,
+    },
+    /// A material actual (IEC 62264-2): a batch consumes from a sublot or produces into it.
+    Actual {
+        order: Name,
+        number: BatchNo,
+        segment: Segment,
+        role: Role,
+        material: Name,
+        lot: LotId,
+        sublot: Name,
+    },
+}
+
+impl Move {
+    ghost use Rattle.std.specs.Prelude.{◌≡◌};
+    ghost use Rattle.toll_base.specs.Moves.{same_what};
+
+    /// Whether kind and fields are equal.
+    pub fn is_same(&self, other: &Move) -> bool
+        ensures { result ≡ same_what self.now other.now }
+    {
+        match (self, other) {
+            (
+                Move::Receive {
+                    material,
+                    lot,
+                    sublot,
+                },
+                Move::Receive {
+                    material: m,
+                    lot: l,
+                    sublot: s,
+                },
+            ) => *material == *m && *lot == *l && *sublot == *s,
+            (
+                Move::Split {
+                    lot,
+                    sublot,
+                    target,
+                },
+                Move::Split {
+                    lot: l,
+                    sublot: s,
+                    target: t,
+                },
+            ) => { *lot == *l && *sublot == *s && *target == *t }
+            (Move::Ship { lot, sublot }, Move::Ship { lot: l, sublot: s })
+            | (Move::Scrap { lot, sublot }, Move::Scrap { lot: l, sublot: s }) => {
+                *lot == *l && *sublot == *s
+            }
+            (
+                Move::Actual {
+                    order,
+                    number,
+                    segment,
+                    role,
+                    material,
+                    lot,
+                    sublot,
+                },
+                Move::Actual {
+                    order: o,
+                    number: n,
+                    segment: g,
+                    role: r,
+                    material: m,
+                    lot: l,
+                    sublot: s,
+                },
+            ) => {
+                *order == *o
+                    && *number == *n
+                    && *segment == *g
+                    && *role == *r
+                    && *material == *m
+                    && lot.is_same(l)
+                    && *sublot == *s
+            }
+            _ => false,
+        }
+    }
+}
+
+/// A movement of material, known by its key. It stands in the rows of the owner that it concerns,
+/// which for an actual is the batch's owner, also where the lot is HOUSE's.
+#[derive(Clone, Copy, Debug, PartialEq, Eq)]
+pub struct MoveRow {
+    pub key: Name,
+    pub what: Move,
+    pub amount: Amount,
+    pub day: Day,
+}
+
+impl MoveRow {
+    ghost use Rattle.std.specs.Prelude.{◌≡◌};
+    ghost use Rattle.toll_base.specs.SliceRules.{is_actual_of};
+    ghost use Rattle.toll_base.specs.Moves.{same_movement};
+
+    /// Whether key, kind, fields, amount and day are equal.
+    pub fn is_same(&self, other: &MoveRow) -> bool
+        ensures { result ≡ same_movement self.now other.now }
+    {
+        self.key == other.key
+            && self.what.is_same(&other.what)
+            && self.amount == other.amount
+            && self.day == other.day
+    }
+
+    /// Whether it is an actual of this batch.
+    pub fn is_actual_of(&self, order: &Name, number: BatchNo) -> bool
+        ensures { result ≡ is_actual_of order.now number self.now.what }
+    {
+        match &self.what {
+            Move::Actual {
+                order: of,
+                number: n,
+                ..
+            } => *order == *of && number == *n,
+            _ => false,
+        }
+    }
+}
+
+impl Keyed for MoveRow {
+    type Key = Name;
+
+    ghost key_of = { λ row. row.key };
+
+    fn key(&self) -> Name {
+        self.key
+    }
+}

@@ -1,0 +1,176 @@
+-- Every lawful history is within the limits of each kind of rows.
+use Rattle.std.proofs.Common.{◌≡◌, ℕ, ◌+◌, ◌≤◌, Bool, true, false, ◌&&◌, ◌||◌, ◌==◌, cond, nat_le, is_some, is_none, [], ◌∷◌, refl, sym, ap, subst, ◌∙◌, arith}
+use mathlib.Core.Bool.{false≢true}
+use Rattle.std.proofs.lemmas.Bool.{not-false, or_parts}
+use Rattle.std.proofs.lemmas.Bool.Decides.{nat_tests}
+use Rattle.toll_base.specs.Bytes.{Bytes, same_bytes}
+use Rattle.toll_base.specs.Words.{count, is_some_where}
+use Rattle.toll_base.specs.SliceRules.{is_actual_of}
+use Rattle.toll_history.specs.Command.{Action, AddOwner, AddUnit, AddMaterial, AddTest, AddRecipe, Require, PlaceOrder, Record, RecordResult, by}
+use Rattle.toll_history.specs.History.{History, acts, adds_owner, count_owners, adds_some_unit, count_units}
+use Rattle.toll_history.specs.Work.{material_added, test_added, recipe_added, required, order_placed}
+use Rattle.toll_base.specs.Lots.{lot_id}
+use Rattle.toll_history.specs.Movements.{movement_recorded, movements, count_movements, count_actuals_of, first_made, lot_made, makes_lot, makes_sublot, count_lots, count_sublots}
+use Rattle.toll_history.specs.Dispositions.{value_recorded}
+use Rattle.toll_history.specs.Tables.{lot_row}
+use Rattle.toll_history.specs.Verdict.{Accepted, IsLawful, verdict}
+use Rattle.toll_history.specs.Laws.{IsWithinLimits}
+use Rattle.toll_base.specs.declared.role.Role.TheVariants.{Consumed, Produced}
+use Rattle.toll_base.specs.declared.movement.Move.{Move}
+use Rattle.toll_base.specs.declared.movement.Move.TheVariants.{Receive, Split, Ship, Scrap, Actual}
+use Rattle.toll_base.proofs.Bools.{both}
+use Rattle.toll_base.proofs.Texts.{same_bytes-exact, nat_eq-exact, same_bytes-symm}
+use Rattle.toll_history.proofs.Passed.{accepted_passes, MoveFits, move_fits}
+use Rattle.toll_history.proofs.Acts.{along_acts, count_acts}
+use Rattle.toll_history.proofs.Moving.{crosses_not, lot_row_none}
+
+one_more : (is : Bool) (limit n : ℕ) → n ≤ limit → (is ≡ true → nat_le limit n ≡ false) → cond is 1 0 + n ≤ limit
+one_more true limit n le room = let h = room refl in grind (arith, nat_tests)
+one_more false limit n le room = omega arith
+
+-- ---- kinds of actions
+
+-- a kind of an owner's actions, each of which was accepted while there was room
+module _ (is_kind : Action → Bool) (limit : ℕ) (o : Bytes) (room : (H : History) (a : Action) → verdict H (by o a) ≡ Accepted → is_kind a ≡ true → nat_le limit (count is_kind (acts o H)) ≡ false) where
+  pub limited : (H : History) → IsLawful H → count is_kind (acts o H) ≤ limit
+  limited H lawful = along_acts (λ own. count is_kind own ≤ limit) o (omega arith) (λ H a lawful valid accepted le. one_more (is_kind a) limit (count is_kind (acts o H)) le (room H a accepted)) H lawful
+
+module _ (o : Bytes) where
+  material_room : (H : History) (a : Action) → verdict H (by o a) ≡ Accepted → is_some (material_added a) ≡ true → nat_le 200 (count (λ a. is_some (material_added a)) (acts o H)) ≡ false
+  material_room H (AddMaterial row) accepted is = accepted_passes H o (AddMaterial row) accepted 1
+  material_room H _ accepted is = absurd (false≢true is)
+
+  test_room : (H : History) (a : Action) → verdict H (by o a) ≡ Accepted → is_some (test_added a) ≡ true → nat_le 2000 (count (λ a. is_some (test_added a)) (acts o H)) ≡ false
+  test_room H (AddTest row) accepted is = accepted_passes H o (AddTest row) accepted 3
+  test_room H _ accepted is = absurd (false≢true is)
+
+  recipe_room : (H : History) (a : Action) → verdict H (by o a) ≡ Accepted → is_some (recipe_added a) ≡ true → nat_le 200 (count (λ a. is_some (recipe_added a)) (acts o H)) ≡ false
+  recipe_room H (AddRecipe row) accepted is = accepted_passes H o (AddRecipe row) accepted 1
+  recipe_room H _ accepted is = absurd (false≢true is)
+
+  requirement_room : (H : History) (a : Action) → verdict H (by o a) ≡ Accepted → is_some (required a) ≡ true → nat_le 2000 (count (λ a. is_some (required a)) (acts o H)) ≡ false
+  requirement_room H (Require row) accepted is = accepted_passes H o (Require row) accepted 6
+  requirement_room H _ accepted is = absurd (false≢true is)
+
+  order_room : (H : History) (a : Action) → verdict H (by o a) ≡ Accepted → is_some (order_placed a) ≡ true → nat_le 2000 (count (λ a. is_some (order_placed a)) (acts o H)) ≡ false
+  order_room H (PlaceOrder order recipe batches) accepted is = accepted_passes H o (PlaceOrder order recipe batches) accepted 3
+  order_room H _ accepted is = absurd (false≢true is)
+
+  result_room : (H : History) (a : Action) → verdict H (by o a) ≡ Accepted → is_some (value_recorded a) ≡ true → nat_le 20000 (count (λ a. is_some (value_recorded a)) (acts o H)) ≡ false
+  result_room H (RecordResult lot test value day) accepted is = accepted_passes H o (RecordResult lot test value day) accepted 3
+  result_room H _ accepted is = absurd (false≢true is)
+
+  -- ---- movements
+
+  move_room : (H : History) (what : Move) (amount : ℕ) → MoveFits H o what amount → nat_le 20000 (count_movements (acts o H)) ≡ false
+  move_room H (Receive material lot sublot) amount fits = (or_parts (nat_le 20000 (count_movements (acts o H))) _ (fits 4)).0
+  move_room H (Split lot sublot target) amount fits = fits 4
+  move_room H (Ship lot sublot) amount fits = fits 4
+  move_room H (Scrap lot sublot) amount fits = fits 3
+  move_room H (Actual order number segment Consumed material lot sublot) amount fits = (or_parts (nat_le 20000 (count_movements (acts o H))) _ (fits 12)).0
+  move_room H (Actual order number segment Produced material lot sublot) amount fits = (or_parts (nat_le 20000 (count_movements (acts o H))) _ (or_parts (nat_le 20000 (count_movements (acts o H)) || nat_le 200 (count_actuals_of (acts o H) order number)) _ (fits 10)).0).0
+
+  movement_room : (H : History) (a : Action) → verdict H (by o a) ≡ Accepted → is_some (movement_recorded a) ≡ true → nat_le 20000 (count (λ a. is_some (movement_recorded a)) (acts o H)) ≡ false
+  movement_room H (Record row) accepted is = move_room H row.what row.amount (move_fits H o row accepted)
+  movement_room H _ accepted is = absurd (false≢true is)
+
+  pub movements_kept : (H : History) → IsLawful H → count_movements (acts o H) ≤ 20000
+  movements_kept = limited (λ a. is_some (movement_recorded a)) 20000 o movement_room
+
+  batch_room : (H : History) (what : Move) (amount : ℕ) → MoveFits H o what amount → (order : Bytes) (number : ℕ) → is_actual_of order number what ≡ true → nat_le 200 (count_actuals_of (acts o H) order number) ≡ false
+  batch_room H (Actual order' number' segment Consumed material lot sublot) amount fits order number is =
+      let parts = both (same_bytes order order') (number == number') is in
+      ap (λ (k : Bytes × ℕ). nat_le 200 (count_actuals_of (acts o H) k.0 k.1)) (λ i. (same_bytes-exact order order' parts.0 i, nat_eq-exact number number' parts.1 i))
+      ∙ (or_parts (nat_le 20000 (count_movements (acts o H))) (nat_le 200 (count_actuals_of (acts o H) order' number')) (fits 12)).1
+  batch_room H (Actual order' number' segment Produced material lot sublot) amount fits order number is =
+      let parts = both (same_bytes order order') (number == number') is in
+      ap (λ (k : Bytes × ℕ). nat_le 200 (count_actuals_of (acts o H) k.0 k.1)) (λ i. (same_bytes-exact order order' parts.0 i, nat_eq-exact number number' parts.1 i))
+      ∙ (or_parts (nat_le 20000 (count_movements (acts o H))) (nat_le 200 (count_actuals_of (acts o H) order' number')) (or_parts (nat_le 20000 (count_movements (acts o H)) || nat_le 200 (count_actuals_of (acts o H) order' number')) _ (fits 10)).0).1
+  batch_room H _ amount fits order number is = absurd (false≢true is)
+
+  actual_room : (order : Bytes) (number : ℕ) (H : History) (a : Action) → verdict H (by o a) ≡ Accepted → is_some_where (λ row. is_actual_of order number row.what) (movement_recorded a) ≡ true → nat_le 200 (count_actuals_of (acts o H) order number) ≡ false
+  actual_room order number H (Record row) accepted is = batch_room H row.what row.amount (move_fits H o row accepted) order number is
+  actual_room order number H _ accepted is = absurd (false≢true is)
+
+-- ---- owners and units
+
+-- a kind of everybody's actions, each of which was accepted while there was room
+module _ (is_kind : Action → Bool) (limit : ℕ) (room : (H : History) (o : Bytes) (a : Action) → verdict H (by o a) ≡ Accepted → is_kind a ≡ true → nat_le limit (count (λ c. is_kind c.action) H) ≡ false) where
+  limited_for_all : (H : History) → IsLawful H → count (λ c. is_kind c.action) H ≤ limit
+  limited_for_all [] lawful = omega arith
+  limited_for_all (c ∷ H) lawful = one_more (is_kind c.action) limit (count (λ c. is_kind c.action) H) (limited_for_all H lawful.0) (room H c.owner c.action lawful.2)
+
+owner_room : (H : History) (o : Bytes) (a : Action) → verdict H (by o a) ≡ Accepted → adds_owner a ≡ true → nat_le 64 (count_owners H) ≡ false
+owner_room H o (AddOwner key) accepted is = accepted_passes H o (AddOwner key) accepted 1
+owner_room H o _ accepted is = absurd (false≢true is)
+
+pub owners_kept : (H : History) → IsLawful H → count_owners H ≤ 64
+owners_kept = limited_for_all adds_owner 64 owner_room
+
+unit_room : (H : History) (o : Bytes) (a : Action) → verdict H (by o a) ≡ Accepted → adds_some_unit a ≡ true → nat_le 200 (count_units H) ≡ false
+unit_room H o (AddUnit unit) accepted is = accepted_passes H o (AddUnit unit) accepted 1
+unit_room H o _ accepted is = absurd (false≢true is)
+
+pub units_kept : (H : History) → IsLawful H → count_units H ≤ 200
+units_kept = limited_for_all adds_some_unit 200 unit_room
+
+-- ---- lots and sublots
+
+-- none of a first answer with others, and none of that answer alone
+full_of : (moves none full : Bool) → none ≡ true → (moves || none && full) ≡ false → full ≡ false
+full_of true none full is h = absurd (false≢true (sym h))
+full_of false true full is h = h
+full_of false false full is h = absurd (false≢true is)
+
+lot_room : (H : History) (o : Bytes) (what : Move) (amount : ℕ) → MoveFits H o what amount → makes_lot o what (movements H) ≡ true → nat_le 5000 (count_lots H o) ≡ false
+unfolding lot_made
+lot_room H o (Receive material lot sublot) amount fits makes = full_of _ (is_none (lot_row H o lot)) _ (lot_row_none H o lot ∙ makes) (fits 4)
+lot_room H o (Actual order number segment Produced material lot sublot) amount fits makes =
+    let mine = same_bytes-exact lot.owner o (not-false _ (crosses_not H o order number segment Produced material lot sublot amount fits)) in
+    full_of _ (is_none (lot_row H o lot.lot)) _ (lot_row_none H o lot.lot ∙ ap (λ w. is_none (first_made (lot_id w lot.lot) (movements H))) (sym mine) ∙ makes) (fits 10)
+lot_room H o _ amount fits makes = absurd (false≢true makes)
+
+lot_step : (H : History) (w o : Bytes) (a : Action) → verdict H (by w a) ≡ Accepted → count_lots H o ≤ 5000 → count_lots (by w a ∷ H) o ≤ 5000
+unfolding count_lots
+lot_step H w o (Record row) accepted le =
+    one_more (same_bytes o w && makes_lot w row.what (movements H)) 5000 (count_lots H o) le
+    (λ is. let parts = both (same_bytes o w) _ is in ap (λ x. nat_le 5000 (count_lots H x)) (same_bytes-exact o w parts.0) ∙ lot_room H w row.what row.amount (move_fits H w row accepted) parts.1)
+lot_step H w o a accepted le = le
+
+pub lots_kept : (H : History) (o : Bytes) → IsLawful H → count_lots H o ≤ 5000
+unfolding count_lots
+lots_kept [] o lawful = omega arith
+lots_kept (c ∷ H) o lawful = lot_step H c.owner o c.action lawful.2 (lots_kept H o lawful.0)
+
+fewer : (own makes : Bool) (n moves : ℕ) → n ≤ moves → cond (own && makes) 1 0 + n ≤ cond (own && true) 1 0 + moves
+fewer true true n moves le = omega arith
+fewer true false n moves le = omega arith
+fewer false makes n moves le = omega arith
+
+-- a movement makes at most one sublot
+sublot_step : (H : History) (w o : Bytes) (a : Action) → count_sublots H o ≤ count_movements (acts o H) → count_sublots (by w a ∷ H) o ≤ count_movements (acts o (by w a ∷ H))
+unfolding count_sublots
+sublot_step H w o (Record row) le =
+    subst (λ n. cond (same_bytes o w && makes_sublot w row.what (movements H)) 1 0 + count_sublots H o ≤ n)
+    (ap (λ b. cond (b && true) 1 0 + count_movements (acts o H)) (same_bytes-symm o w) ∙ sym (count_acts (λ a. is_some (movement_recorded a)) o (by w (Record row)) H))
+    (fewer (same_bytes o w) (makes_sublot w row.what (movements H)) (count_sublots H o) (count_movements (acts o H)) le)
+sublot_step H w o a le = omega (arith, count_acts (λ a. is_some (movement_recorded a)) o (by w a) H)
+
+pub sublots_of_moves : (H : History) (o : Bytes) → count_sublots H o ≤ count_movements (acts o H)
+unfolding count_sublots
+sublots_of_moves [] o = omega arith
+sublots_of_moves (c ∷ H) o = sublot_step H c.owner o c.action (sublots_of_moves H o)
+
+pub limits_kept : (H : History) (o : Bytes) → IsLawful H → IsWithinLimits H o
+limits_kept H o lawful = record {
+  materials = limited (λ a. is_some (material_added a)) 200 o (material_room o) H lawful;
+  tests = limited (λ a. is_some (test_added a)) 2000 o (test_room o) H lawful;
+  recipes = limited (λ a. is_some (recipe_added a)) 200 o (recipe_room o) H lawful;
+  requirements = limited (λ a. is_some (required a)) 2000 o (requirement_room o) H lawful;
+  orders = limited (λ a. is_some (order_placed a)) 2000 o (order_room o) H lawful;
+  lots = lots_kept H o lawful;
+  sublots = let le = sublots_of_moves H o in let most = movements_kept o H lawful in omega arith;
+  movements = movements_kept o H lawful;
+  results = limited (λ a. is_some (value_recorded a)) 20000 o (result_room o) H lawful;
+  actuals = λ order number. limited (λ a. is_some_where (λ row. is_actual_of order number row.what) (movement_recorded a)) 200 o (actual_room o order number) H lawful;
+}

@@ -1,0 +1,114 @@
+-- An owner's own commands and movements, among those of all.
+use Rattle.std.proofs.Common.{◌≡◌, Bool, true, false, not, ◌&&◌, cond, List, [], ◌∷◌, ◌++◌, map, filter, refl, sym, ap, subst, ◌∙◌}
+use mathlib.Core.Bool.{false≢true}
+use Rattle.toll_base.specs.Bytes.{Bytes, same_bytes}
+use Rattle.toll_history.specs.Command.{Action, Record, Void, Command}
+use Rattle.toll_history.specs.History.{History, part, acts}
+use Rattle.toll_history.specs.Movements.{Movement, moved_by, movements, standing_after, standing, has_key}
+use Rattle.toll_base.proofs.Texts.{same_bytes-exact}
+
+filter_again : {X : Type 0} (p : X → Bool) (xs : List X) → filter p (filter p xs) ≡ filter p xs
+filter_again p [] = refl
+filter_again p (x ∷ xs) =
+    elim (p x) as (λ b. p x ≡ b → filter p (cond b (x ∷ filter p xs) (filter p xs)) ≡ cond b (x ∷ filter p xs) (filter p xs)) [
+      | true ↦ λ passes. rw passes (ap (λ ys. x ∷ ys) (filter_again p xs))
+      | false ↦ λ fails. filter_again p xs
+    ] refl
+
+-- the owner's actions are those of its part
+pub acts-part : (o : Bytes) (H : History) → acts o (part o H) ≡ acts o H
+unfolding part acts
+acts-part o H = ap (map (λ c. c.action)) (filter_again (λ c. same_bytes c.owner o) H)
+
+pub acts-own : (o : Bytes) (c : Command) (H : History) → same_bytes c.owner o ≡ true → acts o (c ∷ H) ≡ c.action ∷ acts o H
+unfolding acts
+acts-own o c H own = rw own refl
+
+pub acts-other : (o : Bytes) (c : Command) (H : History) → same_bytes c.owner o ≡ false → acts o (c ∷ H) ≡ acts o H
+unfolding acts
+acts-other o c H other = rw other refl
+
+pub part-own : (o : Bytes) (c : Command) (H : History) → same_bytes c.owner o ≡ true → part o (c ∷ H) ≡ c ∷ part o H
+unfolding part
+part-own o c H own = rw own refl
+
+pub part-other : (o : Bytes) (c : Command) (H : History) → same_bytes c.owner o ≡ false → part o (c ∷ H) ≡ part o H
+unfolding part
+part-other o c H other = rw other refl
+
+-- ---- movements
+
+abbrev pub is_own : Bytes → Movement → Bool
+is_own o m = same_bytes m.0 o
+
+own_moved : (o p : Bytes) (a : Action) (ms : List Movement) → same_bytes p o ≡ true → filter (is_own o) (moved_by p a ++ ms) ≡ moved_by p a ++ filter (is_own o) ms
+own_moved o p (Record row) ms own = rw own refl
+own_moved o p _ ms own = refl
+
+other_moved : (o p : Bytes) (a : Action) (ms : List Movement) → same_bytes p o ≡ false → filter (is_own o) (moved_by p a ++ ms) ≡ filter (is_own o) ms
+other_moved o p (Record row) ms other = rw other refl
+other_moved o p _ ms other = refl
+
+-- the owner's movements are those of its part
+pub movements-part : (o : Bytes) (H : History) → filter (is_own o) (movements H) ≡ movements (part o H)
+unfolding part
+movements-part o [] = refl
+movements-part o (c ∷ H) =
+    elim (same_bytes c.owner o) as (λ b. same_bytes c.owner o ≡ b → filter (is_own o) (movements (c ∷ H)) ≡ movements (cond b (c ∷ part o H) (part o H))) [
+      | true ↦ λ own. own_moved o c.owner c.action (movements H) own ∙ ap (λ ms. moved_by c.owner c.action ++ ms) (movements-part o H)
+      | false ↦ λ other. other_moved o c.owner c.action (movements H) other ∙ movements-part o H
+    ] refl
+
+filter_swap : {X : Type 0} (p q : X → Bool) (xs : List X) → filter p (filter q xs) ≡ filter q (filter p xs)
+filter_swap p q [] = refl
+filter_swap p q (x ∷ xs) =
+    elim (p x) as (λ b. p x ≡ b → filter p (cond (q x) (x ∷ filter q xs) (filter q xs)) ≡ filter q (cond b (x ∷ filter p xs) (filter p xs))) [
+      | true ↦ λ passes. elim (q x) as (λ b. q x ≡ b → filter p (cond b (x ∷ filter q xs) (filter q xs)) ≡ cond b (x ∷ filter q (filter p xs)) (filter q (filter p xs))) [
+        | true ↦ λ too. rw passes (ap (λ ys. x ∷ ys) (filter_swap p q xs))
+        | false ↦ λ not_too. filter_swap p q xs
+      ] refl
+      | false ↦ λ fails. elim (q x) as (λ b. filter p (cond b (x ∷ filter q xs) (filter q xs)) ≡ filter q (filter p xs)) [
+        | true ↦ rw fails (filter_swap p q xs)
+        | false ↦ filter_swap p q xs
+      ]
+    ] refl
+
+-- a filter that lets all pass that the other does leaves the other's
+filter_idle : {X : Type 0} (p q : X → Bool) → ((x : X) → p x ≡ true → q x ≡ true) → (xs : List X) → filter p (filter q xs) ≡ filter p xs
+filter_idle p q lets [] = refl
+filter_idle p q lets (x ∷ xs) =
+    elim (p x) as (λ b. p x ≡ b → filter p (cond (q x) (x ∷ filter q xs) (filter q xs)) ≡ cond b (x ∷ filter p xs) (filter p xs)) [
+      | true ↦ λ passes. rw (lets x passes, passes) (ap (λ ys. x ∷ ys) (filter_idle p q lets xs))
+      | false ↦ λ fails. elim (q x) as (λ b. filter p (cond b (x ∷ filter q xs) (filter q xs)) ≡ filter p xs) [
+        | true ↦ rw fails (filter_idle p q lets xs)
+        | false ↦ filter_idle p q lets xs
+      ]
+    ] refl
+
+-- one that is not the owner, and one that is, differ
+pub other_than : (p o q : Bytes) → same_bytes p o ≡ false → same_bytes q o ≡ true → same_bytes p q ≡ false
+other_than p o q other own = subst (λ r. same_bytes p r ≡ false) (sym (same_bytes-exact q o own)) other
+
+not_keyed : (b rest : Bool) → b ≡ false → not (b && rest) ≡ true
+not_keyed true rest h = absurd (false≢true (sym h))
+not_keyed false rest h = refl
+
+own_standing : (o p : Bytes) (a : Action) (ms : List Movement) → same_bytes p o ≡ true → filter (is_own o) (standing_after p a ms) ≡ standing_after p a (filter (is_own o) ms)
+own_standing o p (Record row) ms own = rw own refl
+own_standing o p (Void key) ms own = filter_swap (is_own o) (λ m. not (has_key p key m)) ms
+own_standing o p _ ms own = refl
+
+other_standing : (o p : Bytes) (a : Action) (ms : List Movement) → same_bytes p o ≡ false → filter (is_own o) (standing_after p a ms) ≡ filter (is_own o) ms
+other_standing o p (Record row) ms other = rw other refl
+other_standing o p (Void key) ms other = filter_idle (is_own o) (λ m. not (has_key p key m)) (λ m own. not_keyed (same_bytes p m.0) (same_bytes key m.1.key) (other_than p o m.0 other own)) ms
+other_standing o p _ ms other = refl
+
+-- the owner's standing movements are those of its part
+pub standing-part : (o : Bytes) (H : History) → filter (is_own o) (standing H) ≡ standing (part o H)
+unfolding part
+standing-part o [] = refl
+standing-part o (c ∷ H) =
+    elim (same_bytes c.owner o) as (λ b. same_bytes c.owner o ≡ b → filter (is_own o) (standing (c ∷ H)) ≡ standing (cond b (c ∷ part o H) (part o H))) [
+      | true ↦ λ own. own_standing o c.owner c.action (standing H) own ∙ ap (standing_after c.owner c.action) (standing-part o H)
+      | false ↦ λ other. other_standing o c.owner c.action (standing H) other ∙ standing-part o H
+    ] refl

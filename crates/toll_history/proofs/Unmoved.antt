@@ -1,0 +1,14 @@
+-- An action that records and voids nothing leaves the movements, the lots and the stock as they are.
+use Rattle.std.proofs.Common.{◌≡◌, false, refl, sym}
+use mathlib.Core.Bool.{false≢true}
+use Rattle.toll_base.specs.Bytes.{Bytes}
+use Rattle.toll_history.specs.Command.{Action, Record, Void, by}
+use Rattle.toll_history.specs.History.{History}
+use Rattle.toll_history.specs.Movements.{stock, sublot_known, lot_made, count_lots, count_sublots, material_used}
+use Rattle.toll_history.specs.Laws.{records_or_voids, IsUnmoved}
+
+pub unmoved : (H : History) (o : Bytes) (a : Action) → records_or_voids a ≡ false → IsUnmoved H (by o a)
+unfolding stock sublot_known lot_made count_lots count_sublots material_used
+unmoved H o (Record row) none = absurd (false≢true (sym none))
+unmoved H o (Void key) none = absurd (false≢true (sym none))
+unmoved H o a none = record { movements = refl; standing = refl; stock = refl; known = refl; made = refl; lots = refl; sublots = refl; used = refl }

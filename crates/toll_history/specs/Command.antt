@@ -1,0 +1,37 @@
+-- What the office is asked to write down.
+use Rattle.std.specs.Prelude.{ℕ, ℤ}
+use Rattle.toll_base.specs.Bytes.{Bytes}
+use Rattle.toll_base.specs.declared.rows.MaterialRow.{MaterialRow}
+use Rattle.toll_base.specs.declared.rows.TestRow.{TestRow}
+use Rattle.toll_base.specs.declared.rows.RecipeRow.{RecipeRow}
+use Rattle.toll_base.specs.declared.rows.RequirementRow.{RequirementRow}
+use Rattle.toll_base.specs.declared.movement.MoveRow.{MoveRow}
+use Rattle.toll_base.specs.declared.state_command.StateCommand.{StateCommand}
+
+-- what is done; everything is named within the owner that the command concerns
+pub data Action : Type 0 where
+  AddOwner : (key : Bytes) → Action
+  AddUnit : (unit : Bytes) → Action
+  AddMaterial : (row : MaterialRow) → Action
+  AddTest : (row : TestRow) → Action
+  AddRecipe : (row : RecipeRow) → Action
+  Require : (row : RequirementRow) → Action
+  PlaceOrder : (order recipe : Bytes) (batches : ℕ) → Action
+  CancelOrder : (order : Bytes) → Action
+  OpenBatch : (order unit : Bytes) → Action
+  CommandBatch : (order : Bytes) (number : ℕ) (command : StateCommand) → Action
+  CloseBatch : (order : Bytes) (number : ℕ) → Action
+  Record : (row : MoveRow) → Action
+  RecordResult : (lot test : Bytes) (value : ℤ) (day : ℕ) → Action
+  Release : (lot : Bytes) → Action
+  Reject : (lot : Bytes) → Action
+  Void : (key : Bytes) → Action
+
+-- a command concerns one owner: adding an owner concerns that owner, adding a unit HOUSE, an actual the batch's owner
+pub record Command : Type 0 where
+  pub owner : Bytes
+  pub action : Action
+
+-- this owner's command
+abbrev pub by : Bytes → Action → Command
+by o action = record { owner = o; action = action }

@@ -1,0 +1,99 @@
+-- What every lawful history keeps, where it has a name.
+use Rattle.std.specs.Prelude.{◌≡◌, ℕ, ◌≤◌, Bool, true, false, ◌||◌, Option, Some, None, List, ◌∷◌, if◌then◌else◌}
+use Rattle.std.specs.List.{list_any}
+use Rattle.toll_base.specs.Bytes.{Bytes, same_bytes}
+use Rattle.toll_base.specs.Values.{house_name}
+use Rattle.toll_base.specs.Words.{is_some_where}
+use Rattle.toll_history.specs.Command.{Action, Record, Void, Command}
+use Rattle.toll_history.specs.History.{History, acts}
+use Rattle.toll_history.specs.Work.{count_materials, count_tests, count_recipes, count_requirements, count_orders}
+use Rattle.toll_base.specs.Lots.{lot_id, same_lot}
+use Rattle.toll_history.specs.Movements.{Movement, Made, made_by, lot_made, movement_of, movement_recorded, movements, standing, stock, material_used, brings_into, takes_from, sublot_known, count_movements, count_actuals_of, count_lots, count_sublots}
+use Rattle.toll_history.specs.Dispositions.{count_results, count_results_of, releases, rejects, disposition_of, has_open_test}
+use Rattle.toll_base.specs.declared.lot.LotId.{LotId}
+use Rattle.toll_base.specs.declared.lot.Disposition.TheVariants.{Released}
+use Rattle.toll_base.specs.declared.role.Role.TheVariants.{Consumed}
+use Rattle.toll_base.specs.declared.movement.MoveRow.{MoveRow}
+use Rattle.toll_base.specs.declared.movement.Move.{Move}
+use Rattle.toll_base.specs.declared.movement.Move.TheVariants.{Ship, Actual}
+
+-- an owner has no more of each kind than the office keeps
+pub record IsWithinLimits (H : History) (o : Bytes) : Type 0 where
+  pub materials : count_materials (acts o H) ≤ 200
+  pub tests : count_tests (acts o H) ≤ 2000
+  pub recipes : count_recipes (acts o H) ≤ 200
+  pub requirements : count_requirements (acts o H) ≤ 2000
+  pub orders : count_orders (acts o H) ≤ 2000
+  pub lots : count_lots H o ≤ 5000
+  pub sublots : count_sublots H o ≤ 20000
+  pub movements : count_movements (acts o H) ≤ 20000
+  pub results : count_results (acts o H) ≤ 20000
+  pub actuals : (order : Bytes) (number : ℕ) → count_actuals_of (acts o H) order number ≤ 200
+
+-- the lot was neither released nor rejected, and has no results
+pub record IsUntouched (own : List Action) (lot : Bytes) : Type 0 where
+  pub released : list_any (releases lot) own ≡ false
+  pub rejected : list_any (rejects lot) own ≡ false
+  pub results : (test : Bytes) → count_results_of own lot test ≡ 0
+
+-- a sublot that the movement brings into is known, and of a lot of the movement's owner
+abbrev pub BringsOwn : History → Movement → Type 0
+BringsOwn H m = (id : LotId) (sub : Bytes) → brings_into id sub m.0 m.1.what ≡ true → (id.owner ≡ m.0) × (sublot_known H id sub ≡ true)
+
+-- a sublot that the movement takes from is known, and of a lot of the movement's owner or HOUSE
+abbrev pub TakesKnown : History → Movement → Type 0
+TakesKnown H m = (id : LotId) (sub : Bytes) → takes_from id sub m.0 m.1.what ≡ true → (sublot_known H id sub ≡ true) × ((same_bytes id.owner m.0 || same_bytes id.owner house_name) ≡ true)
+
+-- the lot that the movement makes is what it makes it
+abbrev pub Agrees : History → Movement → Type 0
+Agrees H m = (id : LotId) (made : Made) → made_by id m.0 m.1.what ≡ Some made → lot_made H id ≡ Some made
+
+-- the action records a movement with the key
+abbrev pub has_this_key : Bytes → Action → Bool
+has_this_key key a = is_some_where (λ row. same_bytes key row.key) (movement_recorded a)
+
+-- what a movement of this owner brings into the sublot
+abbrev pub coming : LotId → Bytes → Bytes → MoveRow → ℕ
+coming id sub o row = if brings_into id sub o row.what then row.amount else 0
+
+-- what a movement of this owner takes from the sublot
+abbrev pub going : LotId → Bytes → Bytes → MoveRow → ℕ
+going id sub o row = if takes_from id sub o row.what then row.amount else 0
+
+-- the action records or voids a movement
+abbrev pub records_or_voids : Action → Bool
+records_or_voids (Record row) = true
+records_or_voids (Void key) = true
+records_or_voids _ = false
+
+-- the command leaves the movements, the lots and the stock as they are
+pub record IsUnmoved (H : History) (c : Command) : Type 0 where
+  pub movements : movements (c ∷ H) ≡ movements H
+  pub standing : standing (c ∷ H) ≡ standing H
+  pub stock : stock (c ∷ H) ≡ stock H
+  pub known : sublot_known (c ∷ H) ≡ sublot_known H
+  pub made : lot_made (c ∷ H) ≡ lot_made H
+  pub lots : count_lots (c ∷ H) ≡ count_lots H
+  pub sublots : count_sublots (c ∷ H) ≡ count_sublots H
+  pub used : material_used (c ∷ H) ≡ material_used H
+
+-- the movement that a command records or voids
+abbrev pub movement_in : History → Command → Option MoveRow
+movement_in H c = elim c.action [ Record row ↦ Some row | Void key ↦ movement_of (acts c.owner H) key | _ ↦ None ]
+
+-- the command records or voids a movement that takes from the sublot
+abbrev pub is_taken_in : History → Command → LotId → Bytes → Bool
+is_taken_in H c id sub = is_some_where (λ row. takes_from id sub c.owner row.what) (movement_in H c)
+
+-- a movement of this owner gives material of the lot to a shipment or a batch
+abbrev pub gives_from : LotId → Bytes → Move → Bool
+gives_from id o (Ship lot sublot) = same_lot id (lot_id o lot)
+gives_from id o (Actual order number segment Consumed material lot sublot) = same_lot id lot
+gives_from id o _ = false
+
+-- the lot is known and released, and none of its tests is open
+pub record IsCleared (H : History) (id : LotId) : Type 0 where
+  pub made : Made
+  pub known : lot_made H id ≡ Some made
+  pub released : disposition_of (acts id.owner H) made.material id.lot ≡ Released
+  pub tested : has_open_test (acts id.owner H) made.material id.lot ≡ false

@@ -1,0 +1,14 @@
+pub mod Command
+pub mod History
+pub mod Work
+pub mod Movements
+pub mod Dispositions
+pub mod Holders
+pub mod Tables
+pub mod Verdict
+pub mod Bounds
+pub mod Decision
+pub mod OwnChanges
+pub mod Amounts
+pub mod Laws
+pub mod Worked

@@ -1,0 +1,131 @@
+-- Materials, tests, recipes, orders and batches of one owner, of which the owner's own actions tell.
+use Rattle.std.specs.Prelude.{ℕ, ◌+◌, Bool, false, ◌&&◌, ◌==◌, if◌then◌else◌, Option, Some, None, is_some, List, [], ◌∷◌}
+use Rattle.std.specs.List.{list_any}
+use Rattle.std.specs.Option.{option_map}
+use Rattle.std.specs.Ordering.{is_eq}
+use Rattle.toll_base.specs.Bytes.{Bytes, same_bytes}
+use Rattle.toll_base.specs.Keys.{RequirementKey, requirement_cmp}
+use Rattle.toll_base.specs.Words.{count, first_some, where_so, or_else}
+use Rattle.toll_base.specs.States.{followed}
+use Rattle.toll_history.specs.Command.{Action, AddMaterial, AddTest, AddRecipe, Require, PlaceOrder, CancelOrder, OpenBatch, CommandBatch, CloseBatch}
+use Rattle.toll_base.specs.declared.state.State.{State}
+use Rattle.toll_base.specs.declared.state.State.TheVariants.{Idle}
+use Rattle.toll_base.specs.declared.rows.MaterialRow.{MaterialRow}
+use Rattle.toll_base.specs.declared.rows.TestRow.{TestRow}
+use Rattle.toll_base.specs.declared.rows.RecipeRow.{RecipeRow}
+use Rattle.toll_base.specs.declared.rows.RequirementRow.{RequirementRow}
+use Rattle.toll_base.specs.declared.rows.OrderRow.{OrderRow}
+use Rattle.toll_base.specs.declared.rows.BatchRow.{BatchRow}
+
+-- ---- materials and tests (IEC 62264-2, material definitions and test specifications)
+
+abbrev pub material_added : Action → Option MaterialRow
+material_added (AddMaterial row) = Some row
+material_added _ = None
+
+-- the material with this name
+abbrev pub material_of : List Action → Bytes → Option MaterialRow
+material_of own m = first_some (λ a. elim (material_added a) [ Some row ↦ where_so (same_bytes m row.material) row | None ↦ None ]) own
+
+abbrev pub count_materials : List Action → ℕ
+count_materials own = count (λ a. is_some (material_added a)) own
+
+abbrev pub test_added : Action → Option TestRow
+test_added (AddTest row) = Some row
+test_added _ = None
+
+-- the test of the material
+abbrev pub test_of : List Action → Bytes × Bytes → Option TestRow
+test_of own k = first_some (λ a. elim (test_added a) [ Some row ↦ where_so (same_bytes k.0 row.material && same_bytes k.1 row.test) row | None ↦ None ]) own
+
+abbrev pub count_tests : List Action → ℕ
+count_tests own = count (λ a. is_some (test_added a)) own
+
+-- ---- recipes and their requirements (IEC 62264-2, segment requirements)
+
+abbrev pub recipe_added : Action → Option RecipeRow
+recipe_added (AddRecipe row) = Some row
+recipe_added _ = None
+
+abbrev pub recipe_of : List Action → Bytes → Option RecipeRow
+recipe_of own r = first_some (λ a. elim (recipe_added a) [ Some row ↦ where_so (same_bytes r row.recipe) row | None ↦ None ]) own
+
+abbrev pub count_recipes : List Action → ℕ
+count_recipes own = count (λ a. is_some (recipe_added a)) own
+
+abbrev pub required : Action → Option RequirementRow
+required (Require row) = Some row
+required _ = None
+
+-- the two keys of requirements are equal
+abbrev pub same_requirement : RequirementKey → RequirementKey → Bool
+same_requirement a b = is_eq (requirement_cmp a b)
+
+abbrev pub requirement_of : List Action → RequirementKey → Option RequirementRow
+requirement_of own k = first_some (λ a. elim (required a) [ Some row ↦ where_so (same_requirement k (row.recipe, row.segment, row.role, row.source, row.material)) row | None ↦ None ]) own
+
+abbrev pub count_requirements : List Action → ℕ
+count_requirements own = count (λ a. is_some (required a)) own
+
+-- ---- orders (IEC 62264-2, operations requests)
+
+abbrev pub order_placed : Action → Option OrderRow
+order_placed (PlaceOrder o r n) = Some (record { order = o; recipe = r; batches = n; cancelled = false })
+order_placed _ = None
+
+abbrev pub cancels : Bytes → Action → Bool
+cancels order (CancelOrder o) = same_bytes o order
+cancels order _ = false
+
+-- the order with this name, as it was placed and cancelled
+abbrev pub order_of : List Action → Bytes → Option OrderRow
+order_of own order =
+    option_map {T = OrderRow} (λ row. record row { cancelled = list_any (cancels order) own })
+    (first_some (λ a. elim (order_placed a) [ Some row ↦ where_so (same_bytes order row.order) row | None ↦ None ]) own)
+
+abbrev pub count_orders : List Action → ℕ
+count_orders own = count (λ a. is_some (order_placed a)) own
+
+abbrev pub names_recipe : Bytes → Action → Bool
+names_recipe recipe (PlaceOrder o r n) = same_bytes r recipe
+names_recipe recipe _ = false
+
+-- an order names the recipe, cancelled or not
+abbrev pub recipe_used : List Action → Bytes → Bool
+recipe_used own recipe = list_any (names_recipe recipe) own
+
+-- ---- batches (IEC 62264-4, job orders)
+
+abbrev pub opens : Bytes → Action → Bool
+opens order (OpenBatch o unit) = same_bytes o order
+opens order _ = false
+
+-- how many batches of the order were opened
+abbrev pub count_opened : List Action → Bytes → ℕ
+count_opened own order = count (opens order) own
+
+abbrev pub unit_opened : Action → Option Bytes
+unit_opened (OpenBatch o unit) = Some unit
+unit_opened _ = None
+
+-- the unit of the batch, which is the opening of the order with this number
+abbrev pub unit_of : List Action → Bytes → ℕ → Option Bytes
+unit_of [] order number = None
+unit_of (a ∷ own) order number = or_else (if opens order a && count_opened own order + 1 == number then unit_opened a else None) (unit_of own order number)
+
+-- the state of a batch, from idle along the commands to it
+abbrev pub state_of : List Action → Bytes → ℕ → State
+state_of [] order number = Idle
+state_of (CommandBatch o n command ∷ own) order number = if same_bytes o order && n == number then followed (state_of own order number) command else state_of own order number
+state_of (_ ∷ own) order number = state_of own order number
+
+abbrev pub closes : Bytes → ℕ → Action → Bool
+closes order number (CloseBatch o n) = same_bytes o order && n == number
+closes order number _ = false
+
+abbrev pub is_closed : List Action → Bytes → ℕ → Bool
+is_closed own order number = list_any (closes order number) own
+
+-- the batch with this order and number
+abbrev pub batch_of : List Action → Bytes × ℕ → Option BatchRow
+batch_of own k = option_map (λ unit. record { order = k.0; number = k.1; unit = unit; state = state_of own k.0 k.1; closed = is_closed own k.0 k.1 }) (unit_of own k.0 k.1)

@@ -1,0 +1,51 @@
+-- What a movement that takes from one of its owner's sublots does to the tables of all.
+use Rattle.std.proofs.Common.{◌≡◌, ◌-◌, false, ◌&&◌, None, is_some, is_none, List, [], ◌∷◌, sym, ap, ◌∙◌}
+use Rattle.toll_base.specs.Bytes.{Bytes, same_bytes}
+use Rattle.toll_history.specs.Command.{Record, by}
+use Rattle.toll_history.specs.History.{History}
+use Rattle.toll_base.specs.Lots.{lot_id}
+use Rattle.toll_history.specs.Movements.{Movement, made_by, makes_lot, makes_sublot, lot_brought, brings_into, takes_from}
+use Rattle.toll_history.specs.Tables.{Tables, tables_of, sublot_row}
+use Rattle.toll_history.specs.Verdict.{Accepted, amount_in, verdict}
+use Rattle.toll_base.specs.declared.movement.MoveRow.{MoveRow}
+use Rattle.toll_base.specs.declared.rows.SublotRow.{SublotRow}
+use Rattle.toll_base.specs.declared.rows.Row.{Row}
+use Rattle.toll_base.specs.declared.rows.Row.TheVariants.{Sublot, Move}
+use Rattle.toll_history.proofs.Decided.{Grows, LeavesOthers}
+use Rattle.toll_history.proofs.Passed.{accepted_passes}
+use Rattle.toll_history.proofs.PutMoves.{with_move, with_sublot, put_went}
+use Rattle.toll_history.proofs.Recorded.{went_out, tables-untaken}
+use Rattle.toll_base.proofs.Texts.{same_bytes-refl, same_bytes-symm}
+
+-- of the owner's lots, the movement takes from this sublot and does nothing else
+pub record Withdraws (row : MoveRow) (lot sublot : Bytes) : Type 0 where
+  pub takes : (p o : Bytes) (k : Bytes × Bytes) → takes_from (lot_id p k.0) k.1 o row.what ≡ ((same_bytes p o && same_bytes k.0 lot) && same_bytes k.1 sublot)
+  pub brings : (o : Bytes) (k : Bytes × Bytes) → brings_into (lot_id o k.0) k.1 o row.what ≡ false
+  pub makes : (o l : Bytes) → made_by (lot_id o l) o row.what ≡ None
+  pub no_lot : (o : Bytes) (ms : List Movement) → makes_lot o row.what ms ≡ false
+  pub no_sublot : (o : Bytes) (ms : List Movement) → makes_sublot o row.what ms ≡ false
+  pub into_none : (o : Bytes) → lot_brought o (o, row) ≡ None
+
+module _ (row : MoveRow) (lot sublot : Bytes) (withdraws : Withdraws row lot sublot) where
+  abbrev pub left : Tables → SublotRow
+  left t = record { lot = lot; sublot = sublot; amount = amount_in t lot sublot - row.amount }
+
+  abbrev pub rows : Tables → List Row
+  rows t = Move row ∷ Sublot (left t) ∷ []
+
+  pub leaves : LeavesOthers (Record row)
+  leaves H o p lawful valid accepted other =
+      tables-untaken H o row lawful valid accepted p other
+      (λ k. withdraws.takes p o k ∙ ap (λ b. (b && same_bytes k.0 lot) && same_bytes k.1 sublot) (same_bytes-symm p o ∙ other))
+
+  -- where the sublot is known
+  pub grows : ((H : History) (o : Bytes) → verdict H (by o (Record row)) ≡ Accepted → is_none (sublot_row H o (lot, sublot)) ≡ false) → Grows (Record row) rows
+  grows known H s lawful valid accepted there =
+      put_went s row (left (tables_of s)) (ap (λ (t : Tables). is_some (t.movement row.key)) there ∙ accepted_passes H s.owner (Record row) accepted 2)
+      ∙ (λ i. with_sublot (left (there i)) (with_move row (there i)))
+      ∙ sym (went_out H s.owner row lawful valid accepted lot sublot
+      ((λ l. withdraws.makes s.owner l), withdraws.no_lot s.owner _, withdraws.into_none s.owner)
+      (withdraws.no_sublot s.owner _)
+      (known H s.owner accepted)
+      (λ k. withdraws.brings s.owner k)
+      (λ k. withdraws.takes s.owner s.owner k ∙ ap (λ b. (b && same_bytes k.0 lot) && same_bytes k.1 sublot) (same_bytes-refl s.owner)))
