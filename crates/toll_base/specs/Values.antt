@@ -1,8 +1,10 @@
 -- The values of the office: which bytes and which numbers they are.
-use Rattle.std.specs.Prelude.{ℕ, Bool, false, not, ◌&&◌, ◌||◌, ◌==◌, nat_le, Option, Some, None, if◌then◌else◌, [], ◌∷◌, length, codes}
+use Rattle.std.specs.Prelude.{ℕ, ◌≤◌, ℤ, ◌≤ℤ◌, Bool, false, not, ◌&&◌, ◌||◌, ◌==◌, nat_le, Option, Some, None, if◌then◌else◌, [], ◌∷◌, length, codes}
 use Rattle.std.specs.List.{list_all}
 use Rattle.std.specs.Str.Parse.{digits_value}
 use Rattle.toll_base.specs.Bytes.{Bytes}
+use Rattle.toll_base.specs.declared.bounded.TheConstants.{MOST_AMOUNT, MOST_DAY, MOST_SEGMENTS, MOST_BATCHES}
+use Rattle.toll_base.specs.declared.value.TheConstants.{LEAST_VALUE, MOST_VALUE}
 
 abbrev pub is_capital : ℕ → Bool
 is_capital b = nat_le 65 b && nat_le b 90
@@ -51,3 +53,25 @@ house_name = codes "HOUSE"
 -- the number that these bytes write: 1 to 10 decimal digits, leading zeros allowed
 abbrev pub number_of : Bytes → Option ℕ
 number_of bytes = if is_text_of is_digit 1 10 bytes then Some (digits_value 10 bytes) else None
+
+-- ---- numbers
+
+-- an amount of material
+abbrev pub IsAmount : ℕ → Type 0
+IsAmount n = (1 ≤ n) × (n ≤ MOST_AMOUNT)
+
+-- a day
+abbrev pub IsDay : ℕ → Type 0
+IsDay n = n ≤ MOST_DAY
+
+-- a segment of a recipe, or how many it has
+abbrev pub IsSegment : ℕ → Type 0
+IsSegment n = (1 ≤ n) × (n ≤ MOST_SEGMENTS)
+
+-- a batch of an order, or how many it has
+abbrev pub IsBatchNo : ℕ → Type 0
+IsBatchNo n = (1 ≤ n) × (n ≤ MOST_BATCHES)
+
+-- a value of a test, or a limit of it
+abbrev pub IsValue : ℤ → Type 0
+IsValue z = (LEAST_VALUE ≤ℤ z) × (z ≤ℤ MOST_VALUE)

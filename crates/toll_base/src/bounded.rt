@@ -1,5 +1,6 @@
 //! Numbers within bounds.
 ghost use Rattle.std.specs.Prelude.{◌≡◌, ℕ, ◌≤◌, OnErr, OkIff};
+ghost use Rattle.toll_base.specs.Values.{IsAmount, IsDay, IsSegment, IsBatchNo};
 
 use crate::refusal::Refusal;
 use std::marker::Model;
@@ -42,14 +43,49 @@ impl<const LEAST: u64, const MOST: u64> Bounded<LEAST, MOST> {
     }
 }
 
+/// The greatest amount.
+pub const MOST_AMOUNT: u64 = 1_000_000_000;
+
+/// The last day.
+pub const MOST_DAY: u64 = 9_999_999;
+
+/// The most segments of a recipe.
+pub const MOST_SEGMENTS: u64 = 50;
+
+/// The most batches of an order.
+pub const MOST_BATCHES: u64 = 99;
+
 /// An amount of material, in its measure: 1 to 1,000,000,000.
-pub type Amount = Bounded<1, 1_000_000_000>;
+pub type Amount = Bounded<1, MOST_AMOUNT>;
 
 /// A day: 0 to 9,999,999, kept and printed, never interpreted.
-pub type Day = Bounded<0, 9_999_999>;
+pub type Day = Bounded<0, MOST_DAY>;
 
 /// The number of a segment of a recipe, or how many segments it has: 1 to 50.
-pub type Segment = Bounded<1, 50>;
+pub type Segment = Bounded<1, MOST_SEGMENTS>;
 
 /// The number of a batch of an order, or how many batches it has: 1 to 99.
-pub type BatchNo = Bounded<1, 99>;
+pub type BatchNo = Bounded<1, MOST_BATCHES>;
+
+/// What a number is to each of these types: one of its values just where the definitions say so, and
+/// [`Refusal::BadAmount`] elsewhere.
+pub fn numbers_are_those_defined(
+    n: u64,
+) -> (
+    Result<Amount, Refusal>,
+    Result<Day, Refusal>,
+    Result<Segment, Refusal>,
+    Result<BatchNo, Refusal>,
+)
+    ensures amount { OkIff result.0 (IsAmount n) n }
+    ensures day { OkIff result.1 (IsDay n) n }
+    ensures segment { OkIff result.2 (IsSegment n) n }
+    ensures batch { OkIff result.3 (IsBatchNo n) n }
+{
+    (
+        Amount::new(n),
+        Day::new(n),
+        Segment::new(n),
+        BatchNo::new(n),
+    )
+}

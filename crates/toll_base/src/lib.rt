@@ -3,6 +3,7 @@
 
 mod actual_count;
 mod bounded;
+mod capacity;
 mod decimal;
 mod decision;
 mod limits;
@@ -24,11 +25,19 @@ mod tests;
 mod text;
 mod value;
 
-pub use bounded::{Amount, BatchNo, Bounded, Day, Segment};
+pub use bounded::{
+    Amount, BatchNo, Bounded, Day, MOST_AMOUNT, MOST_BATCHES, MOST_DAY, MOST_SEGMENTS, Segment,
+    numbers_are_those_defined,
+};
+pub use capacity::{
+    MOST_ACTUALS, MOST_LOTS, MOST_MATERIALS, MOST_MOVEMENTS, MOST_ORDERS, MOST_OWNERS,
+    MOST_RECIPES, MOST_REQUIREMENTS, MOST_RESULTS, MOST_STOCK, MOST_SUBLOTS, MOST_TESTS,
+    MOST_UNITS,
+};
 pub use decimal::number;
 pub use decision::{Change, Decision};
 pub use limits::Limits;
-pub use lot::{Disposition, Edge, LotId, Origin};
+pub use lot::{Disposition, Edge, LotId, Origin, lots_and_edges_are_ordered};
 pub use measure::Measure;
 pub use movement::{Move, MoveRow};
 pub use name::Name;
@@ -44,4 +53,4 @@ pub use state::State;
 pub use state_command::StateCommand;
 pub use table::{Keyed, Table};
 pub use text::Text;
-pub use value::Value;
+pub use value::{LEAST_VALUE, MOST_VALUE, Value};

@@ -1,6 +1,10 @@
 //! Lots: their names, their origin and their disposition.
+ghost use Rattle.std.specs.Prelude.{◌≡◌};
+ghost use Rattle.toll_base.specs.Lots.{lot_cmp, edge_cmp};
+
 use crate::bounded::BatchNo;
 use crate::name::Name;
+use std::cmp::Ordering;
 
 /// What may be done with a lot (the disposition of a material lot, IEC 62264-2).
 #[derive(Clone, Copy, Debug, PartialEq, Eq)]
@@ -45,4 +49,13 @@ impl LotId {
 pub struct Edge {
     pub from: LotId,
     pub to: LotId,
+}
+
+/// Lots are ordered by their owner, then by their name, and edges by the lot that they lead from, then
+/// by the one that they lead to.
+pub fn lots_and_edges_are_ordered(lots: (LotId, LotId), edges: (Edge, Edge)) -> (Ordering, Ordering)
+    ensures lots { result.0 ≡ lot_cmp lots.0 lots.1 }
+    ensures edges { result.1 ≡ edge_cmp edges.0 edges.1 }
+{
+    (lots.0.cmp(&lots.1), edges.0.cmp(&edges.1))
 }

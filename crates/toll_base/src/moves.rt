@@ -8,6 +8,7 @@ ghost use Rattle.toll_base.specs.Words.{is_some_where};
 
 use crate::actual_count::{ActualCount, add_one, add_row, count_in, take_one};
 use crate::bounded::BatchNo;
+use crate::capacity::MOST_MOVEMENTS;
 use crate::movement::{Move, MoveRow};
 use crate::name::Name;
 use crate::table::Table;
@@ -86,7 +87,7 @@ impl Moves {
 
     /// Adds the movement, or puts it in place of the one with its key.
     pub fn put(&mut self, row: MoveRow) -> Result<(), AllocError>
-        requires { length self.old ≤ 20000 }
+        requires { length self.old ≤ MOST_MOVEMENTS }
         ensures ok { OnOk result (self.new ≡ put_row bytes_cmp (λ row. row.key) self.old row) }
         ensures err { OnErr result (self.new ≡ self.old) }
     {

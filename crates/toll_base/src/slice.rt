@@ -7,7 +7,11 @@ ghost use Rattle.toll_base.specs.Words.{is_some_where};
 ghost use Rattle.toll_base.specs.Slice.{empty_slice, with_row, material_at, test_at, recipe_at, requirement_at, order_at, batch_at, lot_at, sublot_at, move_at, result_at, void_at, amount_at};
 ghost use Rattle.toll_base.specs.SliceRules.{KeepsRules, row_fits, batch_has_room, count_actuals, is_actual_of};
 
-use crate::bounded::{Amount, BatchNo, Segment};
+use crate::bounded::{BatchNo, Segment};
+use crate::capacity::{
+    MOST_ACTUALS, MOST_LOTS, MOST_MATERIALS, MOST_MOVEMENTS, MOST_ORDERS, MOST_RECIPES,
+    MOST_REQUIREMENTS, MOST_RESULTS, MOST_STOCK, MOST_SUBLOTS, MOST_TESTS,
+};
 use crate::movement::{Move, MoveRow};
 use crate::moves::Moves;
 use crate::name::Name;
@@ -20,30 +24,7 @@ use crate::table::Table;
 use std::alloc::{AllocError, Global};
 use std::marker::Model;
 
-const MOST_MATERIALS: usize = 200;
-
-const MOST_TESTS: usize = 2_000;
-
-const MOST_RECIPES: usize = 200;
-
-const MOST_REQUIREMENTS: usize = 2_000;
-
-const MOST_ORDERS: usize = 2_000;
-
-const MOST_LOTS: usize = 5_000;
-
-const MOST_SUBLOTS: usize = 20_000;
-
-const MOST_MOVEMENTS: usize = 20_000;
-
-const MOST_RESULTS: usize = 20_000;
-
-const MOST_ACTUALS: u64 = 200;
-
-const MOST_STOCK: u64 = 20_000_000_000_000;
-
 /// All rows of one owner, each kind in the order of its keys.
-#[derive(Drop)]
 pub struct Slice {
     owner: Name,
     materials: Table<MaterialRow>,
@@ -70,6 +51,26 @@ impl Model for Slice {
     ghost view = { shown };
 
     ghost invariant = { λ s. KeepsRules (shown s) };
+}
+
+/// By hand, since what is derived is written out at every exit of every function that owns a slice.
+impl Drop for Slice {
+    fn drop(self) {
+        let Slice {
+            owner: _,
+            materials: _,
+            tests: _,
+            recipes: _,
+            requirements: _,
+            orders: _,
+            batches: _,
+            lots: _,
+            sublots: _,
+            moves: _,
+            results: _,
+            voids: _,
+        } = self;
+    }
 }
 
 impl Slice {
@@ -370,7 +371,7 @@ impl Slice {
     /// How much is in the sublot, 0 where there is none: at most 20,000,000,000,000.
     pub fn amount_in(&self, lot: &Name, sublot: &Name) -> u64
         ensures amount { result ≡ amount_at self.now (lot.now, sublot.now) }
-        ensures bound { result ≤ 20000000000000 }
+        ensures bound { result ≤ MOST_STOCK }
     {
         let _owner = &self.owner;
         match self.sublot(lot, sublot) {

@@ -15,7 +15,7 @@ use Rattle.toll_trace.specs.declared.way.Way.{Way}
 use Rattle.toll_trace.specs.Chain.{edge_of, IsJoined}
 use Rattle.toll_trace.specs.Edges.{AreEdges}
 use Rattle.toll_trace.specs.InOrder.{IsInOrder}
-use Rattle.toll_trace.specs.Order.{lot_cmp, edge_cmp}
+use Rattle.toll_base.specs.Lots.{lot_cmp, edge_cmp}
 use Rattle.toll_trace.specs.Search.{step_at}
 use Rattle.toll_trace.specs.Trace.{IsTrace}
 use Rattle.toll_trace.proofs.Members.{Contains-none, Contains-here, Contains-later, Contains-cases, Contains-filter, Contains-from_filter, Contains-filter_map, Contains-from_filter_map}

@@ -12,6 +12,7 @@ use Rattle.toll_history.specs.Verdict.{Checks, Accepted, Repeated, Refused as Re
 use Rattle.toll_base.specs.Changes.{changes_of, after_changes}
 use Rattle.toll_history.specs.Decision.{verdict_of, ChangesKeepRules}
 use Rattle.toll_history.specs.OwnChanges.{PutsOnly}
+use Rattle.toll_base.specs.declared.capacity.TheConstants.{MOST_OWNERS}
 use Rattle.toll_base.specs.declared.rows.OwnerRow.{OwnerRow}
 use Rattle.toll_base.specs.declared.decision.Change.{Change}
 use Rattle.toll_base.specs.declared.decision.Decision.{Decision}
@@ -113,7 +114,7 @@ IsPlantTold H q (Some told) = IsPlantAnswer H q told
 abbrev pub owner_row_checks : List OwnerRow → OwnerRow → Checks
 owner_row_checks rows row =
     (same_bytes row.owner house_name || is_some (row_at bytes_cmp (λ r. r.owner) rows row.owner), Some OwnerExists)
-    ∷ (nat_le 64 (length rows), Some LimitReached)
+    ∷ (nat_le MOST_OWNERS (length rows), Some LimitReached)
     ∷ []
 
 -- over the content of a keep, this is what the plant is told, and the changes lead to the content after it

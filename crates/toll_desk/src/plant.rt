@@ -15,11 +15,9 @@ use crate::over::{find_owner, is_house};
 use crate::owner::carry;
 use crate::plant_cmd::{PlantCmd, PlantPlan, PlantReply};
 use std::alloc::{AllocError, Global};
-use toll_base::{Change, Decision, Name, OwnerKey, OwnerRow, Refusal, Row, Segment};
+use toll_base::{Change, Decision, MOST_OWNERS, Name, OwnerKey, OwnerRow, Refusal, Row, Segment};
 use toll_keep::{Keep, KeepFault};
 use toll_work::add_recipe;
-
-const MOST_OWNERS: usize = 64;
 
 /// Does a command of the plant.
 pub fn plant_do<K: Keep>(alloc: Global, keep: &mut K, command: &PlantCmd) -> PlantReply

@@ -3,13 +3,14 @@ use Rattle.std.specs.Prelude.{ℕ, ◌+◌, ◌&&◌, nat_le, nat_lt, Some, is_n
 use Rattle.toll_base.specs.Bytes.{Bytes}
 use Rattle.toll_history.specs.Tables.{Tables}
 use Rattle.toll_history.specs.Verdict.{Checks, amount_in}
+use Rattle.toll_base.specs.declared.capacity.TheConstants.{MOST_STOCK, MOST_SUBLOTS}
 use Rattle.toll_base.specs.declared.refusal.Refusal.TheVariants.{LimitReached}
 
 -- a sublot more than 20,000, or more in a sublot than 20,000,000,000,000
 abbrev pub sublot_bounds : Tables → (lot sublot : Bytes) → ℕ → Checks
 sublot_bounds t lot sublot amount =
-    (is_none (t.sublot (lot, sublot)) && nat_le 20000 t.sublots, Some LimitReached)
-    ∷ (nat_lt 20000000000000 (amount_in t lot sublot + amount), Some LimitReached)
+    (is_none (t.sublot (lot, sublot)) && nat_le MOST_SUBLOTS t.sublots, Some LimitReached)
+    ∷ (nat_lt MOST_STOCK (amount_in t lot sublot + amount), Some LimitReached)
     ∷ []
 
 -- or a lot whose material isn't there

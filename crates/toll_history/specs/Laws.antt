@@ -10,6 +10,7 @@ use Rattle.toll_history.specs.Work.{count_materials, count_tests, count_recipes,
 use Rattle.toll_base.specs.Lots.{lot_id, same_lot}
 use Rattle.toll_history.specs.Movements.{Movement, Made, made_by, lot_made, movement_of, movement_recorded, movements, standing, stock, material_used, brings_into, takes_from, sublot_known, count_movements, count_actuals_of, count_lots, count_sublots}
 use Rattle.toll_history.specs.Dispositions.{count_results, count_results_of, releases, rejects, disposition_of, has_open_test}
+use Rattle.toll_base.specs.declared.capacity.TheConstants.{MOST_ACTUALS, MOST_LOTS, MOST_MATERIALS, MOST_MOVEMENTS, MOST_ORDERS, MOST_RECIPES, MOST_REQUIREMENTS, MOST_RESULTS, MOST_SUBLOTS, MOST_TESTS}
 use Rattle.toll_base.specs.declared.lot.LotId.{LotId}
 use Rattle.toll_base.specs.declared.lot.Disposition.TheVariants.{Released}
 use Rattle.toll_base.specs.declared.role.Role.TheVariants.{Consumed}
@@ -19,16 +20,16 @@ use Rattle.toll_base.specs.declared.movement.Move.TheVariants.{Ship, Actual}
 
 -- an owner has no more of each kind than the office keeps
 pub record IsWithinLimits (H : History) (o : Bytes) : Type 0 where
-  pub materials : count_materials (acts o H) ≤ 200
-  pub tests : count_tests (acts o H) ≤ 2000
-  pub recipes : count_recipes (acts o H) ≤ 200
-  pub requirements : count_requirements (acts o H) ≤ 2000
-  pub orders : count_orders (acts o H) ≤ 2000
-  pub lots : count_lots H o ≤ 5000
-  pub sublots : count_sublots H o ≤ 20000
-  pub movements : count_movements (acts o H) ≤ 20000
-  pub results : count_results (acts o H) ≤ 20000
-  pub actuals : (order : Bytes) (number : ℕ) → count_actuals_of (acts o H) order number ≤ 200
+  pub materials : count_materials (acts o H) ≤ MOST_MATERIALS
+  pub tests : count_tests (acts o H) ≤ MOST_TESTS
+  pub recipes : count_recipes (acts o H) ≤ MOST_RECIPES
+  pub requirements : count_requirements (acts o H) ≤ MOST_REQUIREMENTS
+  pub orders : count_orders (acts o H) ≤ MOST_ORDERS
+  pub lots : count_lots H o ≤ MOST_LOTS
+  pub sublots : count_sublots H o ≤ MOST_SUBLOTS
+  pub movements : count_movements (acts o H) ≤ MOST_MOVEMENTS
+  pub results : count_results (acts o H) ≤ MOST_RESULTS
+  pub actuals : (order : Bytes) (number : ℕ) → count_actuals_of (acts o H) order number ≤ MOST_ACTUALS
 
 -- the lot was neither released nor rejected, and has no results
 pub record IsUntouched (own : List Action) (lot : Bytes) : Type 0 where

@@ -3,7 +3,7 @@ use Rattle.std.specs.Prelude.{◌≡◌, ℕ, ◌≤◌, Bool, true, false, not,
 use Rattle.std.specs.Option.{option_map_or}
 use Rattle.toll_base.specs.Bytes.{Bytes, same_bytes}
 use Rattle.toll_base.specs.Moves.{same_movement}
-use Rattle.toll_base.specs.Values.{house_name}
+use Rattle.toll_base.specs.Values.{house_name, IsAmount, IsBatchNo}
 use Rattle.toll_base.specs.Words.{is_some_where}
 use Rattle.toll_base.specs.Roles.{same_role}
 use Rattle.toll_base.specs.Keys.{RequirementKey}
@@ -14,6 +14,7 @@ use Rattle.toll_base.specs.Lots.{same_lot}
 use Rattle.toll_history.specs.Holders.{holder}
 use Rattle.toll_history.specs.Dispositions.{is_outside}
 use Rattle.toll_history.specs.Tables.{Tables, tables_given}
+use Rattle.toll_base.specs.declared.capacity.TheConstants.{MOST_ACTUALS, MOST_LOTS, MOST_MATERIALS, MOST_MOVEMENTS, MOST_ORDERS, MOST_OWNERS, MOST_RECIPES, MOST_REQUIREMENTS, MOST_RESULTS, MOST_TESTS, MOST_UNITS}
 use Rattle.toll_base.specs.declared.refusal.Refusal.{Refusal}
 use Rattle.toll_base.specs.declared.refusal.Refusal.TheVariants.{UnknownOwner, OwnerExists, UnitExists, UnknownUnit, UnitBusy, MaterialExists, UnknownMaterial, MaterialInUse, TestExists, RecipeExists, UnknownRecipe, RecipeInUse, BadSegment, RequirementExists, OrderExists, UnknownOrder, OrderCancelled, OrderStarted, NoMoreBatches, UnknownBatch, BadState, BatchClosed, BatchIdle, NotInRecipe, UnknownLot, UnknownSublot, WrongMaterial, WrongOrigin, NotReleased, NotQuarantined, NotEnough, SameSublot, KeyConflict, TestsOpen, UnknownTest, CrossOwner, LimitReached, UnknownKey, Voided, Rejected}
 use Rattle.toll_base.specs.declared.rows.MaterialRow.{MaterialRow}
@@ -88,7 +89,7 @@ crosses o Produced source = not (same_bytes source o)
 abbrev pub material_checks : Tables → MaterialRow → Checks
 material_checks t row =
     (is_some (t.material row.material), Some MaterialExists)
-    ∷ (nat_le 200 t.materials, Some LimitReached)
+    ∷ (nat_le MOST_MATERIALS t.materials, Some LimitReached)
     ∷ []
 
 abbrev pub test_checks : Tables → TestRow → Checks
@@ -96,13 +97,13 @@ test_checks t row =
     (is_none (t.material row.material), Some UnknownMaterial)
     ∷ (is_some (t.test (row.material, row.test)), Some TestExists)
     ∷ (t.material_used row.material, Some MaterialInUse)
-    ∷ (nat_le 2000 t.tests, Some LimitReached)
+    ∷ (nat_le MOST_TESTS t.tests, Some LimitReached)
     ∷ []
 
 abbrev pub recipe_checks : Tables → RecipeRow → Checks
 recipe_checks t row =
     (is_some (t.recipe row.recipe), Some RecipeExists)
-    ∷ (nat_le 200 t.recipes, Some LimitReached)
+    ∷ (nat_le MOST_RECIPES t.recipes, Some LimitReached)
     ∷ []
 
 abbrev pub requirement_key : RequirementRow → RequirementKey
@@ -117,7 +118,7 @@ requirement_checks o t source row =
     ∷ (crosses o row.role row.source, Some CrossOwner)
     ∷ (is_none (source.material row.material), Some UnknownMaterial)
     ∷ (is_some (t.requirement (requirement_key row)), Some RequirementExists)
-    ∷ (nat_le 2000 t.requirements, Some LimitReached)
+    ∷ (nat_le MOST_REQUIREMENTS t.requirements, Some LimitReached)
     ∷ []
 
 -- ---- orders and batches
@@ -130,7 +131,7 @@ order_checks t order recipe batches =
     (is_some_where (is_equal_order recipe batches) (t.order order), None)
     ∷ (is_some (t.order order), Some OrderExists)
     ∷ (is_none (t.recipe recipe), Some UnknownRecipe)
-    ∷ (nat_le 2000 t.orders, Some LimitReached)
+    ∷ (nat_le MOST_ORDERS t.orders, Some LimitReached)
     ∷ []
 
 abbrev pub cancel_checks : Tables → (order : Bytes) → Checks
@@ -176,40 +177,42 @@ key_checks t row =
     ∷ (is_some (t.movement row.key), Some KeyConflict)
     ∷ []
 
+-- a movement of the owner more is above the limit
+abbrev pub movements_full : Tables → Bool
+movements_full t = nat_le MOST_MOVEMENTS t.movements
+
 abbrev pub receive_checks : Tables → (material lot : Bytes) → Checks
 receive_checks t material lot =
     (is_none (t.material material), Some UnknownMaterial)
     ∷ (is_some_where (λ row. not (is_receipts row.origin)) (t.lot lot), Some WrongOrigin)
     ∷ (is_some_where (λ row. not (same_bytes row.material material)) (t.lot lot), Some WrongMaterial)
     ∷ (is_some_where (λ row. not (is_quarantined row.disposition)) (t.lot lot), Some NotQuarantined)
-    ∷ (nat_le 20000 t.movements || is_none (t.lot lot) && nat_le 5000 t.lots, Some LimitReached)
+    ∷ (movements_full t || is_none (t.lot lot) && nat_le MOST_LOTS t.lots, Some LimitReached)
     ∷ []
 
-abbrev pub split_checks : Tables → (lot sublot target : Bytes) → ℕ → Checks
-split_checks t lot sublot target amount =
-    (same_bytes sublot target, Some SameSublot)
-    ∷ (is_none (t.lot lot), Some UnknownLot)
-    ∷ (is_none (t.sublot (lot, sublot)), Some UnknownSublot)
-    ∷ (nat_lt (amount_in t lot sublot) amount, Some NotEnough)
-    ∷ (nat_le 20000 t.movements, Some LimitReached)
-    ∷ []
+-- the lot gives material to a shipment or a batch
+abbrev pub giving_check : Tables → (lot : Bytes) → Checks
+giving_check t lot = (is_some_where (λ row. not (is_released row.disposition)) (t.lot lot), Some NotReleased) ∷ []
 
-abbrev pub ship_checks : Tables → (lot sublot : Bytes) → ℕ → Checks
-ship_checks t lot sublot amount =
+-- material is taken from a sublot: what is checked of the lot, of the sublot, and of the room for the movement
+abbrev pub taking_checks : (of_lot of_sublot : Checks) → (is_full : Bool) → Tables → (lot sublot : Bytes) → ℕ → Checks
+taking_checks of_lot of_sublot is_full t lot sublot amount =
     (is_none (t.lot lot), Some UnknownLot)
-    ∷ (is_none (t.sublot (lot, sublot)), Some UnknownSublot)
-    ∷ (is_some_where (λ row. not (is_released row.disposition)) (t.lot lot), Some NotReleased)
-    ∷ (nat_lt (amount_in t lot sublot) amount, Some NotEnough)
-    ∷ (nat_le 20000 t.movements, Some LimitReached)
+    ∷ of_lot
+    ++ (is_none (t.sublot (lot, sublot)), Some UnknownSublot)
+    ∷ of_sublot
+    ++ (nat_lt (amount_in t lot sublot) amount, Some NotEnough)
+    ∷ (is_full, Some LimitReached)
     ∷ []
 
 abbrev pub scrap_checks : Tables → (lot sublot : Bytes) → ℕ → Checks
-scrap_checks t lot sublot amount =
-    (is_none (t.lot lot), Some UnknownLot)
-    ∷ (is_none (t.sublot (lot, sublot)), Some UnknownSublot)
-    ∷ (nat_lt (amount_in t lot sublot) amount, Some NotEnough)
-    ∷ (nat_le 20000 t.movements, Some LimitReached)
-    ∷ []
+scrap_checks t lot sublot amount = taking_checks [] [] (movements_full t) t lot sublot amount
+
+abbrev pub split_checks : Tables → (lot sublot target : Bytes) → ℕ → Checks
+split_checks t lot sublot target amount = (same_bytes sublot target, Some SameSublot) ∷ scrap_checks t lot sublot amount
+
+abbrev pub ship_checks : Tables → (lot sublot : Bytes) → ℕ → Checks
+ship_checks t lot sublot amount = taking_checks [] (giving_check t lot) (movements_full t) t lot sublot amount
 
 -- the recipe of the order that is there
 abbrev pub recipe_of_order : Tables → Bytes → Bytes
@@ -221,7 +224,7 @@ is_bad_segment t order segment = is_some_where (λ recipe. nat_lt recipe.segment
 
 -- a movement of the owner, or an actual of the batch, more is above the limit
 abbrev pub actuals_full : Tables → Bytes → ℕ → Bool
-actuals_full t order number = nat_le 20000 t.movements || nat_le 200 (t.actuals order number)
+actuals_full t order number = movements_full t || nat_le MOST_ACTUALS (t.actuals order number)
 
 -- what consumptions and productions have in common
 abbrev pub actual_checks : Bytes → Tables → (order : Bytes) → (number segment : ℕ) → Role → (material : Bytes) → LotId → Checks
@@ -236,20 +239,14 @@ actual_checks o t order number segment role material lot =
 -- over the tables of the batch's owner, and of the lot's
 abbrev pub consumed_checks : Tables → Tables → (order : Bytes) → (number : ℕ) → (material lot sublot : Bytes) → ℕ → Checks
 consumed_checks t u order number material lot sublot amount =
-    (is_none (u.lot lot), Some UnknownLot)
-    ∷ (is_some_where (λ row. not (same_bytes row.material material)) (u.lot lot), Some WrongMaterial)
-    ∷ (is_some_where (λ row. not (is_released row.disposition)) (u.lot lot), Some NotReleased)
-    ∷ (is_none (u.sublot (lot, sublot)), Some UnknownSublot)
-    ∷ (nat_lt (amount_in u lot sublot) amount, Some NotEnough)
-    ∷ (actuals_full t order number, Some LimitReached)
-    ∷ []
+    taking_checks ((is_some_where (λ row. not (same_bytes row.material material)) (u.lot lot), Some WrongMaterial) ∷ giving_check u lot) [] (actuals_full t order number) u lot sublot amount
 
 abbrev pub produced_checks : Tables → (order : Bytes) → (number : ℕ) → (material lot : Bytes) → Checks
 produced_checks t order number material lot =
     (is_some_where (λ row. not (is_made_by order number row.origin)) (t.lot lot), Some WrongOrigin)
     ∷ (is_some_where (λ row. not (same_bytes row.material material)) (t.lot lot), Some WrongMaterial)
     ∷ (is_some_where (λ row. not (is_quarantined row.disposition)) (t.lot lot), Some NotQuarantined)
-    ∷ (actuals_full t order number || is_none (t.lot lot) && nat_le 5000 t.lots, Some LimitReached)
+    ∷ (actuals_full t order number || is_none (t.lot lot) && nat_le MOST_LOTS t.lots, Some LimitReached)
     ∷ []
 
 -- the tables of a lot's owner, which is the owner or HOUSE
@@ -273,7 +270,7 @@ result_checks t lot test =
     (is_none (t.lot lot), Some UnknownLot)
     ∷ (is_some_where (λ row. is_none (t.test (row.material, test))) (t.lot lot), Some UnknownTest)
     ∷ (is_some_where (λ row. is_rejected row.disposition) (t.lot lot), Some Rejected)
-    ∷ (nat_le 20000 t.results, Some LimitReached)
+    ∷ (nat_le MOST_RESULTS t.results, Some LimitReached)
     ∷ []
 
 -- a test of the lot's material has no latest value within its limits
@@ -338,8 +335,8 @@ plant_given H = record {
 
 -- the checks of an owner's action, over the owner's tables and HOUSE's
 abbrev pub action_checks : Plant → Bytes → Tables → Tables → Action → Checks
-action_checks p o t house (AddOwner key) = (p.owner_known o, Some OwnerExists) ∷ (nat_le 64 p.owners, Some LimitReached) ∷ []
-action_checks p o t house (AddUnit unit) = (p.unit_known unit, Some UnitExists) ∷ (nat_le 200 p.units, Some LimitReached) ∷ []
+action_checks p o t house (AddOwner key) = (p.owner_known o, Some OwnerExists) ∷ (nat_le MOST_OWNERS p.owners, Some LimitReached) ∷ []
+action_checks p o t house (AddUnit unit) = (p.unit_known unit, Some UnitExists) ∷ (nat_le MOST_UNITS p.units, Some LimitReached) ∷ []
 action_checks p o t house (AddMaterial row) = material_checks t row
 action_checks p o t house (AddTest row) = test_checks t row
 action_checks p o t house (AddRecipe row) = recipe_checks t row
@@ -378,11 +375,10 @@ grow H c = grown (verdict H c) H c
 
 -- ---- lawful histories
 
--- an amount, a batch's number and how many batches are within their bounds
+-- the amount of a movement is one, and so is how many batches an order is for
 abbrev pub IsValid : Action → Type 0
-IsValid (Record row) = (1 ≤ row.amount) × (row.amount ≤ 1000000000)
-IsValid (PlaceOrder order recipe batches) = (1 ≤ batches) × (batches ≤ 99)
-IsValid (RecordResult lot test value day) = Unit {0}
+IsValid (Record row) = IsAmount row.amount
+IsValid (PlaceOrder order recipe batches) = IsBatchNo batches
 IsValid _ = Unit {0}
 
 -- each command was accepted over those before it

@@ -14,6 +14,7 @@ ghost use Rattle.toll_history.specs.Dispositions.{disposition_of, has_open_test,
 ghost use Rattle.toll_history.specs.Tables.{lot_row, sublot_row};
 ghost use Rattle.toll_history.specs.Verdict.{Accepted, IsLawful, is_actual, verdict};
 ghost use Rattle.toll_history.specs.Laws.{IsWithinLimits, IsUntouched, IsUnmoved, BringsOwn, TakesKnown, Agrees, has_this_key, coming, going, is_taken_in, records_or_voids, gives_from, IsCleared};
+ghost use Rattle.toll_base.specs.declared.capacity.TheConstants.{MOST_OWNERS, MOST_STOCK, MOST_UNITS};
 ghost use Rattle.toll_base.specs.declared.lot.Disposition.TheVariants.{Quarantined, Released};
 ghost use Rattle.toll_base.specs.declared.lot.LotId.{LotId};
 ghost use Rattle.toll_base.specs.declared.movement.MoveRow.{MoveRow};
@@ -28,15 +29,15 @@ pub fn no_stock_is_taken_below_zero()
 /// which there are at most 20,000.
 pub fn amounts_are_bounded()
     ensures brought { (H : History) (id : LotId) (sub : Bytes) → IsLawful H → brought H id sub ≤ 1000000000 * count_movements (acts id.owner H) }
-    ensures stock { (H : History) (id : LotId) (sub : Bytes) → IsLawful H → stock H id sub ≤ 20000000000000 }
+    ensures stock { (H : History) (id : LotId) (sub : Bytes) → IsLawful H → stock H id sub ≤ MOST_STOCK }
 {}
 
 /// An owner has no more rows of each kind than the office keeps, and the plant no more owners and
 /// units.
 pub fn counts_are_limited()
     ensures owned { (H : History) (o : Bytes) → IsLawful H → IsWithinLimits H o }
-    ensures owners { (H : History) → IsLawful H → count_owners H ≤ 64 }
-    ensures units { (H : History) → IsLawful H → count_units H ≤ 200 }
+    ensures owners { (H : History) → IsLawful H → count_owners H ≤ MOST_OWNERS }
+    ensures units { (H : History) → IsLawful H → count_units H ≤ MOST_UNITS }
 {}
 
 /// Nothing was brought into a sublot that is not known, and a known sublot is of a known lot.

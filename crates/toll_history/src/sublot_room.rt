@@ -5,11 +5,7 @@ ghost use Rattle.toll_history.specs.Bounds.{sublot_bounds};
 ghost use Rattle.toll_history.specs.Tables.{tables_of};
 ghost use Rattle.toll_history.specs.Verdict.{first_of, Accepted, Refused};
 
-use toll_base::{Amount, Name, Slice, SublotRow};
-
-const MOST_SUBLOTS: usize = 20_000;
-
-const MOST_STOCK: u64 = 20_000_000_000_000;
+use toll_base::{Amount, MOST_STOCK, MOST_SUBLOTS, Name, Slice};
 
 /// Whether there is room for the amount in the sublot, which may be a new one.
 pub fn has_room_in(slice: &Slice, lot: &Name, sublot: &Name, amount: Amount) -> bool

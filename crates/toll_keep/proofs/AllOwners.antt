@@ -11,7 +11,7 @@ use Rattle.toll_base.specs.Slice.{Slice, empty_slice, batch_at}
 use Rattle.toll_base.specs.declared.lot.Edge.{Edge}
 use Rattle.toll_base.proofs.Texts.{same_bytes-refl, same_bytes-symm}
 use Rattle.toll_trace.specs.InOrder.{IsInOrder}
-use Rattle.toll_trace.specs.Order.{edge_cmp}
+use Rattle.toll_base.specs.Lots.{edge_cmp}
 use Rattle.toll_trace.specs.Edges.{IsEdge, AreEdges}
 use Rattle.toll_trace.proofs.Members.{Contains-none, Contains-here, Contains-later, Contains-cases, member_of_all, kept_in_order}
 use Rattle.toll_trace.proofs.Orders.{edges_exact}

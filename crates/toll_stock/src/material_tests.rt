@@ -11,9 +11,7 @@ ghost use Rattle.toll_base.specs.declared.decision.Change.TheVariants as Change;
 ghost use Rattle.toll_base.specs.declared.rows.Row.TheVariants as Row;
 
 use std::alloc::{AllocError, Global};
-use toll_base::{Change, Decision, Limits, Name, Refusal, Row, Slice, TestRow};
-
-const MOST_TESTS: usize = 2_000;
+use toll_base::{Change, Decision, Limits, MOST_TESTS, Name, Refusal, Row, Slice, TestRow};
 
 /// Adds a test of the material, which a result within these limits passes.
 ///

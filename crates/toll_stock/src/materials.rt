@@ -9,9 +9,9 @@ ghost use Rattle.toll_base.specs.declared.decision.Change.TheVariants as Change;
 ghost use Rattle.toll_base.specs.declared.rows.Row.TheVariants as Row;
 
 use std::alloc::{AllocError, Global};
-use toll_base::{Change, Decision, MaterialRow, Measure, Name, Refusal, Row, Slice};
-
-const MOST_MATERIALS: usize = 200;
+use toll_base::{
+    Change, Decision, MOST_MATERIALS, MaterialRow, Measure, Name, Refusal, Row, Slice,
+};
 
 /// Adds a material, whose amounts are in this measure.
 ///

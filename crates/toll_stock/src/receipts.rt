@@ -14,14 +14,10 @@ ghost use Rattle.toll_base.specs.declared.rows.Row.TheVariants as Row;
 
 use std::alloc::{AllocError, Global};
 use toll_base::{
-    Amount, Change, Day, Decision, Disposition, LotRow, Move, MoveRow, Name, Origin, Refusal, Row,
-    Slice, SublotRow,
+    Amount, Change, Day, Decision, Disposition, LotRow, MOST_LOTS, MOST_MOVEMENTS, Move, MoveRow,
+    Name, Origin, Refusal, Row, Slice, SublotRow,
 };
 use toll_history::{decide_known, has_room_in};
-
-const MOST_MOVEMENTS: usize = 20_000;
-
-const MOST_LOTS: usize = 5_000;
 
 /// Receives an amount of a material into a sublot, new or known, of a lot that is new, or of this
 /// material, from receipts and quarantined.

@@ -12,10 +12,9 @@ ghost use Rattle.toll_stock.specs.LotRows.{result_rows};
 
 use std::alloc::{AllocError, Global};
 use toll_base::{
-    Change, Day, Decision, Disposition, Limits, LotRow, Name, Refusal, ResultRow, Row, Slice, Value,
+    Change, Day, Decision, Disposition, Limits, LotRow, MOST_RESULTS, Name, Refusal, ResultRow,
+    Row, Slice, Value,
 };
-
-const MOST_RESULTS: usize = 20_000;
 
 /// Records a result of a test of a lot. Out of the test's limits it makes a released lot
 /// quarantined again.

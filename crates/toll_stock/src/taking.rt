@@ -5,13 +5,11 @@ ghost use Rattle.toll_history.specs.Tables.{tables_of};
 ghost use Rattle.toll_history.specs.Verdict.{first_of, amount_in};
 ghost use Rattle.toll_base.specs.declared.refusal.Refusal.TheVariants as Refusal;
 
-use toll_base::{Amount, Name, Refusal, Slice};
-
-const MOST_MOVEMENTS: usize = 20_000;
+use toll_base::{Amount, MOST_MOVEMENTS, Name, Refusal, Slice};
 
 /// Whether there is enough in the sublot, and room for a movement.
 pub fn check_taking(slice: &Slice, lot: &Name, sublot: &Name, amount: Amount) -> Result<(), Refusal>
-    ensures { said result ≡ first_of ((nat_lt (amount_in (tables_of slice.now) lot.now sublot.now) amount, Some Refusal.NotEnough) ∷ (nat_le 20000 (length slice.now.moves), Some Refusal.LimitReached) ∷ []) }
+    ensures { said result ≡ first_of ((nat_lt (amount_in (tables_of slice.now) lot.now sublot.now) amount, Some Refusal.NotEnough) ∷ (nat_le MOST_MOVEMENTS (length slice.now.moves), Some Refusal.LimitReached) ∷ []) }
 {
     if slice.amount_in(lot, sublot) < amount.get() {
         return Err(Refusal::NotEnough);

@@ -27,7 +27,7 @@ use Rattle.toll_base.specs.declared.movement.Move.{Move}
 use Rattle.toll_base.specs.declared.movement.Move.TheVariants.{Receive, Split, Ship, Scrap, Actual}
 use Rattle.toll_trace.specs.declared.edges.Use.{Use}
 use Rattle.toll_trace.specs.InOrder.{IsInOrder}
-use Rattle.toll_trace.specs.Order.{edge_cmp}
+use Rattle.toll_base.specs.Lots.{edge_cmp}
 use Rattle.toll_trace.specs.Edges.{IsActual, IsDrawn, Stands, IsEdge, AreEdges}
 use Rattle.toll_trace.specs.Uses.{Batch, use_as, standing_use, uses, is_not_above, edge_between, edges_from}
 use Rattle.toll_trace.proofs.Members.{Contains-none, Contains-here, Contains-later, Contains-cases, Contains-map, Contains-from_map, Contains-filter, Contains-from_filter, Contains-filter_map, Contains-from_filter_map, Contains-flat_map, Contains-from_flat_map, member_of_all, kept_in_order}

@@ -20,7 +20,7 @@ use Rattle.toll_trace.specs.Chain.{ends, edge_of, IsJoined}
 use Rattle.toll_trace.specs.Graph.{IsGraphOf, index_of}
 use Rattle.toll_trace.specs.InOrder.{IsInOrder}
 use Rattle.toll_trace.specs.Neighbours.{neighbours, new_neighbours}
-use Rattle.toll_trace.specs.Order.{lot_cmp}
+use Rattle.toll_base.specs.Lots.{lot_cmp}
 use Rattle.toll_trace.specs.Search.{step_at, is_found, IsLevel}
 use Rattle.toll_trace.specs.Trace.{lots_of, IsTrace}
 use Rattle.toll_trace.proofs.Levels.{lots_more, not_found_lot, level_of}

@@ -12,7 +12,8 @@ use Rattle.std.proofs.lemmas.Map.Views.{tells_apart}
 use Rattle.std.proofs.lemmas.List.Elements.{Contains-append_left, Contains-append_right, Contains-append_cases}
 use Rattle.toll_base.specs.declared.lot.LotId.{LotId}
 use Rattle.toll_trace.specs.declared.step.Step.{Step}
-use Rattle.toll_trace.specs.Order.{lot_cmp, step_cmp}
+use Rattle.toll_base.specs.Lots.{lot_cmp}
+use Rattle.toll_trace.specs.Order.{step_cmp}
 use Rattle.toll_trace.specs.Chain.{IsChain}
 use Rattle.toll_trace.specs.Trace.{lots_of, IsTrace}
 use Rattle.toll_trace.specs.InOrder.{IsInOrder}

@@ -7,7 +7,8 @@ use Rattle.toll_base.specs.Bytes.{bytes_cmp}
 use Rattle.toll_base.specs.declared.lot.LotId.{LotId}
 use Rattle.toll_base.specs.declared.lot.Edge.{Edge}
 use Rattle.toll_trace.specs.declared.step.Step.{Step}
-use Rattle.toll_trace.specs.Order.{lot_cmp, edge_cmp, step_cmp}
+use Rattle.toll_base.specs.Lots.{lot_cmp, edge_cmp}
+use Rattle.toll_trace.specs.Order.{step_cmp}
 
 pub lots_total : IsTotalOrder lot_cmp
 lots_total = then_total (on_total (λ (l : LotId). l.owner) nat_list_cmp_total) (on_total (λ (l : LotId). l.lot) nat_list_cmp_total)

@@ -7,7 +7,7 @@ use Rattle.toll_base.specs.declared.lot.Edge.{Edge}
 use Rattle.toll_trace.specs.declared.step.Step.{Step}
 use Rattle.toll_trace.specs.declared.way.Way.{Way}
 use Rattle.toll_trace.specs.InOrder.{IsInOrder}
-use Rattle.toll_trace.specs.Order.{lot_cmp}
+use Rattle.toll_base.specs.Lots.{lot_cmp}
 use Rattle.toll_trace.specs.Chain.{edge_of, ends, IsJoined}
 use Rattle.toll_trace.specs.Trace.{lots_of}
 use Rattle.toll_trace.specs.Search.{is_found, IsLevel}

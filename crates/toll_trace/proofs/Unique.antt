@@ -5,7 +5,8 @@ use Rattle.toll_base.specs.declared.lot.LotId.{LotId}
 use Rattle.toll_base.specs.declared.lot.Edge.{Edge}
 use Rattle.toll_base.specs.declared.movement.MoveRow.{MoveRow}
 use Rattle.toll_trace.specs.declared.step.Step.{Step}
-use Rattle.toll_trace.specs.Order.{edge_cmp, step_cmp}
+use Rattle.toll_base.specs.Lots.{edge_cmp}
+use Rattle.toll_trace.specs.Order.{step_cmp}
 use Rattle.toll_trace.specs.Chain.{IsChain}
 use Rattle.toll_trace.specs.Trace.{IsTrace}
 use Rattle.toll_trace.specs.Edges.{IsDrawn, AreEdges}

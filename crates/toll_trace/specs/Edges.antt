@@ -9,7 +9,7 @@ use Rattle.toll_base.specs.declared.role.Role.{Role}
 use Rattle.toll_base.specs.declared.role.Role.TheVariants.{Consumed, Produced}
 use Rattle.toll_base.specs.declared.movement.MoveRow.{MoveRow}
 use Rattle.toll_base.specs.declared.movement.Move.TheVariants.{Actual}
-use Rattle.toll_trace.specs.Order.{edge_cmp}
+use Rattle.toll_base.specs.Lots.{edge_cmp}
 
 -- the movement is an actual: this batch does this to this lot, in this segment
 pub record IsActual (order : Bytes) (number segment : ℕ) (role : Role) (lot : LotId) (row : MoveRow) : Type 0 where

@@ -4,7 +4,7 @@ use Rattle.std.specs.List.{flat_map}
 use Rattle.std.specs.Ordering.{is_eq}
 use Rattle.toll_base.specs.declared.lot.LotId.{LotId}
 use Rattle.toll_trace.specs.declared.step.Step.{Step}
-use Rattle.toll_trace.specs.Order.{lot_cmp}
+use Rattle.toll_base.specs.Lots.{lot_cmp}
 use Rattle.toll_trace.specs.Search.{is_found}
 
 -- the lots that a step comes to from this one

@@ -5,7 +5,7 @@ use Rattle.std.specs.List.Sorted.{IsStrictlySortedBy}
 use Rattle.std.specs.Ordering.{is_eq}
 use Rattle.toll_base.specs.declared.lot.LotId.{LotId}
 use Rattle.toll_trace.specs.declared.step.Step.{Step}
-use Rattle.toll_trace.specs.Order.{lot_cmp}
+use Rattle.toll_base.specs.Lots.{lot_cmp}
 use Rattle.toll_trace.specs.Trace.{lots_of}
 
 -- the lot, after so many steps

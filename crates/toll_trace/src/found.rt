@@ -19,7 +19,7 @@ impl Model for Found {
     ghost use Rattle.std.specs.Prelude.{◌≡◌, List};
     ghost use Rattle.std.specs.BTreeSet.{contains};
     ghost use Rattle.toll_trace.specs.declared.step.Step.{Step};
-    ghost use Rattle.toll_trace.specs.Order.{lot_cmp};
+    ghost use Rattle.toll_base.specs.Lots.{lot_cmp};
     ghost use Rattle.toll_trace.specs.Search.{is_found};
 
     ghost Value = { List Step };

@@ -4,7 +4,7 @@ ghost use Rattle.std.specs.List.Sorted.{IsPermutation};
 ghost use Rattle.toll_trace.specs.Chain.{ends, IsJoined};
 ghost use Rattle.toll_trace.specs.InOrder.{IsInOrder};
 ghost use Rattle.toll_trace.specs.Neighbours.{new_neighbours};
-ghost use Rattle.toll_trace.specs.Order.{lot_cmp};
+ghost use Rattle.toll_base.specs.Lots.{lot_cmp};
 ghost use Rattle.toll_trace.specs.Search.{is_found};
 ghost use Rattle.toll_trace.specs.Trace.{IsTrace};
 

@@ -18,7 +18,7 @@ pub use graph::Graph;
 pub use in_order::put_in_order;
 pub use laws::traces_are_unique;
 pub use plain::plain_trace;
-pub use step::Step;
+pub use step::{Step, steps_are_ordered};
 pub use way::Way;
 
 #[cfg(test)]

@@ -21,16 +21,11 @@ ghost use Rattle.toll_base.specs.declared.rows.Row.TheVariants as Row;
 use crate::crossing::crosses;
 use std::alloc::{AllocError, Global};
 use toll_base::{
-    Amount, BatchNo, Change, Decision, Disposition, LotId, LotRow, Move, MoveRow, Name, Origin,
-    Refusal, Role, Row, Segment, Slice, State, SublotRow,
+    Amount, BatchNo, Change, Decision, Disposition, LotId, LotRow, MOST_ACTUALS, MOST_LOTS,
+    MOST_MOVEMENTS, Move, MoveRow, Name, Origin, Refusal, Role, Row, Segment, Slice, State,
+    SublotRow,
 };
 use toll_history::{decide_known, has_room_in};
-
-const MOST_MOVEMENTS: usize = 20_000;
-
-const MOST_LOTS: usize = 5_000;
-
-const MOST_ACTUALS: u64 = 200;
 
 /// What a segment of a batch uses.
 #[derive(Clone, Copy)]

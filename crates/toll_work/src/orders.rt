@@ -13,9 +13,7 @@ ghost use Rattle.toll_work.specs.Plans.{cancelled_rows};
 
 use crate::batches::count_opened;
 use std::alloc::{AllocError, Global};
-use toll_base::{BatchNo, Change, Decision, Name, OrderRow, Refusal, Row, Slice};
-
-const MOST_ORDERS: usize = 2_000;
+use toll_base::{BatchNo, Change, Decision, MOST_ORDERS, Name, OrderRow, Refusal, Row, Slice};
 
 /// Places an order of that many batches by the recipe.
 ///

@@ -13,12 +13,9 @@ ghost use Rattle.toll_base.specs.declared.rows.Row.TheVariants as Row;
 use crate::crossing::crosses;
 use std::alloc::{AllocError, Global};
 use toll_base::{
-    Change, Decision, Keyed, Name, RecipeRow, Refusal, RequirementRow, Row, Segment, Slice,
+    Change, Decision, Keyed, MOST_RECIPES, MOST_REQUIREMENTS, Name, RecipeRow, Refusal,
+    RequirementRow, Row, Segment, Slice,
 };
-
-const MOST_RECIPES: usize = 200;
-
-const MOST_REQUIREMENTS: usize = 2_000;
 
 /// Adds a recipe of that many segments.
 ///

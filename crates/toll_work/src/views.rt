@@ -8,7 +8,9 @@ ghost use Rattle.toll_history.specs.Amounts as amount;
 ghost use Rattle.toll_work.specs.BatchView as told;
 
 use std::alloc::{AllocError, Global};
-use toll_base::{BatchNo, BatchRow, Move, MoveRow, Name, RequirementRow, Slice};
+use toll_base::{
+    BatchNo, BatchRow, MOST_AMOUNT, MOST_MOVEMENTS, Move, MoveRow, Name, RequirementRow, Slice,
+};
 
 /// A requirement of a batch's recipe, and how much of it the batch did: the sum of its standing
 /// actuals of the requirement's segment, role, source and material.
@@ -87,7 +89,7 @@ fn lines(
     recipe: &Name,
     actuals: &[MoveRow],
 ) -> Result<Vec<RequirementLine>, AllocError>
-    requires { length actuals.now ≤ 20000 }
+    requires { length actuals.now ≤ MOST_MOVEMENTS }
     ensures { IfOk result (λ lines. lines.items ≡ told.lines_in slice.now recipe.now actuals.now) }
 {
     slice
@@ -100,7 +102,7 @@ fn lines(
 }
 
 fn line(row: RequirementRow, actuals: &[MoveRow]) -> RequirementLine
-    requires { length actuals.now ≤ 20000 }
+    requires { length actuals.now ≤ MOST_MOVEMENTS }
     ensures { result ≡ told.line row actuals.now }
 {
     RequirementLine {
@@ -111,7 +113,7 @@ fn line(row: RequirementRow, actuals: &[MoveRow]) -> RequirementLine
 
 // The sum of the amounts of those that meet the requirement.
 fn amount_for(row: &RequirementRow, actuals: &[MoveRow]) -> u64
-    requires { length actuals.now ≤ 20000 }
+    requires { length actuals.now ≤ MOST_MOVEMENTS }
     ensures { result ≡ told.amount_for row.now actuals.now }
 {
     let mut sum: u64 = 0;
@@ -124,7 +126,7 @@ fn amount_for(row: &RequirementRow, actuals: &[MoveRow]) -> u64
 // The movement's amount, if it meets the requirement.
 fn amount_of(row: &RequirementRow, actual: &MoveRow) -> u64
     ensures amount { result ≡ if amount.meets row.now actual.now.what then actual.now.amount else 0 }
-    ensures bound { result ≤ 1000000000 }
+    ensures bound { result ≤ MOST_AMOUNT }
 {
     if meets(row, &actual.what) {
         actual.amount.get()

@@ -2,7 +2,7 @@ use Rattle.std.proofs.Common.{ap, ◌∙◌, subst}
 use Rattle.std.specs.List.{flat_map}
 use Rattle.std.specs.List.Sorted.{IsPermutation}
 use Rattle.toll_trace.specs.InOrder.{IsInOrder}
-use Rattle.toll_trace.specs.Order.{edge_cmp}
+use Rattle.toll_base.specs.Lots.{edge_cmp}
 use Rattle.toll_trace.specs.Uses.{edges_from}
 use Rattle.toll_trace.proofs.Drawn.{edges_are}
 use Rattle.toll_trace.proofs.edges.edges_of.Goals as goal

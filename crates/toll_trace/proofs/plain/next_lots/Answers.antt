@@ -1,7 +1,7 @@
 use Rattle.std.proofs.Common.{ap, ◌∙◌, subst}
 use Rattle.std.proofs.lemmas.List.{take_all}
 use Rattle.toll_trace.specs.InOrder.{IsInOrder}
-use Rattle.toll_trace.specs.Order.{lot_cmp}
+use Rattle.toll_base.specs.Lots.{lot_cmp}
 use Rattle.toll_trace.proofs.Rounds.{led_to, level_by_edges}
 use Rattle.toll_trace.proofs.plain.next_lots.Goals as goal
 

@@ -1,7 +1,7 @@
 use Rattle.std.proofs.Common.{◌≡◌, ◌++◌, map, take}
 use Rattle.std.specs.BTreeSet.{contains}
 use Rattle.toll_base.specs.declared.lot.LotId.{LotId}
-use Rattle.toll_trace.specs.Order.{lot_cmp}
+use Rattle.toll_base.specs.Lots.{lot_cmp}
 use Rattle.toll_trace.specs.Search.{step_at, is_found}
 use Rattle.toll_trace.proofs.found.Found.add.Given as goal
 
