@@ -20,8 +20,6 @@ mod slice;
 mod state;
 mod state_command;
 mod table;
-#[cfg(test)]
-mod tests;
 mod text;
 mod value;
 

@@ -7,18 +7,22 @@ use Rattle.toll_history.specs.History.{History, part, acts}
 use Rattle.toll_history.specs.Movements.{Movement, moved_by, movements, standing_after, standing, has_key}
 use Rattle.toll_base.proofs.Texts.{same_bytes-exact}
 
-filter_again : {X : Type 0} (p : X → Bool) (xs : List X) → filter p (filter p xs) ≡ filter p xs
-filter_again p [] = refl
-filter_again p (x ∷ xs) =
-    elim (p x) as (λ b. p x ≡ b → filter p (cond b (x ∷ filter p xs) (filter p xs)) ≡ cond b (x ∷ filter p xs) (filter p xs)) [
-      | true ↦ λ passes. rw passes (ap (λ ys. x ∷ ys) (filter_again p xs))
-      | false ↦ λ fails. filter_again p xs
+-- a filter that lets all pass that the other does leaves the other's
+filter_idle : {X : Type 0} (p q : X → Bool) → ((x : X) → p x ≡ true → q x ≡ true) → (xs : List X) → filter p (filter q xs) ≡ filter p xs
+filter_idle p q lets [] = refl
+filter_idle p q lets (x ∷ xs) =
+    elim (p x) as (λ b. p x ≡ b → filter p (cond (q x) (x ∷ filter q xs) (filter q xs)) ≡ cond b (x ∷ filter p xs) (filter p xs)) [
+      | true ↦ λ passes. rw (lets x passes, passes) (ap (λ ys. x ∷ ys) (filter_idle p q lets xs))
+      | false ↦ λ fails. elim (q x) as (λ b. filter p (cond b (x ∷ filter q xs) (filter q xs)) ≡ filter p xs) [
+        | true ↦ rw fails (filter_idle p q lets xs)
+        | false ↦ filter_idle p q lets xs
+      ]
     ] refl
 
 -- the owner's actions are those of its part
 pub acts-part : (o : Bytes) (H : History) → acts o (part o H) ≡ acts o H
 unfolding part acts
-acts-part o H = ap (map (λ c. c.action)) (filter_again (λ c. same_bytes c.owner o) H)
+acts-part o H = ap (map (λ c. c.action)) (filter_idle (λ c. same_bytes c.owner o) (λ c. same_bytes c.owner o) (λ c own. own) H)
 
 pub acts-own : (o : Bytes) (c : Command) (H : History) → same_bytes c.owner o ≡ true → acts o (c ∷ H) ≡ c.action ∷ acts o H
 unfolding acts
@@ -49,15 +53,23 @@ other_moved : (o p : Bytes) (a : Action) (ms : List Movement) → same_bytes p o
 other_moved o p (Record row) ms other = rw other refl
 other_moved o p _ ms other = refl
 
+-- what is gathered along a history, by a step for each command: the owner's is that of its part, where a step of the owner's keeps to the owner's, and one of another changes nothing of it
+module _ (gathered : History → List Movement) (step : Bytes → Action → List Movement → List Movement) (none : gathered [] ≡ []) (more : (c : Command) (H : History) → gathered (c ∷ H) ≡ step c.owner c.action (gathered H))
+    (own_step : (o p : Bytes) (a : Action) (ms : List Movement) → same_bytes p o ≡ true → filter (is_own o) (step p a ms) ≡ step p a (filter (is_own o) ms))
+    (other_step : (o p : Bytes) (a : Action) (ms : List Movement) → same_bytes p o ≡ false → filter (is_own o) (step p a ms) ≡ filter (is_own o) ms) where
+  gathered-part : (o : Bytes) (H : History) → filter (is_own o) (gathered H) ≡ gathered (part o H)
+  unfolding part
+  gathered-part o [] = ap (filter (is_own o)) none ∙ sym none
+  gathered-part o (c ∷ H) =
+      ap (filter (is_own o)) (more c H)
+      ∙ elim (same_bytes c.owner o) as (λ b. same_bytes c.owner o ≡ b → filter (is_own o) (step c.owner c.action (gathered H)) ≡ gathered (cond b (c ∷ part o H) (part o H))) [
+        | true ↦ λ own. own_step o c.owner c.action (gathered H) own ∙ ap (step c.owner c.action) (gathered-part o H) ∙ sym (more c (part o H))
+        | false ↦ λ other. other_step o c.owner c.action (gathered H) other ∙ gathered-part o H
+      ] refl
+
 -- the owner's movements are those of its part
 pub movements-part : (o : Bytes) (H : History) → filter (is_own o) (movements H) ≡ movements (part o H)
-unfolding part
-movements-part o [] = refl
-movements-part o (c ∷ H) =
-    elim (same_bytes c.owner o) as (λ b. same_bytes c.owner o ≡ b → filter (is_own o) (movements (c ∷ H)) ≡ movements (cond b (c ∷ part o H) (part o H))) [
-      | true ↦ λ own. own_moved o c.owner c.action (movements H) own ∙ ap (λ ms. moved_by c.owner c.action ++ ms) (movements-part o H)
-      | false ↦ λ other. other_moved o c.owner c.action (movements H) other ∙ movements-part o H
-    ] refl
+movements-part = gathered-part movements (λ p a ms. moved_by p a ++ ms) refl (λ c H. refl) own_moved other_moved
 
 filter_swap : {X : Type 0} (p q : X → Bool) (xs : List X) → filter p (filter q xs) ≡ filter q (filter p xs)
 filter_swap p q [] = refl
@@ -70,18 +82,6 @@ filter_swap p q (x ∷ xs) =
       | false ↦ λ fails. elim (q x) as (λ b. filter p (cond b (x ∷ filter q xs) (filter q xs)) ≡ filter q (filter p xs)) [
         | true ↦ rw fails (filter_swap p q xs)
         | false ↦ filter_swap p q xs
-      ]
-    ] refl
-
--- a filter that lets all pass that the other does leaves the other's
-filter_idle : {X : Type 0} (p q : X → Bool) → ((x : X) → p x ≡ true → q x ≡ true) → (xs : List X) → filter p (filter q xs) ≡ filter p xs
-filter_idle p q lets [] = refl
-filter_idle p q lets (x ∷ xs) =
-    elim (p x) as (λ b. p x ≡ b → filter p (cond (q x) (x ∷ filter q xs) (filter q xs)) ≡ cond b (x ∷ filter p xs) (filter p xs)) [
-      | true ↦ λ passes. rw (lets x passes, passes) (ap (λ ys. x ∷ ys) (filter_idle p q lets xs))
-      | false ↦ λ fails. elim (q x) as (λ b. filter p (cond b (x ∷ filter q xs) (filter q xs)) ≡ filter p xs) [
-        | true ↦ rw fails (filter_idle p q lets xs)
-        | false ↦ filter_idle p q lets xs
       ]
     ] refl
 
@@ -105,10 +105,4 @@ other_standing o p _ ms other = refl
 
 -- the owner's standing movements are those of its part
 pub standing-part : (o : Bytes) (H : History) → filter (is_own o) (standing H) ≡ standing (part o H)
-unfolding part
-standing-part o [] = refl
-standing-part o (c ∷ H) =
-    elim (same_bytes c.owner o) as (λ b. same_bytes c.owner o ≡ b → filter (is_own o) (standing (c ∷ H)) ≡ standing (cond b (c ∷ part o H) (part o H))) [
-      | true ↦ λ own. own_standing o c.owner c.action (standing H) own ∙ ap (standing_after c.owner c.action) (standing-part o H)
-      | false ↦ λ other. other_standing o c.owner c.action (standing H) other ∙ standing-part o H
-    ] refl
+standing-part = gathered-part standing standing_after refl (λ c H. refl) own_standing other_standing

@@ -4,7 +4,7 @@ use Rattle.std.specs.List.{list_any}
 use Rattle.toll_base.specs.Bytes.{Bytes, same_bytes}
 use Rattle.toll_base.specs.Words.{count, first_some, or_else, is_some_where}
 use Rattle.toll_history.specs.Command.{Action, RecordResult, Release, Reject}
-use Rattle.toll_history.specs.Work.{test_of, test_added}
+use Rattle.toll_history.specs.Work.{test_of, test_added, count_added}
 use Rattle.toll_base.specs.declared.limits.Limits.{Limits}
 use Rattle.toll_base.specs.declared.rows.ResultRow.{ResultRow}
 use Rattle.toll_base.specs.declared.rows.TestRow.{TestRow}
@@ -29,7 +29,7 @@ abbrev pub count_results_of : List Action → Bytes → Bytes → ℕ
 count_results_of own lot test = count (is_result_of lot test) own
 
 abbrev pub count_results : List Action → ℕ
-count_results own = count (λ a. is_some (value_recorded a)) own
+count_results own = count_added value_recorded own
 
 abbrev pub result_row : Bytes → Bytes → ℕ → Action → Option ResultRow
 result_row lot test number (RecordResult l t v d) = Some (record { lot = lot; test = test; number = number; value = v; day = d })

@@ -3,11 +3,12 @@ use Rattle.std.specs.Prelude.{ℕ, ◌+◌, ◌-◌, Bool, false, not, ◌&&◌,
 use Rattle.std.specs.List.{list_any}
 use Rattle.toll_base.specs.Bytes.{Bytes, same_bytes}
 use Rattle.toll_base.specs.Lots.{lot_id, same_lot}
-use Rattle.toll_base.specs.Words.{total, count, first_some, or_else, is_some_where, where_so}
+use Rattle.toll_base.specs.Words.{total, count, or_else, is_some_where, where_so}
 use Rattle.toll_base.specs.Roles.{same_role}
 use Rattle.toll_base.specs.SliceRules.{is_actual_of}
 use Rattle.toll_history.specs.Command.{Action, Record, Void}
 use Rattle.toll_history.specs.History.{History}
+use Rattle.toll_history.specs.Work.{found, count_added}
 use Rattle.toll_base.specs.declared.movement.MoveRow.{MoveRow}
 use Rattle.toll_base.specs.declared.movement.Move.{Move}
 use Rattle.toll_base.specs.declared.movement.Move.TheVariants.{Receive, Split, Ship, Scrap, Actual}
@@ -51,10 +52,10 @@ movement_recorded _ = None
 
 -- the movement of an owner with this key
 abbrev pub movement_of : List Action → Bytes → Option MoveRow
-movement_of own key = first_some (λ a. elim (movement_recorded a) [ Some row ↦ where_so (same_bytes key row.key) row | None ↦ None ]) own
+movement_of own key = found movement_recorded (λ row. same_bytes key row.key) own
 
 abbrev pub count_movements : List Action → ℕ
-count_movements own = count (λ a. is_some (movement_recorded a)) own
+count_movements own = count_added movement_recorded own
 
 abbrev pub voids_key : Bytes → Action → Bool
 voids_key key (Void k) = same_bytes k key

@@ -17,6 +17,14 @@ use Rattle.toll_base.specs.declared.rows.RequirementRow.{RequirementRow}
 use Rattle.toll_base.specs.declared.rows.OrderRow.{OrderRow}
 use Rattle.toll_base.specs.declared.rows.BatchRow.{BatchRow}
 
+-- the row that was added and passes the test, of those that actions add
+abbrev pub found : {R : Type 0} → (Action → Option R) → (R → Bool) → List Action → Option R
+found added passes own = first_some (λ a. elim (added a) [ Some row ↦ where_so (passes row) row | None ↦ None ]) own
+
+-- how many were added
+abbrev pub count_added : {R : Type 0} → (Action → Option R) → List Action → ℕ
+count_added added own = count (λ a. is_some (added a)) own
+
 -- ---- materials and tests (IEC 62264-2, material definitions and test specifications)
 
 abbrev pub material_added : Action → Option MaterialRow
@@ -25,10 +33,10 @@ material_added _ = None
 
 -- the material with this name
 abbrev pub material_of : List Action → Bytes → Option MaterialRow
-material_of own m = first_some (λ a. elim (material_added a) [ Some row ↦ where_so (same_bytes m row.material) row | None ↦ None ]) own
+material_of own m = found material_added (λ row. same_bytes m row.material) own
 
 abbrev pub count_materials : List Action → ℕ
-count_materials own = count (λ a. is_some (material_added a)) own
+count_materials own = count_added material_added own
 
 abbrev pub test_added : Action → Option TestRow
 test_added (AddTest row) = Some row
@@ -36,10 +44,10 @@ test_added _ = None
 
 -- the test of the material
 abbrev pub test_of : List Action → Bytes × Bytes → Option TestRow
-test_of own k = first_some (λ a. elim (test_added a) [ Some row ↦ where_so (same_bytes k.0 row.material && same_bytes k.1 row.test) row | None ↦ None ]) own
+test_of own k = found test_added (λ row. same_bytes k.0 row.material && same_bytes k.1 row.test) own
 
 abbrev pub count_tests : List Action → ℕ
-count_tests own = count (λ a. is_some (test_added a)) own
+count_tests own = count_added test_added own
 
 -- ---- recipes and their requirements (IEC 62264-2, segment requirements)
 
@@ -48,10 +56,10 @@ recipe_added (AddRecipe row) = Some row
 recipe_added _ = None
 
 abbrev pub recipe_of : List Action → Bytes → Option RecipeRow
-recipe_of own r = first_some (λ a. elim (recipe_added a) [ Some row ↦ where_so (same_bytes r row.recipe) row | None ↦ None ]) own
+recipe_of own r = found recipe_added (λ row. same_bytes r row.recipe) own
 
 abbrev pub count_recipes : List Action → ℕ
-count_recipes own = count (λ a. is_some (recipe_added a)) own
+count_recipes own = count_added recipe_added own
 
 abbrev pub required : Action → Option RequirementRow
 required (Require row) = Some row
@@ -62,10 +70,10 @@ abbrev pub same_requirement : RequirementKey → RequirementKey → Bool
 same_requirement a b = is_eq (requirement_cmp a b)
 
 abbrev pub requirement_of : List Action → RequirementKey → Option RequirementRow
-requirement_of own k = first_some (λ a. elim (required a) [ Some row ↦ where_so (same_requirement k (row.recipe, row.segment, row.role, row.source, row.material)) row | None ↦ None ]) own
+requirement_of own k = found required (λ row. same_requirement k (row.recipe, row.segment, row.role, row.source, row.material)) own
 
 abbrev pub count_requirements : List Action → ℕ
-count_requirements own = count (λ a. is_some (required a)) own
+count_requirements own = count_added required own
 
 -- ---- orders (IEC 62264-2, operations requests)
 
@@ -81,10 +89,10 @@ cancels order _ = false
 abbrev pub order_of : List Action → Bytes → Option OrderRow
 order_of own order =
     option_map {T = OrderRow} (λ row. record row { cancelled = list_any (cancels order) own })
-    (first_some (λ a. elim (order_placed a) [ Some row ↦ where_so (same_bytes order row.order) row | None ↦ None ]) own)
+    (found order_placed (λ row. same_bytes order row.order) own)
 
 abbrev pub count_orders : List Action → ℕ
-count_orders own = count (λ a. is_some (order_placed a)) own
+count_orders own = count_added order_placed own
 
 abbrev pub names_recipe : Bytes → Action → Bool
 names_recipe recipe (PlaceOrder o r n) = same_bytes r recipe

@@ -14,6 +14,7 @@ ghost use Rattle.toll_history.specs.Dispositions.{disposition_of, has_open_test,
 ghost use Rattle.toll_history.specs.Tables.{lot_row, sublot_row};
 ghost use Rattle.toll_history.specs.Verdict.{Accepted, IsLawful, is_actual, verdict};
 ghost use Rattle.toll_history.specs.Laws.{IsWithinLimits, IsUntouched, IsUnmoved, BringsOwn, TakesKnown, Agrees, has_this_key, coming, going, is_taken_in, records_or_voids, gives_from, IsCleared};
+ghost use Rattle.toll_base.specs.declared.bounded.TheConstants.{MOST_AMOUNT};
 ghost use Rattle.toll_base.specs.declared.capacity.TheConstants.{MOST_OWNERS, MOST_STOCK, MOST_UNITS};
 ghost use Rattle.toll_base.specs.declared.lot.Disposition.TheVariants.{Quarantined, Released};
 ghost use Rattle.toll_base.specs.declared.lot.LotId.{LotId};
@@ -28,7 +29,7 @@ pub fn no_stock_is_taken_below_zero()
 /// What is brought into a sublot is at most 1,000,000,000 for each movement of the lot's owner, of
 /// which there are at most 20,000.
 pub fn amounts_are_bounded()
-    ensures brought { (H : History) (id : LotId) (sub : Bytes) → IsLawful H → brought H id sub ≤ 1000000000 * count_movements (acts id.owner H) }
+    ensures brought { (H : History) (id : LotId) (sub : Bytes) → IsLawful H → brought H id sub ≤ MOST_AMOUNT * count_movements (acts id.owner H) }
     ensures stock { (H : History) (id : LotId) (sub : Bytes) → IsLawful H → stock H id sub ≤ MOST_STOCK }
 {}
 

@@ -1,10 +1,10 @@
 //! Values at their bounds, and slices at their limits.
-use crate::{
+use std::alloc::{AllocError, Global};
+use std::test::Fail;
+use toll_base::{
     Amount, BatchNo, Day, LotId, Measure, Move, MoveRow, Name, OwnerKey, Refusal, Role, Row,
     Segment, Slice, Value, number,
 };
-use std::alloc::{AllocError, Global};
-use std::test::Fail;
 
 #[test]
 fn names_are_read(rt: HostRuntime) {
@@ -44,9 +44,19 @@ fn values_have_bounds(rt: HostRuntime) {
     assert_eq!(rt; Amount::new(0), Err(Refusal::BadAmount));
     assert!(rt; Amount::new(1_000_000_000).is_ok());
     assert_eq!(rt; Amount::new(1_000_000_001), Err(Refusal::BadAmount));
+    assert!(rt; Day::new(9_999_999).is_ok());
+    assert_eq!(rt; Day::new(10_000_000), Err(Refusal::BadAmount));
+    assert_eq!(rt; Segment::new(51), Err(Refusal::BadAmount));
+    assert_eq!(rt; BatchNo::new(100), Err(Refusal::BadAmount));
     assert_eq!(rt; Value::new(-1_000_000_001), Err(Refusal::BadAmount));
+}
+
+#[test]
+fn refusals_are_told(rt: HostRuntime) -> Result<(), Fail> {
     assert_eq!(rt; Refusal::LimitReached.code(), 39);
     assert_eq!(rt; Refusal::LimitReached.title(), "LimitReached");
+    assert_eq!(rt; Refusal::Voided.to_string(rt.alloc())?.as_str(), "Voided");
+    Ok(())
 }
 
 // The numbers of an actual.
