@@ -1,5 +1,5 @@
 -- Results of tests, and dispositions of lots (IEC 62264-2, test results and the status of material lots).
-use Rattle.std.specs.Prelude.{ℕ, ◌+◌, ℤ, Bool, false, not, ◌&&◌, ◌||◌, ◌==◌, int_lt, if◌then◌else◌, Option, Some, None, is_some, List, [], ◌∷◌}
+use Rattle.std.specs.Prelude.{ℕ, ◌+◌, ℤ, Bool, false, not, ◌&&◌, ◌||◌, ◌==◌, int_lt, if◌then◌else◌, Option, Some, None, List, [], ◌∷◌}
 use Rattle.std.specs.List.{list_any}
 use Rattle.toll_base.specs.Bytes.{Bytes, same_bytes}
 use Rattle.toll_base.specs.Words.{count, first_some, or_else, is_some_where}

@@ -69,20 +69,32 @@ sublot_row H o k = where_so (sublot_known H (lot_id o k.0) k.1) (record { lot = 
 -- the tables that a history gives to an owner
 abbrev pub tables_given : History → Bytes → Tables
 tables_given H o = record {
-  material = material_of (acts o H); materials = count_materials (acts o H);
-  test = test_of (acts o H); tests = count_tests (acts o H);
-  recipe = recipe_of (acts o H); recipes = count_recipes (acts o H);
-  requirement = requirement_of (acts o H); requirements = count_requirements (acts o H);
-  order = order_of (acts o H); orders = count_orders (acts o H);
+  material = material_of (acts o H);
+  materials = count_materials (acts o H);
+  test = test_of (acts o H);
+  tests = count_tests (acts o H);
+  recipe = recipe_of (acts o H);
+  recipes = count_recipes (acts o H);
+  requirement = requirement_of (acts o H);
+  requirements = count_requirements (acts o H);
+  order = order_of (acts o H);
+  orders = count_orders (acts o H);
   batch = batch_of (acts o H);
-  lot = lot_row H o; lots = count_lots H o;
-  sublot = sublot_row H o; sublots = count_sublots H o;
-  movement = movement_of (acts o H); movements = count_movements (acts o H);
-  result = result_of (acts o H); results = count_results (acts o H);
+  lot = lot_row H o;
+  lots = count_lots H o;
+  sublot = sublot_row H o;
+  sublots = count_sublots H o;
+  movement = movement_of (acts o H);
+  movements = count_movements (acts o H);
+  result = result_of (acts o H);
+  results = count_results (acts o H);
   voided = voided_in (acts o H);
-  opened = count_opened (acts o H); actuals = count_actuals_of (acts o H);
-  results_of = count_results_of (acts o H); latest = latest_value (acts o H);
-  recipe_used = recipe_used (acts o H); material_used = material_used H o;
+  opened = count_opened (acts o H);
+  actuals = count_actuals_of (acts o H);
+  results_of = count_results_of (acts o H);
+  latest = latest_value (acts o H);
+  recipe_used = recipe_used (acts o H);
+  material_used = material_used H o;
   any_test = λ such. list_any (λ a. is_some_where such (test_added a)) (acts o H);
 }
 
@@ -106,20 +118,32 @@ latest_in s lot test = option_map (λ row. row.value) (result_at s (lot, test, c
 -- the tables of a slice
 abbrev pub tables_of : Slice → Tables
 tables_of s = record {
-  material = material_at s; materials = length s.materials;
-  test = test_at s; tests = length s.tests;
-  recipe = recipe_at s; recipes = length s.recipes;
-  requirement = requirement_at s; requirements = length s.requirements;
-  order = order_at s; orders = length s.orders;
+  material = material_at s;
+  materials = length s.materials;
+  test = test_at s;
+  tests = length s.tests;
+  recipe = recipe_at s;
+  recipes = length s.recipes;
+  requirement = requirement_at s;
+  requirements = length s.requirements;
+  order = order_at s;
+  orders = length s.orders;
   batch = batch_at s;
-  lot = lot_at s; lots = length s.lots;
-  sublot = sublot_at s; sublots = length s.sublots;
-  movement = move_at s; movements = length s.moves;
-  result = result_at s; results = length s.results;
+  lot = lot_at s;
+  lots = length s.lots;
+  sublot = sublot_at s;
+  sublots = length s.sublots;
+  movement = move_at s;
+  movements = length s.moves;
+  result = result_at s;
+  results = length s.results;
   voided = λ key. is_some (void_at s key);
-  opened = λ order. count (λ row. same_bytes row.order order) s.batches; actuals = λ order number. count_actuals order number s.moves;
-  results_of = count_results_in s; latest = latest_in s;
-  recipe_used = λ recipe. list_any (λ row. same_bytes row.recipe recipe) s.orders; material_used = λ material. list_any (λ row. same_bytes row.material material) s.lots;
+  opened = λ order. count (λ row. same_bytes row.order order) s.batches;
+  actuals = λ order number. count_actuals order number s.moves;
+  results_of = count_results_in s;
+  latest = latest_in s;
+  recipe_used = λ recipe. list_any (λ row. same_bytes row.recipe recipe) s.orders;
+  material_used = λ material. list_any (λ row. same_bytes row.material material) s.lots;
   any_test = λ such. list_any such s.tests;
 }
 

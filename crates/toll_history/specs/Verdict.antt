@@ -1,16 +1,14 @@
 -- The verdict on a command, as a list of checks in their order, and how a history grows.
-use Rattle.std.specs.Prelude.{◌≡◌, ℕ, ◌≤◌, Bool, true, false, not, ◌&&◌, ◌||◌, if◌then◌else◌, nat_le, nat_lt, ◌==◌, Option, Some, None, is_some, is_none, List, [], ◌∷◌, ◌++◌}
+use Rattle.std.specs.Prelude.{◌≡◌, ℕ, Bool, true, false, not, ◌&&◌, ◌||◌, if◌then◌else◌, nat_le, nat_lt, ◌==◌, Option, Some, None, is_some, is_none, List, [], ◌∷◌, ◌++◌}
 use Rattle.std.specs.Option.{option_map_or}
 use Rattle.toll_base.specs.Bytes.{Bytes, same_bytes}
 use Rattle.toll_base.specs.Moves.{same_movement}
 use Rattle.toll_base.specs.Values.{house_name, IsAmount, IsBatchNo}
 use Rattle.toll_base.specs.Words.{is_some_where}
-use Rattle.toll_base.specs.Roles.{same_role}
 use Rattle.toll_base.specs.Keys.{RequirementKey}
 use Rattle.toll_base.specs.States.{next_state, may_close, is_idle}
 use Rattle.toll_history.specs.Command.{Action, AddOwner, AddUnit, AddMaterial, AddTest, AddRecipe, Require, PlaceOrder, CancelOrder, OpenBatch, CommandBatch, CloseBatch, Record, RecordResult, Release, Reject, Void, Command}
 use Rattle.toll_history.specs.History.{History, owner_known, count_owners, unit_known, count_units}
-use Rattle.toll_base.specs.Lots.{same_lot}
 use Rattle.toll_history.specs.Holders.{holder}
 use Rattle.toll_history.specs.Dispositions.{is_outside}
 use Rattle.toll_history.specs.Tables.{Tables, tables_given}
