@@ -40,7 +40,7 @@ impl LotId {
     pub fn is_same(&self, other: &LotId) -> bool
         ensures { result ≡ same_lot self.now other.now }
     {
-        self.owner == other.owner && self.lot == other.lot
+        self == other
     }
 }
 

@@ -50,65 +50,7 @@ impl Move {
     pub fn is_same(&self, other: &Move) -> bool
         ensures { result ≡ same_what self.now other.now }
     {
-        match (self, other) {
-            (
-                Move::Receive {
-                    material,
-                    lot,
-                    sublot,
-                },
-                Move::Receive {
-                    material: m,
-                    lot: l,
-                    sublot: s,
-                },
-            ) => *material == *m && *lot == *l && *sublot == *s,
-            (
-                Move::Split {
-                    lot,
-                    sublot,
-                    target,
-                },
-                Move::Split {
-                    lot: l,
-                    sublot: s,
-                    target: t,
-                },
-            ) => { *lot == *l && *sublot == *s && *target == *t }
-            (Move::Ship { lot, sublot }, Move::Ship { lot: l, sublot: s })
-            | (Move::Scrap { lot, sublot }, Move::Scrap { lot: l, sublot: s }) => {
-                *lot == *l && *sublot == *s
-            }
-            (
-                Move::Actual {
-                    order,
-                    number,
-                    segment,
-                    role,
-                    material,
-                    lot,
-                    sublot,
-                },
-                Move::Actual {
-                    order: o,
-                    number: n,
-                    segment: g,
-                    role: r,
-                    material: m,
-                    lot: l,
-                    sublot: s,
-                },
-            ) => {
-                *order == *o
-                    && *number == *n
-                    && *segment == *g
-                    && *role == *r
-                    && *material == *m
-                    && lot.is_same(l)
-                    && *sublot == *s
-            }
-            _ => false,
-        }
+        self == other
     }
 }
 
