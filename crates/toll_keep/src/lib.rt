@@ -9,8 +9,6 @@ mod keep;
 mod laws;
 mod mem_keep;
 mod refusing;
-#[cfg(test)]
-mod tests;
 
 pub use fault::KeepFault;
 pub use holder::Holder;

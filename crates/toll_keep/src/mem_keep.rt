@@ -17,7 +17,6 @@ use toll_base::{Change, Edge, Name, OwnerRow, Row, Slice, Table, UnitRow};
 use toll_trace::{edges_of, put_in_order};
 
 /// Rows in lists. It answers no fault but [`KeepFault::Memory`].
-#[derive(Drop)]
 pub struct MemKeep {
     owners: Table<OwnerRow>,
     units: Table<UnitRow>,
@@ -32,6 +31,17 @@ impl Model for MemKeep {
     ghost view = { shown };
 
     ghost invariant = { λ k. IsOneEach k.slices.items };
+}
+
+/// By hand, since what is derived is written out at every exit of every function that owns a keep.
+impl Drop for MemKeep {
+    fn drop(self) {
+        let MemKeep {
+            owners: _,
+            units: _,
+            slices: _,
+        } = self;
+    }
 }
 
 impl MemKeep {

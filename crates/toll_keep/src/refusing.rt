@@ -9,12 +9,21 @@ use toll_base::{Change, Edge, Name, OwnerRow, Slice, UnitRow};
 
 /// A keep around another one, that answers the next `apply` with [`KeepFault::Memory`], and passes on
 /// all else. It is for the tests of what stands on a keep.
-#[derive(Drop)]
 pub struct Refusing<K> {
     /// The keep that it is around.
     pub keep: K,
     /// The next `apply` is refused.
     pub refuses: bool,
+}
+
+/// By hand, since what is derived is written out at every exit of every function that owns a keep.
+impl<K: Drop> Drop for Refusing<K> {
+    fn drop(self) {
+        let Refusing {
+            keep: _,
+            refuses: _,
+        } = self;
+    }
 }
 
 impl<K: Keep> Refusing<K> {

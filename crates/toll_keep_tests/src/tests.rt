@@ -1,12 +1,12 @@
 //! What the contracts do not show: that ample memory meets no refusal, and what is told of rows that
 //! were put.
-use crate::{Keep, KeepFault, MemKeep, Refusing};
 use std::alloc::Global;
 use std::test::Fail;
 use toll_base::{
     Amount, BatchNo, BatchRow, Change, Day, Edge, LotId, Move, MoveRow, Name, OwnerKey, OwnerRow,
     Role, Row, Segment, State, UnitRow,
 };
+use toll_keep::{Keep, KeepFault, MemKeep, Refusing};
 
 fn acme() -> Result<OwnerRow, Fail> {
     Ok(OwnerRow {
