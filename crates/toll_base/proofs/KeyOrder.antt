@@ -20,7 +20,7 @@ cond_swap true true x new rest apart = absurd (apart refl refl)
 cond_swap true false x new rest apart = refl
 cond_swap false b x new rest apart = refl
 
-cond_none : {X : Type 0} (b : Bool) (x : X) (rest : Option X) → cond b (Some x) rest ≡ None → record { test : b ≡ false; others : rest ≡ None }
+pub cond_none : {X : Type 0} (b : Bool) (x : X) (rest : Option X) → cond b (Some x) rest ≡ None → record { test : b ≡ false; others : rest ≡ None }
 cond_none true x rest h = (cc)
 cond_none false x rest h = record { test = refl; others = h }
 
@@ -30,11 +30,11 @@ none_of (Some x) h = absurd (false≢true (sym h))
 
 module _ {K R : Type 0} (cmp : K → K → Ordering) (o : IsTotalOrder cmp) (key : R → K) where
   -- the other way round
-  turned : (a b : K) (r : Ordering) → cmp a b ≡ r → cmp b a ≡ ordering_reverse r
+  pub turned : (a b : K) (r : Ordering) → cmp a b ≡ r → cmp b a ≡ ordering_reverse r
   turned a b r h = o.antisymm b a ∙ ap ordering_reverse h
 
   -- a row before the one with the key is below it
-  below : (x : R) (xs : List R) (k : K) (i : ℕ) → AllByRecursion (λ y. cmp (key x) y ≡ Less) (map key xs) → i < length xs → HoldsAt (λ y. cmp (key y) k ≡ Equal) xs i → cmp (key x) k ≡ Less
+  pub below : (x : R) (xs : List R) (k : K) (i : ℕ) → AllByRecursion (λ y. cmp (key x) y ≡ Less) (map key xs) → i < length xs → HoldsAt (λ y. cmp (key y) k ≡ Equal) xs i → cmp (key x) k ≡ Less
   below x [] k i above lt at = absurd (omega arith)
   below x (y ∷ ys) k zero above lt at = sym (alike_right o (key y) k (key x) (at y)) ∙ above.0
   below x (y ∷ ys) k (suc i) above lt at = below x ys k i above.1 (omega arith) at

@@ -9,6 +9,8 @@ pub mod Slice
 pub mod SliceRules
 pub mod ActualCounts
 pub mod SliceView
+pub mod SharedView
+pub mod Former
 pub mod States
 pub mod Lots
 pub mod Moves

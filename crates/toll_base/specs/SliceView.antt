@@ -1,6 +1,6 @@
--- What is seen of a slice.
+-- What is seen of the rows of a slice.
 use Rattle.toll_base.specs.Slice.{Slice}
-use Rattle.toll_base.specs.declared.slice.Slice.TheInside.{Inside}
+use Rattle.toll_base.specs.declared.open_slice.OpenSlice.TheInside.{Inside}
 
 abbrev pub shown : Inside → Slice
 shown s = record {

@@ -2,7 +2,7 @@
 ghost use Rattle.std.specs.Prelude.{◌≡◌, ℕ, ◌+◌, ◌<◌, ◌≤◌, ◌^◌, length, if◌then◌else◌, List, [], OnOk, OnErr, IfOk};
 ghost use Rattle.toll_base.specs.ActualCounts.{count_of, HasRowFor, HasKnown};
 ghost use Rattle.toll_base.specs.Bytes.{Bytes, bytes_cmp};
-ghost use Rattle.toll_base.specs.Table.{row_at, put_row, has_room, IsInKeyOrder};
+ghost use Rattle.toll_base.specs.Table.{row_at, put_row, remove_row, has_room, IsInKeyOrder};
 ghost use Rattle.toll_base.specs.SliceRules.{count_actuals, is_actual_of};
 ghost use Rattle.toll_base.specs.Words.{is_some_where};
 
@@ -96,6 +96,16 @@ impl Moves {
         self.rows.put(row)?;
         recount(&mut self.actuals, &known, &row.what);
         Ok(())
+    }
+
+    /// Takes out the movement with this key, if there is one.
+    pub fn remove(&mut self, key: &Name)
+        ensures { self.new ≡ remove_row bytes_cmp (λ row. row.key) self.old key.now }
+    {
+        if let Some(known) = self.rows.get(key) {
+            take_one(&mut self.actuals, &known.what);
+            self.rows.remove(key);
+        }
     }
 }
 

@@ -3,73 +3,54 @@ ghost use Rattle.std.specs.Prelude.{◌≡◌, ℕ, ◌≤◌, List, [], ◌↔�
 ghost use Rattle.toll_base.specs.Bytes.{bytes_cmp};
 ghost use Rattle.toll_base.specs.Keys.{pair_cmp, batch_cmp, result_cmp, requirement_cmp};
 ghost use Rattle.toll_base.specs.Table.{IsInKeyOrder};
-ghost use Rattle.toll_base.specs.Words.{is_some_where};
 ghost use Rattle.toll_base.specs.Slice.{empty_slice, with_row, material_at, test_at, recipe_at, requirement_at, order_at, batch_at, lot_at, sublot_at, move_at, result_at, void_at, amount_at};
 ghost use Rattle.toll_base.specs.SliceRules.{KeepsRules, row_fits, batch_has_room, count_actuals, is_actual_of};
 
 use crate::bounded::{BatchNo, Segment};
-use crate::capacity::{
-    MOST_ACTUALS, MOST_LOTS, MOST_MATERIALS, MOST_MOVEMENTS, MOST_ORDERS, MOST_RECIPES,
-    MOST_REQUIREMENTS, MOST_RESULTS, MOST_STOCK, MOST_SUBLOTS, MOST_TESTS,
-};
-use crate::movement::{Move, MoveRow};
-use crate::moves::Moves;
+use crate::capacity::MOST_STOCK;
+use crate::movement::MoveRow;
 use crate::name::Name;
+use crate::open_slice::OpenSlice;
 use crate::role::Role;
 use crate::rows::{
     BatchRow, LotRow, MaterialRow, OrderRow, RecipeRow, RequirementRow, ResultRow, Row, SublotRow,
     TestRow, VoidRow,
 };
-use crate::table::Table;
 use std::alloc::{AllocError, Global};
 use std::marker::Model;
+use std::mem;
+use std::rc::Rc;
 
-/// All rows of one owner, each kind in the order of its keys.
+/// All rows of one owner, each kind in the order of its keys. Copies may share them, until one of
+/// the copies changes.
 pub struct Slice {
-    owner: Name,
-    materials: Table<MaterialRow>,
-    tests: Table<TestRow>,
-    recipes: Table<RecipeRow>,
-    requirements: Table<RequirementRow>,
-    orders: Table<OrderRow>,
-    batches: Table<BatchRow>,
-    lots: Table<LotRow>,
-    sublots: Table<SublotRow>,
-    moves: Moves,
-    results: Table<ResultRow>,
-    voids: Table<VoidRow>,
+    alloc: Global,
+    rows: Sharing,
+}
+
+// The rows of a slice.
+#[derive(Drop)]
+enum Sharing {
+    // No copy has them.
+    Own(OpenSlice),
+    // Copies may have them.
+    Shared(Rc<OpenSlice>),
 }
 
 impl Model for Slice {
-    ghost use Rattle.toll_base.specs.Slice as rows;
+    ghost use Rattle.toll_base.specs.Slice as shown;
 
-    ghost Value = { rows.Slice };
+    ghost Value = { shown.Slice };
 
-    ghost use Rattle.toll_base.specs.SliceRules.{KeepsRules};
-    ghost use Rattle.toll_base.specs.SliceView.{shown};
+    ghost use Rattle.toll_base.specs.SharedView.{rows_of};
 
-    ghost view = { shown };
-
-    ghost invariant = { λ s. KeepsRules (shown s) };
+    ghost view = { λ s. rows_of s.rows };
 }
 
 /// By hand, since what is derived is written out at every exit of every function that owns a slice.
 impl Drop for Slice {
     fn drop(self) {
-        let Slice {
-            owner: _,
-            materials: _,
-            tests: _,
-            recipes: _,
-            requirements: _,
-            orders: _,
-            batches: _,
-            lots: _,
-            sublots: _,
-            moves: _,
-            results: _,
-            voids: _,
-        } = self;
+        let Slice { alloc: _, rows: _ } = self;
     }
 }
 
@@ -79,18 +60,8 @@ impl Slice {
         ensures { result ≡ empty_slice owner }
     {
         Slice {
-            owner,
-            materials: Table::new(alloc),
-            tests: Table::new(alloc),
-            recipes: Table::new(alloc),
-            requirements: Table::new(alloc),
-            orders: Table::new(alloc),
-            batches: Table::new(alloc),
-            lots: Table::new(alloc),
-            sublots: Table::new(alloc),
-            moves: Moves::new(alloc),
-            results: Table::new(alloc),
-            voids: Table::new(alloc),
+            alloc,
+            rows: Sharing::Own(OpenSlice::new(alloc, owner)),
         }
     }
 
@@ -99,28 +70,24 @@ impl Slice {
         ensures owner { result.now ≡ self.now.owner }
         ensures kept { KeepsRules self.now }
     {
-        &self.owner
+        self.rows().owner()
     }
 
     /// Adds the row, or puts it in place of the one with its key. After want of memory nothing is
-    /// changed.
+    /// changed. Rows that a copy shares are copied first.
     pub fn put(&mut self, row: Row) -> Result<(), AllocError>
         requires { KeepsRules (with_row self.old row) }
         ensures ok { OnOk result (self.new ≡ with_row self.old row) }
         ensures err { OnErr result (self.new ≡ self.old) }
     {
-        match row {
-            Row::Material(row) => self.materials.put(row),
-            Row::Test(row) => self.tests.put(row),
-            Row::Recipe(row) => self.recipes.put(row),
-            Row::Requirement(row) => self.requirements.put(row),
-            Row::Order(row) => self.orders.put(row),
-            Row::Batch(row) => self.batches.put(row),
-            Row::Lot(row) => self.lots.put(row),
-            Row::Sublot(row) => self.sublots.put(row),
-            Row::Move(row) => self.moves.put(row),
-            Row::Result(row) => self.results.put(row),
-            Row::Void(row) => self.voids.put(row),
+        match &mut self.rows {
+            Sharing::Own(rows) => rows.put(row),
+            Sharing::Shared(shared) => {
+                let mut rows = shared.copy(self.alloc)?;
+                rows.put(row)?;
+                self.rows = Sharing::Own(rows);
+                Ok(())
+            }
         }
     }
 
@@ -128,80 +95,89 @@ impl Slice {
     pub fn fits(&self, row: &Row) -> bool
         ensures { IsTrue result ↔ KeepsRules (with_row self.now row.now) }
     {
-        let _owner = &self.owner;
-        self.row_fits(row)
-    }
-
-    fn row_fits(&self, row: &Row) -> bool
-        ensures { result ≡ row_fits self.now row.now }
-    {
-        match row {
-            Row::Material(row) => self.materials.has_room(row, MOST_MATERIALS),
-            Row::Test(row) => self.tests.has_room(row, MOST_TESTS),
-            Row::Recipe(row) => self.recipes.has_room(row, MOST_RECIPES),
-            Row::Requirement(row) => self.requirements.has_room(row, MOST_REQUIREMENTS),
-            Row::Order(row) => self.orders.has_room(row, MOST_ORDERS),
-            Row::Lot(row) => {
-                self.lots.has_room(row, MOST_LOTS) && self.material(&row.material).is_some()
-            }
-            Row::Sublot(row) => {
-                self.sublots.has_room(row, MOST_SUBLOTS)
-                    && row.amount <= MOST_STOCK
-                    && self.lot(&row.lot).is_some()
-            }
-            Row::Move(row) => self.moves.has_room(row, MOST_MOVEMENTS) && self.batch_has_room(row),
-            Row::Result(row) => self.results.has_room(row, MOST_RESULTS),
-            Row::Batch(_) | Row::Void(_) => true,
-        }
-    }
-
-    // Whether the movement's batch has room for one more actual, or has the one that it replaces.
-    fn batch_has_room(&self, row: &MoveRow) -> bool
-        ensures { result ≡ batch_has_room self.now row.now.key row.now.what }
-    {
-        match &row.what {
-            Move::Actual { order, number, .. } => {
-                self.count_actuals(order, *number) < MOST_ACTUALS
-                    || self.has_actual(&row.key, order, *number)
-            }
-            _ => true,
-        }
-    }
-
-    fn has_actual(&self, key: &Name, order: &Name, number: BatchNo) -> bool
-        ensures { result ≡ is_some_where (λ row. is_actual_of order.now number row.what) (move_at self.now key.now) }
-    {
-        match self.movement(key) {
-            None => false,
-            Some(known) => known.is_actual_of(order, number),
-        }
+        self.rows().fits(row)
     }
 
     /// How many actuals the batch has, voided ones included.
     pub fn count_actuals(&self, order: &Name, number: BatchNo) -> u64
         ensures { result ≡ count_actuals order.now number self.now.moves }
     {
-        self.moves.count_actuals(order, number)
+        self.rows().moves.count_actuals(order, number)
     }
 
-    /// The same rows once more.
+    // The rows, wherever they are.
+    fn rows(&self) -> &OpenSlice
+        ensures { result.now ≡ self.now }
+    {
+        match &self.rows {
+            Sharing::Own(rows) => rows,
+            Sharing::Shared(rows) => rows,
+        }
+    }
+}
+
+/// How copies share rows.
+impl Slice {
+    /// The same rows once more: those that are shared are not copied.
     pub fn copy(&self, alloc: Global) -> Result<Self, AllocError>
         ensures { IfOk result (λ copied. copied ≡ self.now) }
     {
-        Ok(Slice {
-            owner: self.owner,
-            materials: self.materials.copy(alloc)?,
-            tests: self.tests.copy(alloc)?,
-            recipes: self.recipes.copy(alloc)?,
-            requirements: self.requirements.copy(alloc)?,
-            orders: self.orders.copy(alloc)?,
-            batches: self.batches.copy(alloc)?,
-            lots: self.lots.copy(alloc)?,
-            sublots: self.sublots.copy(alloc)?,
-            moves: self.moves.copy(alloc)?,
-            results: self.results.copy(alloc)?,
-            voids: self.voids.copy(alloc)?,
-        })
+        let rows = match &self.rows {
+            Sharing::Own(rows) => Sharing::Own(rows.copy(alloc)?),
+            Sharing::Shared(rows) => Sharing::Shared(rows.clone()?),
+        };
+        Ok(Slice { alloc, rows })
+    }
+
+    /// Lets copies share the rows from now on.
+    pub fn share(&mut self, alloc: Global) -> Result<(), AllocError>
+        ensures { self.new ≡ self.old }
+    {
+        let empty = Sharing::Own(OpenSlice::new(alloc, *self.owner()));
+        match mem::replace(&mut self.rows, empty) {
+            Sharing::Own(rows) => match Rc::new(alloc, rows) {
+                Ok(shared) => self.rows = Sharing::Shared(shared),
+                Err(refused) => {
+                    self.rows = Sharing::Own(refused.value);
+                    return Err(AllocError);
+                }
+            },
+            shared => self.rows = shared,
+        }
+        Ok(())
+    }
+
+    /// Takes the rows out, to be changed in place, and leaves none. They are copied only where another
+    /// slice shares them. After want of memory nothing is changed.
+    pub fn take(&mut self, alloc: Global) -> Result<OpenSlice, AllocError>
+        ensures rows { IfOk result (λ rows. rows ≡ self.old) }
+        ensures ok { OnOk result (self.new ≡ empty_slice self.old.owner) }
+        ensures err { OnErr result (self.new ≡ self.old) }
+    {
+        let empty = Sharing::Own(OpenSlice::new(alloc, *self.owner()));
+        match mem::replace(&mut self.rows, empty) {
+            Sharing::Own(rows) => Ok(rows),
+            Sharing::Shared(shared) => match Rc::try_unwrap(shared) {
+                Ok(rows) => Ok(rows),
+                Err(shared) => {
+                    let copied = shared.copy(alloc);
+                    if copied.is_err() {
+                        self.rows = Sharing::Shared(shared);
+                    }
+                    copied
+                }
+            },
+        }
+    }
+
+    /// These rows.
+    pub fn of(alloc: Global, rows: OpenSlice) -> Self
+        ensures { result ≡ rows }
+    {
+        Slice {
+            alloc,
+            rows: Sharing::Own(rows),
+        }
     }
 }
 
@@ -212,7 +188,7 @@ impl Slice {
         ensures rows { result.now ≡ self.now.materials }
         ensures order { IsInKeyOrder bytes_cmp (λ row. row.material) self.now.materials }
     {
-        self.materials.rows()
+        self.rows().materials.rows()
     }
 
     /// The tests of the materials, in the order of their keys.
@@ -220,7 +196,7 @@ impl Slice {
         ensures rows { result.now ≡ self.now.tests }
         ensures order { IsInKeyOrder pair_cmp (λ row. (row.material, row.test)) self.now.tests }
     {
-        self.tests.rows()
+        self.rows().tests.rows()
     }
 
     /// The recipes, in the order of their keys.
@@ -228,7 +204,7 @@ impl Slice {
         ensures rows { result.now ≡ self.now.recipes }
         ensures order { IsInKeyOrder bytes_cmp (λ row. row.recipe) self.now.recipes }
     {
-        self.recipes.rows()
+        self.rows().recipes.rows()
     }
 
     /// The requirements of the recipes, in the order of their keys.
@@ -236,7 +212,7 @@ impl Slice {
         ensures rows { result.now ≡ self.now.requirements }
         ensures order { IsInKeyOrder requirement_cmp (λ row. (row.recipe, row.segment, row.role, row.source, row.material)) self.now.requirements }
     {
-        self.requirements.rows()
+        self.rows().requirements.rows()
     }
 
     /// The orders, in the order of their keys.
@@ -244,7 +220,7 @@ impl Slice {
         ensures rows { result.now ≡ self.now.orders }
         ensures order { IsInKeyOrder bytes_cmp (λ row. row.order) self.now.orders }
     {
-        self.orders.rows()
+        self.rows().orders.rows()
     }
 
     /// The batches, in the order of their keys.
@@ -252,7 +228,7 @@ impl Slice {
         ensures rows { result.now ≡ self.now.batches }
         ensures order { IsInKeyOrder batch_cmp (λ row. (row.order, row.number)) self.now.batches }
     {
-        self.batches.rows()
+        self.rows().batches.rows()
     }
 
     /// The lots, in the order of their keys.
@@ -260,7 +236,7 @@ impl Slice {
         ensures rows { result.now ≡ self.now.lots }
         ensures order { IsInKeyOrder bytes_cmp (λ row. row.lot) self.now.lots }
     {
-        self.lots.rows()
+        self.rows().lots.rows()
     }
 
     /// The sublots, in the order of their keys.
@@ -268,7 +244,7 @@ impl Slice {
         ensures rows { result.now ≡ self.now.sublots }
         ensures order { IsInKeyOrder pair_cmp (λ row. (row.lot, row.sublot)) self.now.sublots }
     {
-        self.sublots.rows()
+        self.rows().sublots.rows()
     }
 
     /// The movements, in the order of their keys.
@@ -276,7 +252,7 @@ impl Slice {
         ensures rows { result.now ≡ self.now.moves }
         ensures order { IsInKeyOrder bytes_cmp (λ row. row.key) self.now.moves }
     {
-        self.moves.rows()
+        self.rows().moves.rows()
     }
 
     /// The results of the tests of the lots, in the order of their keys.
@@ -284,7 +260,7 @@ impl Slice {
         ensures rows { result.now ≡ self.now.results }
         ensures order { IsInKeyOrder result_cmp (λ row. (row.lot, row.test, row.number)) self.now.results }
     {
-        self.results.rows()
+        self.rows().results.rows()
     }
 
     /// The voided movements, in the order of their keys.
@@ -292,7 +268,7 @@ impl Slice {
         ensures rows { result.now ≡ self.now.voids }
         ensures order { IsInKeyOrder bytes_cmp (λ row. row.key) self.now.voids }
     {
-        self.voids.rows()
+        self.rows().voids.rows()
     }
 }
 
@@ -302,70 +278,70 @@ impl Slice {
     pub fn material(&self, material: &Name) -> Option<MaterialRow>
         ensures { result ≡ material_at self.now material.now }
     {
-        self.materials.get(material)
+        self.rows().materials.get(material)
     }
 
     /// The test of the material.
     pub fn test(&self, material: &Name, test: &Name) -> Option<TestRow>
         ensures { result ≡ test_at self.now (material.now, test.now) }
     {
-        self.tests.get(&(*material, *test))
+        self.rows().tests.get(&(*material, *test))
     }
 
     /// The recipe with this name.
     pub fn recipe(&self, recipe: &Name) -> Option<RecipeRow>
         ensures { result ≡ recipe_at self.now recipe.now }
     {
-        self.recipes.get(recipe)
+        self.rows().recipes.get(recipe)
     }
 
     /// The requirement of the recipe's segment.
     pub fn requirement(&self, key: &(Name, Segment, Role, Name, Name)) -> Option<RequirementRow>
         ensures { result ≡ requirement_at self.now key.now }
     {
-        self.requirements.get(key)
+        self.rows().requirements.get(key)
     }
 
     /// The order with this name.
     pub fn order(&self, order: &Name) -> Option<OrderRow>
         ensures { result ≡ order_at self.now order.now }
     {
-        self.orders.get(order)
+        self.rows().orders.get(order)
     }
 
     /// The batch of the order.
     pub fn batch(&self, order: &Name, number: BatchNo) -> Option<BatchRow>
         ensures { result ≡ batch_at self.now (order.now, number) }
     {
-        self.batches.get(&(*order, number))
+        self.rows().batches.get(&(*order, number))
     }
 
     /// The lot with this name.
     pub fn lot(&self, lot: &Name) -> Option<LotRow>
         ensures { result ≡ lot_at self.now lot.now }
     {
-        self.lots.get(lot)
+        self.rows().lots.get(lot)
     }
 
     /// The sublot of the lot.
     pub fn sublot(&self, lot: &Name, sublot: &Name) -> Option<SublotRow>
         ensures { result ≡ sublot_at self.now (lot.now, sublot.now) }
     {
-        self.sublots.get(&(*lot, *sublot))
+        self.rows().sublots.get(&(*lot, *sublot))
     }
 
     /// The movement with this key.
     pub fn movement(&self, key: &Name) -> Option<MoveRow>
         ensures { result ≡ move_at self.now key.now }
     {
-        self.moves.get(key)
+        self.rows().moves.get(key)
     }
 
     /// The result of the test of the lot with this number.
     pub fn result(&self, lot: &Name, test: &Name, number: u64) -> Option<ResultRow>
         ensures { result ≡ result_at self.now (lot.now, test.now, number) }
     {
-        self.results.get(&(*lot, *test, number))
+        self.rows().results.get(&(*lot, *test, number))
     }
 
     /// How much is in the sublot, 0 where there is none: at most 20,000,000,000,000.
@@ -373,7 +349,7 @@ impl Slice {
         ensures amount { result ≡ amount_at self.now (lot.now, sublot.now) }
         ensures bound { result ≤ MOST_STOCK }
     {
-        let _owner = &self.owner;
+        let _owner = self.owner();
         match self.sublot(lot, sublot) {
             Some(row) => row.amount,
             None => 0,
@@ -384,6 +360,6 @@ impl Slice {
     pub fn is_voided(&self, key: &Name) -> bool
         ensures { result ≡ is_some (void_at self.now key.now) }
     {
-        self.voids.get(key).is_some()
+        self.rows().voids.get(key).is_some()
     }
 }

@@ -3,7 +3,7 @@ ghost use Rattle.std.specs.Prelude.{◌≡◌, ℕ, List, [], length, is_some, t
 ghost use Rattle.std.specs.List.{HoldsAt};
 ghost use Rattle.std.specs.List.Sorted.{IsPartitionPoint, IsSearchInRange};
 ghost use Rattle.std.specs.declared.cmp.Ordering.TheVariants.{Less, Equal, Greater};
-ghost use Rattle.toll_base.specs.Table.{row_at, put_row, IsInKeyOrder, has_room};
+ghost use Rattle.toll_base.specs.Table.{row_at, put_row, remove_row, IsInKeyOrder, has_room};
 
 use std::alloc::{AllocError, Global};
 use std::marker::Model;
@@ -89,6 +89,15 @@ impl<R: Keyed> Table<R> {
     {
         if let Ok(at) = self.search(&row.key()) {
             self.rows[at] = row;
+        }
+    }
+
+    /// Takes out the row with this key, if there is one.
+    pub fn remove(&mut self, key: &R::Key)
+        ensures { self.new ≡ remove_row R.Key.cmp R.key_of self.old key.now }
+    {
+        if let Ok(at) = self.search(key) {
+            self.rows.remove(at);
         }
     }
 

@@ -26,6 +26,16 @@ pub fn copy_of(alloc: Global, slices: &[Slice], owner: &Name) -> Result<Slice, A
     }
 }
 
+/// Lets copies of the owner's slice share its rows.
+pub fn share(alloc: Global, slices: &mut [Slice], owner: &Name) -> Result<(), AllocError>
+    ensures { slices.new ≡ slices.old }
+{
+    match place_of(slices, owner) {
+        Some(at) => slices[at].share(alloc),
+        None => Ok(()),
+    }
+}
+
 /// The slices that differ after these changes, as they are then.
 pub fn drafted(alloc: Global, slices: &[Slice], changes: &[Change]) -> Result<Vec<Slice>, KeepFault>
     ensures made { IfOk result (λ drafts. (o : Bytes) → rows_in (drafts.items ++ slices.now) o ≡ after_changes changes.now (rows_in slices.now o)) }

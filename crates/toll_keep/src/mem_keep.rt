@@ -6,7 +6,7 @@ ghost use Rattle.toll_keep.specs.Goes.{IsAmong};
 ghost use Rattle.toll_keep.specs.Holding.{IsEdgeOfSome};
 ghost use Rattle.toll_keep.specs.Slices.{content_of, rows_in};
 
-use crate::draft::{copy_of, drafted, install};
+use crate::draft::{copy_of, drafted, install, share};
 use crate::everyone::edges_among;
 use crate::fault::KeepFault;
 use crate::holder::{Holder, holder_among};
@@ -62,12 +62,14 @@ impl MemKeep {
         *owner == Name::house() || self.owners.get(owner).is_some()
     }
 
-    fn copied_slice(&self, alloc: Global, owner: &Name) -> Result<Option<Slice>, AllocError>
-        ensures { IfOk result (λ slice. slice ≡ slice_of (content_of self.now) owner.now) }
+    fn shared_slice(&mut self, alloc: Global, owner: &Name) -> Result<Option<Slice>, AllocError>
+        ensures reads { IfOk result (λ slice. slice ≡ slice_of (content_of self.old) owner.now) }
+        ensures same { self.new ≡ self.old }
     {
         if !self.knows(owner) {
             return Ok(None);
         }
+        share(alloc, &mut self.slices, owner)?;
         Ok(Some(copy_of(alloc, &self.slices, owner)?))
     }
 
@@ -117,7 +119,7 @@ impl Keep for MemKeep {
     ghost leaves = { λ k cs. IsAmong (λ c. content_of k ≡ c) cs };
 
     fn slice(&mut self, alloc: Global, owner: &Name) -> Result<Option<Slice>, KeepFault> {
-        Ok(self.copied_slice(alloc, owner)?)
+        Ok(self.shared_slice(alloc, owner)?)
     }
 
     fn owners(&mut self, alloc: Global) -> Result<Vec<OwnerRow>, KeepFault> {

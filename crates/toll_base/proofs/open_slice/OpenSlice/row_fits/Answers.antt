@@ -1,7 +1,9 @@
-use Rattle.std.proofs.Common.{sym, ap, ◌∙◌}
+use Rattle.std.proofs.Common.{◌&&◌, is_some, sym, ap, ◌∙◌}
+use Rattle.toll_base.specs.Bytes.{bytes_cmp}
 use Rattle.toll_base.specs.SliceRules.{row_fits}
-use Rattle.toll_base.specs.declared.rows.Row.TheVariants.{Material, Test, Recipe, Requirement, Order, Result}
-use Rattle.toll_base.proofs.slice.Slice.row_fits.Goals as goal
+use Rattle.toll_base.specs.Table.{row_at}
+use Rattle.toll_base.specs.declared.rows.Row.TheVariants.{Material, Test, Recipe, Requirement, Order, Lot, Result}
+use Rattle.toll_base.proofs.open_slice.OpenSlice.row_fits.Goals as goal
 
 pub returns-in-Material : goal.returns-in-Material
 returns-in-Material c = c.has_room.ensures ∙ ap (λ s. row_fits s (Material c.in-Material.row)) c.self.view_is ∙ sym (ap (row_fits c.args.self.now) c.in-Material.is)
@@ -20,3 +22,9 @@ returns-in-Order c = c.has_room-in-Order.ensures ∙ ap (λ s. row_fits s (Order
 
 pub returns-in-Result : goal.returns-in-Result
 returns-in-Result c = c.has_room-in-Result.ensures ∙ ap (λ s. row_fits s (Result c.in-Result.row)) c.self.view_is ∙ sym (ap (row_fits c.args.self.now) c.in-Result.is)
+
+pub returns-then-has_room : goal.returns-then-has_room
+returns-then-has_room c =
+    c.is_some.ensures ∙ ap is_some c.get.ensures
+    ∙ sym (ap (λ b. b && is_some (row_at bytes_cmp (λ row. row.material) c.self.inside.materials c.in-Lot.row.material)) (sym c.has_room-in-Lot.ensures ∙ c.if-has_room.true))
+    ∙ ap (λ s. row_fits s (Lot c.in-Lot.row)) c.self.view_is ∙ sym (ap (row_fits c.args.self.now) c.in-Lot.is)

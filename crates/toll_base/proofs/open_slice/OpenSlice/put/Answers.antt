@@ -3,7 +3,7 @@ use Rattle.toll_base.specs.Slice.{with_row}
 use Rattle.toll_base.specs.SliceRules.{KeepsRules}
 use Rattle.toll_base.specs.SliceView.{shown}
 use Rattle.toll_base.proofs.PutOrNot.{put_or_not}
-use Rattle.toll_base.proofs.slice.Slice.put.Goals as goal
+use Rattle.toll_base.proofs.open_slice.OpenSlice.put.Goals as goal
 
 pub invariant_of-self : goal.invariant_of-self
 invariant_of-self c =
