@@ -1,5 +1,5 @@
 -- The edges that movements of a list draw, as a list.
-use Rattle.std.proofs.Common.{◌≡◌, ℕ, Bool, Option, Some, None, List, refl, ap, ◌∙◌}
+use Rattle.std.proofs.Common.{ℕ, Some, None, List, refl, ap, ◌∙◌}
 use Rattle.std.specs.Prelude.{Contains, if◌then◌else◌}
 use Rattle.std.specs.List.{filter_map, flat_map}
 use Rattle.toll_base.specs.Bytes.{Bytes}

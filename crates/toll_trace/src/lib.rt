@@ -20,6 +20,3 @@ pub use laws::traces_are_unique;
 pub use plain::plain_trace;
 pub use step::{Step, steps_are_ordered};
 pub use way::Way;
-
-#[cfg(test)]
-mod tests;
