@@ -1,5 +1,5 @@
 -- An owner that is added: the content with it stands for the history with it.
-use Rattle.std.proofs.Common.{◌≡◌, ℕ, suc, ◌+◌, Bool, true, false, cond, ◌||◌, ◌&&◌, Option, Some, None, is_some, List, [], ◌∷◌, length, refl, sym, ap, subst, ◌∙◌, arith}
+use Rattle.std.proofs.Common.{◌≡◌, Bool, true, false, cond, ◌||◌, ◌&&◌, Option, Some, None, is_some, [], ◌∷◌, refl, sym, ap, subst, ◌∙◌, arith}
 use mathlib.Core.Bool.{false≢true}
 use Rattle.std.specs.Cmp.Lexicographic.{nat_list_cmp_total}
 use Rattle.std.specs.List.{list_any}
@@ -10,13 +10,12 @@ use Rattle.toll_base.specs.Values.{house_name}
 use Rattle.toll_base.specs.Words.{or_else}
 use Rattle.toll_base.specs.Table.{row_at, put_row}
 use Rattle.toll_history.specs.Command.{AddOwner, Command, by}
-use Rattle.toll_history.specs.History.{History, part, acts, key_added, adds_owner, owner_key, owner_known}
+use Rattle.toll_history.specs.History.{History, acts, key_added, adds_owner, owner_key, owner_known}
 use Rattle.toll_history.specs.Movements.{stock, sublot_known, lot_made, count_lots, count_sublots, material_used}
-use Rattle.toll_base.specs.Slice.{Slice, empty_slice}
-use Rattle.toll_history.specs.Tables.{IsRowsOf, tables_given, tables_of}
+use Rattle.toll_base.specs.Slice.{empty_slice}
+use Rattle.toll_history.specs.Tables.{IsRowsOf, tables_given}
 use Rattle.toll_history.specs.Verdict.{Accepted, verdict, IsLawful}
 use Rattle.toll_base.specs.declared.rows.OwnerRow.{OwnerRow}
-use Rattle.toll_base.specs.declared.decision.Change.{Change}
 use Rattle.toll_base.specs.declared.decision.Change.TheVariants.{Owner}
 use Rattle.toll_history.proofs.Acts.{first_acts, any_acts}
 use Rattle.toll_history.proofs.Grown.{tables-own, tables-others}
@@ -25,7 +24,7 @@ use Rattle.toll_history.proofs.Own.{part-own}
 use Rattle.toll_history.proofs.OwnTables.{tables-part}
 use Rattle.toll_base.proofs.PutTables.{length-new}
 use Rattle.toll_base.proofs.Texts.{same_bytes-exact, same_bytes-refl, same_bytes-symm}
-use Rattle.toll_keep.specs.Content.{Content, after, after_owners}
+use Rattle.toll_keep.specs.Content.{Content}
 use Rattle.toll_keep.specs.Standing.{StandsFor, AreOwnersOf}
 use Rattle.toll_keep.proofs.Knowing.{standing_knows}
 use Rattle.toll_desk.specs.Plans.{LeadsTo}

@@ -1,6 +1,6 @@
 -- The plant's decisions over the content of a keep.
 use Rattle.std.specs.Prelude.{nat_le}
-use Rattle.std.proofs.Common.{◌≡◌, true, false, Some, List, [], ◌∷◌, refl, sym, ap, subst, ◌∙◌}
+use Rattle.std.proofs.Common.{◌≡◌, true, false, Some, [], ◌∷◌, refl, sym, ap, subst, ◌∙◌}
 use Rattle.toll_base.specs.Bytes.{Bytes}
 use Rattle.toll_history.specs.Command.{Action, AddOwner, Command, by}
 use Rattle.toll_history.specs.History.{History, owner_known}
@@ -8,10 +8,9 @@ use Rattle.toll_base.specs.Slice.{Slice}
 use Rattle.toll_history.specs.Tables.{IsRowsOf}
 use Rattle.toll_history.specs.Verdict.{Verdict, Accepted, Repeated, Refused, first_of, checks, needs_owner, verdict, grown, IsLawful, IsValid}
 use Rattle.toll_base.specs.Changes.{changes_of, after_changes}
-use Rattle.toll_history.specs.Decision.{verdict_of, changes_if, ChangesKeepRules, IsDecided, Decides, DecisionKeepsRules}
+use Rattle.toll_history.specs.Decision.{changes_if, ChangesKeepRules, IsDecided, Decides, DecisionKeepsRules}
 use Rattle.toll_history.specs.OwnChanges.{PutsOnly}
 use Rattle.toll_base.specs.declared.rows.OwnerRow.{OwnerRow}
-use Rattle.toll_base.specs.declared.decision.Change.{Change}
 use Rattle.toll_base.specs.declared.decision.Change.TheVariants.{Owner}
 use Rattle.toll_base.specs.declared.decision.Decision.{Decision}
 use Rattle.toll_base.specs.declared.decision.Decision.TheVariants.{Refuse}

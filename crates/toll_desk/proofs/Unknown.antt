@@ -1,5 +1,5 @@
 -- A lawful history has no command of an owner that it does not know, and gives it no rows.
-use Rattle.std.proofs.Common.{◌≡◌, Bool, true, false, not, ◌&&◌, ◌||◌, List, [], ◌∷◌, refl, sym, ap, ◌∙◌}
+use Rattle.std.proofs.Common.{◌≡◌, Bool, true, false, not, ◌&&◌, ◌||◌, [], ◌∷◌, refl, sym, ap, ◌∙◌}
 use mathlib.Core.Bool.{false≢true}
 use Rattle.std.specs.List.{list_any}
 use Rattle.toll_base.specs.Bytes.{Bytes, same_bytes}
@@ -9,7 +9,7 @@ use Rattle.toll_history.specs.History.{History, part, acts, adds_owner, owner_kn
 use Rattle.toll_history.specs.Verdict.{Accepted, checks, needs_owner, verdict, IsLawful}
 use Rattle.toll_history.proofs.Accepted.{none_applies}
 use Rattle.toll_history.proofs.Acts.{any_acts}
-use Rattle.toll_history.proofs.Own.{part-own, part-other}
+use Rattle.toll_history.proofs.Own.{part-other}
 use Rattle.toll_base.proofs.Texts.{same_bytes-exact}
 
 -- the owner of an accepted command is known, or added by it

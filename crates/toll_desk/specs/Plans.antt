@@ -1,5 +1,5 @@
 -- What a plan owes, and what came of it.
-use Rattle.std.specs.Prelude.{◌≡◌, Bool, true, false, not, ◌&&◌, ◌||◌, nat_le, Option, Some, None, is_some, List, [], ◌∷◌, length, Result, Ok, Err, IfOk, OnOk, OnErr}
+use Rattle.std.specs.Prelude.{Bool, true, false, not, ◌&&◌, ◌||◌, nat_le, Option, Some, None, is_some, List, [], ◌∷◌, length, Result, Ok, Err, IfOk, OnOk, OnErr}
 use Rattle.toll_base.specs.Bytes.{Bytes, bytes_cmp, same_bytes}
 use Rattle.toll_base.specs.Values.{house_name}
 use Rattle.toll_base.specs.Words.{is_some_where}
@@ -60,6 +60,11 @@ plant_told WasRepeated = Ok (Some (Judged Repeated))
 plant_told (WasRefused why) = Ok (Some (Judged (RefusedFor why)))
 plant_told (Text text) = Ok None
 plant_told (PlantFault fault) = Err fault
+
+-- the outcome of a plan once its changes were made, or not
+abbrev pub finished : {X : Type 0} → Result X KeepFault → Result (Unit {0}) KeepFault → Result X KeepFault
+finished outcome (Ok made) = outcome
+finished outcome (Err fault) = Err fault
 
 -- ---- who is admitted
 

@@ -8,8 +8,6 @@ mod owner;
 mod plant;
 mod plant_cmd;
 mod request;
-#[cfg(test)]
-mod tests;
 mod worked;
 
 pub use genealogy::{

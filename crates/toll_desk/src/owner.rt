@@ -105,8 +105,6 @@ pub fn owner_do<K: Keep>(
         IsDone (K.holds keep.new) (K.is_live keep.old) (K.leaves keep.new) c (after_reply owner.now key.now H (asked_of request.now)) (told_of result) (IsReply owner.now key.now H (asked_of request.now)) }
 {
     let planned = owner_plan(alloc, keep, owner, key, request);
-    match carry(alloc, keep, &planned.changes) {
-        Ok(()) => planned.reply,
-        Err(fault) => Reply::Fault(fault),
-    }
+    let made = carry(alloc, keep, &planned.changes);
+    planned.finished(made)
 }

@@ -29,10 +29,8 @@ pub fn plant_do<K: Keep>(alloc: Global, keep: &mut K, command: &PlantCmd) -> Pla
         IsDone (K.holds keep.new) (K.is_live keep.old) (K.leaves keep.new) c (after_plant H (asked_by command.now)) (plant_told result) (IsPlantTold H (asked_by command.now)) }
 {
     let planned = plant_plan(alloc, keep, command);
-    match carry(alloc, keep, &planned.changes) {
-        Ok(()) => planned.reply,
-        Err(fault) => PlantReply::Fault(fault),
-    }
+    let made = carry(alloc, keep, &planned.changes);
+    planned.finished(made)
 }
 
 // The reply to a command as it will stand, and what must be applied for it. Nothing is changed.

@@ -3,7 +3,7 @@ ghost use Rattle.std.specs.Prelude.{◌≡◌, [], Ok, Some};
 ghost use Rattle.toll_base.specs.Changes.{changes_of};
 ghost use Rattle.toll_history.specs.Decision.{verdict_of};
 ghost use Rattle.toll_desk.specs.PlantAnswers.{Judged};
-ghost use Rattle.toll_desk.specs.Plans.{plant_told};
+ghost use Rattle.toll_desk.specs.Plans.{finished, plant_told};
 
 use std::alloc::Global;
 use toll_base::{Change, Decision, Name, OwnerKey, Refusal, Segment};
@@ -70,6 +70,16 @@ impl PlantPlan {
         PlantPlan {
             reply,
             changes: Vec::new(alloc),
+        }
+    }
+
+    /// What is told once the changes were made, or not.
+    pub fn finished(self, made: Result<(), KeepFault>) -> PlantReply
+        ensures { plant_told result ≡ finished (plant_told self.reply) made }
+    {
+        match made {
+            Ok(()) => self.reply,
+            Err(fault) => PlantReply::Fault(fault),
         }
     }
 }

@@ -1,5 +1,6 @@
 //! Owners' requests, and the replies to them.
 ghost use Rattle.std.specs.Prelude.{◌≡◌, []};
+ghost use Rattle.toll_desk.specs.Plans.{finished, told_of};
 
 use std::alloc::Global;
 use toll_base::{BatchNo, Change, Name, OrderRow, Refusal};
@@ -47,6 +48,16 @@ impl Planned {
         Planned {
             reply,
             changes: Vec::new(alloc),
+        }
+    }
+
+    /// What is told once the changes were made, or not.
+    pub fn finished(self, made: Result<(), KeepFault>) -> Reply
+        ensures { told_of result ≡ finished (told_of self.reply) made }
+    {
+        match made {
+            Ok(()) => self.reply,
+            Err(fault) => Reply::Fault(fault),
         }
     }
 }

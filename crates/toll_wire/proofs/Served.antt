@@ -11,11 +11,11 @@ use Rattle.toll_keep.specs.declared.fault.KeepFault.{KeepFault}
 use Rattle.toll_base.specs.declared.decision.Change.{Change}
 use Rattle.toll_desk.specs.Told.{Asked, Told}
 use Rattle.toll_desk.specs.Replies.{IsReply, after_reply}
-use Rattle.toll_desk.specs.Plans.{IsPlan, IsDone}
-use Rattle.toll_desk.proofs.Carried.{IsCarried, finished, carried_done}
+use Rattle.toll_desk.specs.Plans.{finished, IsPlan, IsDone}
+use Rattle.toll_desk.proofs.Carried.{IsCarried, done_of}
 use Rattle.toll_wire.specs.declared.outgoing.Out.{Out}
 use Rattle.toll_wire.specs.declared.outgoing.Out.TheVariants.{Text, Unavailable}
-use Rattle.toll_wire.specs.OutTexts.{IsText}
+use Rattle.toll_wire.specs.OutTexts.{IsText, text_if}
 use Rattle.toll_wire.specs.ReplyTexts.{text_of_told, text_if_told}
 use Rattle.toll_wire.specs.Runs.{Asks, By, Nobody, IsTold}
 use Rattle.toll_wire.specs.Steps.{http, outcome_of, IsServed}
@@ -35,10 +35,16 @@ pub so_of_told : {P : Type 0} (planned : Result Told KeepFault) (text : Vec ℕ)
 so_of_told (Ok told) text is so = so
 so_of_told (Err fault) text is so = absurd is
 
+-- what is so where the changes were made is so where the text is told
+pub so_where_made : (P : Type 0) (text : Vec ℕ) (made : Result (Unit {0}) KeepFault) → OnOk made P → OnOk (outcome_of (text_if text made)) P
+so_where_made P text (Ok done) so = so
+so_where_made P text (Err fault) so = tt
+
 -- a store that lives when a plan stands lives on when its changes were made
-pub lives_on : {K : Type 0} (is_live : K → Type 0) (middle new : K) (changes : List Change) → is_live middle → (changes ≡ [] → new ≡ middle) → ((changes ≡ [] → ⊥) → is_live new) → is_live new
-lives_on is_live middle new [] live idle shown = subst is_live (sym (idle refl)) live
-lives_on is_live middle new (change ∷ changes) live idle shown = shown (λ none. cc none)
+pub lives_on : {K : Type 0} (is_live : K → Type 0) (middle new : K) (changes : List Change) (made : Result (Unit {0}) KeepFault) → is_live middle → (changes ≡ [] → new ≡ middle) → ((changes ≡ [] → ⊥) → OnOk made (is_live new)) → OnOk made (is_live new)
+lives_on is_live middle new [] (Ok done) live idle shown = subst is_live (sym (idle refl)) live
+lives_on is_live middle new [] (Err fault) live idle shown = tt
+lives_on is_live middle new (change ∷ changes) made live idle shown = shown (λ none. cc none)
 
 module _ (holds : Content → Type 0) (was_live : Type 0) (leaves : List Content → Type 0) (c : Content) (held : holds c) where
   -- nothing was done
@@ -73,25 +79,15 @@ module _ (holds : Content → Type 0) (was_live : Type 0) (leaves : List Content
   pub undone_untold : (fault : KeepFault) → IsDone holds was_live leaves c G (Err fault) IsTold → IsDone holds was_live leaves c G (outcome_of Unavailable) IsTextOfSome
   undone_untold fault done = record { told = tt; done = tt; undone = done.undone; crash = done.crash }
 
--- the reply once the changes were made, or not
-abbrev pub reply_if : Vec ℕ → Result (Unit {0}) KeepFault → Out
-reply_if text (Ok done) = Text text
-reply_if text (Err fault) = Unavailable
-
 module _ {K : Type 0} (holds : K → Content → Type 0) (is_live : K → Type 0) (leaves : K → List Content → Type 0) (old middle new : K) (c : Content) (H : History) (o key : Bytes) (q : Asked) (planned : Result Told KeepFault) (changes : List Change) where
-  plan_carried : (result : Result (Unit {0}) KeepFault) → OnErr planned (changes ≡ []) → IfOk planned (λ told. IsPlan c H o key q told changes) → OnOk planned (is_live middle) → holds middle c → (is_live old → leaves middle (c ∷ [])) →
-      IsCarried holds is_live leaves middle new changes c result → IsDone (holds new) (is_live old) (leaves new) c (after_reply o key H q) (finished planned result) (IsReply o key H q)
-  plan_carried result none plan live held stop carried =
-      carried_done holds is_live leaves old middle new result c (after_reply o key H q) (IsReply o key H q) changes carried held planned none
-      (IfOk-weaker planned _ _ (λ told is. (is.reply, is.leads)) plan) (on_ok_weaker planned (λ now was. now) live) stop
-
   reply_served : (text : Vec ℕ) (result : Result (Unit {0}) KeepFault) → IsText (Text text) (text_if_told planned) → IsDone (holds new) (is_live old) (leaves new) c (after_reply o key H q) (finished planned result) (IsReply o key H q) →
-      IsServed (holds new) (is_live old) (leaves new) c H (By o key (Asks q)) (reply_if text result)
+      IsServed (holds new) (is_live old) (leaves new) c H (By o key (Asks q)) (text_if text result)
   reply_served text (Ok done) is told = done_told (holds new) (is_live old) (leaves new) c (after_reply o key H q) (IsReply o key H q) planned text is told
   reply_served text (Err fault) is told = undone_untold (holds new) (is_live old) (leaves new) c (after_reply o key H q) (IsReply o key H q) fault told
 
   -- the text of a plan is told once the changes, which are read through a reference, were made
   pub plan_served : (text : Vec ℕ) (result : Result (Unit {0}) KeepFault) (made : List Change) → made ≡ changes → IsText (Text text) (text_if_told planned) → OnErr planned (changes ≡ []) → IfOk planned (λ told. IsPlan c H o key q told changes) → OnOk planned (is_live middle) → holds middle c → (is_live old → leaves middle (c ∷ [])) →
-      IsCarried holds is_live leaves middle new made c result → IsServed (holds new) (is_live old) (leaves new) c H (By o key (Asks q)) (reply_if text result)
+      IsCarried holds is_live leaves middle new made c result → IsServed (holds new) (is_live old) (leaves new) c H (By o key (Asks q)) (text_if text result)
   plan_served text result made same is none plan live held stop carried =
-      reply_served text result is (plan_carried result none plan live held stop (subst (λ changes. IsCarried holds is_live leaves middle new changes c result) same carried))
+      reply_served text result is (done_of holds is_live leaves old middle new result c (after_reply o key H q) (IsReply o key H q) changes made same carried held planned none
+      (IfOk-weaker planned _ _ (λ told is. (is.reply, is.leads)) plan) (on_ok_weaker planned (λ now was. now) live) stop (finished planned result) refl)

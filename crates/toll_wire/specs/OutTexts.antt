@@ -1,6 +1,8 @@
 -- What is sent back.
-use Rattle.std.specs.Prelude.{◌≡◌, Option, Some, None}
+use Rattle.std.specs.Prelude.{◌≡◌, ℕ, Option, Some, None, Result, Ok, Err}
+use Rattle.std.specs.Global.{Vec}
 use Rattle.toll_base.specs.Bytes.{Bytes}
+use Rattle.toll_keep.specs.declared.fault.KeepFault.{KeepFault}
 use Rattle.toll_wire.specs.ReplyTexts.{unavailable_text}
 use Rattle.toll_wire.specs.declared.outgoing.Out.{Out}
 use Rattle.toll_wire.specs.declared.outgoing.Out.TheVariants.{Text, Unavailable}
@@ -15,3 +17,8 @@ abbrev pub IsText : Out → Option Bytes → Type 0
 IsText (Text out) (Some text) = out.items ≡ text
 IsText (Text out) None = ⊥
 IsText Unavailable text = Unit {0}
+
+-- the text once the changes were made, or not
+abbrev pub text_if : Vec ℕ → Result (Unit {0}) KeepFault → Out
+text_if text (Ok made) = Text text
+text_if text (Err fault) = Unavailable

@@ -73,9 +73,9 @@ fn serve_request<K: Keep>(
     let planned = owner_plan(alloc, keep, owner, key, request);
     match tell(alloc, &planned.reply) {
         Out::Unavailable => Out::Unavailable,
-        Out::Text(text) => match carry(alloc, keep, &planned.changes) {
-            Ok(()) => Out::Text(text),
-            Err(_) => Out::Unavailable,
-        },
+        Out::Text(text) => {
+            let made = carry(alloc, keep, &planned.changes);
+            Out::text_if(text, made)
+        }
     }
 }

@@ -1,5 +1,7 @@
 //! What is sent back.
 
+use toll_keep::KeepFault;
+
 /// What is sent back to a request.
 #[derive(Debug, Drop)]
 pub enum Out {
@@ -15,7 +17,7 @@ const UNAVAILABLE: &str =
 
 impl Out {
     ghost use Rattle.std.specs.Prelude.{◌≡◌};
-    ghost use Rattle.toll_wire.specs.OutTexts.{out_bytes};
+    ghost use Rattle.toll_wire.specs.OutTexts.{out_bytes, text_if};
 
     /// The bytes of the reply.
     pub fn bytes(&self) -> &[u8]
@@ -24,6 +26,16 @@ impl Out {
         match self {
             Out::Text(text) => text.as_slice(),
             Out::Unavailable => UNAVAILABLE.as_bytes(),
+        }
+    }
+
+    /// The text, where the changes were made that it tells of.
+    pub(crate) fn text_if(text: Vec<u8>, made: Result<(), KeepFault>) -> Self
+        ensures { result ≡ text_if text made }
+    {
+        match made {
+            Ok(()) => Out::Text(text),
+            Err(_) => Out::Unavailable,
         }
     }
 }

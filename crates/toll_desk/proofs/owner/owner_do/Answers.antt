@@ -1,48 +1,34 @@
-use Rattle.std.proofs.Common.{subst}
+use Rattle.std.proofs.Common.{◌≡◌, [], OnErr, sym, subst}
 use Rattle.std.proofs.lemmas.Result.{IfOk-weaker, on_ok_weaker}
+use Rattle.toll_keep.specs.Goes.{Goes}
 use Rattle.toll_desk.specs.Replies.{IsReply, after_reply}
-use Rattle.toll_desk.specs.Plans.{asked_of, told_of, IsDone}
-use Rattle.toll_desk.proofs.Carried.{IsCarried, finished, carried_done}
+use Rattle.toll_desk.specs.Plans.{asked_of, told_of}
+use Rattle.toll_desk.proofs.Carried.{done_of, goes_on}
 use Rattle.toll_desk.proofs.owner.owner_do.Goals as goal
 
-pub returns-in-Ok-clause-done : goal.returns-in-Ok-clause-done
-returns-in-Ok-clause-done g c honest content H held stands lawful =
+pub returns-clause-goes : goal.returns-clause-goes
+returns-clause-goes g c =
+    let K = g.K.Keep in
     let planned = c.owner_plan-planned in
-    let old = c.args.keep.now in
-    let middle = planned.new.keep in
-    let new = c.carry.new.keep in
-    let q = asked_of c.args.request.now in
-    let G = after_reply c.args.owner.now c.args.key.now H q in
-    let told = IsReply c.args.owner.now c.args.key.now H q in
-    let before = c.carry.ensures.honest honest in
-    let keeps = planned.ensures.keeps before in
-    let between = keeps.content content held in
-    let carried : IsCarried g.K.Keep.holds g.K.Keep.is_live g.K.Keep.leaves middle new planned.result.changes.items content c.carry.result =
-    subst (λ changes. IsCarried g.K.Keep.holds g.K.Keep.is_live g.K.Keep.leaves middle new changes content c.carry.result) c.deref.ensures.value
-    (record { idle = c.carry.ensures.idle; all = c.carry.ensures.all honest content between; none = c.carry.ensures.none honest content between; crash = λ live. c.carry.ensures.crash honest live content between }) in
-    subst (λ r. IsDone (g.K.Keep.holds new) (g.K.Keep.is_live old) (g.K.Keep.leaves new) content G (finished (told_of planned.result.reply) r) told) c.in-Ok.is
-    (carried_done g.K.Keep.holds g.K.Keep.is_live g.K.Keep.leaves old middle new c.carry.result content G told planned.result.changes.items carried between
-    (told_of planned.result.reply) planned.ensures.none
-    (IfOk-weaker (told_of planned.result.reply) _ _ (λ x plan. (plan.reply, plan.leads)) (planned.ensures.plan before content H held stands lawful))
-    (on_ok_weaker (told_of planned.result.reply) (λ live was. live) (planned.ensures.goes.shown before)) (λ live. keeps.crash live content held))
+    let carried = c.carry-made in
+    let outcome = told_of planned.result.reply in
+    subst (λ r. Goes K.is_honest K.is_live K.is_closed K.has_cause K.leaves c.args.keep.now carried.new.keep r) (sym c.finished.ensures)
+    (goes_on K.is_honest K.is_live K.is_closed K.has_cause K.leaves c.args.keep.now planned.new.keep carried.new.keep outcome c.deref.result.now carried.result planned.ensures.goes
+    (subst (λ changes. OnErr outcome (changes ≡ [])) (sym c.deref.ensures.value) planned.ensures.none) carried.ensures.idle carried.ensures.goes)
 
-pub returns-in-Err-clause-done : goal.returns-in-Err-clause-done
-returns-in-Err-clause-done g c honest content H held stands lawful =
-    let planned = c.owner_plan-planned in
-    let old = c.args.keep.now in
-    let middle = planned.new.keep in
-    let new = c.carry.new.keep in
+pub returns-clause-done : goal.returns-clause-done
+returns-clause-done g c honest content H held stands lawful =
+    let K = g.K.Keep in
+    let o = c.args.owner.now in
+    let key = c.args.key.now in
     let q = asked_of c.args.request.now in
-    let G = after_reply c.args.owner.now c.args.key.now H q in
-    let told = IsReply c.args.owner.now c.args.key.now H q in
-    let before = c.carry.ensures.honest honest in
+    let planned = c.owner_plan-planned in
+    let carried = c.carry-made.ensures in
+    let outcome = told_of planned.result.reply in
+    let before = carried.honest honest in
     let keeps = planned.ensures.keeps before in
     let between = keeps.content content held in
-    let carried : IsCarried g.K.Keep.holds g.K.Keep.is_live g.K.Keep.leaves middle new planned.result.changes.items content c.carry.result =
-    subst (λ changes. IsCarried g.K.Keep.holds g.K.Keep.is_live g.K.Keep.leaves middle new changes content c.carry.result) c.deref.ensures.value
-    (record { idle = c.carry.ensures.idle; all = c.carry.ensures.all honest content between; none = c.carry.ensures.none honest content between; crash = λ live. c.carry.ensures.crash honest live content between }) in
-    subst (λ r. IsDone (g.K.Keep.holds new) (g.K.Keep.is_live old) (g.K.Keep.leaves new) content G (finished (told_of planned.result.reply) r) told) c.in-Err.is
-    (carried_done g.K.Keep.holds g.K.Keep.is_live g.K.Keep.leaves old middle new c.carry.result content G told planned.result.changes.items carried between
-    (told_of planned.result.reply) planned.ensures.none
-    (IfOk-weaker (told_of planned.result.reply) _ _ (λ x plan. (plan.reply, plan.leads)) (planned.ensures.plan before content H held stands lawful))
-    (on_ok_weaker (told_of planned.result.reply) (λ live was. live) (planned.ensures.goes.shown before)) (λ live. keeps.crash live content held))
+    done_of K.holds K.is_live K.leaves c.args.keep.now planned.new.keep c.carry-made.new.keep c.carry-made.result content (after_reply o key H q) (IsReply o key H q) planned.result.changes.items _ c.deref.ensures.value
+    (record { idle = carried.idle; all = carried.all honest content between; none = carried.none honest content between; crash = λ live. carried.crash honest live content between }) between
+    outcome planned.ensures.none (IfOk-weaker outcome _ _ (λ x plan. (plan.reply, plan.leads)) (planned.ensures.plan before content H held stands lawful))
+    (on_ok_weaker outcome (λ live was. live) (planned.ensures.goes.shown before)) (λ live. keeps.crash live content held) _ c.finished.ensures

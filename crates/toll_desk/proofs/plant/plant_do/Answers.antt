@@ -1,44 +1,20 @@
-use Rattle.std.proofs.Common.{subst}
 use Rattle.std.proofs.lemmas.Result.{IfOk-weaker}
 use Rattle.toll_desk.specs.PlantAnswers.{after_plant}
-use Rattle.toll_desk.specs.Plans.{asked_by, plant_told, IsPlantTold, IsDone}
-use Rattle.toll_desk.proofs.Carried.{IsCarried, finished, carried_done}
+use Rattle.toll_desk.specs.Plans.{asked_by, plant_told, IsPlantTold}
+use Rattle.toll_desk.proofs.Carried.{done_of}
 use Rattle.toll_desk.proofs.plant.plant_do.Goals as goal
 
-pub returns-in-Ok-clause-done : goal.returns-in-Ok-clause-done
-returns-in-Ok-clause-done g c honest content H held stands lawful =
-    let planned = c.plant_plan-planned in
-    let old = c.args.keep.now in
-    let middle = planned.new.keep in
-    let new = c.carry.new.keep in
+pub returns-clause-done : goal.returns-clause-done
+returns-clause-done g c honest content H held stands lawful =
+    let K = g.K.Keep in
     let q = asked_by c.args.command.now in
-    let before = c.carry.ensures.honest honest in
+    let planned = c.plant_plan-planned in
+    let carried = c.carry-made.ensures in
+    let outcome = plant_told planned.result.reply in
+    let before = carried.honest honest in
     let keeps = planned.ensures.keeps before in
     let between = keeps.content content held in
-    let carried : IsCarried g.K.Keep.holds g.K.Keep.is_live g.K.Keep.leaves middle new planned.result.changes.items content c.carry.result =
-    subst (λ changes. IsCarried g.K.Keep.holds g.K.Keep.is_live g.K.Keep.leaves middle new changes content c.carry.result) c.deref.ensures.value
-    (record { idle = c.carry.ensures.idle; all = c.carry.ensures.all honest content between; none = c.carry.ensures.none honest content between; crash = λ live. c.carry.ensures.crash honest live content between }) in
-    subst (λ r. IsDone (g.K.Keep.holds new) (g.K.Keep.is_live old) (g.K.Keep.leaves new) content (after_plant H q) (finished (plant_told planned.result.reply) r) (IsPlantTold H q)) c.in-Ok.is
-    (carried_done g.K.Keep.holds g.K.Keep.is_live g.K.Keep.leaves old middle new c.carry.result content (after_plant H q) (IsPlantTold H q) planned.result.changes.items carried between
-    (plant_told planned.result.reply) planned.ensures.none
-    (IfOk-weaker (plant_told planned.result.reply) _ _ (λ x plan. (plan.told, plan.leads)) (planned.ensures.plan before content H held stands lawful))
-    (planned.ensures.live before) (λ live. keeps.crash live content held))
-
-pub returns-in-Err-clause-done : goal.returns-in-Err-clause-done
-returns-in-Err-clause-done g c honest content H held stands lawful =
-    let planned = c.plant_plan-planned in
-    let old = c.args.keep.now in
-    let middle = planned.new.keep in
-    let new = c.carry.new.keep in
-    let q = asked_by c.args.command.now in
-    let before = c.carry.ensures.honest honest in
-    let keeps = planned.ensures.keeps before in
-    let between = keeps.content content held in
-    let carried : IsCarried g.K.Keep.holds g.K.Keep.is_live g.K.Keep.leaves middle new planned.result.changes.items content c.carry.result =
-    subst (λ changes. IsCarried g.K.Keep.holds g.K.Keep.is_live g.K.Keep.leaves middle new changes content c.carry.result) c.deref.ensures.value
-    (record { idle = c.carry.ensures.idle; all = c.carry.ensures.all honest content between; none = c.carry.ensures.none honest content between; crash = λ live. c.carry.ensures.crash honest live content between }) in
-    subst (λ r. IsDone (g.K.Keep.holds new) (g.K.Keep.is_live old) (g.K.Keep.leaves new) content (after_plant H q) (finished (plant_told planned.result.reply) r) (IsPlantTold H q)) c.in-Err.is
-    (carried_done g.K.Keep.holds g.K.Keep.is_live g.K.Keep.leaves old middle new c.carry.result content (after_plant H q) (IsPlantTold H q) planned.result.changes.items carried between
-    (plant_told planned.result.reply) planned.ensures.none
-    (IfOk-weaker (plant_told planned.result.reply) _ _ (λ x plan. (plan.told, plan.leads)) (planned.ensures.plan before content H held stands lawful))
-    (planned.ensures.live before) (λ live. keeps.crash live content held))
+    done_of K.holds K.is_live K.leaves c.args.keep.now planned.new.keep c.carry-made.new.keep c.carry-made.result content (after_plant H q) (IsPlantTold H q) planned.result.changes.items _ c.deref.ensures.value
+    (record { idle = carried.idle; all = carried.all honest content between; none = carried.none honest content between; crash = λ live. carried.crash honest live content between }) between
+    outcome planned.ensures.none (IfOk-weaker outcome _ _ (λ x plan. (plan.told, plan.leads)) (planned.ensures.plan before content H held stands lawful))
+    (planned.ensures.live before) (λ live. keeps.crash live content held) _ c.finished.ensures
