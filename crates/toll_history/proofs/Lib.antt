@@ -27,3 +27,5 @@ pub mod Recorded
 pub mod Room
 pub mod Unmoved
 pub mod OtherSublots
+pub mod Uncancelled
+pub mod Adding

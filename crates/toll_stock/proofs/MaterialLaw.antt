@@ -1,5 +1,5 @@
 -- What the adding of a material owes.
-use Rattle.std.proofs.Common.{◌≡◌, suc, cond, Some, is_some, [], ◌∷◌, length, false, refl, sym, ap, ◌∙◌}
+use Rattle.std.proofs.Common.{◌≡◌, suc, cond, Some, is_some, [], ◌∷◌, length, false, refl, ◌∙◌}
 use Rattle.std.proofs.lemmas.Bool.{or_right}
 use Rattle.std.specs.Cmp.Lexicographic.{nat_list_cmp_total}
 use Rattle.toll_base.specs.Bytes.{same_bytes, bytes_cmp}
@@ -17,8 +17,9 @@ use Rattle.toll_base.specs.declared.rows.MaterialRow.{MaterialRow}
 use Rattle.toll_base.specs.declared.rows.Row.TheVariants.{Material}
 use Rattle.toll_history.proofs.Accepted.{none_applies}
 use Rattle.toll_history.proofs.Passed.{accepted_passes}
-use Rattle.toll_history.proofs.Decided.{verdict_is, Grows, decides, keeps_rules, less_of}
-use Rattle.toll_history.proofs.Grown.{tables-own, tables-others, put_first}
+use Rattle.toll_history.proofs.Adding.{adding_decided, adding_keeps}
+use Rattle.toll_history.proofs.Decided.{less_of}
+use Rattle.toll_history.proofs.Grown.{tables-own, put_first}
 use Rattle.toll_base.proofs.KeyOrder.{row_at-put_row}
 use Rattle.toll_base.proofs.PutTables.{length-new}
 
@@ -35,19 +36,11 @@ in_slice s row absent i = record (tables_of s) {
 in_history : (H : History) (o : _) (row : MaterialRow) → tables_given (by o (AddMaterial row) ∷ H) o ≡ with_material row (tables_given H o)
 in_history H o row = tables-own H o (AddMaterial row) refl ∙ (λ i. record (with_material row (tables_given H o)) { material = λ m. put_first (same_bytes m row.material) row (material_of (acts o H) m) i })
 
-grows : (row : MaterialRow) → Grows (AddMaterial row) (λ t. Material row ∷ [])
-grows row H s lawful valid accepted there =
-    in_slice s row (ap (λ (t : Tables). is_some (t.material row.material)) there ∙ accepted_passes H s.owner (AddMaterial row) accepted 0)
-    ∙ ap (with_material row) there
-    ∙ sym (in_history H s.owner row)
-
 module _ (own : Slice) (row : MaterialRow) (d : Decision) (decided : IsDecided (material_checks (tables_of own) row) (Put own.owner (Material row) ∷ []) d) where
   pub material_decided : Decides (by own.owner (AddMaterial row)) own d
   material_decided =
-      decides (AddMaterial row) (λ t. Material row ∷ []) (grows row) (λ H o p lawful valid accepted other. tables-others H o (AddMaterial row) refl p other)
-      own d _ decided (λ H lawful valid known there. verdict_is H own.owner (AddMaterial row) (tables_of own) _ known there refl)
+      adding_decided (AddMaterial row) (Material row) refl (with_material row) (λ t. is_some (t.material row.material)) (λ s. in_slice s row) (λ H o lawful accepted. in_history H o row) (λ H o accepted. accepted_passes H o (AddMaterial row) accepted 0)
+      own d _ decided (λ H. refl)
 
   pub material_keeps : KeepsRules own → DecisionKeepsRules own d
-  material_keeps keeps =
-      keeps_rules own (Material row ∷ []) d _ decided keeps
-      (λ accepted. (or_right _ _ (less_of 200 (length own.materials) (none_applies (material_checks (tables_of own) row) accepted 1)), tt))
+  material_keeps = adding_keeps own (Material row) d _ decided (λ accepted. or_right _ _ (less_of 200 (length own.materials) (none_applies (material_checks (tables_of own) row) accepted 1)))

@@ -28,8 +28,9 @@ use Rattle.toll_base.specs.declared.rows.TestRow.{TestRow}
 use Rattle.toll_base.specs.declared.rows.Row.TheVariants.{Test}
 use Rattle.toll_history.proofs.Accepted.{none_applies}
 use Rattle.toll_history.proofs.Passed.{accepted_passes}
-use Rattle.toll_history.proofs.Decided.{verdict_is, Grows, decides, keeps_rules, less_of}
-use Rattle.toll_history.proofs.Grown.{tables-own, tables-others, put_first}
+use Rattle.toll_history.proofs.Adding.{adding_decided, adding_keeps}
+use Rattle.toll_history.proofs.Decided.{less_of}
+use Rattle.toll_history.proofs.Grown.{tables-own, put_first}
 use Rattle.toll_base.proofs.KeyOrder.{row_at-put_row}
 use Rattle.toll_history.proofs.OpenTests.{is_used}
 use Rattle.toll_base.proofs.PutTables.{length-new, any-new}
@@ -77,19 +78,11 @@ module _ (H : History) (o : Bytes) (row : TestRow) (accepted : verdict H (by o (
     lot = λ l. same_lots l i;
   })
 
-grows : (row : TestRow) → Grows (AddTest row) (λ t. Test row ∷ [])
-grows row H s lawful valid accepted there =
-    in_slice s row (ap (λ (t : Tables). is_some (t.test (row.material, row.test))) there ∙ accepted_passes H s.owner (AddTest row) accepted 1)
-    ∙ ap (with_test row) there
-    ∙ sym (in_history H s.owner row accepted)
-
 module _ (own : Slice) (row : TestRow) (d : Decision) (decided : IsDecided (test_checks (tables_of own) row) (Put own.owner (Test row) ∷ []) d) where
   pub test_decided : Decides (by own.owner (AddTest row)) own d
   test_decided =
-      decides (AddTest row) (λ t. Test row ∷ []) (grows row) (λ H o p lawful valid accepted other. tables-others H o (AddTest row) refl p other)
-      own d _ decided (λ H lawful valid known there. verdict_is H own.owner (AddTest row) (tables_of own) _ known there refl)
+      adding_decided (AddTest row) (Test row) refl (with_test row) (λ t. is_some (t.test (row.material, row.test))) (λ s. in_slice s row) (λ H o lawful accepted. in_history H o row accepted) (λ H o accepted. accepted_passes H o (AddTest row) accepted 1)
+      own d _ decided (λ H. refl)
 
   pub test_keeps : KeepsRules own → DecisionKeepsRules own d
-  test_keeps keeps =
-      keeps_rules own (Test row ∷ []) d _ decided keeps
-      (λ accepted. (or_right _ _ (less_of 2000 (length own.tests) (none_applies (test_checks (tables_of own) row) accepted 3)), tt))
+  test_keeps = adding_keeps own (Test row) d _ decided (λ accepted. or_right _ _ (less_of 2000 (length own.tests) (none_applies (test_checks (tables_of own) row) accepted 3)))

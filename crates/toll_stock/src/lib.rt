@@ -4,17 +4,11 @@
 mod dispositions;
 mod material_tests;
 mod materials;
-#[cfg(test)]
-mod movement_tests;
+mod movements;
 mod receipts;
 mod results;
 mod splits;
 mod stock;
-#[cfg(test)]
-mod story;
-mod taking;
-#[cfg(test)]
-mod tests;
 mod withdrawals;
 
 pub use dispositions::{reject, release};

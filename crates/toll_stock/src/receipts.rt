@@ -12,12 +12,13 @@ ghost use Rattle.toll_base.specs.declared.lot.Origin.TheVariants as Origin;
 ghost use Rattle.toll_base.specs.declared.movement.Move.TheVariants as Move;
 ghost use Rattle.toll_base.specs.declared.rows.Row.TheVariants as Row;
 
+use crate::movements::decide_movement;
 use std::alloc::{AllocError, Global};
 use toll_base::{
     Amount, Change, Day, Decision, Disposition, LotRow, MOST_LOTS, MOST_MOVEMENTS, Move, MoveRow,
     Name, Origin, Refusal, Row, Slice, SublotRow,
 };
-use toll_history::{decide_known, has_room_in};
+use toll_history::has_room_in;
 
 /// Receives an amount of a material into a sublot, new or known, of a lot that is new, or of this
 /// material, from receipts and quarantined.
@@ -69,34 +70,24 @@ fn plan_receipt(
     ensures kept { KeepsRules slice.now }
 {
     let owner = *slice.owner();
-    if let Some(known) = decide_known(slice, row) {
-        return Ok(known);
-    }
-    if let Err(why) = check_receipt(slice, &material, &lot, &sublot, row.amount) {
-        return Ok(Decision::Refuse(why));
-    }
-    let amount = slice.amount_in(&lot, &sublot) + row.amount.get();
+    let checked = check_receipt(slice, &material, &lot, &sublot, row.amount);
     let lot_row = LotRow {
         lot,
         material,
         origin: Origin::Receipts,
         disposition: Disposition::Quarantined,
     };
-    Decision::accept_all(
-        alloc,
-        &[
-            Change::Put(owner, Row::Move(*row)),
-            Change::Put(owner, Row::Lot(lot_row)),
-            Change::Put(
-                owner,
-                Row::Sublot(SublotRow {
-                    lot,
-                    sublot,
-                    amount,
-                }),
-            ),
-        ],
-    )
+    let sublot_row = SublotRow {
+        lot,
+        sublot,
+        amount: slice.amount_in(&lot, &sublot) + row.amount.get(),
+    };
+    let changes = [
+        Change::Put(owner, Row::Move(*row)),
+        Change::Put(owner, Row::Lot(lot_row)),
+        Change::Put(owner, Row::Sublot(sublot_row)),
+    ];
+    decide_movement(alloc, slice, row, checked, &changes)
 }
 
 fn check_receipt(

@@ -10,12 +10,12 @@ ghost use Rattle.toll_base.specs.declared.decision.Change.TheVariants as Change;
 ghost use Rattle.toll_base.specs.declared.movement.Move.TheVariants as Move;
 ghost use Rattle.toll_base.specs.declared.rows.Row.TheVariants as Row;
 
-use crate::taking::check_taking;
+use crate::movements::{check_taking, decide_movement};
 use std::alloc::{AllocError, Global};
 use toll_base::{
     Amount, Change, Day, Decision, Move, MoveRow, Name, Refusal, Row, Slice, SublotRow,
 };
-use toll_history::{decide_known, has_room_in};
+use toll_history::has_room_in;
 
 /// Moves an amount from a sublot to another one of the same lot, new or known.
 ///
@@ -66,12 +66,7 @@ fn plan_split(
     ensures kept { KeepsRules slice.now }
 {
     let owner = *slice.owner();
-    if let Some(known) = decide_known(slice, row) {
-        return Ok(known);
-    }
-    if let Err(why) = check_split(slice, &lot, &sublot, &target, row.amount) {
-        return Ok(Decision::Refuse(why));
-    }
+    let checked = check_split(slice, &lot, &sublot, &target, row.amount);
     let to = SublotRow {
         lot,
         sublot: target,
@@ -84,14 +79,12 @@ fn plan_split(
             .amount_in(&lot, &sublot)
             .saturating_sub(row.amount.get()),
     };
-    Decision::accept_all(
-        alloc,
-        &[
-            Change::Put(owner, Row::Move(*row)),
-            Change::Put(owner, Row::Sublot(to)),
-            Change::Put(owner, Row::Sublot(from)),
-        ],
-    )
+    let changes = [
+        Change::Put(owner, Row::Move(*row)),
+        Change::Put(owner, Row::Sublot(to)),
+        Change::Put(owner, Row::Sublot(from)),
+    ];
+    decide_movement(alloc, slice, row, checked, &changes)
 }
 
 fn check_split(
@@ -103,20 +96,25 @@ fn check_split(
 ) -> Result<(), Refusal>
     ensures { said result ≡ first_of (split_checks (tables_of slice.now) lot.now sublot.now target.now amount ++ sublot_bounds (tables_of slice.now) lot.now target.now amount) }
 {
+    match check_parting(slice, lot, sublot, target, amount) {
+        Err(why) => Err(why),
+        Ok(()) if has_room_in(slice, lot, target, amount) => Ok(()),
+        Ok(()) => Err(Refusal::LimitReached),
+    }
+}
+
+// Whether the amount can be taken from the sublot, which isn't the target.
+fn check_parting(
+    slice: &Slice,
+    lot: &Name,
+    sublot: &Name,
+    target: &Name,
+    amount: Amount,
+) -> Result<(), Refusal>
+    ensures { said result ≡ first_of (split_checks (tables_of slice.now) lot.now sublot.now target.now amount) }
+{
     if *sublot == *target {
         return Err(Refusal::SameSublot);
     }
-    if slice.lot(lot).is_none() {
-        return Err(Refusal::UnknownLot);
-    }
-    if slice.sublot(lot, sublot).is_none() {
-        return Err(Refusal::UnknownSublot);
-    }
-    if let Err(why) = check_taking(slice, lot, sublot, amount) {
-        return Err(why);
-    }
-    if !has_room_in(slice, lot, target, amount) {
-        return Err(Refusal::LimitReached);
-    }
-    Ok(())
+    check_taking(slice, lot, sublot, amount)
 }

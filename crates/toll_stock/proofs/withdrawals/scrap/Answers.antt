@@ -3,7 +3,7 @@ use Rattle.toll_stock.proofs.WithdrawalLaw.{scrapping_decided, scrapping_keeps}
 use Rattle.toll_stock.proofs.withdrawals.scrap.Goals as goal
 
 pub returns-clause-decides : goal.returns-clause-decides
-returns-clause-decides c = IfOk-weaker _ _ _ (λ d. scrapping_decided c.args.key c.args.lot c.args.sublot c.args.amount c.args.day _ d) c.plan_scrapping.ensures.plan
+returns-clause-decides c = IfOk-weaker _ _ _ (λ d. scrapping_decided c.args.key c.args.lot c.args.sublot c.args.amount c.args.day _ d) (c.plan_withdrawal.ensures.plan _ c.check_taking-checked.ensures)
 
 pub returns-clause-rules : goal.returns-clause-rules
-returns-clause-rules c = IfOk-weaker _ _ _ (λ d decided. scrapping_keeps c.args.key c.args.lot c.args.sublot c.args.amount c.args.day _ d decided c.plan_scrapping.ensures.kept) c.plan_scrapping.ensures.plan
+returns-clause-rules c = IfOk-weaker _ _ _ (λ d decided. scrapping_keeps c.args.key c.args.lot c.args.sublot c.args.amount c.args.day _ d decided c.plan_withdrawal.ensures.kept) (c.plan_withdrawal.ensures.plan _ c.check_taking-checked.ensures)

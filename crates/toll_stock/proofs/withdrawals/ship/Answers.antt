@@ -3,7 +3,7 @@ use Rattle.toll_stock.proofs.WithdrawalLaw.{shipment_decided, shipment_keeps}
 use Rattle.toll_stock.proofs.withdrawals.ship.Goals as goal
 
 pub returns-clause-decides : goal.returns-clause-decides
-returns-clause-decides c = IfOk-weaker _ _ _ (λ d. shipment_decided c.args.key c.args.lot c.args.sublot c.args.amount c.args.day _ d) c.plan_shipment.ensures.plan
+returns-clause-decides c = IfOk-weaker _ _ _ (λ d. shipment_decided c.args.key c.args.lot c.args.sublot c.args.amount c.args.day _ d) (c.plan_withdrawal.ensures.plan _ c.check_shipment-checked.ensures)
 
 pub returns-clause-rules : goal.returns-clause-rules
-returns-clause-rules c = IfOk-weaker _ _ _ (λ d decided. shipment_keeps c.args.key c.args.lot c.args.sublot c.args.amount c.args.day _ d decided c.plan_shipment.ensures.kept) c.plan_shipment.ensures.plan
+returns-clause-rules c = IfOk-weaker _ _ _ (λ d decided. shipment_keeps c.args.key c.args.lot c.args.sublot c.args.amount c.args.day _ d decided c.plan_withdrawal.ensures.kept) (c.plan_withdrawal.ensures.plan _ c.check_shipment-checked.ensures)

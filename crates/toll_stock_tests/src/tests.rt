@@ -3,10 +3,10 @@ use crate::story::{
     Names, Said, Story, add_milk, add_ph, has_disposition, has_result, holds, ph_limits, put,
     put_lot, put_sublot, record_value, reject_it, release_it,
 };
-use crate::{Totals, add_test, lot_totals, on_hand};
 use std::alloc::Global;
 use std::test::Fail;
 use toll_base::{Amount, Day, Decision, Disposition, Move, MoveRow, Refusal, Row, Slice};
+use toll_stock::{Totals, add_test, lot_totals, on_hand};
 
 // The material with its test, and a quarantined lot of it.
 fn add_lot(alloc: Global, slice: &mut Slice, names: &Names) -> Result<(), Fail> {

@@ -3,12 +3,12 @@ use crate::story::{
     Names, Said, Story, add_milk, add_ph, has_disposition, has_result, holds, ph_limits, put,
     put_lot, put_lot_of, record_value, reject_it, release_it, settle,
 };
-use crate::{Totals, lot_totals, on_hand, receive, scrap, ship, split};
 use std::alloc::Global;
 use std::test::Fail;
 use toll_base::{
     Amount, BatchNo, Day, Disposition, Move, MoveRow, Name, Origin, Refusal, Row, Slice,
 };
+use toll_stock::{Totals, lot_totals, on_hand, receive, scrap, ship, split};
 
 // What all movements have.
 #[derive(Clone, Copy)]

@@ -1,11 +1,11 @@
 //! What the stories of the tests have in common: one lot of milk, from an empty slice on.
-use crate::{add_material, add_test, record_result, reject, release};
 use std::alloc::{AllocError, Global};
 use std::test::Fail;
 use toll_base::{
     Change, Day, Decision, Disposition, Limits, LotRow, Measure, Name, Origin, Refusal, Row, Slice,
     SublotRow, Value,
 };
+use toll_stock::{add_material, add_test, record_result, reject, release};
 
 /// The names of a story.
 #[derive(Clone, Copy)]

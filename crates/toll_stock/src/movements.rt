@@ -1,0 +1,56 @@
+//! What the decisions on movements have in common.
+ghost use Rattle.std.specs.Prelude.{◌≡◌, [], ◌∷◌, ◌++◌, nat_lt, Some, IfOk};
+ghost use Rattle.toll_history.specs.Decision.{IsDecided, said};
+ghost use Rattle.toll_history.specs.Tables.{tables_of};
+ghost use Rattle.toll_history.specs.Verdict.{Checks, first_of, key_checks, scrap_checks, movements_full, amount_in};
+ghost use Rattle.toll_base.specs.declared.refusal.Refusal.TheVariants as Refusal;
+
+use std::alloc::{AllocError, Global};
+use toll_base::{Amount, Change, Decision, MOST_MOVEMENTS, MoveRow, Name, Refusal, Slice};
+use toll_history::decide_known;
+
+/// What is decided of a movement: by its key where that is known, else what was checked of it says,
+/// and where that is nothing it makes these changes.
+pub fn decide_movement(
+    alloc: Global,
+    slice: &Slice,
+    row: &MoveRow,
+    checked: Result<(), Refusal>,
+    changes: &[Change],
+) -> Result<Decision, AllocError>
+    ensures { (checks : Checks) → said checked ≡ first_of checks → IfOk result (IsDecided (key_checks (tables_of slice.now) row.now ++ checks) changes.now) }
+{
+    if let Some(known) = decide_known(slice, row) {
+        return Ok(known);
+    }
+    match checked {
+        Ok(()) => Decision::accept_all(alloc, changes),
+        Err(why) => Ok(Decision::Refuse(why)),
+    }
+}
+
+/// Whether the sublot is there with enough in it, and there is room for a movement.
+pub fn check_taking(slice: &Slice, lot: &Name, sublot: &Name, amount: Amount) -> Result<(), Refusal>
+    ensures { said result ≡ first_of (scrap_checks (tables_of slice.now) lot.now sublot.now amount) }
+{
+    if slice.lot(lot).is_none() {
+        return Err(Refusal::UnknownLot);
+    }
+    if slice.sublot(lot, sublot).is_none() {
+        return Err(Refusal::UnknownSublot);
+    }
+    check_enough(slice, lot, sublot, amount)
+}
+
+/// Whether there is enough in the sublot, and room for a movement.
+pub fn check_enough(slice: &Slice, lot: &Name, sublot: &Name, amount: Amount) -> Result<(), Refusal>
+    ensures { said result ≡ first_of ((nat_lt (amount_in (tables_of slice.now) lot.now sublot.now) amount, Some Refusal.NotEnough) ∷ (movements_full (tables_of slice.now), Some Refusal.LimitReached) ∷ []) }
+{
+    if slice.amount_in(lot, sublot) < amount.get() {
+        return Err(Refusal::NotEnough);
+    }
+    if slice.moves().len() >= MOST_MOVEMENTS {
+        return Err(Refusal::LimitReached);
+    }
+    Ok(())
+}
