@@ -32,18 +32,6 @@ pub struct LotId {
     pub lot: Name,
 }
 
-impl LotId {
-    ghost use Rattle.std.specs.Prelude.{◌≡◌};
-    ghost use Rattle.toll_base.specs.Lots.{same_lot};
-
-    /// Whether it is the same lot.
-    pub fn is_same(&self, other: &LotId) -> bool
-        ensures { result ≡ same_lot self.now other.now }
-    {
-        self == other
-    }
-}
-
 /// A step of genealogy: material of one lot went into the other.
 #[derive(Clone, Copy, Debug, PartialEq, Eq, PartialOrd, Ord)]
 pub struct Edge {

@@ -42,18 +42,6 @@ pub enum Move {
     },
 }
 
-impl Move {
-    ghost use Rattle.std.specs.Prelude.{◌≡◌};
-    ghost use Rattle.toll_base.specs.Moves.{same_what};
-
-    /// Whether kind and fields are equal.
-    pub fn is_same(&self, other: &Move) -> bool
-        ensures { result ≡ same_what self.now other.now }
-    {
-        self == other
-    }
-}
-
 /// A movement of material, known by its key. It stands in the rows of the owner that it concerns,
 /// which for an actual is the batch's owner, also where the lot is HOUSE's.
 #[derive(Clone, Copy, Debug, PartialEq, Eq)]
@@ -74,7 +62,7 @@ impl MoveRow {
         ensures { result ≡ same_movement self.now other.now }
     {
         self.key == other.key
-            && self.what.is_same(&other.what)
+            && self.what == other.what
             && self.amount == other.amount
             && self.day == other.day
     }
