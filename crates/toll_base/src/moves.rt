@@ -16,10 +16,19 @@ use std::alloc::{AllocError, Global};
 use std::marker::Model;
 
 /// The movements in the order of their keys, and beside them how many actuals each batch has.
-#[derive(Drop)]
 pub struct Moves {
     rows: Table<MoveRow>,
     actuals: Table<ActualCount>,
+}
+
+/// By hand, since what is derived is written out at every exit of every function that owns rows.
+impl Drop for Moves {
+    fn drop(self) {
+        let Moves {
+            rows: _,
+            actuals: _,
+        } = self;
+    }
 }
 
 impl Model for Moves {

@@ -20,9 +20,15 @@ pub trait Keyed: Copy {
 }
 
 /// The rows of one kind, each key once, in the order of the keys. A look-up is a binary search.
-#[derive(Drop)]
 pub struct Table<R: Keyed> {
     rows: Vec<R>,
+}
+
+/// By hand, since what is derived is written out at every exit of every function that owns rows.
+impl<R: Keyed> Drop for Table<R> {
+    fn drop(self) {
+        let Table { rows: _ } = self;
+    }
 }
 
 impl<R: Keyed> Model for Table<R> {
