@@ -20,8 +20,6 @@ mod run;
 mod settled;
 mod sink;
 mod source;
-#[cfg(test)]
-mod tests;
 mod verb;
 mod writing;
 

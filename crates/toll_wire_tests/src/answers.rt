@@ -1,12 +1,12 @@
 //! Requests and what they are answered.
-use crate::tests::requests::{keyed, reply, request};
-use crate::{Answer, Event, answer, run_events};
+use crate::requests::{keyed, reply, request};
 use std::alloc::{AllocError, Global};
 use std::process::Abort;
 use std::test::Fail;
 use toll_base::{Name, OwnerKey, Refusal, Segment};
 use toll_desk::{PlantCmd, PlantReply, plant_do};
 use toll_keep::{MemKeep, Refusing};
+use toll_wire::{Answer, Event, answer, run_events};
 
 pub const PLACE: &str = "{\"order\":\"O-1\",\"recipe\":\"R-1\",\"batches\":2}";
 

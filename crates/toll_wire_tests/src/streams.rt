@@ -1,11 +1,11 @@
 //! Requests that come in pieces, and streams that fail.
-use crate::tests::answers::{PLACE, PLACED, office};
-use crate::tests::fakes::{Sink, Source};
-use crate::tests::requests::{repeated, request, with_fields};
-use crate::{ReadFault, WriteFault, answer, read_request, write_reply};
+use crate::answers::{PLACE, PLACED, office};
+use crate::fakes::{Sink, Source};
+use crate::requests::{repeated, request, with_fields};
 use std::alloc::{AllocError, Global};
 use std::process::Abort;
 use std::test::Fail;
+use toll_wire::{ReadFault, WriteFault, answer, read_request, write_reply};
 
 /// A request is answered with this status, as it stands and however it comes.
 fn expect_status(

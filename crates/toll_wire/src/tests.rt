@@ -1,5 +1,0 @@
-//! Worked requests, and streams that fail.
-mod answers;
-mod fakes;
-mod requests;
-mod streams;
