@@ -48,29 +48,46 @@ fn add_recipe() -> Result<PlantCmd, Refusal> {
     })
 }
 
+fn do_it(rt: &impl Abort, alloc: Global, keep: &mut MemKeep, command: Result<PlantCmd, Refusal>) {
+    let command = command.expect(rt, "a command");
+    let done = plant_do(alloc, keep, &command);
+    assert!(rt; matches!(&done, PlantReply::Accepted));
+}
+
 /// ACME with a recipe.
 pub fn office(rt: &impl Abort, alloc: Global) -> MemKeep {
     let mut keep = MemKeep::new(alloc);
-    for command in [add_acme(), add_recipe()] {
-        let command = command.expect(rt, "a command");
-        let done = plant_do(alloc, &mut keep, &command);
-        assert!(rt; matches!(&done, PlantReply::Accepted));
-    }
+    do_it(rt, alloc, &mut keep, add_acme());
+    do_it(rt, alloc, &mut keep, add_recipe());
     keep
 }
 
-/// Each of ACME's requests, one after another, gets its reply: method and target, body, status, body.
+/// A request of ACME and its reply: method and target, body, status, body.
+type Row = [&'static str; 4];
+
+fn expect_reply(
+    rt: &impl Abort,
+    alloc: Global,
+    keep: &mut MemKeep,
+    row: &Row,
+) -> Result<(), AllocError> {
+    let [line, body, status, told] = *row;
+    let bytes = request(alloc, line, body)?;
+    let want = reply(alloc, status, told)?;
+    let out = answer(alloc, keep, &bytes);
+    assert_eq!(rt; out.bytes(), want.as_slice(), "{line} {body}");
+    Ok(())
+}
+
+/// Each of the requests, one after another, gets its reply.
 fn expect_all(
     rt: &impl Abort,
     alloc: Global,
     keep: &mut MemKeep,
-    rows: &[[&str; 4]],
+    rows: &[Row],
 ) -> Result<(), AllocError> {
-    for [line, body, status, told] in rows {
-        let bytes = request(alloc, line, body)?;
-        let want = reply(alloc, status, told)?;
-        let out = answer(alloc, keep, &bytes);
-        assert_eq!(rt; out.bytes(), want.as_slice(), "{line} {body}");
+    for row in rows {
+        expect_reply(rt, alloc, keep, row)?;
     }
     Ok(())
 }
@@ -105,91 +122,128 @@ fn check_run(rt: &impl Abort, answers: &[Answer]) {
     }
 }
 
+const NO_ORDERS: &[Row] = &[["GET /orders", "", "200 OK", "{\"orders\":[]}"]];
+
 #[test]
 fn an_owner_without_orders_has_none(rt: HostRuntime) -> Result<(), Fail> {
     let mut keep = office(&rt, rt.alloc());
-    let rows = [["GET /orders", "", "200 OK", "{\"orders\":[]}"]];
-    expect_all(&rt, rt.alloc(), &mut keep, &rows)?;
-    Ok(())
+    Ok(expect_all(&rt, rt.alloc(), &mut keep, NO_ORDERS)?)
 }
+
+const WITH_3_BATCHES: &str = "{\"order\":\"O-1\",\"recipe\":\"R-1\",\"batches\":3}";
+
+const EXISTS: &str = "{\"code\":17,\"error\":\"OrderExists\"}";
+
+const UNKNOWN: &str = "{\"code\":18,\"error\":\"UnknownOrder\"}";
+
+const REPLIES: &[Row] = &[
+    ["POST /orders", PLACE, "200 OK", ORDER],
+    ["POST /orders", PLACE, "200 OK", ORDER],
+    ["POST /orders", WITH_3_BATCHES, "409 Conflict", EXISTS],
+    ["GET /orders", "", "200 OK", ORDERS],
+    ["GET /orders?x=1", "", "200 OK", ORDERS],
+    ["GET /orders/O-1", "", "200 OK", ORDER],
+    ["GET /orders/O-2", "", "404 Not Found", UNKNOWN],
+    ["GET /nowhere", "", "404 Not Found", NO_ROUTE],
+    ["GET /orders/abc", "", "404 Not Found", NO_ROUTE],
+    ["GET http://127.0.0.1/orders", "", "404 Not Found", NO_ROUTE],
+    [
+        "POST /orders",
+        "{\"order\":\"O-1\"}",
+        "400 Bad Request",
+        BAD_REQUEST,
+    ],
+];
 
 #[test]
 fn requests_get_their_replies(rt: HostRuntime) -> Result<(), Fail> {
     let mut keep = office(&rt, rt.alloc());
-    let other = "{\"order\":\"O-1\",\"recipe\":\"R-1\",\"batches\":3}";
-    let exists = "{\"code\":17,\"error\":\"OrderExists\"}";
-    let unknown = "{\"code\":18,\"error\":\"UnknownOrder\"}";
-    let rows = [
-        ["POST /orders", PLACE, "200 OK", ORDER],
-        ["POST /orders", PLACE, "200 OK", ORDER],
-        ["POST /orders", other, "409 Conflict", exists],
-        ["GET /orders", "", "200 OK", ORDERS],
-        ["GET /orders?x=1", "", "200 OK", ORDERS],
-        ["GET /orders/O-1", "", "200 OK", ORDER],
-        ["GET /orders/O-2", "", "404 Not Found", unknown],
-        ["GET /nowhere", "", "404 Not Found", NO_ROUTE],
-        ["GET /orders/abc", "", "404 Not Found", NO_ROUTE],
-        ["GET http://127.0.0.1/orders", "", "404 Not Found", NO_ROUTE],
-        [
-            "POST /orders",
-            "{\"order\":\"O-1\"}",
-            "400 Bad Request",
-            BAD_REQUEST,
-        ],
-    ];
-    expect_all(&rt, rt.alloc(), &mut keep, &rows)?;
+    Ok(expect_all(&rt, rt.alloc(), &mut keep, REPLIES)?)
+}
+
+const OTHER_METHODS: &[(&str, &str)] = &[
+    (
+        "POST /orders/O-1",
+        "HTTP/1.1 405 Method Not Allowed\r\ncontent-type: application/json\r\ncontent-length: 28\r\nallow: GET\r\nconnection: close\r\n\r\n{\"error\":\"MethodNotAllowed\"}",
+    ),
+    (
+        "PUT /orders",
+        "HTTP/1.1 501 Not Implemented\r\ncontent-length: 0\r\nconnection: close\r\n\r\n",
+    ),
+];
+
+fn expect_text(
+    rt: &impl Abort,
+    alloc: Global,
+    keep: &mut MemKeep,
+    line: &str,
+    want: &str,
+) -> Result<(), AllocError> {
+    let bytes = request(alloc, line, "")?;
+    let out = answer(alloc, keep, &bytes);
+    assert_eq!(rt; out.bytes(), want.as_bytes(), "{line}");
     Ok(())
 }
 
 #[test]
 fn another_method_is_told(rt: HostRuntime) -> Result<(), Fail> {
     let mut keep = office(&rt, rt.alloc());
-    let rows = [
-        (
-            "POST /orders/O-1",
-            b"HTTP/1.1 405 Method Not Allowed\r\ncontent-type: application/json\r\ncontent-length: 28\r\nallow: GET\r\nconnection: close\r\n\r\n{\"error\":\"MethodNotAllowed\"}".as_slice(),
-        ),
-        (
-            "PUT /orders",
-            b"HTTP/1.1 501 Not Implemented\r\ncontent-length: 0\r\nconnection: close\r\n\r\n".as_slice(),
-        ),
-    ];
-    for (line, want) in rows {
-        let bytes = request(rt.alloc(), line, "")?;
-        let out = answer(rt.alloc(), &mut keep, &bytes);
-        assert_eq!(rt; out.bytes(), want, "{line}");
+    for row in OTHER_METHODS {
+        let (line, want) = *row;
+        expect_text(&rt, rt.alloc(), &mut keep, line, want)?;
     }
     Ok(())
+}
+
+const PLACING: &[Row] = &[["POST /orders", PLACE, "200 OK", ORDER]];
+
+const LISTING: &[Row] = &[["GET /orders", "", "200 OK", ORDERS]];
+
+const ANOTHER_ORDER: &str = "{\"order\":\"O-2\",\"recipe\":\"R-1\",\"batches\":1}";
+
+/// The fields of who has no key.
+const STRANGERS: &[&str] = &[
+    "toll-owner: NOBODY\r\ntoll-key: ACMEKEY1\r\n",
+    "toll-owner: ACME\r\ntoll-key: ACMEKEY2\r\n",
+    "toll-owner: ACME\r\n",
+    "toll-owner: ACME\r\ntoll-key: ACMEKEY1\r\ntoll-key: ACMEKEY1\r\n",
+    "toll-owner: HOUSE\r\ntoll-key: ACMEKEY1\r\n",
+];
+
+const ASKED_BY_STRANGERS: &[&str] = &[
+    "GET /orders",
+    "POST /orders",
+    "GET /nowhere",
+    "POST /orders/O-1",
+];
+
+/// With these fields all is forbidden.
+fn expect_forbidden(
+    rt: &impl Abort,
+    alloc: Global,
+    keep: &mut MemKeep,
+    fields: &str,
+) -> Result<(), AllocError> {
+    for line in ASKED_BY_STRANGERS {
+        let bytes = keyed(alloc, line, fields, ANOTHER_ORDER)?;
+        let out = answer(alloc, keep, &bytes);
+        assert_eq!(rt; out.bytes(), FORBIDDEN, "{line} {fields}");
+    }
+    Ok(())
+}
+
+fn forbid_strangers(rt: &impl Abort, alloc: Global, keep: &mut MemKeep) -> Result<(), AllocError> {
+    expect_all(rt, alloc, keep, PLACING)?;
+    for fields in STRANGERS {
+        expect_forbidden(rt, alloc, keep, fields)?;
+    }
+    expect_all(rt, alloc, keep, LISTING)
 }
 
 #[test]
 fn who_has_no_key_is_forbidden(rt: HostRuntime) -> Result<(), Fail> {
     let mut keep = office(&rt, rt.alloc());
-    let rows = [["POST /orders", PLACE, "200 OK", ORDER]];
-    expect_all(&rt, rt.alloc(), &mut keep, &rows)?;
-    let other = "{\"order\":\"O-2\",\"recipe\":\"R-1\",\"batches\":1}";
-    let fields = [
-        "toll-owner: NOBODY\r\ntoll-key: ACMEKEY1\r\n",
-        "toll-owner: ACME\r\ntoll-key: ACMEKEY2\r\n",
-        "toll-owner: ACME\r\n",
-        "toll-owner: ACME\r\ntoll-key: ACMEKEY1\r\ntoll-key: ACMEKEY1\r\n",
-        "toll-owner: HOUSE\r\ntoll-key: ACMEKEY1\r\n",
-    ];
-    for fields in fields {
-        for line in [
-            "GET /orders",
-            "POST /orders",
-            "GET /nowhere",
-            "POST /orders/O-1",
-        ] {
-            let bytes = keyed(rt.alloc(), line, fields, other)?;
-            let out = answer(rt.alloc(), &mut keep, &bytes);
-            assert_eq!(rt; out.bytes(), FORBIDDEN, "{line} {fields}");
-        }
-    }
-    let rows = [["GET /orders", "", "200 OK", ORDERS]];
-    expect_all(&rt, rt.alloc(), &mut keep, &rows)?;
-    Ok(())
+    Ok(forbid_strangers(&rt, rt.alloc(), &mut keep)?)
 }
 
 #[test]
@@ -211,14 +265,24 @@ fn an_order_that_is_not_kept_is_not_placed(rt: HostRuntime) -> Result<(), Fail> 
     Ok(())
 }
 
+fn expect_for_each_front(
+    rt: &impl Abort,
+    alloc: Global,
+    keep: &mut MemKeep,
+    whole: &[u8],
+    want: &[u8],
+) {
+    for n in 0..whole.len() {
+        let out = answer(alloc, keep, &whole[..n]);
+        assert_eq!(rt; out.bytes(), want, "{n}");
+    }
+}
+
 #[test]
 fn each_front_of_a_request_is_a_bad_one(rt: HostRuntime) -> Result<(), Fail> {
-    let mut keep = office(&rt, rt.alloc());
     let whole = request(rt.alloc(), "POST /orders", PLACE)?;
     let want = reply(rt.alloc(), "400 Bad Request", BAD_REQUEST)?;
-    for n in 0..whole.len() {
-        let out = answer(rt.alloc(), &mut keep, &whole[..n]);
-        assert_eq!(rt; out.bytes(), want.as_slice(), "{n}");
-    }
+    let mut keep = office(&rt, rt.alloc());
+    expect_for_each_front(&rt, rt.alloc(), &mut keep, &whole, &want);
     Ok(())
 }

@@ -5,7 +5,50 @@ use crate::requests::{repeated, request, with_fields};
 use std::alloc::{AllocError, Global};
 use std::process::Abort;
 use std::test::Fail;
+use toll_keep::MemKeep;
 use toll_wire::{ReadFault, WriteFault, answer, read_request, write_reply};
+
+/// Reads a request from a stream that gives these bytes in pieces, and then fails or ends.
+fn read_pieces(
+    alloc: Global,
+    bytes: &[u8],
+    piece: usize,
+    fails: bool,
+) -> Result<Vec<u8>, ReadFault> {
+    let mut source = Source {
+        bytes,
+        piece,
+        fails,
+    };
+    read_request(alloc, &mut source)
+}
+
+fn expect_answer(
+    rt: &impl Abort,
+    alloc: Global,
+    keep: &mut MemKeep,
+    bytes: &[u8],
+    status: &str,
+    how: &str,
+) {
+    let out = answer(alloc, keep, bytes);
+    assert_eq!(rt; out.bytes().get(9..12), Some(status.as_bytes()), "{how}");
+}
+
+fn expect_in_pieces(
+    rt: &impl Abort,
+    alloc: Global,
+    keep: &mut MemKeep,
+    bytes: &[u8],
+    status: &str,
+) -> Result<(), ReadFault> {
+    expect_answer(rt, alloc, keep, bytes, status, "as it stands");
+    let whole = read_pieces(alloc, bytes, bytes.len(), false)?;
+    expect_answer(rt, alloc, keep, &whole, status, "in one piece");
+    let pieced = read_pieces(alloc, bytes, 1, false)?;
+    expect_answer(rt, alloc, keep, &pieced, status, "byte by byte");
+    Ok(())
+}
 
 /// A request is answered with this status, as it stands and however it comes.
 fn expect_status(
@@ -15,31 +58,22 @@ fn expect_status(
     status: &str,
 ) -> Result<(), ReadFault> {
     let mut keep = office(rt, alloc);
-    let whole = answer(alloc, &mut keep, bytes);
-    assert_eq!(rt; whole.bytes().get(9..12), Some(status.as_bytes()));
-    for piece in [bytes.len(), 1] {
-        let mut source = Source {
-            bytes,
-            piece,
-            fails: false,
-        };
-        let text = read_request(alloc, &mut source)?;
-        let out = answer(alloc, &mut keep, &text);
-        assert_eq!(rt; out.bytes().get(9..12), Some(status.as_bytes()), "{piece}");
-    }
-    Ok(())
+    expect_in_pieces(rt, alloc, &mut keep, bytes, status)
 }
+
+/// A front, a part so many times, and an end of a head's fields, and the status.
+const HEADS: &[(&str, &str, usize, &str, &str)] = &[
+    ("x: ", "x", 8192 - 84, "\r\n", "200"),
+    ("x: ", "x", 8193 - 84, "\r\n", "400"),
+    ("", "x: y\r\n", 29, "", "200"),
+    ("", "x: y\r\n", 30, "", "400"),
+];
 
 #[test]
 fn a_head_has_limits(rt: HostRuntime) -> Result<(), Fail> {
     let alloc = rt.alloc();
-    let rows = [
-        ("x: ", "x", 8192 - 84, "\r\n", "200"),
-        ("x: ", "x", 8193 - 84, "\r\n", "400"),
-        ("", "x: y\r\n", 29, "", "200"),
-        ("", "x: y\r\n", 30, "", "400"),
-    ];
-    for (front, part, count, end, status) in rows {
+    for row in HEADS {
+        let (front, part, count, end, status) = *row;
         let fields = repeated(alloc, front, part, count, end)?;
         let bytes = with_fields(alloc, "GET /orders HTTP/1.1", fields.as_str(), "")?;
         expect_status(&rt, alloc, &bytes, status)?;
@@ -112,23 +146,18 @@ fn forms_of_heads_are_told_apart(rt: HostRuntime) -> Result<(), Fail> {
 #[test]
 fn a_request_that_came_is_enough(rt: HostRuntime) -> Result<(), Fail> {
     let whole = request(rt.alloc(), "POST /orders", PLACE)?;
-    let came = read_failing(rt.alloc(), &whole);
+    let came = read_pieces(rt.alloc(), &whole, 100, true);
     assert_eq!(rt; came.ok().as_deref(), Some(whole.as_slice()));
     let Some((_, early)) = whole.split_last() else {
         panic!(rt; "an empty request");
     };
-    assert!(rt; matches!(&read_failing(rt.alloc(), early), Err(ReadFault::Io)));
+    assert!(rt;
+        matches!(
+            &read_pieces(rt.alloc(), early, 100, true),
+            Err(ReadFault::Io)
+        )
+    );
     Ok(())
-}
-
-/// Reads from a stream that gives these bytes in pieces, and then fails.
-fn read_failing(alloc: Global, bytes: &[u8]) -> Result<Vec<u8>, ReadFault> {
-    let mut source = Source {
-        bytes,
-        piece: 100,
-        fails: true,
-    };
-    read_request(alloc, &mut source)
 }
 
 #[test]
