@@ -17,7 +17,7 @@ pub(crate) struct Names {
 }
 
 /// What a decision says.
-#[derive(Clone, Copy, Debug, PartialEq, Eq)]
+#[derive(Clone, Copy)]
 pub(crate) enum Said {
     Accepted,
     Repeated,

@@ -4,28 +4,28 @@ use Rattle.std.specs.List.{list_any}
 use Rattle.std.specs.Option.{option_map}
 use Rattle.std.proofs.lemmas.Bool.{or_right}
 use Rattle.std.specs.Cmp.Lexicographic.{nat_list_cmp_total}
-use mathlib.Core.Bool.{false≢true}
 use Rattle.toll_base.specs.Bytes.{Bytes, same_bytes, bytes_cmp}
 use Rattle.toll_base.specs.Words.{first_some, or_else, where_so}
-use Rattle.toll_history.specs.Command.{Action, PlaceOrder, CancelOrder, by}
+use Rattle.toll_history.specs.Command.{Action, PlaceOrder, by}
 use Rattle.toll_history.specs.History.{History, acts}
 use Rattle.toll_base.specs.Slice.{Slice, order_at, with_row}
 use Rattle.toll_base.specs.SliceRules.{KeepsRules}
 use Rattle.toll_history.specs.Work.{order_placed, order_of, cancels}
 use Rattle.toll_history.specs.Tables.{Tables, tables_of, tables_given}
 use Rattle.toll_history.specs.Decision.{IsDecided, Decides, DecisionKeepsRules}
-use Rattle.toll_history.specs.Verdict.{Accepted, order_checks, verdict, IsLawful, IsValid}
+use Rattle.toll_history.specs.Verdict.{Accepted, order_checks, verdict, IsLawful}
 use Rattle.toll_base.specs.declared.decision.Change.TheVariants.{Put}
 use Rattle.toll_base.specs.declared.decision.Decision.{Decision}
 use Rattle.toll_base.specs.declared.rows.OrderRow.{OrderRow}
 use Rattle.toll_base.specs.declared.rows.Row.TheVariants.{Order}
 use Rattle.toll_history.proofs.Accepted.{none_applies}
-use Rattle.toll_history.proofs.Acts.{along_acts}
 use Rattle.toll_history.proofs.Passed.{accepted_passes}
-use Rattle.toll_history.proofs.Decided.{verdict_is, Grows, decides, keeps_rules, less_of}
-use Rattle.toll_history.proofs.Grown.{tables-own, tables-others}
+use Rattle.toll_history.proofs.Adding.{adding_decided, adding_keeps}
+use Rattle.toll_history.proofs.Decided.{less_of}
+use Rattle.toll_history.proofs.Grown.{tables-own}
 use Rattle.toll_base.proofs.KeyOrder.{row_at-put_row}
-use Rattle.toll_history.proofs.Options.{map_none, none_of}
+use Rattle.toll_history.proofs.Options.{none_of}
+use Rattle.toll_history.proofs.Uncancelled.{uncancelled}
 use Rattle.toll_base.proofs.PutTables.{length-new, any-new}
 use Rattle.toll_base.proofs.Texts.{same_bytes-exact}
 
@@ -48,29 +48,6 @@ in_slice s row absent i = record (tables_of s) {
   recipe_used = λ recipe. any-new bytes_cmp (λ x. x.order) (λ x. same_bytes x.recipe recipe) s.orders row absent i;
 }
 
--- ---- an order that isn't known was never cancelled
-
-second_none : {X : Type 0} (x y : Option X) → is_none (or_else x y) ≡ true → is_none y ≡ true
-second_none None y h = h
-second_none (Some x) y h = absurd (false≢true h)
-
-abbrev IsUncancelled : List Action → Type 0
-IsUncancelled own = (k : Bytes) → is_none (order_of own k) ≡ true → list_any (cancels k) own ≡ false
-
-uncancelled_more : (o : Bytes) (H : History) (a : Action) → IsLawful H → IsValid a → verdict H (by o a) ≡ Accepted → IsUncancelled (acts o H) → IsUncancelled (a ∷ acts o H)
-uncancelled_more o H (PlaceOrder order recipe batches) lawful valid accepted before k absent =
-    before k (map_none _ _ ∙ second_none (where_so (same_bytes k order) _) _ (sym (map_none _ _) ∙ absent))
-uncancelled_more o H (CancelOrder order) lawful valid accepted before k absent =
-    let unknown : is_none (order_of (acts o H) k) ≡ true = map_none _ _ ∙ sym (map_none _ _) ∙ absent in
-    elim (same_bytes order k) as (λ b. same_bytes order k ≡ b → (b || list_any (cancels k) (acts o H)) ≡ false) [
-      | true ↦ λ same. absurd (false≢true (sym (accepted_passes H o (CancelOrder order) accepted 0) ∙ ap (λ x. is_none (order_of (acts o H) x)) (same_bytes-exact order k same) ∙ unknown))
-      | false ↦ λ other. before k unknown
-    ] refl
-uncancelled_more o H _ lawful valid accepted before k absent = before k absent
-
-uncancelled : (H : History) (o : Bytes) → IsLawful H → IsUncancelled (acts o H)
-uncancelled H o lawful = along_acts IsUncancelled o (λ k absent. refl) (uncancelled_more o) H lawful
-
 -- ---- the order that is placed
 
 -- the order as it was placed
@@ -91,20 +68,14 @@ in_history H o order recipe batches lawful absent =
           (λ same. uncancelled H o lawful k (ap (λ x. is_none (order_of (acts o H) x)) (same_bytes-exact k order same) ∙ ap is_none (none_of _ absent))) i;
     })
 
-grows : (order recipe : Bytes) (batches : ℕ) → Grows (PlaceOrder order recipe batches) (λ t. Order (new_order order recipe batches) ∷ [])
-grows order recipe batches H s lawful valid accepted there =
-    let absent : is_some (order_of (acts s.owner H) order) ≡ false = accepted_passes H s.owner (PlaceOrder order recipe batches) accepted 1 in
-    in_slice s (new_order order recipe batches) (ap (λ (t : Tables). is_some (t.order order)) there ∙ absent)
-    ∙ ap (with_order (new_order order recipe batches)) there
-    ∙ sym (in_history H s.owner order recipe batches lawful absent)
-
 module _ (own : Slice) (order recipe : Bytes) (batches : ℕ) (d : Decision) (decided : IsDecided (order_checks (tables_of own) order recipe batches) (Put own.owner (Order (new_order order recipe batches)) ∷ []) d) where
+  is_new : (H : History) (o : Bytes) → verdict H (by o (PlaceOrder order recipe batches)) ≡ Accepted → is_some (order_of (acts o H) order) ≡ false
+  is_new H o accepted = accepted_passes H o (PlaceOrder order recipe batches) accepted 1
+
   pub order_decided : Decides (by own.owner (PlaceOrder order recipe batches)) own d
   order_decided =
-      decides (PlaceOrder order recipe batches) (λ t. Order (new_order order recipe batches) ∷ []) (grows order recipe batches) (λ H o p lawful valid accepted other. tables-others H o (PlaceOrder order recipe batches) refl p other)
-      own d _ decided (λ H lawful valid known there. verdict_is H own.owner (PlaceOrder order recipe batches) (tables_of own) _ known there refl)
+      adding_decided (PlaceOrder order recipe batches) (Order (new_order order recipe batches)) refl (with_order (new_order order recipe batches)) (λ t. is_some (t.order order)) (λ s. in_slice s (new_order order recipe batches)) (λ H o lawful accepted. in_history H o order recipe batches lawful (is_new H o accepted)) is_new
+      own d _ decided (λ H. refl)
 
   pub order_keeps : KeepsRules own → DecisionKeepsRules own d
-  order_keeps keeps =
-      keeps_rules own (Order (new_order order recipe batches) ∷ []) d _ decided keeps
-      (λ accepted. (or_right _ _ (less_of 2000 (length own.orders) (none_applies (order_checks (tables_of own) order recipe batches) accepted 3)), tt))
+  order_keeps = adding_keeps own (Order (new_order order recipe batches)) d _ decided (λ accepted. or_right _ _ (less_of 2000 (length own.orders) (none_applies (order_checks (tables_of own) order recipe batches) accepted 3)))

@@ -1,5 +1,5 @@
 -- A decision's changes put rows of one owner alone, where those of its verdict do.
-use Rattle.std.proofs.Common.{◌≡◌, List, [], ◌∷◌, map, sym, subst}
+use Rattle.std.proofs.Common.{List, [], ◌∷◌, map, sym, subst}
 use Rattle.toll_base.specs.Bytes.{Bytes}
 use Rattle.toll_history.specs.Verdict.{Verdict, Checks, Accepted, Repeated, Refused, first_of}
 use Rattle.toll_base.specs.Changes.{changes_of}

@@ -1,5 +1,5 @@
 -- What the adding of a recipe owes.
-use Rattle.std.proofs.Common.{◌≡◌, suc, cond, Some, is_some, [], ◌∷◌, length, false, refl, sym, ap, ◌∙◌}
+use Rattle.std.proofs.Common.{◌≡◌, suc, cond, Some, is_some, [], ◌∷◌, length, false, refl, ◌∙◌}
 use Rattle.std.proofs.lemmas.Bool.{or_right}
 use Rattle.std.specs.Cmp.Lexicographic.{nat_list_cmp_total}
 use Rattle.toll_base.specs.Bytes.{same_bytes, bytes_cmp}
@@ -17,8 +17,9 @@ use Rattle.toll_base.specs.declared.rows.RecipeRow.{RecipeRow}
 use Rattle.toll_base.specs.declared.rows.Row.TheVariants.{Recipe}
 use Rattle.toll_history.proofs.Accepted.{none_applies}
 use Rattle.toll_history.proofs.Passed.{accepted_passes}
-use Rattle.toll_history.proofs.Decided.{verdict_is, Grows, decides, keeps_rules, less_of}
-use Rattle.toll_history.proofs.Grown.{tables-own, tables-others, put_first}
+use Rattle.toll_history.proofs.Adding.{adding_decided, adding_keeps}
+use Rattle.toll_history.proofs.Decided.{less_of}
+use Rattle.toll_history.proofs.Grown.{tables-own, put_first}
 use Rattle.toll_base.proofs.KeyOrder.{row_at-put_row}
 use Rattle.toll_base.proofs.PutTables.{length-new}
 
@@ -35,19 +36,11 @@ in_slice s row absent i = record (tables_of s) {
 in_history : (H : History) (o : _) (row : RecipeRow) → tables_given (by o (AddRecipe row) ∷ H) o ≡ with_recipe row (tables_given H o)
 in_history H o row = tables-own H o (AddRecipe row) refl ∙ (λ i. record (with_recipe row (tables_given H o)) { recipe = λ r. put_first (same_bytes r row.recipe) row (recipe_of (acts o H) r) i })
 
-grows : (row : RecipeRow) → Grows (AddRecipe row) (λ t. Recipe row ∷ [])
-grows row H s lawful valid accepted there =
-    in_slice s row (ap (λ (t : Tables). is_some (t.recipe row.recipe)) there ∙ accepted_passes H s.owner (AddRecipe row) accepted 0)
-    ∙ ap (with_recipe row) there
-    ∙ sym (in_history H s.owner row)
-
 module _ (own : Slice) (row : RecipeRow) (d : Decision) (decided : IsDecided (recipe_checks (tables_of own) row) (Put own.owner (Recipe row) ∷ []) d) where
   pub recipe_decided : Decides (by own.owner (AddRecipe row)) own d
   recipe_decided =
-      decides (AddRecipe row) (λ t. Recipe row ∷ []) (grows row) (λ H o p lawful valid accepted other. tables-others H o (AddRecipe row) refl p other)
-      own d _ decided (λ H lawful valid known there. verdict_is H own.owner (AddRecipe row) (tables_of own) _ known there refl)
+      adding_decided (AddRecipe row) (Recipe row) refl (with_recipe row) (λ t. is_some (t.recipe row.recipe)) (λ s. in_slice s row) (λ H o lawful accepted. in_history H o row) (λ H o accepted. accepted_passes H o (AddRecipe row) accepted 0)
+      own d _ decided (λ H. refl)
 
   pub recipe_keeps : KeepsRules own → DecisionKeepsRules own d
-  recipe_keeps keeps =
-      keeps_rules own (Recipe row ∷ []) d _ decided keeps
-      (λ accepted. (or_right _ _ (less_of 200 (length own.recipes) (none_applies (recipe_checks (tables_of own) row) accepted 1)), tt))
+  recipe_keeps = adding_keeps own (Recipe row) d _ decided (λ accepted. or_right _ _ (less_of 200 (length own.recipes) (none_applies (recipe_checks (tables_of own) row) accepted 1)))

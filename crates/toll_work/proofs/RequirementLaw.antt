@@ -1,5 +1,5 @@
 -- What the requiring of a material owes.
-use Rattle.std.proofs.Common.{◌≡◌, suc, false, cond, Some, is_some, [], ◌∷◌, length, refl, sym, ap, ◌∙◌}
+use Rattle.std.proofs.Common.{◌≡◌, suc, false, cond, Some, is_some, [], ◌∷◌, length, refl, ◌∙◌}
 use Rattle.std.proofs.lemmas.Bool.{or_right}
 use Rattle.toll_base.specs.Bytes.{Bytes}
 use Rattle.toll_base.specs.Keys.{requirement_cmp}
@@ -17,8 +17,9 @@ use Rattle.toll_base.specs.declared.rows.RequirementRow.{RequirementRow}
 use Rattle.toll_base.specs.declared.rows.Row.TheVariants.{Requirement}
 use Rattle.toll_history.proofs.Accepted.{none_applies}
 use Rattle.toll_history.proofs.Passed.{accepted_passes}
-use Rattle.toll_history.proofs.Decided.{verdict_is, Grows, decides_with, keeps_rules, less_of}
-use Rattle.toll_history.proofs.Grown.{tables-own, tables-others, put_first}
+use Rattle.toll_history.proofs.Adding.{adding_decided_with, adding_keeps}
+use Rattle.toll_history.proofs.Decided.{less_of}
+use Rattle.toll_history.proofs.Grown.{tables-own, put_first}
 use Rattle.toll_base.proofs.KeyOrder.{row_at-put_row}
 use Rattle.toll_base.proofs.PutTables.{length-new}
 use Rattle.toll_base.proofs.Texts.{requirement_cmp_total}
@@ -38,12 +39,6 @@ in_history H o row =
     tables-own H o (Require row) refl
     ∙ (λ i. record (with_requirement row (tables_given H o)) { requirement = λ k. put_first (same_requirement k (requirement_key row)) row (requirement_of (acts o H) k) i })
 
-grows : (row : RequirementRow) → Grows (Require row) (λ t. Requirement row ∷ [])
-grows row H s lawful valid accepted there =
-    in_slice s row (ap (λ (t : Tables). is_some (t.requirement (requirement_key row))) there ∙ accepted_passes H s.owner (Require row) accepted 5)
-    ∙ ap (with_requirement row) there
-    ∙ sym (in_history H s.owner row)
-
 -- the checks, over the tables of the owner and of HOUSE
 abbrev checks_over : (own house : Slice) → RequirementRow → Checks
 checks_over own house row = requirement_checks own.owner (tables_of own) (tables_for own.owner (tables_of own) (tables_of house) row.source) row
@@ -51,10 +46,8 @@ checks_over own house row = requirement_checks own.owner (tables_of own) (tables
 module _ (own house : Slice) (row : RequirementRow) (d : Decision) (decided : IsDecided (checks_over own house row) (Put own.owner (Requirement row) ∷ []) d) where
   pub requirement_decided : DecidesWith (by own.owner (Require row)) own house d
   requirement_decided =
-      decides_with (Require row) (λ t. Requirement row ∷ []) (grows row) (λ H o p lawful valid accepted other. tables-others H o (Require row) refl p other)
-      own house d _ decided (λ H lawful valid known there houses. verdict_is H own.owner (Require row) (tables_of own) (tables_of house) known there houses)
+      adding_decided_with (Require row) (Requirement row) refl (with_requirement row) (λ t. is_some (t.requirement (requirement_key row))) (λ s. in_slice s row) (λ H o lawful accepted. in_history H o row) (λ H o accepted. accepted_passes H o (Require row) accepted 5)
+      own d _ decided house (λ H. refl)
 
   pub requirement_keeps : KeepsRules own → DecisionKeepsRules own d
-  requirement_keeps keeps =
-      keeps_rules own (Requirement row ∷ []) d _ decided keeps
-      (λ accepted. (or_right _ _ (less_of 2000 (length own.requirements) (none_applies (checks_over own house row) accepted 6)), tt))
+  requirement_keeps = adding_keeps own (Requirement row) d _ decided (λ accepted. or_right _ _ (less_of 2000 (length own.requirements) (none_applies (checks_over own house row) accepted 6)))

@@ -29,8 +29,7 @@ use Rattle.toll_base.specs.declared.refusal.Refusal.TheVariants.{UnknownKey, Voi
 use Rattle.toll_base.specs.declared.role.Role.{Role}
 use Rattle.toll_base.specs.declared.role.Role.TheVariants.{Consumed, Produced}
 use Rattle.toll_base.specs.declared.movement.MoveRow.{MoveRow}
-use Rattle.toll_base.specs.declared.movement.Move.{Move as Moved}
-use Rattle.toll_base.specs.declared.movement.Move.TheVariants.{Receive, Split, Ship, Scrap, Actual}
+use Rattle.toll_base.specs.declared.movement.Move.TheVariants.{Actual}
 use Rattle.toll_base.specs.declared.rows.SublotRow.{SublotRow}
 use Rattle.toll_base.specs.declared.rows.Row.TheVariants.{Sublot, Void as VoidPut}
 use Rattle.toll_base.proofs.Bools.{both}
@@ -383,11 +382,3 @@ module _ (own house : Slice) (key : Bytes) (row : MoveRow) (found_in : move_at o
           (λ accepted.
           keeps_skip own.owner (VoidPut (record { key = key })) (Put own.owner (Sublot (less_in (tables_of own))) ∷ []) house other keeps
           (keeps_skip own.owner (Sublot (less_in (tables_of own))) [] house other keeps tt))
-
--- what is no actual
-pub not_actual : (what : Moved) → ((order : Bytes) (number segment : ℕ) (role : Role) (material : Bytes) (lot : LotId) (sublot : Bytes) → what ≡ Actual order number segment role material lot sublot → ⊥) → is_actual what ≡ false
-not_actual (Actual order number segment role material lot sublot) none = absurd (none order number segment role material lot sublot refl)
-not_actual (Receive material lot sublot) none = refl
-not_actual (Split lot sublot target) none = refl
-not_actual (Ship lot sublot) none = refl
-not_actual (Scrap lot sublot) none = refl

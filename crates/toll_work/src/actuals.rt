@@ -1,5 +1,5 @@
 //! Actuals.
-ghost use Rattle.std.specs.Prelude.{◌≡◌, ◌+◌, ◌-◌, true, false, [], ◌∷◌, ◌++◌, nat_lt, is_none, Some, IfOk};
+ghost use Rattle.std.specs.Prelude.{◌≡◌, ◌+◌, ◌-◌, true, false, [], ◌∷◌, ◌++◌, nat_lt, is_none, Some, None, IfOk, IfSome};
 ghost use Rattle.toll_history.specs.Bounds.{lot_bounds};
 ghost use Rattle.toll_base.specs.Bytes.{same_bytes};
 ghost use Rattle.toll_history.specs.Command.{Record, by};
@@ -14,6 +14,7 @@ ghost use Rattle.toll_history.specs.Verdict as verdict;
 ghost use Rattle.toll_base.specs.declared.decision.Change.TheVariants as Change;
 ghost use Rattle.toll_base.specs.declared.lot.Disposition.TheVariants as Disposition;
 ghost use Rattle.toll_base.specs.declared.lot.Origin.TheVariants as Origin;
+ghost use Rattle.toll_base.specs.declared.movement.Move.TheVariants as Move;
 ghost use Rattle.toll_base.specs.declared.refusal.Refusal.TheVariants as Refusal;
 ghost use Rattle.toll_base.specs.declared.role.Role.TheVariants as Role;
 ghost use Rattle.toll_base.specs.declared.rows.Row.TheVariants as Row;
@@ -36,6 +37,35 @@ pub struct Use {
     pub material: Name,
     pub lot: LotId,
     pub sublot: Name,
+}
+
+/// In which role an actual uses what; `None` of another movement.
+pub fn use_of(what: &Move) -> Option<(Role, Use)>
+    ensures actual { IfSome result (λ used. what.now ≡ Move.Actual used.1.order used.1.number used.1.segment used.0 used.1.material used.1.lot used.1.sublot) }
+    ensures other { result ≡ None → is_actual what.now ≡ false }
+{
+    match *what {
+        Move::Actual {
+            order,
+            number,
+            segment,
+            role,
+            material,
+            lot,
+            sublot,
+        } => {
+            let used = Use {
+                order,
+                number,
+                segment,
+                material,
+                lot,
+                sublot,
+            };
+            Some((role, used))
+        }
+        _ => None,
+    }
 }
 
 /// Records an actual of a batch of `own`'s owner: it consumes from a sublot of the owner's or of
@@ -62,31 +92,10 @@ pub fn record_actual(
 {
     // What its owner keeps holds of HOUSE's slice too.
     let _house = house.owner();
-    let what = row.what;
-    match what {
-        Move::Actual {
-            order,
-            number,
-            segment,
-            role,
-            material,
-            lot,
-            sublot,
-        } => {
-            let used = Use {
-                order,
-                number,
-                segment,
-                material,
-                lot,
-                sublot,
-            };
-            match role {
-                Role::Consumed => plan_consumption(alloc, own, house, &row, &used),
-                Role::Produced => plan_production(alloc, own, &row, &used),
-            }
-        }
-        _ => unreachable!(),
+    match use_of(&row.what) {
+        Some((Role::Consumed, used)) => plan_consumption(alloc, own, house, &row, &used),
+        Some((Role::Produced, used)) => plan_production(alloc, own, &row, &used),
+        None => unreachable!(),
     }
 }
 

@@ -1,18 +1,12 @@
 //! Recipes, orders and batches: the decisions on commands about work.
 #![tactic(auto)]
 
-#[cfg(test)]
-mod actual_tests;
 mod actuals;
 mod batches;
 mod crossing;
 mod orders;
 mod recipes;
 mod states;
-#[cfg(test)]
-mod stories;
-#[cfg(test)]
-mod tests;
 mod views;
 mod voids;
 

@@ -11,10 +11,10 @@ ghost use Rattle.toll_base.specs.declared.refusal.Refusal.TheVariants as Refusal
 ghost use Rattle.toll_base.specs.declared.rows.Row.TheVariants as Row;
 ghost use Rattle.toll_work.specs.Voiding.{open_checks};
 
-use crate::actuals::{Use, slice_for};
+use crate::actuals::{Use, slice_for, use_of};
 use std::alloc::{AllocError, Global};
 use toll_base::{
-    Amount, BatchNo, Change, Decision, Move, Name, Refusal, Role, Row, Slice, SublotRow, VoidRow,
+    Amount, BatchNo, Change, Decision, Name, Refusal, Role, Row, Slice, SublotRow, VoidRow,
 };
 use toll_history::has_room_in;
 
@@ -41,31 +41,10 @@ pub fn void_actual(
     let Some(row) = own.movement(&key) else {
         return Ok(Decision::Refuse(Refusal::UnknownKey));
     };
-    let what = row.what;
-    match what {
-        Move::Actual {
-            order,
-            number,
-            segment,
-            role,
-            material,
-            lot,
-            sublot,
-        } => {
-            let used = Use {
-                order,
-                number,
-                segment,
-                material,
-                lot,
-                sublot,
-            };
-            match role {
-                Role::Consumed => give_back(alloc, own, house, key, &used, row.amount),
-                Role::Produced => take_out(alloc, own, key, &used, row.amount),
-            }
-        }
-        _ => Ok(Decision::Refuse(Refusal::UnknownKey)),
+    match use_of(&row.what) {
+        Some((Role::Consumed, used)) => give_back(alloc, own, house, key, &used, row.amount),
+        Some((Role::Produced, used)) => take_out(alloc, own, key, &used, row.amount),
+        None => Ok(Decision::Refuse(Refusal::UnknownKey)),
     }
 }
 

@@ -7,7 +7,6 @@ use crate::stories::Said::{Accepted, Did, Is, Now, Number, Refused, Repeated};
 use crate::stories::{
     FROM_A, INTO_P1, Line, Said, Usage, WITH_BATCH, WITH_RECIPE, first_wrong_of, name, tell, view,
 };
-use crate::{BatchView, RequirementLine};
 use std::alloc::Global;
 use std::test::Fail;
 use toll_base::Disposition::{Quarantined, Released};
@@ -17,6 +16,7 @@ use toll_base::Refusal::{
 };
 use toll_base::State::{Running, Stopped, Stopping};
 use toll_base::{Name, Role, Slice};
+use toll_work::{BatchView, RequirementLine};
 
 const CONSUMED_WHOLE: &[(Line, Said)] = &[
     (Actual("K2", FROM_A, 100), Accepted),

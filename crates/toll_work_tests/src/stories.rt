@@ -3,16 +3,16 @@
 ghost use Rattle.std.specs.Prelude.{◌≡◌, true, IfOk};
 ghost use Rattle.toll_history.specs.Verdict.{is_actual};
 
-use crate::{
-    BatchView, add_recipe, batch_view, cancel_order, close_batch, command_batch, open_batch,
-    place_order, record_actual, require, void_actual,
-};
 use std::alloc::Global;
 use std::test::Fail;
 use toll_base::{
     Amount, BatchNo, BatchRow, Change, Day, Decision, Disposition, LotId, LotRow, MaterialRow,
     Measure, Move, MoveRow, Name, Origin, Refusal, RequirementRow, Role, Row, Segment, Slice,
     State, StateCommand, SublotRow,
+};
+use toll_work::{
+    BatchView, add_recipe, batch_view, cancel_order, close_batch, command_batch, open_batch,
+    place_order, record_actual, require, void_actual,
 };
 
 /// A line of a story. Where it names no order it is of batch 1 of the order `O`.
@@ -52,7 +52,7 @@ pub(crate) enum Line {
 }
 
 /// What is said to a line.
-#[derive(Clone, Copy, Debug, PartialEq, Eq)]
+#[derive(Clone, Copy, PartialEq)]
 pub(crate) enum Said {
     Accepted,
     Repeated,

@@ -2,7 +2,6 @@
 use crate::stories::Line::{Batches, Cancel, Close, Do, Open, Place, Recipe, Require};
 use crate::stories::Said::{Accepted, Now, Number, Refused, Repeated};
 use crate::stories::{FROM_A, Line, Said, Usage, WITH_BATCH, WITH_RECIPE, tell, tell_of};
-use crate::{StateWord, next};
 use std::test::Fail;
 use toll_base::Refusal::{
     BadState, BatchClosed, CrossOwner, NoMoreBatches, OrderCancelled, OrderExists, OrderStarted,
@@ -13,8 +12,9 @@ use toll_base::State::{
     Stopped, Stopping,
 };
 use toll_base::{State, StateCommand};
+use toll_work::{StateWord, next};
 
-const STATES: [(State, &str); 12] = [
+const STATES: &[(State, &str)] = &[
     (Idle, "idle"),
     (Running, "running"),
     (Pausing, "pausing"),
@@ -29,12 +29,12 @@ const STATES: [(State, &str); 12] = [
     (Complete, "complete"),
 ];
 
-const WORDS: [&str; 9] = [
+const WORDS: &[&str] = &[
     "done", "start", "stop", "hold", "restart", "abort", "reset", "pause", "resume",
 ];
 
 // From which state which command leads to which: of 108 pairs these 31.
-const LEADING: [(&str, &str, &str); 31] = [
+const LEADING: &[(&str, &str, &str)] = &[
     ("idle", "start", "running"),
     ("running", "done", "complete"),
     ("running", "stop", "stopping"),
@@ -70,7 +70,8 @@ const LEADING: [(&str, &str, &str); 31] = [
 
 // The word of the state that the command leads to, empty where it leads nowhere.
 fn led(state: &str, command: &str) -> &'static str {
-    for (from, by, to) in LEADING {
+    for line in LEADING {
+        let (from, by, to) = *line;
         if from == state && by == command {
             return to;
         }
@@ -88,27 +89,34 @@ fn leads_so(state: State, word: &str, command: &str) -> bool {
     }
 }
 
-fn has_row(state: State, word: &str) -> bool {
+// The first command that doesn't lead from the state as the table says.
+fn wrong_command(state: State, word: &str) -> Option<&'static str> {
     for command in WORDS {
         if !leads_so(state, word, command) {
-            return false;
+            return Some(*command);
         }
     }
-    state.word() == word
+    None
 }
 
-fn has_table() -> bool {
-    for (state, word) in STATES {
-        if !has_row(state, word) {
-            return false;
+// The word of the first state that isn't its own, or from which a command doesn't lead as the table
+// says, and that command.
+fn wrong_cell() -> Option<(&'static str, &'static str)> {
+    for line in STATES {
+        let (state, word) = *line;
+        if state.word() != word {
+            return Some((word, ""));
+        }
+        if let Some(command) = wrong_command(state, word) {
+            return Some((word, command));
         }
     }
-    true
+    None
 }
 
 #[test]
 fn commands_lead_as_in_the_table(rt: HostRuntime) {
-    assert!(rt; has_table());
+    assert_eq!(rt; wrong_cell(), None);
 }
 
 #[test]
