@@ -8,3 +8,4 @@ pub mod Beginning
 pub mod KeptRules
 pub mod Knowing
 pub mod UnitHolders
+pub mod Undoing

@@ -1,6 +1,15 @@
--- What follows from what a success gives.
-use Rattle.std.proofs.Common.{OnOk, Result, Ok, Err}
+-- What follows from what an outcome gives.
+use Rattle.std.proofs.Common.{OnOk, OnErr, Result, Ok, Err}
 
 pub on_ok : {T E P Q : Type 0} (r : Result T E) → (P → Q) → OnOk r P → OnOk r Q
 on_ok (Ok x) so h = so h
 on_ok (Err e) so h = tt
+
+pub on_err : {T E P Q : Type 0} (r : Result T E) → (P → Q) → OnErr r P → OnErr r Q
+on_err (Ok x) so h = tt
+on_err (Err e) so h = so h
+
+-- what is so after either
+pub either_way : {T E P Q S : Type 0} (r : Result T E) → (P → S) → (Q → S) → OnOk r P → OnErr r Q → S
+either_way (Ok x) ok err p q = ok p
+either_way (Err e) ok err p q = err q

@@ -214,3 +214,44 @@ drafted_once drafts slices owner row o =
     chosen : (b : Bool) → same_bytes owner o ≡ b → cond b (with_row (rows_in (drafts ++ slices) owner) row) (rows_in (drafts ++ slices) o) ≡ cond b (with_row (rows_in (drafts ++ slices) o) row) (rows_in (drafts ++ slices) o)
     chosen true e = ap (λ name. with_row (rows_in (drafts ++ slices) name) row) (same_bytes-exact owner o e)
     chosen false e = refl
+
+-- ---- rows that are taken out of the list
+
+put_again : (slices : List Slice) (owner o : Bytes) (b : Bool) → same_bytes owner o ≡ b → rows_in slices owner ≡ empty_slice owner → cond b (empty_slice owner) (rows_in slices o) ≡ rows_in slices o
+put_again slices owner o true is none = sym none ∙ ap (rows_in slices) (same_bytes-exact owner o is)
+put_again slices owner o false is none = refl
+
+-- an owner with no rows may have an empty slice
+pub put_none : (slices : List Slice) (owner : Bytes) → rows_in slices owner ≡ empty_slice owner → (o : Bytes) → rows_in (put_slice slices (empty_slice owner)) o ≡ rows_in slices o
+put_none slices owner none o = rows_in-put slices (empty_slice owner) o ∙ put_again slices owner o (same_bytes owner o) refl none
+
+taken_first : (slices left : List Slice) (rows : Slice) (owner o : Bytes) (b : Bool) → same_bytes owner o ≡ b → rows ≡ rows_in slices owner → rows_in left o ≡ cond b (empty_slice owner) (rows_in slices o) → cond b rows (rows_in left o) ≡ rows_in slices o
+taken_first slices left rows owner o true is own others = own ∙ ap (rows_in slices) (same_bytes-exact owner o is)
+taken_first slices left rows owner o false is own others = others
+
+-- rows that were taken out stand behind those that were taken before, and before what is left
+pub taken_too : (taken slices left : List Slice) (rows : Slice) (owner : Bytes) → rows ≡ rows_in slices owner → ((o : Bytes) → rows_in left o ≡ rows_in (put_slice slices (empty_slice owner)) o) → (o : Bytes) → rows_in ((taken ++ rows ∷ []) ++ left) o ≡ rows_in (taken ++ slices) o
+taken_too [] slices left rows owner own others o =
+    ap (λ name. cond (same_bytes name o) rows (rows_in left o)) (ap (λ (s : Slice). s.owner) own ∙ owner-rows_in slices owner)
+    ∙ taken_first slices left rows owner o (same_bytes owner o) refl own (others o ∙ rows_in-put slices (empty_slice owner) o)
+taken_too (s ∷ taken) slices left rows owner own others o = ap (cond (is_of o s) s) (taken_too taken slices left rows owner own others o)
+
+-- ---- what is written at a place
+
+pub place_inside : (p : Slice → Bool) (slices : List Slice) (at : ℕ) → position p slices ≡ Some at → at < length slices
+place_inside p slices at h = (position-Some p slices at (empty_slice []) h).0
+
+pub read_set : (slices : List Slice) (at : ℕ) (new d : Slice) → at < length slices → get_or (set slices at new) at d ≡ new
+read_set [] at new d lt = absurd (omega arith)
+read_set (s ∷ slices) zero new d lt = refl
+read_set (s ∷ slices) (suc at) new d lt = read_set slices at new d (omega arith)
+
+pub set_back : (slices : List Slice) (at : ℕ) (old new : Slice) → at < length slices → old ≡ get_or slices at old → set (set slices at new) at old ≡ slices
+set_back [] at old new lt is = absurd (omega arith)
+set_back (s ∷ slices) zero old new lt is = ap (λ x. x ∷ slices) is
+set_back (s ∷ slices) (suc at) old new lt is = ap (λ xs. s ∷ xs) (set_back slices at old new (omega arith) is)
+
+pub length-set_at : (slices : List Slice) (at : ℕ) (new : Slice) → length (set slices at new) ≡ length slices
+length-set_at [] at new = refl
+length-set_at (s ∷ slices) zero new = refl
+length-set_at (s ∷ slices) (suc at) new = ap suc (length-set_at slices at new)

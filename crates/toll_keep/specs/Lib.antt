@@ -4,3 +4,4 @@ pub mod Fault
 pub mod Goes
 pub mod Holding
 pub mod Slices
+pub mod Drafts

@@ -1,120 +1,142 @@
-//! Slices in a list, and those that a list of changes is about to make.
-ghost use Rattle.std.specs.Prelude.{◌≡◌, ◌+◌, ◌<◌, ◌≤◌, ◌++◌, IfOk, OnOk, IsOkUnless, vec_len, vec_capacity, position};
-ghost use Rattle.toll_base.specs.Bytes.{Bytes};
+//! Changes that are made in place, all of them or none.
+ghost use Rattle.std.specs.Prelude.{◌≡◌, [], ◌∷◌, true, IfOk, OnOk, OnErr, IsOkUnless, position};
 ghost use Rattle.toll_base.specs.Slice.{with_row};
-ghost use Rattle.toll_base.specs.Changes.{after_change, after_changes};
-ghost use Rattle.toll_keep.specs.Slices.{is_of, rows_in, put_slice, put_slices};
+ghost use Rattle.toll_base.specs.Former.{TakesBack};
+ghost use Rattle.toll_base.specs.Table.{put_row};
+ghost use Rattle.toll_keep.specs.Slices.{is_of};
+ghost use Rattle.toll_keep.specs.Drafts.{kept_of, restored, is_restorable, taken_back, all_taken_back, CanTakeBack, CanTakeAllBack, Undoes, IsAfter};
 
 use crate::fault::KeepFault;
 use std::alloc::{AllocError, Global};
-use toll_base::{Change, Name, Row, Slice};
+use toll_base::{Change, Former, Keyed, Name, OpenSlice, OwnerRow, Row, Table, UnitRow};
 
-/// Where the owner's slice is.
-fn place_of(slices: &[Slice], owner: &Name) -> Option<usize>
+/// The rows of the plant, and those of the owners that changes are about to touch.
+#[derive(Drop)]
+pub struct Draft {
+    pub owners: Table<OwnerRow>,
+    pub units: Table<UnitRow>,
+    pub slices: Vec<OpenSlice>,
+}
+
+// A change that was made: what was there before.
+#[derive(Drop)]
+enum Made {
+    // The owner with this name, if there was one.
+    Owner(Name, Option<OwnerRow>),
+    // The unit with this name, if there was one.
+    Unit(Name, Option<UnitRow>),
+    // A row of the slice at this place.
+    Put(usize, Former),
+}
+
+/// Where the owner's rows are.
+pub fn place_of_open(slices: &[OpenSlice], owner: &Name) -> Option<usize>
     ensures { result ≡ position (is_of owner.now) slices.now }
 {
     slices.iter().position(|slice| *slice.owner() == *owner)
 }
 
-/// A copy of the owner's slice, empty where there is none.
-pub fn copy_of(alloc: Global, slices: &[Slice], owner: &Name) -> Result<Slice, AllocError>
-    ensures { IfOk result (λ slice. slice ≡ rows_in slices.now owner.now) }
-{
-    match place_of(slices, owner) {
-        Some(at) => slices[at].copy(alloc),
-        None => Ok(Slice::new(alloc, *owner)),
+impl Draft {
+    /// Makes all of the changes, in order, or none: what is made is taken back where a later one has
+    /// no memory, or does not fit.
+    pub fn make_all(&mut self, alloc: Global, changes: &[Change]) -> Result<(), KeepFault>
+        ensures made { OnOk result (IsAfter changes.now (kept_of self.old) (kept_of self.new)) }
+        ensures none { OnErr result (kept_of self.new ≡ kept_of self.old) }
+        ensures fault { IsOkUnless result KeepFault.Memory }
+    {
+        let mut made = Vec::new(alloc);
+        made.try_reserve(changes.len())?;
+        for change in changes {
+            match self.make(alloc, change) {
+                Ok(one) => made.push_reserved(one),
+                Err(fault) => {
+                    self.undo_all(made);
+                    return Err(fault);
+                }
+            }
+        }
+        Ok(())
     }
-}
 
-/// Lets copies of the owner's slice share its rows.
-pub fn share(alloc: Global, slices: &mut [Slice], owner: &Name) -> Result<(), AllocError>
-    ensures { slices.new ≡ slices.old }
-{
-    match place_of(slices, owner) {
-        Some(at) => slices[at].share(alloc),
-        None => Ok(()),
+    // Takes all of these changes back, the last one first.
+    fn undo_all(&mut self, mut made: Vec<Made>)
+        requires { CanTakeAllBack made.items (kept_of self.old) }
+        ensures { kept_of self.new ≡ all_taken_back made.items (kept_of self.old) }
+    {
+        while let Some(last) = made.pop() {
+            self.undo(last);
+        }
     }
-}
 
-/// The slices that differ after these changes, as they are then.
-pub fn drafted(alloc: Global, slices: &[Slice], changes: &[Change]) -> Result<Vec<Slice>, KeepFault>
-    ensures made { IfOk result (λ drafts. (o : Bytes) → rows_in (drafts.items ++ slices.now) o ≡ after_changes changes.now (rows_in slices.now o)) }
-    ensures fault { IsOkUnless result KeepFault.Memory }
-{
-    let mut drafts = Vec::new(alloc);
-    for change in changes {
-        draft(alloc, slices, &mut drafts, change)?;
+    fn make(&mut self, alloc: Global, change: &Change) -> Result<Made, KeepFault>
+        ensures made { OnOk result (IsAfter (change.now ∷ []) (kept_of self.old) (kept_of self.new)) }
+        ensures none { OnErr result (kept_of self.new ≡ kept_of self.old) }
+        ensures back { IfOk result (λ made. Undoes made (kept_of self.old) (kept_of self.new)) }
+        ensures fault { IsOkUnless result KeepFault.Memory }
+    {
+        match change {
+            Change::Owner(row) => Ok(Made::Owner(row.owner, exchange(&mut self.owners, row)?)),
+            Change::Unit(row) => Ok(Made::Unit(row.unit, exchange(&mut self.units, row)?)),
+            Change::Put(owner, row) => self.put(alloc, owner, row),
+        }
     }
-    Ok(drafts)
-}
 
-// Makes the change in the draft of its owner.
-fn draft(
-    alloc: Global,
-    slices: &[Slice],
-    drafts: &mut Vec<Slice>,
-    change: &Change,
-) -> Result<(), KeepFault>
-    ensures made { OnOk result ((o : Bytes) → rows_in (drafts.new.items ++ slices.now) o ≡ after_change change.now (rows_in (drafts.old.items ++ slices.now) o)) }
-    ensures fault { IsOkUnless result KeepFault.Memory }
-{
-    match change {
-        Change::Put(owner, row) => draft_row(alloc, slices, drafts, owner, row),
-        Change::Owner(_) | Change::Unit(_) => Ok(()),
+    // A row that does not fit is a caller's mistake, and the list of changes is then refused whole.
+    fn put(&mut self, alloc: Global, owner: &Name, row: &Row) -> Result<Made, KeepFault>
+        ensures made { OnOk result (IsAfter (Change.Put owner.now row.now ∷ []) (kept_of self.old) (kept_of self.new)) }
+        ensures none { OnErr result (kept_of self.new ≡ kept_of self.old) }
+        ensures back { IfOk result (λ made. Undoes made (kept_of self.old) (kept_of self.new)) }
+        ensures fault { IsOkUnless result KeepFault.Memory }
+    {
+        let Some(at) = place_of_open(&self.slices, owner) else {
+            return Err(KeepFault::Memory);
+        };
+        Ok(Made::Put(at, put_fitting(alloc, &mut self.slices[at], row)?))
     }
-}
 
-// Puts the row into the owner's draft, which where there is none begins as a copy of its slice.
-fn draft_row(
-    alloc: Global,
-    slices: &[Slice],
-    drafts: &mut Vec<Slice>,
-    owner: &Name,
-    row: &Row,
-) -> Result<(), KeepFault>
-    ensures made { OnOk result (drafts.new.items ≡ put_slice drafts.old.items (with_row (rows_in (drafts.old.items ++ slices.now) owner.now) row.now)) }
-    ensures fault { IsOkUnless result KeepFault.Memory }
-{
-    match place_of(drafts, owner) {
-        Some(at) => put(&mut drafts[at], row),
-        None => {
-            let mut slice = copy_of(alloc, slices, owner)?;
-            put(&mut slice, row)?;
-            drafts.push(slice).map_err(|_| KeepFault::Memory)
+    fn undo(&mut self, made: Made)
+        requires { CanTakeBack made (kept_of self.old) }
+        ensures { kept_of self.new ≡ taken_back made (kept_of self.old) }
+    {
+        match made {
+            Made::Owner(owner, former) => restore(&mut self.owners, &owner, former),
+            Made::Unit(unit, former) => restore(&mut self.units, &unit, former),
+            Made::Put(at, former) => self.slices[at].undo(former),
         }
     }
 }
 
-// A row that does not fit is a caller's mistake, and the list of changes is then refused whole.
-fn put(slice: &mut Slice, row: &Row) -> Result<(), KeepFault>
-    ensures made { OnOk result (slice.new ≡ with_row slice.old row.now) }
+fn put_fitting(alloc: Global, rows: &mut OpenSlice, row: &Row) -> Result<Former, KeepFault>
+    ensures made { OnOk result (rows.new ≡ with_row rows.old row.now) }
+    ensures none { OnErr result (rows.new ≡ rows.old) }
+    ensures back { IfOk result (λ former. TakesBack former rows.old rows.new) }
     ensures fault { IsOkUnless result KeepFault.Memory }
 {
-    if !slice.fits(row) {
+    if !rows.fits(row) {
         return Err(KeepFault::Memory);
     }
-    Ok(slice.put(*row)?)
+    Ok(rows.change(alloc, *row)?)
 }
 
-/// Puts the drafts in place of the slices of their owners, or beside them, for which there is room.
-pub fn install(slices: &mut Vec<Slice>, mut drafts: Vec<Slice>)
-    requires { vec_len slices.old + vec_len drafts ≤ vec_capacity slices.old }
-    ensures { slices.new.items ≡ put_slices slices.old.items drafts.items }
+// Adds the row, or puts it in place of the one with its key, which it gives back.
+fn exchange<R: Keyed>(rows: &mut Table<R>, row: &R) -> Result<Option<R>, AllocError>
+    ensures made { OnOk result (rows.new ≡ put_row R.Key.cmp R.key_of rows.old row.now) }
+    ensures none { OnErr result (rows.new ≡ rows.old) }
+    ensures there { IfOk result (λ former. is_restorable R.Key.cmp R.key_of rows.new former ≡ true) }
+    ensures back { IfOk result (λ former. restored R.Key.cmp R.key_of rows.new (R.key_of row.now) former ≡ rows.old) }
 {
-    while let Some(draft) = drafts.pop() {
-        set(slices, draft);
-    }
+    let former = rows.get(&row.key());
+    rows.put(*row)?;
+    Ok(former)
 }
 
-// Puts the slice in place of its owner's, or beside the others.
-fn set(slices: &mut Vec<Slice>, slice: Slice)
-    requires { vec_len slices.old < vec_capacity slices.old }
-    ensures items { slices.new.items ≡ put_slice slices.old.items slice }
-    ensures len { vec_len slices.new ≤ vec_len slices.old + 1 }
-    ensures capacity { vec_capacity slices.new ≡ vec_capacity slices.old }
+// Puts the former row back, or takes out the one with this key where there was none.
+fn restore<R: Keyed>(rows: &mut Table<R>, key: &R::Key, former: Option<R>)
+    requires { is_restorable R.Key.cmp R.key_of rows.old former ≡ true }
+    ensures { rows.new ≡ restored R.Key.cmp R.key_of rows.old key.now former }
 {
-    match place_of(slices, slice.owner()) {
-        Some(at) => slices[at] = slice,
-        None => slices.push_reserved(slice),
+    match former {
+        None => rows.remove(key),
+        Some(row) => rows.replace(row),
     }
 }

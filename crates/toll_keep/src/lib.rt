@@ -8,7 +8,9 @@ mod holder;
 mod keep;
 mod laws;
 mod mem_keep;
+mod opening;
 mod refusing;
+mod slices;
 
 pub use fault::KeepFault;
 pub use holder::Holder;

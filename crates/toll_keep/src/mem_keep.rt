@@ -1,18 +1,21 @@
 //! A keep of lists in memory.
 ghost use Rattle.std.specs.Prelude.{◌≡◌, false, ⊤, IfOk, OnOk, OnErr, IsOkUnless};
 ghost use Rattle.toll_trace.specs.Edges.{AreEdges, IsEdge};
-ghost use Rattle.toll_keep.specs.Content.{nothing, knows, slice_of, after, after_owners, after_units};
+ghost use Rattle.toll_keep.specs.Content.{nothing, knows, slice_of, after};
 ghost use Rattle.toll_keep.specs.Goes.{IsAmong};
 ghost use Rattle.toll_keep.specs.Holding.{IsEdgeOfSome};
 ghost use Rattle.toll_keep.specs.Slices.{content_of, rows_in};
 
-use crate::draft::{copy_of, drafted, install, share};
+use crate::draft::Draft;
 use crate::everyone::edges_among;
 use crate::fault::KeepFault;
 use crate::holder::{Holder, holder_among};
 use crate::keep::Keep;
+use crate::opening::open_touched;
+use crate::slices::{copy_of, install, place_of, share};
 use std::alloc::{AllocError, Global};
 use std::marker::Model;
+use std::mem;
 use toll_base::{Change, Edge, Name, OwnerRow, Row, Slice, Table, UnitRow};
 use toll_trace::{edges_of, put_in_order};
 
@@ -76,7 +79,10 @@ impl MemKeep {
     fn owners_edges(&self, alloc: Global, owner: &Name) -> Result<Vec<Edge>, AllocError>
         ensures { IfOk result (λ edges. AreEdges (IsEdge (rows_in self.now.slices owner.now)) edges.items) }
     {
-        edges_of(alloc, &copy_of(alloc, &self.slices, owner)?)
+        match place_of(&self.slices, owner) {
+            Some(at) => edges_of(alloc, &self.slices[at]),
+            None => edges_of(alloc, &Slice::new(alloc, *owner)),
+        }
     }
 
     fn everyones_edges(&self, alloc: Global) -> Result<Vec<Edge>, AllocError>
@@ -89,19 +95,21 @@ impl MemKeep {
 
     fn change(&mut self, alloc: Global, changes: &[Change]) -> Result<(), KeepFault>
         ensures all { OnOk result (content_of self.new ≡ after changes.now (content_of self.old)) }
-        ensures none { OnErr result (self.new ≡ self.old) }
+        ensures none { OnErr result (content_of self.new ≡ content_of self.old) }
         ensures fault { IsOkUnless result KeepFault.Memory }
     {
         let _row: Option<Row> = None;
-        let mut owners = self.owners.copy(alloc)?;
-        let mut units = self.units.copy(alloc)?;
-        put_plant_rows(&mut owners, &mut units, changes)?;
-        let drafts = drafted(alloc, &self.slices, changes)?;
-        self.slices.try_reserve(drafts.len())?;
-        install(&mut self.slices, drafts);
-        self.owners = owners;
-        self.units = units;
-        Ok(())
+        self.slices.try_reserve(changes.len())?;
+        let mut draft = Draft {
+            slices: open_touched(alloc, &mut self.slices, changes)?,
+            owners: mem::replace(&mut self.owners, Table::new(alloc)),
+            units: mem::replace(&mut self.units, Table::new(alloc)),
+        };
+        let made = draft.make_all(alloc, changes);
+        self.owners = draft.owners;
+        self.units = draft.units;
+        install(alloc, &mut self.slices, draft.slices);
+        made
     }
 }
 
@@ -152,22 +160,4 @@ impl Keep for MemKeep {
     ghost settled = { λ k c _ _ held. inl held };
 
     ghost widened = { λ k cs more. among-more (λ c. content_of k ≡ c) cs more };
-}
-
-fn put_plant_rows(
-    owners: &mut Table<OwnerRow>,
-    units: &mut Table<UnitRow>,
-    changes: &[Change],
-) -> Result<(), AllocError>
-    ensures owners { OnOk result (owners.new ≡ after_owners changes.now owners.old) }
-    ensures units { OnOk result (units.new ≡ after_units changes.now units.old) }
-{
-    for change in changes {
-        match change {
-            Change::Owner(row) => owners.put(*row)?,
-            Change::Unit(row) => units.put(*row)?,
-            Change::Put(_, _) => {}
-        }
-    }
-    Ok(())
 }

@@ -1,6 +1,6 @@
 use Rattle.std.proofs.Common.{◌≡◌, IfOk, ◌∙◌, sym, subst}
 use Rattle.toll_keep.proofs.Slicing.{found_there, absent_there}
-use Rattle.toll_keep.proofs.draft.copy_of.Goals as goal
+use Rattle.toll_keep.proofs.slices.copy_of.Goals as goal
 
 pub returns-in-Some : goal.returns-in-Some
 returns-in-Some c =

@@ -1,7 +1,7 @@
 use Rattle.std.proofs.Common.{position, ap, sym, ◌∙◌}
 use Rattle.toll_keep.specs.Slices.{is_of}
 use Rattle.toll_keep.proofs.Slicing.{set_there, added_there}
-use Rattle.toll_keep.proofs.draft.set.Goals as goal
+use Rattle.toll_keep.proofs.slices.set.Goals as goal
 
 pub returns-in-Some-clause-items : goal.returns-in-Some-clause-items
 returns-in-Some-clause-items c =
