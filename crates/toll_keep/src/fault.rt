@@ -11,8 +11,8 @@ pub enum KeepFault {
     /// There was no memory. Nothing changed, and the keep goes on.
     #[error("Memory")]
     Memory,
-    /// The disk failed, or refused. A change that it cut off stands whole or not at all, and from
-    /// now on the keep answers [`KeepFault::Closed`].
+    /// The disk failed, or refused. From now on the keep answers [`KeepFault::Closed`]; opened again,
+    /// its store has the rows from before a change that was cut off, or those after all of it.
     #[error("Disk")]
     Disk,
     /// A stored row is no value of its kind, or breaks the rules of its owner's rows. From now on the

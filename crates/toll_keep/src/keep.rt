@@ -12,8 +12,10 @@ use toll_base::{Change, Edge, Name, OwnerRow, Slice, UnitRow};
 
 /// What keeps the rows of the plant and of each owner.
 ///
-/// A call that answers [`KeepFault::Memory`] changed nothing. After [`KeepFault::Disk`] or
-/// [`KeepFault::Damaged`] every call answers [`KeepFault::Closed`].
+/// A call that answers [`KeepFault::Memory`] changed nothing, and the keep goes on. After
+/// [`KeepFault::Disk`] or [`KeepFault::Damaged`] every call answers [`KeepFault::Closed`], and the keep
+/// is said to hold the rows from before the call that failed; what its store has when it is opened
+/// again is said by `leaves`.
 pub trait Keep {
     // It has the rows of this content.
     ghost holds: { Self → Content → Type 0 };
@@ -79,7 +81,8 @@ pub trait Keep {
     ///
     /// The caller sees to it that each row that is put is HOUSE's, or of an owner that is there or
     /// is added before it in the list, and that after each change its owner's rows keep the rules of
-    /// a [`Slice`]. A stop during the call leaves the rows as before or as after all changes.
+    /// a [`Slice`]. A stop during the call, or a fault of the disk that cuts it off, leaves a store that
+    /// has, when it is opened again, the rows from before or those after all changes, never some.
     fn apply(&mut self, alloc: Global, changes: &[Change]) -> Result<(), KeepFault>
         ensures goes { Goes is_honest is_live is_closed has_cause leaves self.old self.new result }
         ensures all { is_honest self.new → (c : Content) → holds self.old c → Fits c changes.now → OnOk result (holds self.new (after changes.now c)) }
