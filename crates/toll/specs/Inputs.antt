@@ -2,10 +2,11 @@
 use Rattle.std.specs.Prelude.{◌≡◌, ◌+◌, ◌≤◌, ℕ, Option, length}
 use Rattle.std.specs.Io.KnownBytes.{Consumes, IsAtEnd}
 use Rattle.toll_base.specs.Bytes.{Bytes}
+use Rattle.toll.specs.declared.input.TheConstants.{TEXT_LIMIT}
 
 -- how many bytes a script may have
 abbrev pub script_limit : ℕ
-script_limit = 1048576
+script_limit = TEXT_LIMIT
 
 -- this input is all that a reader had left, up to its end, and no longer than a script may be
 pub record IsWhole (old new : Option Bytes) (input : Bytes) : Type 0 where

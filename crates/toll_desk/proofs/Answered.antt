@@ -1,28 +1,29 @@
 -- Answers over the rows of an owner.
-use Rattle.std.proofs.Common.{◌≡◌, ℕ, ◌≤◌, Bool, true, false, ◌||◌, Option, Some, None, is_some, is_none, List, [], ◌∷◌, refl, sym, ap, subst, ◌∙◌}
+use Rattle.std.proofs.Common.{◌≡◌, ℕ, Bool, true, false, Option, Some, is_some, is_none, List, [], refl, sym, ap, subst, ◌∙◌}
 use Rattle.std.specs.List.{list_any}
 use Rattle.std.specs.Option.{option_map}
 use mathlib.Core.Bool.{false≢true}
 use Rattle.toll_base.specs.Bytes.{Bytes, bytes_cmp, same_bytes}
+use Rattle.toll_base.specs.Values.{IsBatchNo}
 use Rattle.toll_base.specs.Words.{or_else, where_so}
 use Rattle.toll_base.specs.Table.{row_at, IsInKeyOrder}
-use Rattle.toll_history.specs.Command.{Action, PlaceOrder, CancelOrder, Command, by}
+use Rattle.toll_history.specs.Command.{PlaceOrder, Command, by}
 use Rattle.toll_history.specs.History.{History, acts, owner_known}
 use Rattle.toll_base.specs.Slice.{Slice, order_at}
 use Rattle.toll_history.specs.Work.{order_of, cancels}
 use Rattle.toll_history.specs.Tables.{Tables, IsRowsOf}
-use Rattle.toll_history.specs.Verdict.{Verdict, Accepted, Repeated, Refused, verdict, grown, IsLawful, IsValid}
+use Rattle.toll_history.specs.Verdict.{Verdict, Accepted, Repeated, Refused, verdict, grown, IsLawful}
 use Rattle.toll_base.specs.Changes.{changes_of}
 use Rattle.toll_history.specs.Decision.{verdict_of, Decides, IsRightOver, DecisionKeepsRules}
 use Rattle.toll_history.specs.OwnChanges.{PutsOnly}
 use Rattle.toll_base.specs.declared.decision.Decision.{Decision}
 use Rattle.toll_base.specs.declared.refusal.Refusal.{Refusal}
 use Rattle.toll_base.specs.declared.rows.OrderRow.{OrderRow}
-use Rattle.toll_history.proofs.Acts.{along_acts}
-use Rattle.toll_history.proofs.Options.{map_none, none_of}
+use Rattle.toll_history.proofs.Options.{none_of}
 use Rattle.toll_history.proofs.Own.{acts-own}
 use Rattle.toll_history.proofs.Passed.{accepted_passes}
-use Rattle.toll_base.proofs.Texts.{same_bytes-exact, same_bytes-refl}
+use Rattle.toll_history.proofs.Uncancelled.{uncancelled}
+use Rattle.toll_base.proofs.Texts.{same_bytes-refl}
 use Rattle.toll_desk.specs.Told.{AskOrders, AskOrder, AskPlace, Told, TellOrders, TellOrder, TellRefused}
 use Rattle.toll_desk.specs.Replies.{IsOrderOr, IsWritten}
 use Rattle.toll_desk.specs.Plans.{IsPlanOver}
@@ -44,32 +45,13 @@ order_over H s order told is there = record { answer = subst (λ known. IsOrderO
 
 -- ---- an order that is placed
 
--- an order that isn't known was never cancelled
-second_none : {X : Type 0} (x y : Option X) → is_none (or_else x y) ≡ true → is_none y ≡ true
-second_none None y h = h
-second_none (Some x) y h = absurd (false≢true h)
-
-abbrev IsUncancelled : List Action → Type 0
-IsUncancelled own = (k : Bytes) → is_none (order_of own k) ≡ true → list_any (cancels k) own ≡ false
-
-uncancelled_more : (o : Bytes) (H : History) (a : Action) → IsLawful H → IsValid a → verdict H (by o a) ≡ Accepted → IsUncancelled (acts o H) → IsUncancelled (a ∷ acts o H)
-uncancelled_more o H (PlaceOrder order recipe batches) lawful valid accepted before k absent =
-    before k (map_none _ _ ∙ second_none (where_so (same_bytes k order) _) _ (sym (map_none _ _) ∙ absent))
-uncancelled_more o H (CancelOrder order) lawful valid accepted before k absent =
-    let unknown : is_none (order_of (acts o H) k) ≡ true = map_none _ _ ∙ sym (map_none _ _) ∙ absent in
-    elim (same_bytes order k) as (λ b. same_bytes order k ≡ b → (b || list_any (cancels k) (acts o H)) ≡ false) [
-      | true ↦ λ same. absurd (false≢true (sym (accepted_passes H o (CancelOrder order) accepted 0) ∙ ap (λ x. is_none (order_of (acts o H) x)) (same_bytes-exact order k same) ∙ unknown))
-      | false ↦ λ other. before k unknown
-    ] refl
-uncancelled_more o H _ lawful valid accepted before k absent = before k absent
-
 -- an order that is accepted is as it was placed
 first_placed : (b cancelled : Bool) (row : OrderRow) (rest : Option OrderRow) → b ≡ true → cancelled ≡ row.cancelled →
     option_map {T = OrderRow} (λ r. record r { cancelled = cancelled }) (or_else (where_so b row) rest) ≡ Some row
 first_placed true cancelled row rest is never = ap (λ c. Some (record row { cancelled = c })) never
 first_placed false cancelled row rest is never = absurd (false≢true is)
 
-module _ (H : History) (s : Slice) (order recipe : Bytes) (batches : ℕ) (lawful : IsLawful H) (valid : (1 ≤ batches) × (batches ≤ 99)) (known : owner_known H s.owner ≡ true) (there : IsRowsOf H s) where
+module _ (H : History) (s : Slice) (order recipe : Bytes) (batches : ℕ) (lawful : IsLawful H) (valid : IsBatchNo batches) (known : owner_known H s.owner ≡ true) (there : IsRowsOf H s) where
   abbrev place : Command
   place = by s.owner (PlaceOrder order recipe batches)
 
@@ -86,7 +68,7 @@ module _ (H : History) (s : Slice) (order recipe : Bytes) (batches : ℕ) (lawfu
     placed_order is =
         let accepted : verdict H place ≡ Accepted = sym right.verdict_is ∙ is in
         let absent : is_some (order_of (acts s.owner H) order) ≡ false = accepted_passes H s.owner (PlaceOrder order recipe batches) accepted 1 in
-        let never = along_acts IsUncancelled s.owner (λ k none. refl) (uncancelled_more s.owner) H lawful order (ap is_none (none_of _ absent)) in
+        let never = uncancelled H s.owner lawful order (ap is_none (none_of _ absent)) in
         ap (λ own. order_of own order) (acts-own s.owner place H (same_bytes-refl s.owner))
         ∙ first_placed (same_bytes order order) (list_any (cancels order) (acts s.owner H)) placed _ (same_bytes-refl order) never
 

@@ -2,6 +2,7 @@
 use Rattle.std.specs.Prelude.{ℕ, Option, Some, None, Result, Ok, Err, if◌then◌else◌, nat_le, ◌&&◌}
 use Rattle.toll_base.specs.Bytes.{Bytes}
 use Rattle.toll_base.specs.Values.{is_name, is_owner_key, number_of}
+use Rattle.toll_base.specs.declared.bounded.TheConstants.{MOST_SEGMENTS}
 use Rattle.toll_base.specs.declared.refusal.Refusal.{Refusal}
 use Rattle.toll_base.specs.declared.refusal.Refusal.TheVariants.{BadName, BadAmount}
 use Rattle.toll_plant.specs.declared.argument.Reading.{Reading}
@@ -18,4 +19,4 @@ within least most made (Some n) = if nat_le least n && nat_le n most then Ok (ma
 abbrev pub read_as : Reading → Bytes → Result Given Refusal
 read_as by.Name word = if is_name word then Ok (given.Name word) else Err BadName
 read_as by.OwnerKey word = if is_owner_key word then Ok (given.OwnerKey word) else Err BadName
-read_as by.Segment word = within 1 50 given.Segment (number_of word)
+read_as by.Segment word = within 1 MOST_SEGMENTS given.Segment (number_of word)

@@ -5,6 +5,7 @@ use Rattle.serde_json.specs.Read.{read}
 use Rattle.serde_json.specs.Find.{get, as_str, as_number, as_u64}
 use Rattle.toll_base.specs.Bytes.{Bytes}
 use Rattle.toll_base.specs.Values.{is_name}
+use Rattle.toll_base.specs.declared.bounded.TheConstants.{MOST_BATCHES}
 use Rattle.toll_desk.specs.declared.request.Request.{Request}
 use Rattle.toll_desk.specs.declared.request.Request.TheVariants.{Place}
 
@@ -12,10 +13,10 @@ use Rattle.toll_desk.specs.declared.request.Request.TheVariants.{Place}
 abbrev pub name_at : Bytes → Data → Option Bytes
 name_at member d = option_and_then (λ text. if is_name text then Some text else None) (option_and_then as_str (get member d))
 
--- the last member `batches` is a number written without fraction or exponent, from 1 to 99
+-- the last member `batches` is a number written without fraction or exponent, from 1 to as many as an order may have
 abbrev pub batches_at : Data → Option ℕ
 batches_at d =
-    option_and_then (λ n. if nat_le 1 n && nat_le n 99 then Some n else None)
+    option_and_then (λ n. if nat_le 1 n && nat_le n MOST_BATCHES then Some n else None)
     (option_and_then as_u64 (option_and_then as_number (get (codes "batches") d)))
 
 -- the order that a JSON value asks for
