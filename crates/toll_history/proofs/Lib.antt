@@ -29,3 +29,4 @@ pub mod Unmoved
 pub mod OtherSublots
 pub mod Uncancelled
 pub mod Adding
+pub mod Within

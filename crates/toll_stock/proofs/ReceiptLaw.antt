@@ -27,7 +27,8 @@ use Rattle.toll_history.proofs.Options.{known_passes}
 use Rattle.toll_history.proofs.Passed.{accepted_passes, move_fits}
 use Rattle.toll_history.proofs.PutMoves.{with_move, with_lot, with_sublot, put_came}
 use Rattle.toll_history.proofs.Recorded.{came_in, tables-untaken}
-use Rattle.toll_history.proofs.Room.{unbounded, sublot_room, came_fit}
+use Rattle.toll_history.proofs.Room.{sublot_room, came_fit}
+use Rattle.toll_history.proofs.Within.{within_bounds}
 use Rattle.toll_base.proofs.Texts.{same_bytes-exact, same_bytes-refl}
 
 module _ (key material lot sublot : Bytes) (amount day : ℕ) where
@@ -73,8 +74,7 @@ module _ (key material lot sublot : Bytes) (amount day : ℕ) where
     receipt_decided =
         decides (Record receipt) rows grows leaves own d _ decided
         (λ H lawful valid known there.
-        let is = verdict_is H own.owner (Record receipt) (tables_of own) _ known there refl in
-        unbounded (checks (tables_of own)) (sublot_bounds (tables_of own) lot sublot amount) (λ passed. ap (λ t. first_of (sublot_bounds t lot sublot amount)) there ∙ has_room H own.owner lawful valid (sym is ∙ passed)) ∙ is)
+        within_bounds (Record receipt) (λ t. sublot_bounds t lot sublot amount) has_room H own (checks (tables_of own)) lawful valid there (verdict_is H own.owner (Record receipt) (tables_of own) _ known there refl))
 
     pub receipt_keeps : KeepsRules own → DecisionKeepsRules own d
     receipt_keeps keeps =

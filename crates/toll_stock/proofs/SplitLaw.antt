@@ -21,7 +21,8 @@ use Rattle.toll_history.proofs.Decided.{verdict_is, Grows, LeavesOthers, decides
 use Rattle.toll_history.proofs.Passed.{accepted_passes, move_fits}
 use Rattle.toll_history.proofs.PutMoves.{with_move, with_sublot, put_went_over}
 use Rattle.toll_history.proofs.Recorded.{went_over, tables-untaken}
-use Rattle.toll_history.proofs.Room.{unbounded, sublot_room, went_over_fit}
+use Rattle.toll_history.proofs.Room.{sublot_room, went_over_fit}
+use Rattle.toll_history.proofs.Within.{within_bounds}
 use Rattle.toll_base.proofs.Texts.{same_bytes-refl, same_bytes-symm}
 use Rattle.std.proofs.lemmas.Bool.{and_right}
 
@@ -70,8 +71,7 @@ module _ (key lot sublot target : Bytes) (amount day : ℕ) where
     split_decided =
         decides (Record parting) rows grows leaves own d _ decided
         (λ H lawful valid known there.
-        let is = verdict_is H own.owner (Record parting) (tables_of own) _ known there refl in
-        unbounded (checks (tables_of own)) (sublot_bounds (tables_of own) lot target amount) (λ passed. ap (λ t. first_of (sublot_bounds t lot target amount)) there ∙ has_room H own.owner lawful valid (sym is ∙ passed)) ∙ is)
+        within_bounds (Record parting) (λ t. sublot_bounds t lot target amount) has_room H own (checks (tables_of own)) lawful valid there (verdict_is H own.owner (Record parting) (tables_of own) _ known there refl))
 
     pub split_keeps : KeepsRules own → DecisionKeepsRules own d
     split_keeps keeps =

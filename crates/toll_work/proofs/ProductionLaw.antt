@@ -35,7 +35,8 @@ use Rattle.toll_history.proofs.Options.{some_of, known_passes}
 use Rattle.toll_history.proofs.Passed.{accepted_passes, move_fits}
 use Rattle.toll_history.proofs.PutMoves.{with_move, with_lot, with_sublot, put_came}
 use Rattle.toll_history.proofs.Recorded.{came_in, tables-untaken}
-use Rattle.toll_history.proofs.Room.{unbounded, sublot_room, came_fit}
+use Rattle.toll_history.proofs.Room.{sublot_room, came_fit}
+use Rattle.toll_history.proofs.Within.{within_bounds}
 use Rattle.toll_base.proofs.Texts.{same_bytes-exact, same_bytes-refl, same_bytes-symm}
 
 module _ (key order : Bytes) (number segment : ℕ) (material : Bytes) (lot : LotId) (sublot : Bytes) (amount day : ℕ) where
@@ -100,8 +101,7 @@ module _ (key order : Bytes) (number segment : ℕ) (material : Bytes) (lot : Lo
     production_decided =
         decides_with (Record production) rows grows leaves own house d _ decided
         (λ H lawful valid known there houses.
-        let is = verdict_is H own.owner (Record production) (tables_of own) (tables_of house) known there houses in
-        unbounded (checks own.owner (tables_of own)) (lot_bounds (tables_of own) material lot.lot sublot amount) (λ passed. ap (λ t. first_of (lot_bounds t material lot.lot sublot amount)) there ∙ has_room H own.owner lawful valid (sym is ∙ passed)) ∙ is)
+        within_bounds (Record production) (λ t. lot_bounds t material lot.lot sublot amount) has_room H own (checks own.owner (tables_of own)) lawful valid there (verdict_is H own.owner (Record production) (tables_of own) (tables_of house) known there houses))
 
     pub production_keeps : KeepsRules own → DecisionKeepsRules own d
     production_keeps keeps =

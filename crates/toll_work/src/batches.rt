@@ -1,10 +1,11 @@
 //! Batches.
 ghost use Rattle.std.specs.Prelude.{◌≡◌, ◌+◌, nat_le, not, Some, None, if◌then◌else◌, map, IfOk};
 ghost use Rattle.toll_history.specs.Command.{CommandBatch, CloseBatch, by};
-ghost use Rattle.toll_history.specs.Decision.{IsDecided, Decides, DecisionKeepsRules};
+ghost use Rattle.toll_history.specs.Decision.{IsDecided, Decides, DecisionKeepsRules, said};
+ghost use Rattle.toll_base.specs.Slice.{batch_at};
 ghost use Rattle.toll_base.specs.SliceRules.{KeepsRules};
 ghost use Rattle.toll_history.specs.Tables.{tables_of};
-ghost use Rattle.toll_history.specs.Verdict.{open_checks, batch_command_checks, close_checks};
+ghost use Rattle.toll_history.specs.Verdict.{first_of, open_checks, open_batch_checks, batch_command_checks, close_checks};
 ghost use Rattle.toll_base.specs.States as states;
 ghost use Rattle.toll_base.specs.declared.decision.Change.TheVariants as Change;
 ghost use Rattle.toll_work.specs.Opening.{DecidesOpening};
@@ -121,20 +122,32 @@ fn plan_command(
     ensures kept { KeepsRules slice.now }
 {
     let owner = *slice.owner();
-    if slice.order(order).is_none() {
-        return Ok(Decision::Refuse(Refusal::UnknownOrder));
-    }
-    let Some(known) = slice.batch(order, number) else {
-        return Ok(Decision::Refuse(Refusal::UnknownBatch));
+    let known = match find_open(slice, order, number) {
+        Ok(known) => known,
+        Err(why) => return Ok(Decision::Refuse(why)),
     };
-    if known.closed {
-        return Ok(Decision::Refuse(Refusal::BatchClosed));
-    }
     let Some(state) = next(known.state, command) else {
         return Ok(Decision::Refuse(Refusal::BadState));
     };
     let row = BatchRow { state, ..known };
     Decision::accept(alloc, Change::Put(owner, Row::Batch(row)))
+}
+
+// The batch, where it is known and isn't closed.
+fn find_open(slice: &Slice, order: &Name, number: BatchNo) -> Result<BatchRow, Refusal>
+    ensures checks { said result ≡ first_of (open_batch_checks (tables_of slice.now) order.now number) }
+    ensures batch { IfOk result (λ row. batch_at slice.now (order.now, number) ≡ Some row) }
+{
+    if slice.order(order).is_none() {
+        return Err(Refusal::UnknownOrder);
+    }
+    let Some(known) = slice.batch(order, number) else {
+        return Err(Refusal::UnknownBatch);
+    };
+    if known.closed {
+        return Err(Refusal::BatchClosed);
+    }
+    Ok(known)
 }
 
 /// Closes the batch, after which it holds its unit no more.
@@ -163,15 +176,10 @@ fn plan_closing(
     ensures kept { KeepsRules slice.now }
 {
     let owner = *slice.owner();
-    if slice.order(order).is_none() {
-        return Ok(Decision::Refuse(Refusal::UnknownOrder));
-    }
-    let Some(known) = slice.batch(order, number) else {
-        return Ok(Decision::Refuse(Refusal::UnknownBatch));
+    let known = match find_open(slice, order, number) {
+        Ok(known) => known,
+        Err(why) => return Ok(Decision::Refuse(why)),
     };
-    if known.closed {
-        return Ok(Decision::Refuse(Refusal::BatchClosed));
-    }
     if !may_close(known.state) {
         return Ok(Decision::Refuse(Refusal::BadState));
     }
