@@ -1,12 +1,14 @@
 //! What the decisions on movements have in common.
-ghost use Rattle.std.specs.Prelude.{◌≡◌, [], ◌∷◌, ◌++◌, nat_lt, Some, IfOk};
+ghost use Rattle.std.specs.Prelude.{◌≡◌, ◌-◌, [], ◌∷◌, ◌++◌, nat_lt, Some, IfOk};
 ghost use Rattle.toll_history.specs.Decision.{IsDecided, said};
 ghost use Rattle.toll_history.specs.Tables.{tables_of};
 ghost use Rattle.toll_history.specs.Verdict.{Checks, first_of, key_checks, scrap_checks, movements_full, amount_in};
 ghost use Rattle.toll_base.specs.declared.refusal.Refusal.TheVariants as Refusal;
 
 use std::alloc::{AllocError, Global};
-use toll_base::{Amount, Change, Decision, MOST_MOVEMENTS, MoveRow, Name, Refusal, Slice};
+use toll_base::{
+    Amount, Change, Decision, MOST_MOVEMENTS, MoveRow, Name, Refusal, Slice, SublotRow,
+};
 use toll_history::decide_known;
 
 /// What is decided of a movement: by its key where that is known, else what was checked of it says,
@@ -53,4 +55,15 @@ pub fn check_enough(slice: &Slice, lot: &Name, sublot: &Name, amount: Amount) ->
         return Err(Refusal::LimitReached);
     }
     Ok(())
+}
+
+/// The sublot with the amount taken from it.
+pub fn taken_from(slice: &Slice, lot: Name, sublot: Name, amount: Amount) -> SublotRow
+    ensures { result ≡ record { lot = lot; sublot = sublot; amount = amount_in (tables_of slice.now) lot sublot - amount } }
+{
+    SublotRow {
+        lot,
+        sublot,
+        amount: slice.amount_in(&lot, &sublot).saturating_sub(amount.get()),
+    }
 }

@@ -10,7 +10,7 @@ ghost use Rattle.toll_base.specs.declared.decision.Change.TheVariants as Change;
 ghost use Rattle.toll_base.specs.declared.movement.Move.TheVariants as Move;
 ghost use Rattle.toll_base.specs.declared.rows.Row.TheVariants as Row;
 
-use crate::movements::{check_taking, decide_movement};
+use crate::movements::{check_taking, decide_movement, taken_from};
 use std::alloc::{AllocError, Global};
 use toll_base::{
     Amount, Change, Day, Decision, Move, MoveRow, Name, Refusal, Row, Slice, SublotRow,
@@ -72,13 +72,7 @@ fn plan_split(
         sublot: target,
         amount: slice.amount_in(&lot, &target) + row.amount.get(),
     };
-    let from = SublotRow {
-        lot,
-        sublot,
-        amount: slice
-            .amount_in(&lot, &sublot)
-            .saturating_sub(row.amount.get()),
-    };
+    let from = taken_from(slice, lot, sublot, row.amount);
     let changes = [
         Change::Put(owner, Row::Move(*row)),
         Change::Put(owner, Row::Sublot(to)),

@@ -9,10 +9,10 @@ ghost use Rattle.toll_base.specs.declared.decision.Change.TheVariants as Change;
 ghost use Rattle.toll_base.specs.declared.movement.Move.TheVariants as Move;
 ghost use Rattle.toll_base.specs.declared.rows.Row.TheVariants as Row;
 
-use crate::movements::{check_enough, check_taking, decide_movement};
+use crate::movements::{check_enough, check_taking, decide_movement, taken_from};
 use std::alloc::{AllocError, Global};
 use toll_base::{
-    Amount, Change, Day, Decision, Disposition, Move, MoveRow, Name, Refusal, Row, Slice, SublotRow,
+    Amount, Change, Day, Decision, Disposition, Move, MoveRow, Name, Refusal, Row, Slice,
 };
 
 /// Ships an amount from a sublot of a released lot.
@@ -86,13 +86,7 @@ fn plan_withdrawal(
     ensures kept { KeepsRules slice.now }
 {
     let owner = *slice.owner();
-    let left = SublotRow {
-        lot,
-        sublot,
-        amount: slice
-            .amount_in(&lot, &sublot)
-            .saturating_sub(row.amount.get()),
-    };
+    let left = taken_from(slice, lot, sublot, row.amount);
     let changes = [
         Change::Put(owner, Row::Move(*row)),
         Change::Put(owner, Row::Sublot(left)),

@@ -66,28 +66,27 @@ fn split_it(
     Ok(settle(slice, &decided)?)
 }
 
-fn scrap_it(
-    alloc: Global,
-    slice: &mut Slice,
-    names: &Names,
-    key: &[u8],
-    amount: u64,
-) -> Result<Said, Fail> {
-    let Slip { key, amount, day } = slip_of(key, amount)?;
-    let scrapped = scrap(alloc, slice, key, names.lot, names.sublot, amount, day)?;
-    Ok(settle(slice, &scrapped)?)
+// How material leaves.
+#[derive(Clone, Copy)]
+enum Leaving {
+    Scrapped,
+    Shipped,
 }
 
-fn ship_it(
+fn take_it(
     alloc: Global,
     slice: &mut Slice,
     names: &Names,
+    leaving: Leaving,
     key: &[u8],
     amount: u64,
 ) -> Result<Said, Fail> {
     let Slip { key, amount, day } = slip_of(key, amount)?;
-    let shipped = ship(alloc, slice, key, names.lot, names.sublot, amount, day)?;
-    Ok(settle(slice, &shipped)?)
+    let taken = match leaving {
+        Leaving::Scrapped => scrap(alloc, slice, key, names.lot, names.sublot, amount, day),
+        Leaving::Shipped => ship(alloc, slice, key, names.lot, names.sublot, amount, day),
+    };
+    Ok(settle(slice, &taken?)?)
 }
 
 // A key is repeated with the same amount, and in conflict with another one.
@@ -120,8 +119,8 @@ fn takes_all(
     split_off: &Names,
 ) -> Result<bool, Fail> {
     let split = split_it(alloc, slice, names, split_off.sublot, b"K2", 30)?;
-    let scrapped = scrap_it(alloc, slice, split_off, b"K3", 30)?;
-    let shipped = ship_it(alloc, slice, names, b"K4", 70)?;
+    let scrapped = take_it(alloc, slice, split_off, Leaving::Scrapped, b"K3", 30)?;
+    let shipped = take_it(alloc, slice, names, Leaving::Shipped, b"K4", 70)?;
     Ok(split.is_accepted() && scrapped.is_accepted() && shipped.is_accepted())
 }
 
@@ -183,7 +182,7 @@ fn stays(alloc: Global, slice: &mut Slice, names: &Names) -> Result<bool, Fail> 
         test: Name::parse(b"PH2")?,
         ..*names
     };
-    let shipped = ship_it(alloc, slice, names, b"K9", 1)?;
+    let shipped = take_it(alloc, slice, names, Leaving::Shipped, b"K9", 1)?;
     let tested = add_ph(alloc, slice, &second, limits)?;
     Ok(
         matches!(shipped, Said::Refused(Refusal::NotReleased))
