@@ -127,6 +127,7 @@ impl OpenSlice {
     pub fn fits(&self, row: &Row) -> bool
         ensures { IsTrue result ↔ KeepsRules (with_row self.now row.now) }
     {
+        // For the proof: the rows keep the rules.
         let _owner = &self.owner;
         self.row_fits(row)
     }
@@ -230,6 +231,7 @@ impl OpenSlice {
     fn former(&self, alloc: Global, row: &Row) -> Result<Former, AllocError>
         ensures { IfOk result (λ former. TakesBack former self.now (with_row self.now row.now)) }
     {
+        // For the proof: the rows keep the rules.
         let _owner = self.owner();
         match self.row_like(row) {
             None => Ok(Former::Added(*row)),

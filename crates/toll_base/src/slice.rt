@@ -349,6 +349,7 @@ impl Slice {
         ensures amount { result ≡ amount_at self.now (lot.now, sublot.now) }
         ensures bound { result ≤ MOST_STOCK }
     {
+        // For the proof: the rows keep the rules.
         let _owner = self.owner();
         match self.sublot(lot, sublot) {
             Some(row) => row.amount,

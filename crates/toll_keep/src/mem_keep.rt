@@ -98,6 +98,7 @@ impl MemKeep {
         ensures none { OnErr result (content_of self.new ≡ content_of self.old) }
         ensures fault { IsOkUnless result KeepFault.Memory }
     {
+        // Named for the proof: a change may have a row.
         let _row: Option<Row> = None;
         self.slices.try_reserve(changes.len())?;
         let mut draft = Draft {

@@ -46,6 +46,7 @@ fn open_for(
     ensures room { (vec_len slices.new ≡ vec_len slices.old) × (vec_capacity slices.new ≡ vec_capacity slices.old) }
     ensures fault { IsOkUnless result KeepFault.Memory }
 {
+    // Named for the proof: a change may have a row.
     let _row: Option<Row> = None;
     match change {
         Change::Put(owner, _) => open_rows(alloc, slices, taken, owner),

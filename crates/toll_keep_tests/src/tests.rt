@@ -3,8 +3,8 @@
 use std::alloc::Global;
 use std::test::Fail;
 use toll_base::{
-    Amount, BatchNo, BatchRow, Change, Day, Edge, LotId, Move, MoveRow, Name, OwnerKey, OwnerRow,
-    Role, Row, Segment, State, UnitRow,
+    Amount, BatchNo, BatchRow, Change, Day, Disposition, Edge, LotId, LotRow, Move, MoveRow, Name,
+    Origin, OwnerKey, OwnerRow, Role, Row, Segment, State, UnitRow,
 };
 use toll_keep::{Keep, KeepFault, MemKeep, Refusing};
 
@@ -155,6 +155,35 @@ fn one_change_is_refused(rt: HostRuntime) -> Result<(), Fail> {
     assert_eq!(rt; keep.apply(alloc, &changes), Err(KeepFault::Memory));
     assert_eq!(rt; keep.apply(alloc, &changes), Ok(()));
     assert_eq!(rt; keep.owners(alloc)?.len(), 1);
+    Ok(())
+}
+
+// The batch closed, a movement more, and a lot of a material that is not there.
+fn changes_with_a_lot_too_many(owner: Name) -> Result<[Change; 3], Fail> {
+    let mut closed = batch()?;
+    closed.closed = true;
+    let lot = LotRow {
+        lot: owner,
+        material: owner,
+        origin: Origin::Receipts,
+        disposition: Disposition::Quarantined,
+    };
+    Ok([
+        Change::Put(owner, Row::Batch(closed)),
+        Change::Put(owner, actual(b"K3", Role::Consumed, edge()?.from)?),
+        Change::Put(owner, Row::Lot(lot)),
+    ])
+}
+
+#[test]
+fn changes_that_do_not_fit_are_taken_back(rt: HostRuntime) -> Result<(), Fail> {
+    let alloc = rt.alloc();
+    let mut keep = filled(alloc)?;
+    let owner = acme()?.owner;
+    let changes = changes_with_a_lot_too_many(owner)?;
+    assert_eq!(rt; keep.apply(alloc, &changes), Err(KeepFault::Memory));
+    assert_eq!(rt; counts(alloc, &mut keep, &owner)?, Some((1, 2)));
+    assert!(rt; keep.holder(alloc, &batch()?.unit)?.is_some());
     Ok(())
 }
 
