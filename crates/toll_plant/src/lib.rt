@@ -6,8 +6,6 @@ mod clap_words;
 mod command;
 mod fault;
 mod line;
-#[cfg(test)]
-mod tests;
 mod values;
 mod words;
 

@@ -1,8 +1,8 @@
 //! Words, and the commands that they ask for.
-use crate::{WordsFault, command_of};
 use std::process::Abort;
 use toll_base::{Name, OwnerKey, Refusal, Segment};
 use toll_desk::PlantCmd;
+use toll_plant::{WordsFault, command_of};
 
 // Asserts what each list of words is answered.
 fn assert_commands(rt: &(impl Abort + AllocGlobal), rows: &[(&[&str], PlantCmd)]) {
