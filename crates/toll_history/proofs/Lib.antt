@@ -30,3 +30,5 @@ pub mod OtherSublots
 pub mod Uncancelled
 pub mod Adding
 pub mod Within
+pub mod PutsOwn
+pub mod OwnAmounts

@@ -1,7 +1,7 @@
 -- Materials, tests, recipes, orders and batches of one owner, of which the owner's own actions tell.
 use Rattle.std.specs.Prelude.{ℕ, ◌+◌, Bool, false, ◌&&◌, ◌==◌, if◌then◌else◌, Option, Some, None, is_some, List, [], ◌∷◌}
 use Rattle.std.specs.List.{list_any}
-use Rattle.std.specs.Option.{option_map}
+use Rattle.std.specs.Option.{option_map, option_map_or}
 use Rattle.std.specs.Ordering.{is_eq}
 use Rattle.toll_base.specs.Bytes.{Bytes, same_bytes}
 use Rattle.toll_base.specs.Keys.{RequirementKey, requirement_cmp}
@@ -34,6 +34,10 @@ material_added _ = None
 -- the material with this name
 abbrev pub material_of : List Action → Bytes → Option MaterialRow
 material_of own m = found material_added (λ row. same_bytes m row.material) own
+
+-- the measure of the material
+abbrev pub measure_of : List Action → Bytes → Bytes
+measure_of own m = option_map_or (λ row. row.measure) (material_of own m) []
 
 abbrev pub count_materials : List Action → ℕ
 count_materials own = count_added material_added own

@@ -1,3 +1,4 @@
+pub mod LotOrder
 pub mod MaterialLaw
 pub mod ReceiptLaw
 pub mod SplitLaw

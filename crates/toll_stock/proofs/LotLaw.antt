@@ -120,14 +120,14 @@ not_rejected : (gone stays : Bool) → is_quarantined (cond gone Rejected (cond 
 not_rejected true stays h = absurd (false≢true h)
 not_rejected false stays h = refl
 
-released_now : (own : List Action) (material lot : Bytes) → is_quarantined (disposition_of own material lot) ≡ true → disposition_of (Release lot ∷ own) material lot ≡ Released
+pub released_now : (own : List Action) (material lot : Bytes) → is_quarantined (disposition_of own material lot) ≡ true → disposition_of (Release lot ∷ own) material lot ≡ Released
 released_now own material lot was =
     (λ i. cond (not_rejected (list_any (rejects lot) own) _ was i) Rejected (cond (same_bytes-refl lot i || stays_released (is_bad own material) lot own) Released Quarantined))
 
 released_other : (own : List Action) (material lot l : Bytes) → same_bytes lot l ≡ false → disposition_of (Release lot ∷ own) material l ≡ disposition_of own material l
 released_other own material lot l other = ap (λ b. cond (list_any (rejects l) own) Rejected (cond (b || stays_released (is_bad own material) l own) Released Quarantined)) other
 
-rejected_now : (own : List Action) (material lot : Bytes) → disposition_of (Reject lot ∷ own) material lot ≡ Rejected
+pub rejected_now : (own : List Action) (material lot : Bytes) → disposition_of (Reject lot ∷ own) material lot ≡ Rejected
 rejected_now own material lot = ap (λ b. cond (b || list_any (rejects lot) own) Rejected (cond (stays_released (is_bad own material) lot own) Released Quarantined)) (same_bytes-refl lot)
 
 rejected_other : (own : List Action) (material lot l : Bytes) → same_bytes lot l ≡ false → disposition_of (Reject lot ∷ own) material l ≡ disposition_of own material l

@@ -1,5 +1,5 @@
 -- Sums over lists, and over rows in the order of their keys.
-use Rattle.std.proofs.Common.{◌≡◌, ℕ, suc, ◌+◌, ◌*◌, ◌<◌, ◌≤◌, Bool, true, false, cond, Some, List, [], ◌∷◌, length, map, drop, drop-cons, get_or, refl, sym, ap, ◌∙◌, arith}
+use Rattle.std.proofs.Common.{◌≡◌, ℕ, suc, ◌+◌, ◌*◌, ◌<◌, ◌≤◌, Bool, true, false, ◌&&◌, cond, Some, List, [], ◌∷◌, length, map, filter, drop, drop-cons, get_or, refl, sym, ap, ◌∙◌, arith}
 use mathlib.Core.Bool.{false≢true}
 use Rattle.std.specs.Cmp.{IsTotalOrder}
 use Rattle.std.specs.List.{AllByRecursion}
@@ -10,7 +10,7 @@ use Rattle.std.specs.declared.cmp.Ordering.{Ordering}
 use Rattle.std.specs.declared.cmp.Ordering.TheVariants.{Less, Equal, Greater}
 use Rattle.std.proofs.lemmas.Cmp.{tied_itself}
 use Rattle.toll_base.specs.Table.{IsInKeyOrder, row_at}
-use Rattle.toll_base.specs.Words.{total}
+use Rattle.toll_base.specs.Words.{total, count}
 
 -- ---- sums
 
@@ -50,6 +50,23 @@ total_bounded f most (x ∷ xs) le =
     let first : f x ≤ most = le.0 in
     let rest = total_bounded f most xs le.1 in
     omega arith
+
+-- the sum over what a filter keeps
+pub total-kept : {X : Type 0} (q : X → Bool) (f : X → ℕ) (xs : List X) → total f (filter q xs) ≡ total (λ x. cond (q x) (f x) 0) xs
+total-kept q f [] = refl
+total-kept q f (x ∷ xs) =
+    elim (q x) as (λ b. total f (cond b (x ∷ filter q xs) (filter q xs)) ≡ cond b (f x) 0 + total (λ y. cond (q y) (f y) 0) xs) [
+      | true ↦ ap (λ n. f x + n) (total-kept q f xs)
+      | false ↦ omega (arith, total-kept q f xs)
+    ]
+
+both_pass : (a b : Bool) → ◌≡◌ {A = ℕ} (cond a (cond b 1 0) 0) (cond (a && b) 1 0)
+both_pass true b = refl
+both_pass false b = refl
+
+-- how many pass, of those that a filter keeps
+pub count-kept : {X : Type 0} (p q : X → Bool) (xs : List X) → count q (filter p xs) ≡ count (λ x. p x && q x) xs
+count-kept p q xs = total-kept p (λ x. cond (q x) 1 0) xs ∙ total-each _ _ xs (λ x. both_pass (p x) (q x))
 
 -- what is left from a place on
 pub total-drop : {X : Type 0} (f : X → ℕ) (xs : List X) (i : ℕ) (d : X) → i < length xs → total f (drop i xs) ≡ f (get_or xs i d) + total f (drop (suc i) xs)

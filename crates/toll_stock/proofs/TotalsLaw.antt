@@ -1,22 +1,17 @@
 -- What the totals of a lot are, over a history whose rows the slice has.
 use Rattle.std.proofs.Common.{◌≡◌, Option, Some, None, is_some, refl, sym, ap, ◌∙◌}
 use Rattle.std.specs.Option.{option_map}
-use Rattle.toll_base.specs.Bytes.{Bytes, bytes_cmp}
-use Rattle.toll_base.specs.Keys.{pair_cmp}
-use Rattle.toll_base.specs.Table.{IsInKeyOrder}
+use Rattle.toll_base.specs.Bytes.{Bytes}
 use Rattle.toll_base.specs.Words.{where_so}
 use Rattle.toll_history.specs.History.{History}
 use Rattle.toll_base.specs.Lots.{lot_id}
 use Rattle.toll_history.specs.Movements.{lot_made}
 use Rattle.toll_base.specs.Slice.{Slice, lot_at}
 use Rattle.toll_history.specs.Tables.{Tables, IsRowsOf}
-use Rattle.toll_history.specs.Verdict.{IsLawful}
 use Rattle.toll_base.specs.declared.rows.LotRow.{LotRow}
 use Rattle.toll_history.specs.Amounts.{on_hand, shipped}
-use Rattle.toll_stock.specs.LotTotals.{totals_given, on_hand_in, shipped_in}
+use Rattle.toll_stock.specs.LotTotals.{totals_given}
 use Rattle.toll_stock.specs.declared.stock.Totals.{Totals}
-use Rattle.toll_stock.proofs.OnHandTotals.{on_hand_is}
-use Rattle.toll_stock.proofs.ShippedTotals.{shipped_is}
 
 is_mapped : {X Y : Type 0} (f : X → Y) (x : Option X) → is_some (option_map f x) ≡ is_some x
 is_mapped f None = refl
@@ -33,8 +28,5 @@ module _ (H : History) (s : Slice) (there : IsRowsOf H s) (lot : Bytes) where
   pub none_given : lot_at s lot ≡ None → None ≡ totals_given H (lot_id s.owner lot)
   none_given none = sym (ap (λ b. where_so b totals) (is_known ∙ ap is_some none))
 
-  pub given : (row : LotRow) → lot_at s lot ≡ Some row → IsLawful H → IsInKeyOrder pair_cmp (λ row. (row.lot, row.sublot)) s.sublots → IsInKeyOrder bytes_cmp (λ row. row.key) s.moves →
-      ◌≡◌ {A = Option Totals} (Some (record { on_hand = on_hand_in s lot; shipped = shipped_in s lot })) (totals_given H (lot_id s.owner lot))
-  given row found lawful sublots moves =
-      (λ i. let t : Totals = record { on_hand = on_hand_is H lawful s there sublots lot i; shipped = shipped_is H lawful s there moves lot i } in Some t)
-      ∙ sym (ap (λ b. where_so b totals) (is_known ∙ ap is_some found))
+  pub given : (row : LotRow) → lot_at s lot ≡ Some row → Some totals ≡ totals_given H (lot_id s.owner lot)
+  given row found = sym (ap (λ b. where_so b totals) (is_known ∙ ap is_some found))

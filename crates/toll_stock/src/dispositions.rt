@@ -3,7 +3,9 @@ ghost use Rattle.std.specs.Prelude.{◌≡◌, not, ◌&&◌, map, Some, [], IfO
 ghost use Rattle.std.specs.List.{list_any};
 ghost use Rattle.toll_base.specs.Bytes.{same_bytes};
 ghost use Rattle.toll_history.specs.Command.{Release, Reject, by};
+ghost use Rattle.toll_base.specs.Changes.{changes_of};
 ghost use Rattle.toll_history.specs.Decision.{IsDecided, Decides, DecisionKeepsRules};
+ghost use Rattle.toll_history.specs.OwnChanges.{PutsOnly};
 ghost use Rattle.toll_history.specs.Dispositions.{is_outside};
 ghost use Rattle.toll_base.specs.SliceRules.{KeepsRules};
 ghost use Rattle.toll_history.specs.Tables.{tables_of, latest_in};
@@ -24,6 +26,7 @@ use toll_base::{Change, Decision, Disposition, LotRow, Name, Refusal, Row, Slice
 pub fn release(alloc: Global, slice: &Slice, lot: Name) -> Result<Decision, AllocError>
     ensures decides { IfOk result (Decides (by slice.now.owner (Release lot)) slice.now) }
     ensures rules { IfOk result (DecisionKeepsRules slice.now) }
+    ensures own { IfOk result (λ d. PutsOnly slice.now.owner (changes_of d)) }
 {
     plan_release(alloc, slice, &lot)
 }
@@ -35,6 +38,7 @@ pub fn release(alloc: Global, slice: &Slice, lot: Name) -> Result<Decision, Allo
 pub fn reject(alloc: Global, slice: &Slice, lot: Name) -> Result<Decision, AllocError>
     ensures decides { IfOk result (Decides (by slice.now.owner (Reject lot)) slice.now) }
     ensures rules { IfOk result (DecisionKeepsRules slice.now) }
+    ensures own { IfOk result (λ d. PutsOnly slice.now.owner (changes_of d)) }
 {
     plan_rejection(alloc, slice, &lot)
 }

@@ -2,6 +2,7 @@
 #![tactic(auto)]
 
 mod dispositions;
+mod lot_rows;
 mod material_tests;
 mod materials;
 mod movements;
@@ -12,10 +13,11 @@ mod stock;
 mod withdrawals;
 
 pub use dispositions::{reject, release};
+pub use lot_rows::{results_of, sublots_of};
 pub use material_tests::add_test;
 pub use materials::add_material;
 pub use receipts::receive;
 pub use results::record_result;
 pub use splits::split;
-pub use stock::{Totals, lot_totals, on_hand};
+pub use stock::{Totals, lot_totals, on_hand, on_hand_of};
 pub use withdrawals::{scrap, ship};

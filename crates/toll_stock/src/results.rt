@@ -1,7 +1,9 @@
 //! Results of tests.
 ghost use Rattle.std.specs.Prelude.{◌≡◌, ◌≤◌, ◌&&◌, if◌then◌else◌, [], ◌∷◌, map, length, IfOk};
 ghost use Rattle.toll_history.specs.Command.{RecordResult, by};
+ghost use Rattle.toll_base.specs.Changes.{changes_of};
 ghost use Rattle.toll_history.specs.Decision.{IsDecided, Decides, DecisionKeepsRules};
+ghost use Rattle.toll_history.specs.OwnChanges.{PutsOnly};
 ghost use Rattle.toll_history.specs.Dispositions.{is_outside};
 ghost use Rattle.toll_base.specs.SliceRules.{KeepsRules};
 ghost use Rattle.toll_history.specs.Tables.{tables_of, count_results_in};
@@ -10,6 +12,7 @@ ghost use Rattle.toll_base.specs.declared.decision.Change.TheVariants as Change;
 ghost use Rattle.toll_base.specs.declared.rows.Row.TheVariants as Row;
 ghost use Rattle.toll_stock.specs.LotRows.{result_rows};
 
+use crate::lot_rows::results_of;
 use std::alloc::{AllocError, Global};
 use toll_base::{
     Change, Day, Decision, Disposition, Limits, LotRow, MOST_RESULTS, Name, Refusal, ResultRow,
@@ -32,6 +35,7 @@ pub fn record_result(
 ) -> Result<Decision, AllocError>
     ensures decides { IfOk result (Decides (by slice.now.owner (RecordResult lot test value day)) slice.now) }
     ensures rules { IfOk result (DecisionKeepsRules slice.now) }
+    ensures own { IfOk result (λ d. PutsOnly slice.now.owner (changes_of d)) }
 {
     plan_result(alloc, slice, &lot, &test, value, day)
 }
@@ -120,9 +124,8 @@ pub(crate) fn count_results(slice: &Slice, lot: &Name, test: &Name) -> u64
     ensures count { result ≡ count_results_in slice.now lot.now test.now }
     ensures bound { result ≤ length slice.now.results }
 {
-    slice
-        .results()
+    results_of(slice, lot)
         .iter()
-        .filter(|row| row.lot == *lot && row.test == *test)
+        .filter(|row| row.test == *test)
         .count() as u64
 }

@@ -2,7 +2,9 @@
 ghost use Rattle.std.specs.Prelude.{◌≡◌, ◌+◌, ◌-◌, [], ◌∷◌, ◌++◌, IfOk};
 ghost use Rattle.toll_history.specs.Bounds.{sublot_bounds};
 ghost use Rattle.toll_history.specs.Command.{Record, by};
+ghost use Rattle.toll_base.specs.Changes.{changes_of};
 ghost use Rattle.toll_history.specs.Decision.{IsDecided, Decides, DecisionKeepsRules, said};
+ghost use Rattle.toll_history.specs.OwnChanges.{PutsOnly};
 ghost use Rattle.toll_base.specs.SliceRules.{KeepsRules};
 ghost use Rattle.toll_history.specs.Tables.{tables_of};
 ghost use Rattle.toll_history.specs.Verdict.{first_of, key_checks, split_checks, amount_in};
@@ -35,6 +37,7 @@ pub fn split(
 ) -> Result<Decision, AllocError>
     ensures decides { IfOk result (Decides (by slice.now.owner (Record (record { key = key; what = Move.Split lot sublot target; amount = amount; day = day }))) slice.now) }
     ensures rules { IfOk result (DecisionKeepsRules slice.now) }
+    ensures own { IfOk result (λ d. PutsOnly slice.now.owner (changes_of d)) }
 {
     let row = MoveRow {
         key,

@@ -2,6 +2,7 @@
 ghost use Rattle.std.specs.Prelude.{◌≡◌};
 ghost use Rattle.std.specs.Option.{option_map};
 ghost use Rattle.toll_base.specs.Bytes.{bytes_cmp};
+ghost use Rattle.toll_history.specs.Amounts.{on_hand};
 ghost use Rattle.toll_history.specs.History.{History};
 ghost use Rattle.toll_base.specs.Keys.{pair_cmp};
 ghost use Rattle.toll_base.specs.Lots.{lot_id};
@@ -13,6 +14,7 @@ ghost use Rattle.toll_history.specs.Verdict.{IsLawful};
 ghost use Rattle.toll_base.specs.Words.{where_so};
 ghost use Rattle.toll_stock.specs.LotTotals.{totals_in, totals_given, on_hand_in, shipped_in, is_shipment_of};
 
+use crate::lot_rows::sublots_of;
 use toll_base::{Move, MoveRow, Name, Slice};
 
 /// How much of a lot is on hand, and how much was shipped, in the measure of its material.
@@ -57,18 +59,26 @@ pub fn lot_totals(slice: &Slice, lot: &Name) -> Option<Totals>
     }
 }
 
+/// How much of a lot is on hand: the sum of its sublots, in the measure of its material; 0 where the
+/// owner has no such lot. It takes no memory, and looks at the lot's sublots alone.
+pub fn on_hand_of(slice: &Slice, lot: &Name) -> u64
+    ensures rows { result ≡ on_hand_in slice.now lot.now }
+    ensures amount { (H : History) → IsLawful H → IsRowsOf H slice.now → result ≡ on_hand H (lot_id slice.now.owner lot.now) }
+{
+    sum_of_sublots(slice, lot)
+}
+
 // What is in the lot's sublots.
-fn on_hand_of(slice: &Slice, lot: &Name) -> u64
-    ensures amount { result ≡ on_hand_in slice.now lot.now }
+fn sum_of_sublots(slice: &Slice, lot: &Name) -> u64
+    ensures sum { result ≡ on_hand_in slice.now lot.now }
     ensures key_order { IsInKeyOrder pair_cmp (λ row. (row.lot, row.sublot)) slice.now.sublots }
 {
+    // For the proof: the amounts of rows that keep the rules fit.
     let _owner = slice.owner();
-    let rows = slice.sublots();
+    let rows = sublots_of(slice, lot);
     let mut sum: u64 = 0;
     for row in rows {
-        if row.lot == *lot {
-            sum += row.amount;
-        }
+        sum += row.amount;
     }
     sum
 }

@@ -1,7 +1,9 @@
 //! Shipments and scrapping.
 ghost use Rattle.std.specs.Prelude.{◌≡◌, ◌-◌, [], ◌∷◌, ◌++◌, IfOk};
 ghost use Rattle.toll_history.specs.Command.{Record, by};
+ghost use Rattle.toll_base.specs.Changes.{changes_of};
 ghost use Rattle.toll_history.specs.Decision.{IsDecided, Decides, DecisionKeepsRules, said};
+ghost use Rattle.toll_history.specs.OwnChanges.{PutsOnly};
 ghost use Rattle.toll_base.specs.SliceRules.{KeepsRules};
 ghost use Rattle.toll_history.specs.Tables.{tables_of};
 ghost use Rattle.toll_history.specs.Verdict.{Checks, first_of, key_checks, ship_checks, amount_in};
@@ -32,6 +34,7 @@ pub fn ship(
 ) -> Result<Decision, AllocError>
     ensures decides { IfOk result (Decides (by slice.now.owner (Record (record { key = key; what = Move.Ship lot sublot; amount = amount; day = day }))) slice.now) }
     ensures rules { IfOk result (DecisionKeepsRules slice.now) }
+    ensures own { IfOk result (λ d. PutsOnly slice.now.owner (changes_of d)) }
 {
     let row = MoveRow {
         key,
@@ -59,6 +62,7 @@ pub fn scrap(
 ) -> Result<Decision, AllocError>
     ensures decides { IfOk result (Decides (by slice.now.owner (Record (record { key = key; what = Move.Scrap lot sublot; amount = amount; day = day }))) slice.now) }
     ensures rules { IfOk result (DecisionKeepsRules slice.now) }
+    ensures own { IfOk result (λ d. PutsOnly slice.now.owner (changes_of d)) }
 {
     let row = MoveRow {
         key,

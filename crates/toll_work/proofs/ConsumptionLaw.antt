@@ -10,8 +10,9 @@ use Rattle.toll_history.specs.Movements.{takes_from}
 use Rattle.toll_base.specs.Slice.{Slice, with_row}
 use Rattle.toll_base.specs.SliceRules.{KeepsRules, row_fits, count_actuals}
 use Rattle.toll_history.specs.Tables.{Tables, tables_of, tables_given, sublot_row, IsRowsOf}
-use Rattle.toll_base.specs.Changes.{after_changes}
+use Rattle.toll_base.specs.Changes.{after_changes, changes_of}
 use Rattle.toll_history.specs.Decision.{IsDecided, ChangesKeepRules, DecidesWith, DecisionKeepsRules}
+use Rattle.toll_history.specs.OwnChanges.{PutsOnlyWith}
 use Rattle.toll_history.specs.Verdict.{Accepted, Checks, first_of, key_checks, actual_checks, consumed_checks, tables_for, amount_in, verdict, IsLawful, IsValid}
 use Rattle.toll_base.specs.declared.decision.Change.{Change}
 use Rattle.toll_base.specs.declared.decision.Change.TheVariants.{Put}
@@ -31,6 +32,7 @@ use Rattle.toll_history.proofs.PutMoves.{with_move, with_sublot, is_at, put_move
 use Rattle.toll_history.proofs.Recorded.{went_out, moved_elsewhere, taken_from_other, tables-untaken}
 use Rattle.toll_history.proofs.Room.{move_room, less_fit}
 use Rattle.toll_base.proofs.Texts.{same_bytes-exact, same_bytes-refl, same_bytes-symm}
+use Rattle.toll_work.proofs.MadeChanges.{each_accepted, puts_consumed}
 
 module _ (key order : Bytes) (number segment : ℕ) (material : Bytes) (lot : LotId) (sublot : Bytes) (amount day : ℕ) where
   abbrev consumption : MoveRow
@@ -158,6 +160,13 @@ module _ (key order : Bytes) (number segment : ℕ) (material : Bytes) (lot : Lo
                 (λ kept. tt)
             | false ↦ λ its. keeps_skip lot.owner (Sublot (left source)) [] (with_row own (Move consumption)) its kept tt
           ] refl))
+
+      -- its changes put rows of the owner, or the sublot of HOUSE that it names
+      pub consumption_puts : PutsOnlyWith own.owner (lot.lot, sublot) (changes_of d)
+      consumption_puts =
+          each_accepted _ _ (changes own.owner source) d
+          (λ accepted. (or_left _ _ (same_bytes-refl own.owner), puts_consumed own.owner lot sublot (left source).amount (passed accepted 8)))
+          decided
 
       pub consumption_keeps_house : same_bytes own.owner house.owner ≡ false → KeepsRules house → DecisionKeepsRules house d
       consumption_keeps_house other keeps =

@@ -53,23 +53,29 @@ module _ {K R : Type 0} (cmp : K → K → Ordering) (key : R → K) where
     pub filter_ordered : (rows : List R) → IsInKeyOrder cmp key rows → IsInKeyOrder cmp key (filter (λ row. q (key row)) rows)
     filter_ordered rows ordered = subst (IsStrictlySortedBy cmp) (sym (keys_filtered rows)) (IsStrictlySortedBy-filter cmp q (map key rows) ordered)
 
-    -- ---- what is made of each row that is left
+  -- ---- what is made of each row
 
-    module _ {L : Type 0} (make : R → L) (made_key : L → K) (same : (row : R) → made_key (make row) ≡ key row) where
-      row_at-map : (rows : List R) (k : K) → row_at cmp made_key (map make rows) k ≡ option_map make (row_at cmp key rows k)
-      unfolding row_at
-      row_at-map [] k = refl
-      row_at-map (x ∷ xs) k =
-          ap (λ l. cond (is_eq (cmp k l)) (Some (make x)) (row_at cmp made_key (map make xs) k)) (same x)
-          ∙ elim (is_eq (cmp k (key x))) as (λ b. cond b (Some (make x)) (row_at cmp made_key (map make xs) k) ≡ option_map make (cond b (Some x) (row_at cmp key xs k))) [
-            | true ↦ refl
-            | false ↦ row_at-map xs k
-          ]
+  module _ {L : Type 0} (make : R → L) (made_key : L → K) (same : (row : R) → made_key (make row) ≡ key row) where
+    pub row_at-map : (rows : List R) (k : K) → row_at cmp made_key (map make rows) k ≡ option_map make (row_at cmp key rows k)
+    unfolding row_at
+    row_at-map [] k = refl
+    row_at-map (x ∷ xs) k =
+        ap (λ l. cond (is_eq (cmp k l)) (Some (make x)) (row_at cmp made_key (map make xs) k)) (same x)
+        ∙ elim (is_eq (cmp k (key x))) as (λ b. cond b (Some (make x)) (row_at cmp made_key (map make xs) k) ≡ option_map make (cond b (Some x) (row_at cmp key xs k))) [
+          | true ↦ refl
+          | false ↦ row_at-map xs k
+        ]
 
-      keys_made : (rows : List R) → map made_key (map make rows) ≡ map key rows
-      keys_made [] = refl
-      keys_made (x ∷ xs) = λ i. same x i ∷ keys_made xs i
+    keys_made : (rows : List R) → map made_key (map make rows) ≡ map key rows
+    keys_made [] = refl
+    keys_made (x ∷ xs) = λ i. same x i ∷ keys_made xs i
 
+    pub map_ordered : (rows : List R) → IsInKeyOrder cmp key rows → IsInKeyOrder cmp made_key (map make rows)
+    map_ordered rows ordered = subst (IsStrictlySortedBy cmp) (sym (keys_made rows)) ordered
+
+    -- ---- and of each row that is left
+
+    module _ (q : K → Bool) (alike : (k l : K) → is_eq (cmp k l) ≡ true → q k ≡ q l) where
       made_where : (k : K) (found : Option R) → ((row : R) → found ≡ Some row → q k ≡ q (key row)) → option_map make (cond (q k) found None) ≡ option_and_then (λ row. where_so (q (key row)) (make row)) found
       made_where k None tied = ap (option_map make) (cond_none (q k))
       made_where k (Some row) tied = ap (λ b. option_map make (cond b (Some row) None)) (tied row refl) ∙ some_where (q (key row)) row
@@ -81,11 +87,11 @@ module _ {K R : Type 0} (cmp : K → K → Ordering) (key : R → K) where
       pub made_at : (rows : List R) (k : K) → row_at cmp made_key (map make (filter (λ row. q (key row)) rows)) k ≡ option_and_then (λ row. where_so (q (key row)) (make row)) (row_at cmp key rows k)
       made_at rows k =
           row_at-map (filter (λ row. q (key row)) rows) k
-          ∙ ap (option_map make) (row_at-filter rows k)
+          ∙ ap (option_map make) (row_at-filter q alike rows k)
           ∙ made_where k (row_at cmp key rows k) (λ row found. alike k (key row) (row_at-key cmp key rows k row found))
 
       pub made_ordered : (rows : List R) → IsInKeyOrder cmp key rows → IsInKeyOrder cmp made_key (map make (filter (λ row. q (key row)) rows))
-      made_ordered rows ordered = subst (IsStrictlySortedBy cmp) (sym (keys_made (filter (λ row. q (key row)) rows))) (filter_ordered rows ordered)
+      made_ordered rows ordered = map_ordered (filter (λ row. q (key row)) rows) (filter_ordered q alike rows ordered)
 
   -- ---- a row taken out
 

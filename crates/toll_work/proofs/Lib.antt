@@ -5,6 +5,7 @@ pub mod BatchLaw
 pub mod CancelLaw
 pub mod FoundRow
 pub mod KeyedRows
+pub mod MadeChanges
 pub mod OpenLaw
 pub mod OrderLaw
 pub mod RecipeLaw
@@ -14,4 +15,3 @@ pub mod StandingSums
 pub mod Sums
 pub mod ViewLaw
 pub mod Voided
-pub mod PutsOwn

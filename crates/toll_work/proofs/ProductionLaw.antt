@@ -12,6 +12,8 @@ use Rattle.toll_base.specs.SliceRules.{KeepsRules, count_actuals}
 use Rattle.toll_base.specs.Words.{where_so, is_some_where}
 use Rattle.toll_history.specs.Work.{material_of}
 use Rattle.toll_history.specs.Tables.{Tables, tables_of, tables_given}
+use Rattle.toll_base.specs.Changes.{changes_of}
+use Rattle.toll_history.specs.OwnChanges.{PutsOnlyWith}
 use Rattle.toll_history.specs.Decision.{IsDecided, DecidesWith, DecisionKeepsRules}
 use Rattle.toll_history.specs.Verdict.{Accepted, Checks, first_of, stopped, key_checks, actual_checks, produced_checks, recipe_of_order, amount_in, verdict, IsLawful, IsValid}
 use Rattle.toll_base.specs.declared.decision.Change.TheVariants.{Put}
@@ -35,9 +37,11 @@ use Rattle.toll_history.proofs.Options.{some_of, known_passes}
 use Rattle.toll_history.proofs.Passed.{accepted_passes, move_fits}
 use Rattle.toll_history.proofs.PutMoves.{with_move, with_lot, with_sublot, put_came}
 use Rattle.toll_history.proofs.Recorded.{came_in, tables-untaken}
+use Rattle.toll_history.proofs.PutsOwn.{each_decided}
 use Rattle.toll_history.proofs.Room.{sublot_room, came_fit}
 use Rattle.toll_history.proofs.Within.{within_bounds}
 use Rattle.toll_base.proofs.Texts.{same_bytes-exact, same_bytes-refl, same_bytes-symm}
+use Rattle.toll_work.proofs.MadeChanges.{puts_with}
 
 module _ (key order : Bytes) (number segment : ℕ) (material : Bytes) (lot : LotId) (sublot : Bytes) (amount day : ℕ) where
   abbrev production : MoveRow
@@ -111,6 +115,11 @@ module _ (key order : Bytes) (number segment : ℕ) (material : Bytes) (lot : Lo
         let full = or_parts _ _ (pass 13) in
         let moves = or_parts _ _ full.0 in
         came_fit own production produced (holding (tables_of own)) refl moves.0 (or_left _ _ (less_of 200 (count_actuals order number own.moves) moves.1)) full.1 (pass 14) (pass 15) (pass 16))
+
+    pub production_puts : PutsOnlyWith own.owner (lot.lot, sublot) (changes_of d)
+    production_puts =
+        let mine = same_bytes-refl own.owner in
+        puts_with own.owner _ (changes_of d) (each_decided _ _ (Put own.owner (Move production) ∷ Put own.owner (Lot produced) ∷ Put own.owner (Sublot (holding (tables_of own))) ∷ []) d (mine, (mine, (mine, tt))) decided)
 
     pub production_keeps_house : same_bytes own.owner house.owner ≡ false → KeepsRules house → DecisionKeepsRules house d
     production_keeps_house other keeps =

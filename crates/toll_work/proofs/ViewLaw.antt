@@ -27,7 +27,7 @@ use Rattle.toll_work.proofs.StandingSums.{of_owner, sum_of_rows}
 use Rattle.toll_work.proofs.Sums.{total-kept, total-alike}
 
 -- keys that tie are of one recipe
-tied_first : (a b : Ordering) → is_eq (ordering_then a b) ≡ true → is_eq a ≡ true
+pub tied_first : (a b : Ordering) → is_eq (ordering_then a b) ≡ true → is_eq a ≡ true
 tied_first a b tied = (both (is_eq a) (is_eq b) (sym (is_eq-then a b) ∙ tied)).0
 
 same_recipe : (k l : RequirementKey) → is_eq (requirement_cmp k l) ≡ true → k.0 ≡ l.0
@@ -63,9 +63,9 @@ module _ (s : Slice) (H : History) (lawful : IsLawful H) (there : IsRowsOf H s) 
   module _ (ordered : IsInKeyOrder requirement_cmp requirement_key s.requirements) where
     lines_given : (recipe : Bytes) → AreRowsGiven requirement_cmp line_key (line_of H s.owner order number recipe) (lines_in s recipe (standing_in s order number))
     lines_given recipe = record {
-      ordered = made_ordered requirement_cmp requirement_key of_recipe alike (λ row. line row (standing_in s order number)) line_key (λ row. refl) s.requirements ordered;
+      ordered = made_ordered requirement_cmp requirement_key (λ row. line row (standing_in s order number)) line_key (λ row. refl) of_recipe alike s.requirements ordered;
       at = λ k.
-          made_at requirement_cmp requirement_key of_recipe alike (λ row. line row (standing_in s order number)) line_key (λ row. refl) s.requirements k
+          made_at requirement_cmp requirement_key (λ row. line row (standing_in s order number)) line_key (λ row. refl) of_recipe alike s.requirements k
           ∙ (λ i. option_and_then (λ row. where_so (same_bytes row.recipe recipe) (record { row = row; actual = done_of row i })) ((there i).requirement k));
     }
       where

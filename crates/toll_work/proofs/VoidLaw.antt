@@ -1,8 +1,8 @@
 -- What a void owes.
 use Rattle.std.proofs.Common.{◌≡◌, ℕ, ◌+◌, ◌-◌, ◌≤◌, Bool, true, false, not, ◌&&◌, ◌||◌, cond, nat_le, nat_lt, Option, Some, None, is_some, is_none, List, [], ◌∷◌, ◌++◌, length, refl, sym, ap, subst, ◌∙◌, arith}
 use mathlib.Core.Bool.{false≢true}
+use Rattle.std.proofs.lemmas.Bool.{or_left}
 use Rattle.std.proofs.lemmas.Bool.Decides.{nat_tests}
-use Rattle.toll_history.specs.Bounds.{returning_bounds}
 use Rattle.toll_base.specs.Bytes.{Bytes, same_bytes, bytes_cmp}
 use Rattle.toll_base.specs.Keys.{pair_cmp}
 use Rattle.toll_base.specs.Values.{house_name}
@@ -14,11 +14,12 @@ use Rattle.toll_base.specs.Slice.{Slice, with_row, lot_at, sublot_at, move_at}
 use Rattle.toll_base.specs.SliceRules.{KeepsRules, row_fits}
 use Rattle.toll_history.specs.Tables.{Tables, tables_of, tables_given, sublot_row, IsRowsOf}
 use Rattle.toll_base.specs.Words.{where_so, is_some_where, none_or}
-use Rattle.toll_base.specs.Changes.{after_changes}
+use Rattle.toll_base.specs.Changes.{after_changes, changes_of}
 use Rattle.toll_history.specs.Decision.{IsDecided, ChangesKeepRules, DecidesWith, DecisionKeepsRules}
+use Rattle.toll_history.specs.OwnChanges.{PutsOnlyWith}
 use Rattle.toll_history.specs.Verdict.{Accepted, Refused, Checks, first_of, is_actual, is_of_closed, takes_too_much, tables_for, amount_in, verdict, IsLawful, IsValid}
 use Rattle.toll_history.specs.Laws.{BringsOwn, TakesKnown}
-use Rattle.toll_work.specs.Voiding.{open_checks}
+use Rattle.toll_work.specs.Voiding.{open_checks, giving_bounds, actual_sublot}
 use Rattle.toll_base.specs.declared.decision.Change.{Change}
 use Rattle.toll_base.specs.declared.decision.Change.TheVariants.{Put}
 use Rattle.toll_base.specs.declared.decision.Decision.{Decision}
@@ -41,8 +42,10 @@ use Rattle.toll_history.proofs.StockChanges.{stock-voided}
 use Rattle.toll_history.proofs.Accepted.{none_applies}
 use Rattle.toll_history.proofs.Room.{unbounded, sublot_room_in, less_fit}
 use Rattle.toll_work.proofs.FoundRow.{row_at-key}
+use Rattle.toll_work.proofs.MadeChanges.{each_accepted, puts_with, puts_consumed}
 use Rattle.toll_history.proofs.Decided.{verdict_is, right_over, taken_in, left_out, rules_by, keeps_put, keeps_skip}
 use Rattle.toll_history.proofs.Passed.{accepted_passes}
+use Rattle.toll_history.proofs.PutsOwn.{each_decided}
 use Rattle.toll_history.proofs.PutMoves.{with_sublot, with_void, is_at, put_sublot, put_void}
 use Rattle.toll_base.proofs.Texts.{same_bytes-exact, same_bytes-refl, same_bytes-symm, is_eq-then}
 use Rattle.toll_history.proofs.Grown.{more}
@@ -225,19 +228,20 @@ module _ (own house : Slice) (key : Bytes) (row : MoveRow) (found_in : move_at o
       there_at = sublot_there H there taken_known.0
 
       -- there is room for what is given back
-      room : tables_of house ≡ tables_given H house_name → verdict H (by own.owner (Void key)) ≡ Accepted → first_of (returning_bounds source lot.lot sublot row.amount) ≡ Accepted
+      room : tables_of house ≡ tables_given H house_name → verdict H (by own.owner (Void key)) ≡ Accepted → first_of (giving_bounds own.owner source lot sublot row.amount) ≡ Accepted
       room houses accepted =
           let u = its_tables houses in
           let after : stock (by own.owner (Void key) ∷ H) lot sublot ≡ stock H lot sublot + row.amount - 0 =
           stock-voided H own.owner key said_so lot sublot lawful (found H there) (stays H there accepted)
           ∙ (λ i. stock H lot sublot + cond ((ap (takes_from lot sublot own.owner) its_what ∙ its_place H there) i) row.amount 0 - cond (ap (brings_into lot sublot own.owner) its_what i) row.amount 0) in
-          ap (λ t. first_of (returning_bounds t lot.lot sublot row.amount)) u
-          ∙ three_pass _ _ _ there_at (ap (λ b. b && nat_le 20000 (tables_given H lot.owner).sublots) there_at)
+          ap (λ t. first_of (giving_bounds own.owner t lot sublot row.amount)) u
+          ∙ four_pass _ _ _ _ there_at (ap (λ b. b && nat_le 20000 (tables_given H lot.owner).sublots) there_at)
           (small (amount_in (tables_given H lot.owner) lot.lot sublot) row.amount (stock (by own.owner (Void key) ∷ H) lot sublot) (stock H lot sublot) after (held_is H lot.owner lot.lot sublot)
           (stock_bounded (by own.owner (Void key) ∷ H) lot sublot (lawful, tt, accepted)))
+          (ap not taken_known.1)
         where
-          three_pass : (a b c : Bool) → a ≡ false → b ≡ false → c ≡ false → first_of ((a, Some LimitReached) ∷ (b, Some LimitReached) ∷ (c, Some LimitReached) ∷ []) ≡ Accepted
-          three_pass a b c ha hb hc = λ i. cond (ha i) (Refused LimitReached) (cond (hb i) (Refused LimitReached) (cond (hc i) (Refused LimitReached) Accepted))
+          four_pass : (a b c d : Bool) → a ≡ false → b ≡ false → c ≡ false → d ≡ false → first_of ((a, Some LimitReached) ∷ (b, Some LimitReached) ∷ (c, Some LimitReached) ∷ (d, Some LimitReached) ∷ []) ≡ Accepted
+          four_pass a b c d ha hb hc hd = λ i. cond (ha i) (Refused LimitReached) (cond (hb i) (Refused LimitReached) (cond (hc i) (Refused LimitReached) (cond (hd i) (Refused LimitReached) Accepted)))
 
       -- the rows of all are those after the void
       all_rows : tables_of house ≡ tables_given H house_name → verdict H (by own.owner (Void key)) ≡ Accepted → (s : Slice) → IsRowsOf H s → IsRowsOf (by own.owner (Void key) ∷ H) (after_changes (Put own.owner (VoidPut (record { key = key })) ∷ Put lot.owner (Sublot (more_in source)) ∷ []) s)
@@ -259,14 +263,14 @@ module _ (own house : Slice) (key : Bytes) (row : MoveRow) (found_in : move_at o
           ap (λ w. first_of (checks_at (tables_of own) key (Some (record { key = row.key; what = w; amount = row.amount; day = row.day })))) (sym its_what)
           ∙ verdict_at H there known (tables_of house) houses
 
-    module _ (d : Decision) (decided : IsDecided (open_checks (tables_of own) key order number ++ returning_bounds source lot.lot sublot row.amount) (Put own.owner (VoidPut (record { key = key })) ∷ Put lot.owner (Sublot (more_in source)) ∷ []) d) where
+    module _ (d : Decision) (decided : IsDecided (open_checks (tables_of own) key order number ++ giving_bounds own.owner source lot sublot row.amount) (Put own.owner (VoidPut (record { key = key })) ∷ Put lot.owner (Sublot (more_in source)) ∷ []) d) where
       pub giving_decided : DecidesWith (by own.owner (Void key)) own house d
       unfolding DecidesWith
       giving_decided H lawful valid known there house_there is_house =
           let houses = house_there ∙ ap (tables_given H) is_house in
           let is = says H lawful there known houses in
           right_over H (by own.owner (Void key)) d _ _ decided.says decided.makes
-          (unbounded (open_checks (tables_of own) key order number) (returning_bounds source lot.lot sublot row.amount) (λ passed. room H lawful there houses (sym is ∙ passed)) ∙ is)
+          (unbounded (open_checks (tables_of own) key order number) (giving_bounds own.owner source lot sublot row.amount) (λ passed. room H lawful there houses (sym is ∙ passed)) ∙ is)
           (λ accepted. all_rows H lawful there houses accepted)
 
       source_of : (s : Slice) → KeepsRules s → (u : Tables) → u ≡ tables_of s → is_none (u.sublot (lot.lot, sublot)) ≡ false → nat_lt 20000000000000 (amount_in u lot.lot sublot + row.amount) ≡ false → row_fits s (Sublot (more_in u)) ≡ true
@@ -276,7 +280,7 @@ module _ (own house : Slice) (key : Bytes) (row : MoveRow) (found_in : move_at o
       giving_keeps keeps =
           rules_by own (Put own.owner (VoidPut (record { key = key })) ∷ Put lot.owner (Sublot (more_in source)) ∷ []) d _ decided keeps
           (λ accepted.
-          let pass = none_applies (open_checks (tables_of own) key order number ++ returning_bounds source lot.lot sublot row.amount) accepted in
+          let pass = none_applies (open_checks (tables_of own) key order number ++ giving_bounds own.owner source lot sublot row.amount) accepted in
           keeps_put own.owner (VoidPut (record { key = key })) (Put lot.owner (Sublot (more_in source)) ∷ []) own (same_bytes-refl own.owner) keeps refl
           (λ kept.
           elim (same_bytes lot.owner own.owner) as (λ b. same_bytes lot.owner own.owner ≡ b → ChangesKeepRules (Put lot.owner (Sublot (more_in source)) ∷ []) (with_row own (VoidPut (record { key = key })))) [
@@ -287,11 +291,20 @@ module _ (own house : Slice) (key : Bytes) (row : MoveRow) (found_in : move_at o
             | false ↦ λ its. keeps_skip lot.owner (Sublot (more_in source)) [] (with_row own (VoidPut (record { key = key }))) its kept tt
           ] refl))
 
+      -- its changes put rows of the owner, or the sublot of HOUSE that the actual names
+      pub giving_puts : PutsOnlyWith own.owner (actual_sublot (move_at own key)) (changes_of d)
+      giving_puts =
+          subst (λ m. PutsOnlyWith own.owner (actual_sublot m) (changes_of d)) (sym at_key)
+          (each_accepted _ (open_checks (tables_of own) key order number ++ giving_bounds own.owner source lot sublot row.amount) (Put own.owner (VoidPut (record { key = key })) ∷ Put lot.owner (Sublot (more_in source)) ∷ []) d
+          (λ accepted.
+          (or_left _ _ (same_bytes-refl own.owner), puts_consumed own.owner lot sublot (more_in source).amount (none_applies (open_checks (tables_of own) key order number ++ giving_bounds own.owner source lot sublot row.amount) accepted 5)))
+          decided)
+
       pub giving_keeps_house : same_bytes own.owner house.owner ≡ false → KeepsRules house → DecisionKeepsRules house d
       giving_keeps_house other keeps =
           rules_by house (Put own.owner (VoidPut (record { key = key })) ∷ Put lot.owner (Sublot (more_in source)) ∷ []) d _ decided keeps
           (λ accepted.
-          let pass = none_applies (open_checks (tables_of own) key order number ++ returning_bounds source lot.lot sublot row.amount) accepted in
+          let pass = none_applies (open_checks (tables_of own) key order number ++ giving_bounds own.owner source lot sublot row.amount) accepted in
           keeps_skip own.owner (VoidPut (record { key = key })) (Put lot.owner (Sublot (more_in source)) ∷ []) house other keeps
           (elim (same_bytes lot.owner house.owner) as (λ b. same_bytes lot.owner house.owner ≡ b → ChangesKeepRules (Put lot.owner (Sublot (more_in source)) ∷ []) house) [
             | true ↦ λ its.
@@ -375,6 +388,11 @@ module _ (own house : Slice) (key : Bytes) (row : MoveRow) (found_in : move_at o
           keeps_put own.owner (Sublot (less_in (tables_of own))) [] (with_row own (VoidPut (record { key = key }))) (same_bytes-refl own.owner) kept
           (less_fit own lot.lot sublot row.amount keeps (none_is (lot_at own lot.lot) (lot_of_known own keeps lot.lot sublot sub_there)) sub_there)
           (λ kept. tt)))
+
+      pub taking_puts : PutsOnlyWith own.owner (actual_sublot (move_at own key)) (changes_of d)
+      taking_puts =
+          let mine = same_bytes-refl own.owner in
+          puts_with own.owner _ (changes_of d) (each_decided _ _ (Put own.owner (VoidPut (record { key = key })) ∷ Put own.owner (Sublot (less_in (tables_of own))) ∷ []) d (mine, (mine, tt)) decided)
 
       pub taking_keeps_house : same_bytes own.owner house.owner ≡ false → KeepsRules house → DecisionKeepsRules house d
       taking_keeps_house other keeps =

@@ -1,10 +1,16 @@
--- What a void of an actual checks of either role.
-use Rattle.std.specs.Prelude.{ℕ, Some, [], ◌∷◌}
+-- What a void of an actual checks, and which sublot it changes.
+use Rattle.std.specs.Prelude.{ℕ, Option, Some, [], ◌∷◌, ◌++◌}
+use Rattle.std.specs.Option.{option_map_or}
 use Rattle.toll_base.specs.Bytes.{Bytes}
+use Rattle.toll_history.specs.Bounds.{returning_bounds}
+use Rattle.toll_history.specs.OwnChanges.{sublot_named}
 use Rattle.toll_history.specs.Tables.{Tables}
-use Rattle.toll_history.specs.Verdict.{Checks}
+use Rattle.toll_history.specs.Verdict.{Checks, crosses}
 use Rattle.toll_base.specs.Words.{is_some_where}
-use Rattle.toll_base.specs.declared.refusal.Refusal.TheVariants.{BatchClosed, Voided}
+use Rattle.toll_base.specs.declared.lot.LotId.{LotId}
+use Rattle.toll_base.specs.declared.movement.MoveRow.{MoveRow}
+use Rattle.toll_base.specs.declared.refusal.Refusal.TheVariants.{BatchClosed, LimitReached, Voided}
+use Rattle.toll_base.specs.declared.role.Role.TheVariants.{Consumed}
 
 -- the key isn't voided, and the batch isn't closed
 abbrev pub open_checks : Tables → (key order : Bytes) → (number : ℕ) → Checks
@@ -12,3 +18,11 @@ open_checks t key order number =
     (t.voided key, Some Voided)
     ∷ (is_some_where (λ row. row.closed) (t.batch (order, number)), Some BatchClosed)
     ∷ []
+
+-- what was consumed can't be given back: its sublot has no room for it, or is of neither the owner nor HOUSE
+abbrev pub giving_bounds : Bytes → Tables → LotId → (sublot : Bytes) → ℕ → Checks
+giving_bounds o u lot sublot amount = returning_bounds u lot.lot sublot amount ++ (crosses o Consumed lot.owner, Some LimitReached) ∷ []
+
+-- the lot and the sublot that the actual names, where there is one
+abbrev pub actual_sublot : Option MoveRow → Bytes × Bytes
+actual_sublot known = option_map_or (λ row. sublot_named row.what) known ([], [])

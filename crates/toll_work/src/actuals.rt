@@ -2,8 +2,10 @@
 ghost use Rattle.std.specs.Prelude.{◌≡◌, ◌+◌, ◌-◌, true, false, [], ◌∷◌, ◌++◌, nat_lt, is_none, Some, None, IfOk, IfSome};
 ghost use Rattle.toll_history.specs.Bounds.{lot_bounds};
 ghost use Rattle.toll_base.specs.Bytes.{same_bytes};
+ghost use Rattle.toll_base.specs.Changes.{changes_of};
 ghost use Rattle.toll_history.specs.Command.{Record, by};
 ghost use Rattle.toll_history.specs.Decision.{IsDecided, DecidesWith, DecisionKeepsRules, said};
+ghost use Rattle.toll_history.specs.OwnChanges.{sublot_named, PutsOnlyWith};
 ghost use Rattle.toll_base.specs.Slice.{recipe_at, requirement_at, batch_at};
 ghost use Rattle.toll_base.specs.SliceRules.{KeepsRules};
 ghost use Rattle.toll_history.specs.Tables.{tables_of};
@@ -89,6 +91,7 @@ pub fn record_actual(
     ensures decides { IfOk result (DecidesWith (by own.now.owner (Record row)) own.now house.now) }
     ensures rules { IfOk result (DecisionKeepsRules own.now) }
     ensures house_rules { same_bytes own.now.owner house.now.owner ≡ false → IfOk result (DecisionKeepsRules house.now) }
+    ensures own { IfOk result (λ d. PutsOnlyWith own.now.owner (sublot_named row.what) (changes_of d)) }
 {
     // What its owner keeps holds of HOUSE's slice too.
     let _house = house.owner();

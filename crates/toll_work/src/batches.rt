@@ -1,7 +1,9 @@
 //! Batches.
 ghost use Rattle.std.specs.Prelude.{◌≡◌, ◌+◌, nat_le, not, Some, None, if◌then◌else◌, map, IfOk};
 ghost use Rattle.toll_history.specs.Command.{CommandBatch, CloseBatch, by};
+ghost use Rattle.toll_base.specs.Changes.{changes_of};
 ghost use Rattle.toll_history.specs.Decision.{IsDecided, Decides, DecisionKeepsRules, said};
+ghost use Rattle.toll_history.specs.OwnChanges.{PutsOnly};
 ghost use Rattle.toll_base.specs.Slice.{batch_at};
 ghost use Rattle.toll_base.specs.SliceRules.{KeepsRules};
 ghost use Rattle.toll_history.specs.Tables.{tables_of};
@@ -32,6 +34,7 @@ pub fn open_batch(
 ) -> Result<Decision, AllocError>
     ensures decides { IfOk result (DecidesOpening order unit unit_known unit_free slice.now) }
     ensures rules { IfOk result (DecisionKeepsRules slice.now) }
+    ensures own { IfOk result (λ d. PutsOnly slice.now.owner (changes_of d)) }
 {
     plan_opening(alloc, slice, &order, &unit, unit_known, unit_free)
 }
@@ -107,6 +110,7 @@ pub fn command_batch(
 ) -> Result<Decision, AllocError>
     ensures decides { IfOk result (Decides (by slice.now.owner (CommandBatch order number command)) slice.now) }
     ensures rules { IfOk result (DecisionKeepsRules slice.now) }
+    ensures own { IfOk result (λ d. PutsOnly slice.now.owner (changes_of d)) }
 {
     plan_command(alloc, slice, &order, number, command)
 }
@@ -162,6 +166,7 @@ pub fn close_batch(
 ) -> Result<Decision, AllocError>
     ensures decides { IfOk result (Decides (by slice.now.owner (CloseBatch order number)) slice.now) }
     ensures rules { IfOk result (DecisionKeepsRules slice.now) }
+    ensures own { IfOk result (λ d. PutsOnly slice.now.owner (changes_of d)) }
 {
     plan_closing(alloc, slice, &order, number)
 }

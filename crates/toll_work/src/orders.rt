@@ -1,9 +1,10 @@
 //! Orders.
-ghost use Rattle.std.specs.Prelude.{◌≡◌, [], ◌∷◌, map, IfOk};
+ghost use Rattle.std.specs.Prelude.{◌≡◌, true, is_some, [], ◌∷◌, map, IfOk};
 ghost use Rattle.toll_history.specs.Command.{PlaceOrder, CancelOrder, by};
 ghost use Rattle.toll_base.specs.Changes.{changes_of};
 ghost use Rattle.toll_history.specs.Decision.{IsDecided, Decides, DecisionKeepsRules};
 ghost use Rattle.toll_history.specs.OwnChanges.{PutsOnly};
+ghost use Rattle.toll_base.specs.Slice.{order_at};
 ghost use Rattle.toll_base.specs.SliceRules.{KeepsRules};
 ghost use Rattle.toll_history.specs.Tables.{tables_of};
 ghost use Rattle.toll_history.specs.Verdict.{order_checks, cancel_checks};
@@ -30,6 +31,7 @@ pub fn place_order(
     ensures decides { IfOk result (Decides (by slice.now.owner (PlaceOrder order recipe batches)) slice.now) }
     ensures rules { IfOk result (DecisionKeepsRules slice.now) }
     ensures own { IfOk result (λ d. PutsOnly slice.now.owner (changes_of d)) }
+    ensures kept { is_some (order_at slice.now order) ≡ true → IfOk result (λ d. changes_of d ≡ []) }
 {
     let row = OrderRow {
         order,
@@ -67,6 +69,7 @@ fn plan_order(alloc: Global, slice: &Slice, row: &OrderRow) -> Result<Decision, 
 pub fn cancel_order(alloc: Global, slice: &Slice, order: Name) -> Result<Decision, AllocError>
     ensures decides { IfOk result (Decides (by slice.now.owner (CancelOrder order)) slice.now) }
     ensures rules { IfOk result (DecisionKeepsRules slice.now) }
+    ensures own { IfOk result (λ d. PutsOnly slice.now.owner (changes_of d)) }
 {
     plan_cancelling(alloc, slice, &order)
 }

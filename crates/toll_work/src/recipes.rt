@@ -63,6 +63,7 @@ pub fn require(
 ) -> Result<Decision, AllocError>
     ensures decides { IfOk result (DecidesWith (by own.now.owner (Require row)) own.now house.now) }
     ensures rules { IfOk result (DecisionKeepsRules own.now) }
+    ensures own { IfOk result (λ d. PutsOnly own.now.owner (changes_of d)) }
 {
     plan_requirement(alloc, own, house, &row)
 }

@@ -1,17 +1,20 @@
 //! Voids.
 ghost use Rattle.std.specs.Prelude.{◌≡◌, ◌+◌, ◌-◌, false, nat_lt, is_none, Some, [], ◌∷◌, ◌++◌, IfOk};
-ghost use Rattle.toll_history.specs.Bounds.{returning_bounds};
 ghost use Rattle.toll_base.specs.Bytes.{same_bytes};
+ghost use Rattle.toll_base.specs.Changes.{changes_of};
 ghost use Rattle.toll_history.specs.Command.{Void, by};
 ghost use Rattle.toll_history.specs.Decision.{IsDecided, DecidesWith, DecisionKeepsRules, said};
+ghost use Rattle.toll_history.specs.OwnChanges.{PutsOnlyWith};
+ghost use Rattle.toll_base.specs.Slice.{move_at};
 ghost use Rattle.toll_history.specs.Tables.{tables_of};
 ghost use Rattle.toll_history.specs.Verdict.{first_of, tables_for, amount_in};
 ghost use Rattle.toll_base.specs.declared.decision.Change.TheVariants as Change;
 ghost use Rattle.toll_base.specs.declared.refusal.Refusal.TheVariants as Refusal;
 ghost use Rattle.toll_base.specs.declared.rows.Row.TheVariants as Row;
-ghost use Rattle.toll_work.specs.Voiding.{open_checks};
+ghost use Rattle.toll_work.specs.Voiding.{open_checks, giving_bounds, actual_sublot};
 
 use crate::actuals::{Use, slice_for, use_of};
+use crate::crossing::crosses;
 use std::alloc::{AllocError, Global};
 use toll_base::{
     Amount, BatchNo, Change, Decision, Name, Refusal, Role, Row, Slice, SublotRow, VoidRow,
@@ -34,6 +37,7 @@ pub fn void_actual(
     ensures decides { IfOk result (DecidesWith (by own.now.owner (Void key)) own.now house.now) }
     ensures rules { IfOk result (DecisionKeepsRules own.now) }
     ensures house_rules { same_bytes own.now.owner house.now.owner ≡ false → IfOk result (DecisionKeepsRules house.now) }
+    ensures own { IfOk result (λ d. PutsOnlyWith own.now.owner (actual_sublot (move_at own.now key)) (changes_of d)) }
 {
     // What each slice keeps is known where its owner is read.
     let _own = own.owner();
@@ -58,7 +62,7 @@ fn give_back(
 ) -> Result<Decision, AllocError>
     ensures plan { IfOk result (IsDecided
         (open_checks (tables_of own.now) key used.now.order used.now.number
-        ++ returning_bounds (tables_for own.now.owner (tables_of own.now) (tables_of house.now) used.now.lot.owner) used.now.lot.lot used.now.sublot amount)
+        ++ giving_bounds own.now.owner (tables_for own.now.owner (tables_of own.now) (tables_of house.now) used.now.lot.owner) used.now.lot used.now.sublot amount)
         (Change.Put own.now.owner (Row.Void (record { key = key }))
         ∷ Change.Put used.now.lot.owner (Row.Sublot (record { lot = used.now.lot.lot; sublot = used.now.sublot; amount = amount_in (tables_for own.now.owner (tables_of own.now) (tables_of house.now) used.now.lot.owner) used.now.lot.lot used.now.sublot + amount }))
         ∷ [])) }
@@ -70,6 +74,9 @@ fn give_back(
     if source.sublot(&used.lot.lot, &used.sublot).is_none()
         || !has_room_in(source, &used.lot.lot, &used.sublot, amount)
     {
+        return Ok(Decision::Refuse(Refusal::LimitReached));
+    }
+    if crosses(own.owner(), Role::Consumed, &used.lot.owner) {
         return Ok(Decision::Refuse(Refusal::LimitReached));
     }
     let held = SublotRow {

@@ -1,5 +1,6 @@
 use Rattle.std.proofs.Common.{Some, sym, ◌∙◌}
 use Rattle.toll_stock.specs.declared.stock.Totals.{Totals}
+use Rattle.toll_stock.proofs.ShippedTotals.{shipped_is}
 use Rattle.toll_stock.proofs.TotalsLaw.{none_given, given}
 use Rattle.toll_stock.proofs.stock.lot_totals.Goals as goal
 
@@ -8,5 +9,6 @@ returns-in-None-clause-totals c = λ H lawful there. none_given H c.args.slice.n
 
 pub returns-in-Some-clause-totals : goal.returns-in-Some-clause-totals
 returns-in-Some-clause-totals c = λ H lawful there.
-    (λ i. let t : Totals = record { on_hand = c.on_hand_of.ensures.amount i; shipped = c.shipped_of.ensures.amount i } in Some t)
-    ∙ given H c.args.slice.now there c.args.lot.now c.in-Some.field-0 (sym c.lot.ensures ∙ c.in-Some.is) lawful c.on_hand_of.ensures.key_order c.shipped_of.ensures.key_order
+    let shipped = c.shipped_of.ensures.amount ∙ shipped_is H lawful c.args.slice.now there c.shipped_of.ensures.key_order c.args.lot.now in
+    (λ i. let t : Totals = record { on_hand = c.on_hand_of.ensures.amount H lawful there i; shipped = shipped i } in Some t)
+    ∙ given H c.args.slice.now there c.args.lot.now c.in-Some.field-0 (sym c.lot.ensures ∙ c.in-Some.is)

@@ -1,4 +1,8 @@
 use Rattle.std.proofs.lemmas.Result.{IfOk-weaker}
+use Rattle.toll_base.proofs.Texts.{same_bytes-refl}
+use Rattle.toll_history.proofs.PutsOwn.{each_decided}
+use Rattle.toll_history.specs.Tables.{tables_of}
+use Rattle.toll_history.specs.Verdict.{scrap_checks}
 use Rattle.toll_stock.proofs.WithdrawalLaw.{scrapping_decided, scrapping_keeps}
 use Rattle.toll_stock.proofs.withdrawals.scrap.Goals as goal
 
@@ -7,3 +11,8 @@ returns-clause-decides c = IfOk-weaker _ _ _ (λ d. scrapping_decided c.args.key
 
 pub returns-clause-rules : goal.returns-clause-rules
 returns-clause-rules c = IfOk-weaker _ _ _ (λ d decided. scrapping_keeps c.args.key c.args.lot c.args.sublot c.args.amount c.args.day _ d decided c.plan_withdrawal.ensures.kept) (c.plan_withdrawal.ensures.plan _ c.check_taking-checked.ensures)
+
+pub returns-clause-own : goal.returns-clause-own
+returns-clause-own c =
+    let mine = same_bytes-refl c.args.slice.now.owner in
+    IfOk-weaker _ _ _ (λ d. each_decided _ _ _ d (mine, (mine, tt))) (c.plan_withdrawal.ensures.plan (scrap_checks (tables_of c.args.slice.now) c.args.lot c.args.sublot c.args.amount) c.check_taking-checked.ensures)

@@ -1,4 +1,7 @@
 use Rattle.std.proofs.lemmas.Result.{IfOk-weaker}
+use Rattle.toll_history.proofs.PutsOwn.{each_decided, puts_rows}
+use Rattle.toll_history.specs.Tables.{tables_of}
+use Rattle.toll_work.specs.Plans.{opened_rows}
 use Rattle.toll_work.proofs.OpenLaw.{opening_decided, opening_keeps}
 use Rattle.toll_work.proofs.batches.open_batch.Goals as goal
 
@@ -7,3 +10,6 @@ returns-clause-decides c = IfOk-weaker _ _ _ (λ d. opening_decided _ _ _ _ _ d)
 
 pub returns-clause-rules : goal.returns-clause-rules
 returns-clause-rules c = IfOk-weaker _ _ _ (λ d decided. opening_keeps _ _ _ _ _ d decided c.plan_opening.ensures.kept) c.plan_opening.ensures.plan
+
+pub returns-clause-own : goal.returns-clause-own
+returns-clause-own c = IfOk-weaker _ _ _ (λ d. each_decided _ _ _ d (puts_rows c.args.slice.now.owner (opened_rows c.args.order c.args.unit (tables_of c.args.slice.now)))) c.plan_opening.ensures.plan

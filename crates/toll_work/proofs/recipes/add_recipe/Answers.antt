@@ -1,6 +1,6 @@
 use Rattle.std.proofs.lemmas.Result.{IfOk-weaker}
 use Rattle.toll_base.proofs.Texts.{same_bytes-refl}
-use Rattle.toll_work.proofs.PutsOwn.{puts_own}
+use Rattle.toll_history.proofs.PutsOwn.{each_decided}
 use Rattle.toll_work.proofs.RecipeLaw.{recipe_decided, recipe_keeps}
 use Rattle.toll_work.proofs.recipes.add_recipe.Goals as goal
 
@@ -11,4 +11,4 @@ pub returns-clause-rules : goal.returns-clause-rules
 returns-clause-rules c = IfOk-weaker _ _ _ (λ d decided. recipe_keeps _ _ d decided c.plan_recipe.ensures.kept) c.plan_recipe.ensures.plan
 
 pub returns-clause-own : goal.returns-clause-own
-returns-clause-own c = IfOk-weaker _ _ _ (λ d decided. puts_own _ _ _ d (same_bytes-refl c.args.slice.now.owner, tt) decided) c.plan_recipe.ensures.plan
+returns-clause-own c = IfOk-weaker _ _ _ (λ d decided. each_decided _ _ _ d (same_bytes-refl c.args.slice.now.owner, tt) decided) c.plan_recipe.ensures.plan

@@ -1,11 +1,10 @@
 use Rattle.std.proofs.Common.{◌+◌, [], ◌∷◌}
-use Rattle.toll_history.specs.Bounds.{returning_bounds}
 use Rattle.toll_history.specs.Tables.{tables_of}
 use Rattle.toll_history.specs.Verdict.{tables_for, amount_in}
 use Rattle.toll_base.specs.declared.decision.Change.TheVariants.{Put}
 use Rattle.toll_base.specs.declared.rows.Row.TheVariants.{Sublot, Void}
 use Rattle.toll_history.proofs.Decided.{refused_decides}
-use Rattle.toll_work.specs.Voiding.{open_checks}
+use Rattle.toll_work.specs.Voiding.{open_checks, giving_bounds}
 use Rattle.toll_work.proofs.voids.give_back.Goals as goal
 
 pub returns-in-Err : goal.returns-in-Err
@@ -13,4 +12,4 @@ returns-in-Err c =
     let own = c.args.own.now in
     let used = c.args.used.now in
     let t = tables_of own in
-    record { plan = refused_decides (open_checks t c.args.key used.order used.number) (returning_bounds (tables_for own.owner t (tables_of c.args.house.now) used.lot.owner) used.lot.lot used.sublot c.args.amount) (Put own.owner (Void (record { key = c.args.key })) ∷ Put used.lot.owner (Sublot (record { lot = used.lot.lot; sublot = used.sublot; amount = amount_in (tables_for own.owner t (tables_of c.args.house.now) used.lot.owner) used.lot.lot used.sublot + c.args.amount })) ∷ []) c.in-Err.why c.in-Err.ensures }
+    record { plan = refused_decides (open_checks t c.args.key used.order used.number) (giving_bounds own.owner (tables_for own.owner t (tables_of c.args.house.now) used.lot.owner) used.lot used.sublot c.args.amount) (Put own.owner (Void (record { key = c.args.key })) ∷ Put used.lot.owner (Sublot (record { lot = used.lot.lot; sublot = used.sublot; amount = amount_in (tables_for own.owner t (tables_of c.args.house.now) used.lot.owner) used.lot.lot used.sublot + c.args.amount })) ∷ []) c.in-Err.why c.in-Err.ensures }

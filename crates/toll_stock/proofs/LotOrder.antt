@@ -1,0 +1,39 @@
+-- Rows whose keys begin with their lots stand in the order of their lots.
+use Rattle.std.proofs.Common.{◌≡◌, zero, suc, ◌+◌, false, List, [], ◌∷◌, refl, ap, ◌∙◌, arith}
+use Rattle.std.specs.Cmp.Lexicographic.{nat_list_cmp_total}
+use Rattle.std.specs.List.Sorted.{IsStrictlySortedBy, IsSortedByKey}
+use Rattle.std.specs.Ordering.{is_lt, is_gt, ordering_then, ordering_reverse}
+use Rattle.std.specs.declared.cmp.Ordering.{Ordering}
+use Rattle.std.specs.declared.cmp.Ordering.TheVariants.{Less, Equal, Greater}
+use Rattle.toll_base.specs.Bytes.{Bytes, bytes_cmp}
+use Rattle.toll_base.specs.Keys.{pair_cmp, result_cmp}
+use Rattle.toll_base.specs.Table.{IsInKeyOrder}
+use Rattle.toll_base.specs.declared.rows.ResultRow.{ResultRow}
+use Rattle.toll_base.specs.declared.rows.SublotRow.{SublotRow}
+
+-- what comes first is not above where the whole is not
+first_not_above : (r s : Ordering) → is_gt (ordering_then r s) ≡ false → is_gt r ≡ false
+first_not_above Less s h = refl
+first_not_above Equal s h = refl
+first_not_above Greater s h = h
+
+turned : (r : Ordering) → is_gt r ≡ false → is_lt (ordering_reverse r) ≡ false
+turned Less h = refl
+turned Equal h = refl
+turned Greater h = h
+
+module _ {K R : Type 0} (cmp : K → K → Ordering) (key : R → K) (lot_of : R → Bytes) (begins : (a b : R) → is_gt (cmp (key a) (key b)) ≡ false → is_gt (bytes_cmp (lot_of a) (lot_of b)) ≡ false) where
+  in_lot_order : (rows : List R) → IsInKeyOrder cmp key rows → IsSortedByKey lot_of bytes_cmp rows
+  unfolding IsStrictlySortedBy
+  in_lot_order [] ordered k d _ lt = absurd (omega arith)
+  in_lot_order (x ∷ []) ordered k d _ lt = absurd (omega arith)
+  in_lot_order (x ∷ y ∷ ys) ordered zero d _ lt = ap is_lt (nat_list_cmp_total.antisymm (lot_of y) (lot_of x)) ∙ turned _ (begins x y (ap is_gt ordered.0.0))
+  in_lot_order (x ∷ y ∷ ys) ordered (suc k) d _ lt =
+      let next : suc k + 1 ≡ suc (k + 1) = omega arith in
+      rw next (in_lot_order (y ∷ ys) ordered.1 k d (omega arith) (omega arith))
+
+pub sublots_in_order : (rows : List SublotRow) → IsInKeyOrder pair_cmp (λ row. (row.lot, row.sublot)) rows → IsSortedByKey (λ row. row.lot) bytes_cmp rows
+sublots_in_order = in_lot_order pair_cmp (λ row. (row.lot, row.sublot)) (λ row. row.lot) (λ a b. first_not_above _ _)
+
+pub results_in_order : (rows : List ResultRow) → IsInKeyOrder result_cmp (λ row. (row.lot, row.test, row.number)) rows → IsSortedByKey (λ row. row.lot) bytes_cmp rows
+results_in_order = in_lot_order result_cmp (λ row. (row.lot, row.test, row.number)) (λ row. row.lot) (λ a b above. first_not_above _ _ (first_not_above _ _ above))

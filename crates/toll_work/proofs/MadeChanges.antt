@@ -1,0 +1,51 @@
+-- Which changes a decision makes: none where a check applies, else rows of its owner, or a sublot of HOUSE.
+use Rattle.std.proofs.Common.{◌≡◌, ℕ, Bool, true, false, not, ◌&&◌, ◌||◌, List, [], ◌∷◌, sym, subst, ◌∙◌, refl}
+use mathlib.Core.Bool.{false≢true}
+use Rattle.std.proofs.lemmas.Bool.{or_left}
+use Rattle.toll_base.specs.Bytes.{Bytes, same_bytes}
+use Rattle.toll_base.specs.Changes.{changes_of}
+use Rattle.toll_base.specs.Values.{house_name}
+use Rattle.toll_base.specs.declared.decision.Change.{Change}
+use Rattle.toll_base.specs.declared.decision.Change.TheVariants.{Put}
+use Rattle.toll_base.specs.declared.decision.Decision.{Decision}
+use Rattle.toll_base.specs.declared.lot.LotId.{LotId}
+use Rattle.toll_base.specs.declared.role.Role.TheVariants.{Consumed}
+use Rattle.toll_base.specs.declared.rows.Row.TheVariants.{Sublot}
+use Rattle.toll_base.proofs.Bools.{and_is}
+use Rattle.toll_base.proofs.Texts.{same_bytes-refl}
+use Rattle.toll_history.specs.Decision.{IsDecided, changes_if}
+use Rattle.toll_history.specs.OwnChanges.{is_put_of, is_put_in_house, EachChange, PutsOnly, PutsOnlyWith}
+use Rattle.toll_history.specs.Verdict.{Verdict, Checks, Accepted, Repeated, Refused, first_of, crosses}
+use Rattle.toll_history.proofs.Accepted.{applies, none_applies}
+
+each_if : (such : Change → Bool) (v : Verdict) (changes : List Change) → (v ≡ Accepted → EachChange such changes) → EachChange such (changes_if v changes)
+each_if such Accepted changes each = each refl
+each_if such Repeated changes each = tt
+each_if such (Refused why) changes each = tt
+
+-- what is so of each change where the checks accept is so of each change of the decision
+pub each_accepted : (such : Change → Bool) (checks : Checks) (changes : List Change) (d : Decision) → (first_of checks ≡ Accepted → EachChange such changes) → IsDecided checks changes d → EachChange such (changes_of d)
+each_accepted such checks changes d each decided = subst (EachChange such) (sym decided.makes) (each_if such (first_of checks) changes each)
+
+none_if : (v : Verdict) (changes : List Change) → (v ≡ Accepted → ⊥) → changes_if v changes ≡ []
+none_if Accepted changes not_accepted = absurd (not_accepted refl)
+none_if Repeated changes not_accepted = refl
+none_if (Refused why) changes not_accepted = refl
+
+-- where one of the checks applies, nothing changes
+pub none_made : (checks : Checks) (changes : List Change) (d : Decision) (n : ℕ) → applies checks n ≡ true → IsDecided checks changes d → changes_of d ≡ []
+none_made checks changes d n applied decided = decided.makes ∙ none_if (first_of checks) changes (λ accepted. false≢true (sym (none_applies checks accepted n) ∙ applied))
+
+-- rows of the owner alone are so with a sublot of HOUSE too
+pub puts_with : (o : Bytes) (k : Bytes × Bytes) (changes : List Change) → PutsOnly o changes → PutsOnlyWith o k changes
+puts_with o k [] puts = tt
+puts_with o k (change ∷ changes) puts = (or_left (is_put_of o change) (is_put_in_house k change) puts.0, puts_with o k changes puts.1)
+
+its_own_or_house : (a b x y : Bool) → not (a || b) ≡ false → x ≡ true → y ≡ true → (a || (b && x && y)) ≡ true
+its_own_or_house true b x y stays hx hy = refl
+its_own_or_house false true x y stays hx hy = and_is x y hx hy
+its_own_or_house false false x y crossed hx hy = absurd (false≢true (sym crossed))
+
+-- a sublot of a lot that the owner may consume
+pub puts_consumed : (o : Bytes) (lot : LotId) (sublot : Bytes) (amount : ℕ) → crosses o Consumed lot.owner ≡ false → PutsOnlyWith o (lot.lot, sublot) (Put lot.owner (Sublot (record { lot = lot.lot; sublot = sublot; amount = amount })) ∷ [])
+puts_consumed o lot sublot amount stays = (its_own_or_house (same_bytes lot.owner o) (same_bytes lot.owner house_name) _ _ stays (same_bytes-refl lot.lot) (same_bytes-refl sublot), tt)
