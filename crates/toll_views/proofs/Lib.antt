@@ -1,0 +1,3 @@
+pub mod ConsumedLaw
+pub mod LotLaw
+pub mod StockLaw

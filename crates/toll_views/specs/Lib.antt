@@ -1,0 +1,2 @@
+pub mod InSlice
+pub mod Views
