@@ -1,15 +1,13 @@
 -- A plan that is carried out.
-use Rattle.std.proofs.Common.{◌≡◌, ◌==◌, Bool, true, List, [], ◌∷◌, length, Result, Ok, Err, OnOk, OnErr, IfOk, refl, sym, subst, arith, ◌∙◌}
-use Rattle.std.specs.Prelude.{IsTrue}
-use mathlib.Core.Bool.{false≢true}
+use Rattle.std.proofs.Common.{◌≡◌, ◌==◌, Bool, true, false, List, [], ◌∷◌, length, Result, Ok, Err, OnOk, OnErr, IfOk, refl, sym, ap, subst, arith, ◌∙◌}
 use Rattle.toll_history.specs.History.{History}
 use Rattle.toll_base.specs.declared.decision.Change.{Change}
 use Rattle.toll_base.proofs.Texts.{nat_eq-exact}
 use Rattle.toll_keep.specs.Content.{Content, after, Fits}
-use Rattle.toll_keep.specs.Goes.{Goes, closes}
+use Rattle.toll_keep.specs.Goes.{Goes}
 use Rattle.toll_keep.specs.declared.fault.KeepFault.{KeepFault}
-use Rattle.toll_keep.specs.declared.fault.KeepFault.TheVariants.{Memory, Disk, Damaged, Closed}
 use Rattle.toll_desk.specs.Plans.{finished, LeadsTo, IsDone}
+use Rattle.toll_desk.proofs.Calls.{goes_then, goes_as, goes_fault}
 
 pub no_changes : (changes : List Change) → (length changes == 0) ≡ true → changes ≡ []
 no_changes [] e = refl
@@ -68,50 +66,22 @@ module _ {K : Type 0} (holds : K → Content → Type 0) (is_live : K → Type 0
       subst (λ r. IsDone (holds new) (is_live old) (leaves new) c G r IsTold) (sym is)
       (carried_done old middle new result c G IsTold changes (subst (λ changes. IsCarried middle new changes c result) same carried) held planned none plan live stop)
 
--- a fault closes a keep whatever an answer would have been
-closes_alike : (X Y : Type 0) (fault : KeepFault) → closes {X = X} (Err fault) ≡ closes {X = Y} (Err fault)
-closes_alike X Y Memory = refl
-closes_alike X Y Disk = refl
-closes_alike X Y Damaged = refl
-closes_alike X Y Closed = refl
+  -- where nothing was granted, what was held is held
+  pub quiet_of : {X : Type 0} (middle new : K) (result : Result (Unit {0}) KeepFault) (c : Content) (changes made : List Change) → made ≡ changes → IsCarried middle new made c result → holds middle c →
+      (grants : Result X KeepFault → Bool) (planned : Result X KeepFault) → (grants planned ≡ false → changes ≡ []) → (outcome : Result X KeepFault) → outcome ≡ finished planned result → grants outcome ≡ false → holds new c
+  quiet_of middle new (Ok done) c changes made same carried held grants planned quiet outcome is none =
+      subst (λ k. holds k c) (sym (carried.idle (same ∙ quiet (ap grants (sym is) ∙ none))).0) held
+  quiet_of middle new (Err fault) c changes made same carried held grants planned quiet outcome is none = carried.none
 
-module _ {K X : Type 0} (is_honest is_live : K → Type 0) (is_closed : K → Bool) (has_cause : K → K → Type 0) (leaves : K → List Content → Type 0) (old middle new : K) where
-  abbrev answered : X → Result X KeepFault
-  answered x = Ok x
-
-  -- one call after another that answered
-  goes_both : (x : X) (r : Result (Unit {0}) KeepFault) → Goes is_honest is_live is_closed has_cause leaves old middle (answered x) → Goes is_honest is_live is_closed has_cause leaves middle new r →
-      Goes is_honest is_live is_closed has_cause leaves old new (finished (Ok x) r)
-  goes_both x (Ok done) first second =
-      let never : IsTrue (is_closed old) → ⊥ = λ was. let e : answered x ≡ Err Closed = first.closed.1 was in (cc) in
-      record {
-        honest = λ now. first.honest (second.honest now);
-        closed = first.closed;
-        closes = second.closes;
-        live = λ now lives. first.live (second.honest now) (second.live now lives);
-        shown = second.shown;
-        cause = λ now is. (cc);
-        since = λ now later cause. first.since (second.honest now) later (second.since now later cause);
-        stays = λ was cs left. absurd (never was);
-      }
-  goes_both x (Err fault) first second =
-      let never : IsTrue (is_closed old) → ⊥ = λ was. let e : answered x ≡ Err Closed = first.closed.1 was in (cc) in
-      record {
-        honest = λ now. first.honest (second.honest now);
-        closed = (λ is. absurd (false≢true (subst (λ b. IsTrue b) first.closes (second.closed.0 (cc)))), λ was. absurd (never was));
-        closes = second.closes ∙ closes_alike (Unit {0}) X fault;
-        live = λ now lives. first.live (second.honest now) (second.live now lives);
-        shown = λ now. tt;
-        cause = λ now is. first.since (second.honest now) new (second.cause now (cc));
-        since = λ now later cause. first.since (second.honest now) later (second.since now later cause);
-        stays = λ was cs left. absurd (never was);
-      }
-
+module _ {K : Type 0} {X : Type 0} (is_honest is_live : K → Type 0) (is_closed : K → Bool) (has_cause : K → K → Type 0) (leaves : K → List Content → Type 0) (holds : K → Content → Type 0) (old middle new : K) where
   -- a plan, and its changes after it
   pub goes_on : (planned : Result X KeepFault) (changes : List Change) (r : Result (Unit {0}) KeepFault) → Goes is_honest is_live is_closed has_cause leaves old middle planned → OnErr planned (changes ≡ []) →
       (changes ≡ [] → (new ≡ middle) × (r ≡ Ok tt)) → ((changes ≡ [] → ⊥) → Goes is_honest is_live is_closed has_cause leaves middle new r) → Goes is_honest is_live is_closed has_cause leaves old new (finished planned r)
   goes_on planned [] r first none idle on =
       let same = idle refl in
       subst (λ r. Goes is_honest is_live is_closed has_cause leaves old new (finished planned r)) (sym same.1) (subst (λ k. Goes is_honest is_live is_closed has_cause leaves old k planned) (sym same.0) first)
-  goes_on (Ok x) (change ∷ changes) r first none idle on = goes_both x r first (on (λ e. (cc)))
+  goes_on (Ok x) (change ∷ changes) (Ok done) first none idle on =
+      goes_as is_honest is_live is_closed has_cause leaves holds old new tt x (goes_then is_honest is_live is_closed has_cause leaves holds old middle new x (Ok done) first (on (λ e. (cc))))
+  goes_on (Ok x) (change ∷ changes) (Err fault) first none idle on =
+      goes_fault is_honest is_live is_closed has_cause leaves holds old new fault (goes_then is_honest is_live is_closed has_cause leaves holds old middle new x (Err fault) first (on (λ e. (cc))))
   goes_on (Err fault) (change ∷ changes) r first none idle on = (cc)

@@ -1,4 +1,4 @@
--- A search among owners.
+-- A search among rows.
 use Rattle.std.proofs.Common.{◌≡◌, ℕ, zero, suc, ◌<◌, ◌≤◌, true, false, not, ◌&&◌, is_some, cond, Option, Some, None, List, [], ◌∷◌, length, get_or, drop, refl, sym, ap, ◌∙◌, arith}
 use Rattle.std.proofs.lemmas.List.{drop_all}
 use mathlib.Core.Bool.{false≢true}
@@ -10,26 +10,31 @@ use Rattle.toll_base.specs.declared.rows.OwnerRow.{OwnerRow}
 use Rattle.toll_base.proofs.Texts.{same_bytes-exact}
 use Rattle.toll_desk.specs.Plans.{is_admitted}
 
+module _ {R : Type 0} (key : R → Bytes) where
+  -- the row with this key
+  abbrev pub row_of : List R → Bytes → Option R
+  row_of rows k = row_at bytes_cmp key rows k
+
+  -- from the i-th row on
+  row_from : (rows : List R) (k : Bytes) (i : ℕ) (d : R) → i < length rows → row_of (drop i rows) k ≡ cond (same_bytes k (key (get_or rows i d))) (Some (get_or rows i d)) (row_of (drop (suc i) rows) k)
+  unfolding row_at
+  row_from [] k i d lt = absurd (omega arith)
+  row_from (x ∷ rows) k zero d lt = refl
+  row_from (x ∷ rows) k (suc i) d lt = row_from rows k i d (omega arith)
+
+  pub found_at : (rows : List R) (k : Bytes) (i : ℕ) (x : R) → i < length rows → x ≡ get_or rows i x → same_bytes k (key x) ≡ true → row_of (drop i rows) k ≡ Some x
+  found_at rows k i x lt is same = row_from rows k i x lt ∙ ap (λ y. cond (same_bytes k (key y)) (Some y) (row_of (drop (suc i) rows) k)) (sym is) ∙ ap (λ b. cond b (Some x) (row_of (drop (suc i) rows) k)) same
+
+  pub passed_at : (rows : List R) (k : Bytes) (i j : ℕ) (x : R) → j ≡ suc i → i < length rows → x ≡ get_or rows i x → same_bytes k (key x) ≡ false → row_of (drop i rows) k ≡ row_of (drop j rows) k
+  passed_at rows k i j x next lt is same = row_from rows k i x lt ∙ ap (λ y. cond (same_bytes k (key y)) (Some y) (row_of (drop (suc i) rows) k)) (sym is) ∙ ap (λ b. cond b (Some x) (row_of (drop (suc i) rows) k)) same ∙ ap (λ n. row_of (drop n rows) k) (sym next)
+
+  pub ended_at : (rows : List R) (k : Bytes) (i : ℕ) → length rows ≤ i → row_of (drop i rows) k ≡ None
+  unfolding row_at
+  ended_at rows k i le = ap (λ xs. row_of xs k) (drop_all i rows le)
+
 -- the owner of this name
 abbrev pub owner_at : List OwnerRow → Bytes → Option OwnerRow
-owner_at rows o = row_at bytes_cmp (λ row. row.owner) rows o
-
--- from the i-th row on
-owner_from : (rows : List OwnerRow) (o : Bytes) (i : ℕ) (d : OwnerRow) → i < length rows → owner_at (drop i rows) o ≡ cond (same_bytes o (get_or rows i d).owner) (Some (get_or rows i d)) (owner_at (drop (suc i) rows) o)
-unfolding row_at
-owner_from [] o i d lt = absurd (omega arith)
-owner_from (x ∷ rows) o zero d lt = refl
-owner_from (x ∷ rows) o (suc i) d lt = owner_from rows o i d (omega arith)
-
-pub found_at : (rows : List OwnerRow) (o : Bytes) (i : ℕ) (x : OwnerRow) → i < length rows → x ≡ get_or rows i x → same_bytes o x.owner ≡ true → owner_at (drop i rows) o ≡ Some x
-found_at rows o i x lt is same = owner_from rows o i x lt ∙ ap (λ y. cond (same_bytes o y.owner) (Some y) (owner_at (drop (suc i) rows) o)) (sym is) ∙ ap (λ b. cond b (Some x) (owner_at (drop (suc i) rows) o)) same
-
-pub passed_at : (rows : List OwnerRow) (o : Bytes) (i j : ℕ) (x : OwnerRow) → j ≡ suc i → i < length rows → x ≡ get_or rows i x → same_bytes o x.owner ≡ false → owner_at (drop i rows) o ≡ owner_at (drop j rows) o
-passed_at rows o i j x next lt is same = owner_from rows o i x lt ∙ ap (λ y. cond (same_bytes o y.owner) (Some y) (owner_at (drop (suc i) rows) o)) (sym is) ∙ ap (λ b. cond b (Some x) (owner_at (drop (suc i) rows) o)) same ∙ ap (λ k. owner_at (drop k rows) o) (sym next)
-
-pub ended_at : (rows : List OwnerRow) (o : Bytes) (i : ℕ) → length rows ≤ i → owner_at (drop i rows) o ≡ None
-unfolding row_at
-ended_at rows o i le = ap (λ xs. owner_at xs o) (drop_all i rows le)
+owner_at rows o = row_of (λ row. row.owner) rows o
 
 -- ---- who is admitted
 

@@ -1,9 +1,10 @@
 -- From what a decision owes to every slice to what a plan owes over the content of a keep.
-use Rattle.std.proofs.Common.{◌≡◌, ℕ, ◌+◌, Bool, true, false, ◌&&◌, ◌||◌, cond, Option, None, List, [], ◌∷◌, refl, sym, ap, subst, ◌∙◌, arith}
+use Rattle.std.proofs.Common.{◌≡◌, ◌⊎◌, inl, inr, ℕ, ◌+◌, Bool, true, false, ◌&&◌, ◌||◌, cond, Option, None, is_some, List, [], ◌∷◌, refl, sym, ap, subst, ◌∙◌, arith}
 use mathlib.Core.Bool.{false≢true}
 use Rattle.std.specs.List.{list_any}
 use Rattle.std.specs.Option.{option_map}
-use Rattle.toll_base.specs.Bytes.{Bytes, same_bytes}
+use Rattle.toll_base.specs.Bytes.{Bytes, bytes_cmp, same_bytes}
+use Rattle.toll_base.specs.Table.{row_at}
 use Rattle.toll_base.specs.Values.{house_name}
 use Rattle.toll_base.specs.Words.{or_else, where_so}
 use Rattle.toll_history.specs.Command.{Action, AddOwner, AddUnit, by}
@@ -14,20 +15,22 @@ use Rattle.toll_history.specs.Tables.{IsRowsOf}
 use Rattle.toll_history.specs.Verdict.{Verdict, Accepted, Repeated, Refused, verdict, grown, grow, IsLawful}
 use Rattle.toll_base.specs.Changes.{after_change, after_changes}
 use Rattle.toll_history.specs.Decision.{ChangesKeepRules}
-use Rattle.toll_history.specs.OwnChanges.{is_put_of, PutsOnly}
+use Rattle.toll_history.specs.OwnChanges.{EachChange, is_put_of, is_put_in_house, PutsOnly, PutsOnlyWith}
+use Rattle.toll_base.specs.declared.rows.Row.{Row}
+use Rattle.toll_base.specs.declared.rows.Row.TheVariants.{Material, Test, Recipe, Requirement, Order, Batch, Lot, Sublot, Move, Result, Void}
 use Rattle.toll_base.specs.declared.rows.OwnerRow.{OwnerRow}
 use Rattle.toll_base.specs.declared.rows.UnitRow.{UnitRow}
 use Rattle.toll_base.specs.declared.decision.Change.{Change}
 use Rattle.toll_base.specs.declared.decision.Change.TheVariants.{Owner, Unit as UnitAdded, Put}
 use Rattle.toll_history.proofs.Acts.{first_acts, any_acts}
-use Rattle.toll_base.proofs.Texts.{same_bytes-exact}
+use Rattle.toll_base.proofs.Texts.{same_bytes-exact, same_bytes-refl}
 use Rattle.toll_keep.specs.Content.{Content, knows, after_owners, after_units, PutsToKnown}
 use Rattle.toll_keep.specs.Standing.{StandsFor, AreOwnersOf, AreUnitsOf}
 use Rattle.toll_keep.proofs.Fitting.{kept_rules_fit}
 use Rattle.toll_keep.proofs.KeptRules.{standing_keeps_rules}
 use Rattle.toll_keep.proofs.Knowing.{standing_knows}
 use Rattle.toll_keep.proofs.Slicing.{owner-with_row}
-use Rattle.toll_desk.specs.Plans.{LeadsTo}
+use Rattle.toll_desk.specs.Plans.{LeadsTo, is_shared_put, PutsShared}
 
 -- ---- owners and units
 
@@ -48,15 +51,15 @@ adds_neither (AddOwner key) = false
 adds_neither (AddUnit unit) = false
 adds_neither _ = true
 
-none_else : {X : Type 0} (b : Bool) (x : Option X) → or_else (cond b None None) x ≡ x
+pub none_else : {X : Type 0} (b : Bool) (x : Option X) → or_else (cond b None None) x ≡ x
 none_else true x = refl
 none_else false x = refl
 
-idle : (b c : Bool) → ((b && false) || c) ≡ c
+pub idle : (b c : Bool) → ((b && false) || c) ≡ c
 idle true c = refl
 idle false c = refl
 
-none_more : (n : ℕ) → 0 + n ≡ n
+pub none_more : (n : ℕ) → 0 + n ≡ n
 none_more n = omega arith
 
 same_after : (H : History) (w : Bytes) (a : Action) → adds_neither a ≡ true → SamePlant H (by w a ∷ H)
@@ -78,15 +81,87 @@ same_grown H w a none = go (verdict H (by w a))
     go Repeated = same_plant-refl H
     go (Refused why) = same_plant-refl H
 
--- ---- changes of one owner's rows
+-- ---- changes of one owner's rows, or of its and HOUSE's
 
-owners_stay : (o : Bytes) (changes : List Change) (rows : List OwnerRow) → PutsOnly o changes → after_owners changes rows ≡ rows
+-- such changes put rows, and none of this owner
+record Misses (such : Change → Bool) (q : Bytes) : Type 0 where
+  pub puts : (p : Bytes) (row : Row) → such (Put p row) ≡ true → same_bytes p q ≡ false
+  pub no_owner : (row : OwnerRow) → such (Owner row) ≡ false
+  pub no_unit : (row : UnitRow) → such (UnitAdded row) ≡ false
+
+own_misses : (o q : Bytes) → same_bytes o q ≡ false → Misses (is_put_of o) q
+own_misses o q other = record {
+  puts = λ p row put. ap (λ w. same_bytes w q) (same_bytes-exact p o put) ∙ other;
+  no_owner = λ row. refl;
+  no_unit = λ row. refl;
+}
+
+either : (b c : Bool) → (b || c) ≡ true → (b ≡ true) ⊎ (c ≡ true)
+either true c h = inl refl
+either false c h = inr h
+
+pub first_of_either : (b c : Bool) → b ≡ true → (b || c) ≡ true
+first_of_either true c h = refl
+first_of_either false c h = absurd (false≢true h)
+
+shared_misses : (o q : Bytes) → same_bytes o q ≡ false → same_bytes house_name q ≡ false → Misses (is_shared_put o) q
+shared_misses o q other not_house = record {
+  puts = λ p row put. elim (either (same_bytes p o) (same_bytes p house_name) put) [
+    | inl is ↦ ap (λ w. same_bytes w q) (same_bytes-exact p o is) ∙ other
+    | inr is ↦ ap (λ w. same_bytes w q) (same_bytes-exact p house_name is) ∙ not_house
+  ];
+  no_owner = λ row. refl;
+  no_unit = λ row. refl;
+}
+
+-- rows of one owner are rows of it or of HOUSE
+pub shared_by_own : (o : Bytes) (changes : List Change) → PutsOnly o changes → PutsShared o changes
+shared_by_own o [] puts = tt
+shared_by_own o (Owner row ∷ changes) puts = absurd (false≢true puts.0)
+shared_by_own o (UnitAdded row ∷ changes) puts = absurd (false≢true puts.0)
+shared_by_own o (Put p row ∷ changes) puts = (first_of_either (same_bytes p o) (same_bytes p house_name) puts.0, shared_by_own o changes puts.1)
+
+last_of_both : (b c : Bool) → (b && c) ≡ true → b ≡ true
+last_of_both true c h = refl
+last_of_both false c h = absurd (false≢true h)
+
+named_in_house : (o : Bytes) (k : Bytes × Bytes) (change : Change) → (is_put_of o change || is_put_in_house k change) ≡ true → is_shared_put o change ≡ true
+named_in_house o k (Owner row) put = absurd (false≢true put)
+named_in_house o k (UnitAdded row) put = absurd (false≢true put)
+named_in_house o k (Put p row) put = elim (either (same_bytes p o) (is_put_in_house k (Put p row)) put) [
+  | inl is ↦ first_of_either (same_bytes p o) (same_bytes p house_name) is
+  | inr is ↦ second_of_either (same_bytes p o) (same_bytes p house_name) (of_house p row is)
+]
+  where
+    second_of_either : (b c : Bool) → c ≡ true → (b || c) ≡ true
+    second_of_either true c h = refl
+    second_of_either false c h = h
+
+    of_house : (p : Bytes) (row : Row) → is_put_in_house k (Put p row) ≡ true → same_bytes p house_name ≡ true
+    of_house p (Sublot row) is = last_of_both (same_bytes p house_name) (same_bytes row.lot k.0) (last_of_both (same_bytes p house_name && same_bytes row.lot k.0) (same_bytes row.sublot k.1) is)
+    of_house p (Material row) is = absurd (false≢true is)
+    of_house p (Test row) is = absurd (false≢true is)
+    of_house p (Recipe row) is = absurd (false≢true is)
+    of_house p (Requirement row) is = absurd (false≢true is)
+    of_house p (Order row) is = absurd (false≢true is)
+    of_house p (Batch row) is = absurd (false≢true is)
+    of_house p (Lot row) is = absurd (false≢true is)
+    of_house p (Move row) is = absurd (false≢true is)
+    of_house p (Result row) is = absurd (false≢true is)
+    of_house p (Void row) is = absurd (false≢true is)
+
+-- and so are an owner's rows with one sublot of HOUSE
+pub shared_by_named : (o : Bytes) (k : Bytes × Bytes) (changes : List Change) → PutsOnlyWith o k changes → PutsShared o changes
+shared_by_named o k [] puts = tt
+shared_by_named o k (change ∷ changes) puts = (named_in_house o k change puts.0, shared_by_named o k changes puts.1)
+
+owners_stay : (o : Bytes) (changes : List Change) (rows : List OwnerRow) → PutsShared o changes → after_owners changes rows ≡ rows
 owners_stay o [] rows puts = refl
 owners_stay o (Owner row ∷ changes) rows puts = absurd (false≢true puts.0)
 owners_stay o (UnitAdded row ∷ changes) rows puts = absurd (false≢true puts.0)
 owners_stay o (Put p row ∷ changes) rows puts = owners_stay o changes rows puts.1
 
-units_stay : (o : Bytes) (changes : List Change) (rows : List UnitRow) → PutsOnly o changes → after_units changes rows ≡ rows
+units_stay : (o : Bytes) (changes : List Change) (rows : List UnitRow) → PutsShared o changes → after_units changes rows ≡ rows
 units_stay o [] rows puts = refl
 units_stay o (Owner row ∷ changes) rows puts = absurd (false≢true puts.0)
 units_stay o (UnitAdded row ∷ changes) rows puts = absurd (false≢true puts.0)
@@ -101,28 +176,37 @@ pub owner_stays : (changes : List Change) (s : Slice) → (after_changes changes
 owner_stays [] s = refl
 owner_stays (change ∷ changes) s = owner_stays changes (after_change change s) ∙ owner_after change s
 
--- a change of one owner's rows leaves another owner's
-other_stays : (o : Bytes) (change : Change) (s : Slice) → is_put_of o change ≡ true → same_bytes o s.owner ≡ false → after_change change s ≡ s
-other_stays o (Owner row) s put other = refl
-other_stays o (UnitAdded row) s put other = refl
-other_stays o (Put p row) s put other = ap (λ b. cond b (with_row s row) s) (ap (λ q. same_bytes q s.owner) (same_bytes-exact p o put) ∙ other)
+-- changes leave the rows of an owner that they miss
+module _ (such : Change → Bool) (s : Slice) (misses : Misses such s.owner) where
+  other_stays : (change : Change) → such change ≡ true → after_change change s ≡ s
+  other_stays (Owner row) put = refl
+  other_stays (UnitAdded row) put = refl
+  other_stays (Put p row) put = ap (λ b. cond b (with_row s row) s) (misses.puts p row put)
 
-pub others_stay : (o : Bytes) (changes : List Change) (s : Slice) → PutsOnly o changes → same_bytes o s.owner ≡ false → after_changes changes s ≡ s
-others_stay o [] s puts other = refl
-others_stay o (change ∷ changes) s puts other =
-    let same = other_stays o change s puts.0 other in
-    ap (after_changes changes) same ∙ others_stay o changes s puts.1 other
+  others_stay : (changes : List Change) → EachChange such changes → after_changes changes s ≡ s
+  others_stay [] each = refl
+  others_stay (change ∷ changes) each = ap (after_changes changes) (other_stays change each.0) ∙ others_stay changes each.1
 
-others_keep : (o : Bytes) (changes : List Change) (s : Slice) → PutsOnly o changes → same_bytes o s.owner ≡ false → KeepsRules s → ChangesKeepRules changes s
-others_keep o [] s puts other keeps = tt
-others_keep o (change ∷ changes) s puts other keeps =
-    subst (λ t. KeepsRules t × ChangesKeepRules changes t) (sym (other_stays o change s puts.0 other)) (keeps, others_keep o changes s puts.1 other keeps)
+  others_keep : (changes : List Change) → EachChange such changes → KeepsRules s → ChangesKeepRules changes s
+  others_keep [] each keeps = tt
+  others_keep (change ∷ changes) each keeps =
+      subst (λ t. KeepsRules t × ChangesKeepRules changes t) (sym (other_stays change each.0)) (keeps, others_keep changes each.1 keeps)
 
-puts_to_known : (c : Content) (o : Bytes) (changes : List Change) → PutsOnly o changes → knows c o ≡ true → PutsToKnown c changes
+-- changes of one owner's rows keep the rules of another's
+pub own_keep_others : (o : Bytes) (changes : List Change) (s : Slice) → PutsOnly o changes → same_bytes o s.owner ≡ false → KeepsRules s → ChangesKeepRules changes s
+own_keep_others o changes s puts other keeps = others_keep (is_put_of o) s (own_misses o s.owner other) changes puts keeps
+
+puts_to_known : (c : Content) (o : Bytes) (changes : List Change) → PutsShared o changes → knows c o ≡ true → PutsToKnown c changes
 puts_to_known c o [] puts known = tt
 puts_to_known c o (Owner row ∷ changes) puts known = absurd (false≢true puts.0)
 puts_to_known c o (UnitAdded row ∷ changes) puts known = absurd (false≢true puts.0)
-puts_to_known c o (Put p row ∷ changes) puts known = (subst (λ q. knows c q ≡ true) (sym (same_bytes-exact p o puts.0)) known, puts_to_known c o changes puts.1 known)
+puts_to_known c o (Put p row ∷ changes) puts known = (
+  elim (either (same_bytes p o) (same_bytes p house_name) puts.0) [
+    | inl is ↦ subst (λ q. knows c q ≡ true) (sym (same_bytes-exact p o is)) known
+    | inr is ↦ first_of_either (same_bytes p house_name) (is_some (row_at bytes_cmp (λ r. r.owner) c.owners p)) is
+  ],
+  puts_to_known c o changes puts.1 known,
+)
 
 -- ---- the content stands for the grown history
 
@@ -130,48 +214,65 @@ module _ (c : Content) (H : History) (stands : StandsFor c H) where
   pub leads_nowhere : LeadsTo c [] H
   leads_nowhere = record { stands = stands; fits = tt }
 
-  module _ (lawful : IsLawful H) (o : Bytes) (known : owner_known H o ≡ true) (changes : List Change) (puts : PutsOnly o changes) (rules : ChangesKeepRules changes (c.rows o)) where
-    keep_rules : (p : Bytes) → ChangesKeepRules changes (c.rows p)
-    keep_rules p =
-        elim (same_bytes o p) as (λ b. same_bytes o p ≡ b → ChangesKeepRules changes (c.rows p)) [
-          | true ↦ λ same. subst (λ q. ChangesKeepRules changes (c.rows q)) (same_bytes-exact o p same) rules
-          | false ↦ λ other. others_keep o changes (c.rows p) puts (ap (same_bytes o) (stands.own p) ∙ other) (standing_keeps_rules H c lawful stands p)
-        ] refl
-
-    module _ (G : History) (same : SamePlant H G) (rows : (s : Slice) → IsRowsOf H s → IsRowsOf G (after_changes changes s)) where
-      owners_of : AreOwnersOf G (after_owners changes c.owners)
-      owners_of =
-          subst (AreOwnersOf G) (sym (owners_stay o changes c.owners puts)) (record {
-            ordered = stands.owners.ordered;
-            each = λ p. stands.owners.each p ∙ ap (option_map _) (sym (same.key p));
-            all = stands.owners.all ∙ sym same.owners;
-          })
-
-      units_of : AreUnitsOf G (after_units changes c.units)
-      units_of =
-          subst (AreUnitsOf G) (sym (units_stay o changes c.units puts)) (record {
-            ordered = stands.units.ordered;
-            each = λ unit. stands.units.each unit ∙ ap (λ b. where_so {X = UnitRow} b (record { unit = unit })) (sym (same.unit unit));
-            all = stands.units.all ∙ sym same.units;
-          })
-
-      none_of : (p : Bytes) → owner_known G p ≡ false → after_changes changes (c.rows p) ≡ empty_slice p
-      none_of p unknown =
-          let absent = sym (same.known p) ∙ unknown in
-          elim (same_bytes o p) as (λ b. same_bytes o p ≡ b → after_changes changes (c.rows p) ≡ empty_slice p) [
-            | true ↦ λ is. absurd (false≢true (sym absent ∙ ap (owner_known H) (sym (same_bytes-exact o p is)) ∙ known))
-            | false ↦ λ other. others_stay o changes (c.rows p) puts (ap (same_bytes o) (stands.own p) ∙ other) ∙ stands.unknown p absent
+  module _ (lawful : IsLawful H) (o : Bytes) (known : owner_known H o ≡ true) (changes : List Change) where
+    module _ (puts : PutsShared o changes) (rules : ChangesKeepRules changes (c.rows o)) (house_rules : same_bytes o house_name ≡ false → ChangesKeepRules changes (c.rows house_name)) where
+      keep_rules : (p : Bytes) → ChangesKeepRules changes (c.rows p)
+      keep_rules p =
+          elim (same_bytes o p) as (λ b. same_bytes o p ≡ b → ChangesKeepRules changes (c.rows p)) [
+            | true ↦ λ same. subst (λ q. ChangesKeepRules changes (c.rows q)) (same_bytes-exact o p same) rules
+            | false ↦ λ other. elim (same_bytes house_name p) as (λ b. same_bytes house_name p ≡ b → ChangesKeepRules changes (c.rows p)) [
+              | true ↦ λ at_house. let is = same_bytes-exact house_name p at_house in subst (λ q. ChangesKeepRules changes (c.rows q)) is (house_rules (ap (same_bytes o) is ∙ other))
+              | false ↦ λ elsewhere. others_keep (is_shared_put o) (c.rows p) (shared_misses o (c.rows p).owner (ap (same_bytes o) (stands.own p) ∙ other) (ap (same_bytes house_name) (stands.own p) ∙ elsewhere)) changes puts (standing_keeps_rules H c lawful stands p)
+            ] refl
           ] refl
 
-      -- changes of a known owner's rows that are right for every slice lead to the grown history
-      pub leads_on : LeadsTo c changes G
-      leads_on = record {
-        stands = record {
-          owners = owners_of;
-          units = units_of;
-          own = λ p. owner_stays changes (c.rows p) ∙ stands.own p;
-          known = λ p there. rows (c.rows p) (stands.known p (sym (same.known p) ∙ there));
-          unknown = none_of;
-        };
-        fits = kept_rules_fit c changes stands.own keep_rules (puts_to_known c o changes puts (standing_knows H c stands o ∙ known));
-      }
+      module _ (G : History) (same : SamePlant H G) (rows : (s : Slice) → IsRowsOf H s → IsRowsOf G (after_changes changes s)) where
+        owners_of : AreOwnersOf G (after_owners changes c.owners)
+        owners_of =
+            subst (AreOwnersOf G) (sym (owners_stay o changes c.owners puts)) (record {
+              ordered = stands.owners.ordered;
+              each = λ p. stands.owners.each p ∙ ap (option_map _) (sym (same.key p));
+              all = stands.owners.all ∙ sym same.owners;
+            })
+
+        units_of : AreUnitsOf G (after_units changes c.units)
+        units_of =
+            subst (AreUnitsOf G) (sym (units_stay o changes c.units puts)) (record {
+              ordered = stands.units.ordered;
+              each = λ unit. stands.units.each unit ∙ ap (λ b. where_so {X = UnitRow} b (record { unit = unit })) (sym (same.unit unit));
+              all = stands.units.all ∙ sym same.units;
+            })
+
+        -- an owner that is not known is neither the one whose rows are put nor HOUSE
+        differs : (p q : Bytes) → owner_known H p ≡ false → owner_known H q ≡ true → same_bytes q p ≡ false
+        differs p q absent there =
+            elim (same_bytes q p) as (λ b. same_bytes q p ≡ b → b ≡ false) [
+              | true ↦ λ is. absurd (false≢true (sym absent ∙ ap (owner_known H) (sym (same_bytes-exact q p is)) ∙ there))
+              | false ↦ λ other. refl
+            ] refl
+
+        none_of : (p : Bytes) → owner_known G p ≡ false → after_changes changes (c.rows p) ≡ empty_slice p
+        none_of p unknown =
+            let absent = sym (same.known p) ∙ unknown in
+            let house_known : owner_known H house_name ≡ true = first_of_either (same_bytes house_name house_name) (list_any adds_owner (acts house_name H)) (same_bytes-refl house_name) in
+            others_stay (is_shared_put o) (c.rows p) (shared_misses o (c.rows p).owner (ap (same_bytes o) (stands.own p) ∙ differs p o absent known) (ap (same_bytes house_name) (stands.own p) ∙ differs p house_name absent house_known)) changes puts
+            ∙ stands.unknown p absent
+
+        -- changes of a known owner's rows and of HOUSE's that are right for every slice lead to the grown history
+        pub leads_shared : LeadsTo c changes G
+        leads_shared = record {
+          stands = record {
+            owners = owners_of;
+            units = units_of;
+            own = λ p. owner_stays changes (c.rows p) ∙ stands.own p;
+            known = λ p there. rows (c.rows p) (stands.known p (sym (same.known p) ∙ there));
+            unknown = none_of;
+          };
+          fits = kept_rules_fit c changes stands.own keep_rules (puts_to_known c o changes puts (standing_knows H c stands o ∙ known));
+        }
+
+    -- the same of changes of the owner's rows alone
+    pub leads_on : PutsOnly o changes → ChangesKeepRules changes (c.rows o) → (G : History) → SamePlant H G → ((s : Slice) → IsRowsOf H s → IsRowsOf G (after_changes changes s)) → LeadsTo c changes G
+    leads_on puts rules =
+        leads_shared (shared_by_own o changes puts) rules
+        (λ other. own_keep_others o changes (c.rows house_name) puts (ap (same_bytes o) (stands.own house_name) ∙ other) (standing_keeps_rules H c lawful stands house_name))

@@ -28,7 +28,7 @@ use Rattle.toll_keep.specs.Content.{Content}
 use Rattle.toll_keep.specs.Standing.{StandsFor, AreOwnersOf}
 use Rattle.toll_keep.proofs.Knowing.{standing_knows}
 use Rattle.toll_desk.specs.Plans.{LeadsTo}
-use Rattle.toll_desk.proofs.Unknown.{neither, nothing_of_unknown}
+use Rattle.toll_keep.proofs.Unknown.{neither, nothing_of_unknown}
 
 -- an owner whose only command added it has no rows yet
 rows_of_new : (o key : Bytes) → IsRowsOf (by o (AddOwner key) ∷ []) (empty_slice o)

@@ -19,8 +19,8 @@ use Rattle.toll_keep.specs.Content.{Content, knows, slice_of}
 use Rattle.toll_keep.specs.Standing.{StandsFor}
 use Rattle.toll_keep.proofs.Knowing.{standing_knows}
 use Rattle.toll_history.specs.OwnChanges.{PutsOnly}
-use Rattle.toll_desk.specs.Told.{Asked, AskPlace, AskCancel, AskRelease, AskReject, Told, TellForbidden}
-use Rattle.toll_desk.specs.Replies.{has_key, IsAnswer, after_answer, IsReply, after_reply}
+use Rattle.toll_answers.specs.Told.{Asked, AskPlace, AskCancel, AskRelease, AskReject, Told, TellForbidden}
+use Rattle.toll_answers.specs.Replies.{has_key, IsAnswer, after_answer, IsReply, after_reply}
 use Rattle.toll_desk.specs.Plans.{is_admitted, IsPlanOver, IsPlanFor, IsPlan}
 use Rattle.toll_desk.proofs.Lift.{SamePlant, same_plant-refl, same_grown, leads_on, leads_nowhere}
 
@@ -43,6 +43,14 @@ some_of p false (Some x) e = refl
 
 pub key_known : (c : Content) (H : History) (o key : Bytes) → StandsFor c H → has_key o key H ≡ true → owner_known H o ≡ true
 key_known c H o key stands right = sym (standing_knows H c stands o) ∙ some_of (λ row. same_bytes key row.key) (same_bytes o house_name) (row_at bytes_cmp (λ row. row.owner) c.owners o) (admits_alike c H o key stands ∙ right)
+
+-- HOUSE has no key
+pub not_house_by : (H : History) (o key : Bytes) → has_key o key H ≡ true → same_bytes o house_name ≡ false
+not_house_by H o key right = no_house (same_bytes o house_name) (is_some_where (same_bytes key) (owner_key (acts o H))) right
+  where
+    no_house : (h b : Bool) → (not h && b) ≡ true → h ≡ false
+    no_house true b e = sym e
+    no_house false b e = refl
 
 pub right_key : (o name : Bytes) (b : Bool) → Some name ≡ where_so b o → (b ≡ true) × (name ≡ o)
 right_key o name true e = (refl, cc)

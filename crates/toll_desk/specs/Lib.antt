@@ -1,7 +1,5 @@
-pub mod Told
-pub mod Edges
-pub mod Replies
-pub mod PlantAnswers
-pub mod Joints
-pub mod Worked
+pub mod Reads
 pub mod Plans
+pub mod Forms
+pub mod PlantForms
+pub mod Questions

@@ -1,25 +1,32 @@
-//! The office's desk: owners' requests and the plant's commands, over any keep.
+//! The office's desk: owners' requests and the plant's commands and questions, over any keep. What a
+//! request and a command looks at is its form; how each goes is `owner.rt` and `plant.rt`.
 #![tactic(auto)]
 
-mod genealogy;
-mod isolation;
-mod over;
+mod admission;
+mod carrying;
+mod deciding;
+mod decisions;
+mod deeds;
+mod form;
 mod owner;
 mod plant;
 mod plant_cmd;
+mod plant_form;
+mod questions;
+mod reading;
+mod recalls;
 mod request;
-mod worked;
+mod tracing;
+mod units;
+mod writing;
 
-pub use genealogy::{
-    edges_of_a_slice_are_the_owners, plants_traces_within_an_owner_are_the_owners,
-    recalls_within_an_owner_are_the_owners,
-};
-pub use isolation::replies_come_from_the_owners_part;
-pub use owner::{admit, carry, owner_do, owner_plan};
+pub use admission::admit;
+pub use carrying::carry;
+pub use owner::{owner_do, owner_plan};
 pub use plant::plant_do;
 pub use plant_cmd::{PlantCmd, PlantReply};
+pub use recalls::recall;
 pub use request::{Planned, Reply, Request};
-pub use worked::{
-    edges_of_a_batch, setups_of_genealogy_are_accepted, traces_go_by_the_owners_batches,
-    traces_of_a_batch, traces_of_a_circle,
-};
+pub use toll_genealogy::RecallLine;
+pub use toll_print::{batch_text, orders_text, recall_text, stock_text, trace_text};
+pub use toll_views::{LotView, StockLine};

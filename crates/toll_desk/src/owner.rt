@@ -1,41 +1,30 @@
 //! Owners' requests over a keep.
-ghost use Rattle.std.specs.Prelude.{◌≡◌, ◌≢◌, [], ◌∷◌, true, Ok, Err, IfOk, OnOk, OnErr, IfSome, Option, List};
-ghost use Rattle.toll_base.specs.Words.{where_so};
-ghost use Rattle.toll_history.specs.History.{History, owner_known};
-ghost use Rattle.toll_history.specs.Verdict.{IsLawful};
-ghost use Rattle.toll_keep.specs.Content.{Content, after, Fits, ContentKeepsRules};
-ghost use Rattle.toll_keep.specs.Goes.{Goes, Keeps};
-ghost use Rattle.toll_keep.specs.Standing.{StandsFor};
-ghost use Rattle.toll_desk.specs.Replies.{has_key, IsReply, after_reply};
-ghost use Rattle.toll_desk.specs.Plans.{asked_of, told_of, IsPlanFor, IsPlan, IsDone};
+ghost use Rattle.std.specs.Prelude.{◌≡◌, ◌≢◌, ℕ, true, false, is_some, [], Err, IfOk, OnErr};
+ghost use Rattle.toll_answers.specs.Replies.{IsReply, after_reply};
+ghost use Rattle.toll_answers.specs.Told.{AskPlace};
+ghost use Rattle.toll_base.specs.Bytes.{Bytes, same_bytes};
+ghost use Rattle.toll_base.specs.Slice.{order_at};
+ghost use Rattle.toll_base.specs.Values.{house_name};
+ghost use Rattle.toll_history.specs.History.{owner_known};
+ghost use Rattle.toll_keep.specs.Content.{Content, ContentKeepsRules};
+ghost use Rattle.toll_keep.specs.Goes.{Goes, IsReading};
+ghost use Rattle.toll_desk.specs.Plans.{IsDone, IsPlan, IsPlanFor, asked_of, may_change, told_of};
+ghost use Rattle.toll_desk.specs.Reads.{Over};
 
-use crate::over::{admitted, plan_over};
+use crate::admission::admit;
+use crate::carrying::carry;
+use crate::form::{Form, form_of};
+use crate::reading::read_rows;
 use crate::request::{Planned, Reply, Request};
+use crate::tracing::trace_own;
+use crate::writing::plan_write;
 use std::alloc::Global;
-use toll_base::{Change, Name};
+use toll_base::Name;
 use toll_keep::{Keep, KeepFault};
 
-/// The owner, where it is one that was added with that key. HOUSE is none.
-pub fn admit<K: Keep>(
-    alloc: Global,
-    keep: &mut K,
-    owner: &[u8],
-    key: &[u8],
-) -> Result<Option<Name>, KeepFault>
-    ensures goes { Goes K.is_honest K.is_live K.is_closed K.has_cause K.leaves keep.old keep.new result }
-    ensures keeps { K.is_honest keep.new → Keeps K.holds K.is_live K.leaves keep.old keep.new }
-    ensures whole { K.is_honest keep.new → (c : Content) → K.holds keep.old c → ContentKeepsRules c → result ≢ Err KeepFault.Damaged }
-    ensures named { IfOk result (λ found. IfSome found (λ name. name ≡ owner.now)) }
-    ensures found { K.is_honest keep.new → (c : Content) (H : History) → K.holds keep.old c → StandsFor c H → IfOk result (λ found. found ≡ where_so (has_key owner.now key.now H) owner.now) }
-{
-    match keep.owners(alloc) {
-        Ok(rows) => Ok(admitted(&rows, owner, key)),
-        Err(fault) => Err(fault),
-    }
-}
-
 /// The reply to an owner's request as it will stand, and what must be applied for it. Nothing is
-/// changed.
+/// changed. A question, and what is forbidden or refused, asks for no change, and neither does an
+/// order that is there already.
 pub fn owner_plan<K: Keep>(
     alloc: Global,
     keep: &mut K,
@@ -43,12 +32,11 @@ pub fn owner_plan<K: Keep>(
     key: &[u8],
     request: &Request,
 ) -> Planned
-    ensures goes { Goes K.is_honest K.is_live K.is_closed K.has_cause K.leaves keep.old keep.new (told_of result.reply) }
-    ensures keeps { K.is_honest keep.new → Keeps K.holds K.is_live K.leaves keep.old keep.new }
-    ensures whole { K.is_honest keep.new → (c : Content) → K.holds keep.old c → ContentKeepsRules c → told_of result.reply ≢ Err KeepFault.Damaged }
+    ensures reads { IsReading K.is_honest K.is_live K.is_closed K.has_cause K.leaves K.holds keep.old keep.new (told_of result.reply) }
     ensures none { OnErr (told_of result.reply) (result.changes.items ≡ []) }
-    ensures plan { K.is_honest keep.new → (c : Content) (H : History) → K.holds keep.old c → StandsFor c H → IsLawful H →
-        IfOk (told_of result.reply) (λ told. IsPlan c H owner.now key.now (asked_of request.now) told result.changes.items) }
+    ensures quiet { may_change (asked_of request.now) (told_of result.reply) ≡ false → result.changes.items ≡ [] }
+    ensures once { K.is_honest keep.new → (c : Content) → K.holds keep.old c → (order recipe : Bytes) (batches : ℕ) → asked_of request.now ≡ AskPlace order recipe batches → is_some (order_at (c.rows owner.now) order) ≡ true → result.changes.items ≡ [] }
+    ensures plan { Over K.is_honest K.holds keep.old keep.new (λ c H. IfOk (told_of result.reply) (λ told. IsPlan c H owner.now key.now (asked_of request.now) told result.changes.items)) }
 {
     match admit(alloc, keep, owner, key) {
         Ok(Some(owner)) => plan_for(alloc, keep, &owner, request),
@@ -57,38 +45,23 @@ pub fn owner_plan<K: Keep>(
     }
 }
 
+// The same for an owner that was admitted.
 fn plan_for<K: Keep>(alloc: Global, keep: &mut K, owner: &Name, request: &Request) -> Planned
-    ensures goes { Goes K.is_honest K.is_live K.is_closed K.has_cause K.leaves keep.old keep.new (told_of result.reply) }
-    ensures keeps { K.is_honest keep.new → Keeps K.holds K.is_live K.leaves keep.old keep.new }
-    ensures whole { K.is_honest keep.new → (c : Content) → K.holds keep.old c → ContentKeepsRules c → told_of result.reply ≢ Err KeepFault.Damaged }
+    ensures reads { IsReading K.is_honest K.is_live K.is_closed K.has_cause K.leaves K.holds keep.old keep.new (told_of result.reply) }
     ensures none { OnErr (told_of result.reply) (result.changes.items ≡ []) }
-    ensures plan { K.is_honest keep.new → (c : Content) (H : History) → K.holds keep.old c → StandsFor c H → IsLawful H → owner_known H owner.now ≡ true →
-        IfOk (told_of result.reply) (λ told. IsPlanFor c H owner.now (asked_of request.now) told result.changes.items) }
+    ensures quiet { may_change (asked_of request.now) (told_of result.reply) ≡ false → result.changes.items ≡ [] }
+    ensures once { K.is_honest keep.new → (c : Content) → K.holds keep.old c → (order recipe : Bytes) (batches : ℕ) → asked_of request.now ≡ AskPlace order recipe batches → is_some (order_at (c.rows owner.now) order) ≡ true → result.changes.items ≡ [] }
+    ensures plan { Over K.is_honest K.holds keep.old keep.new (λ c H. owner_known H owner.now ≡ true → same_bytes owner.now house_name ≡ false → IfOk (told_of result.reply) (λ told. IsPlanFor c H owner.now (asked_of request.now) told result.changes.items)) }
 {
-    match keep.slice(alloc, owner) {
-        Ok(Some(slice)) => match plan_over(alloc, &slice, request) {
-            Ok(planned) => planned,
-            Err(_) => Planned::unchanged(alloc, Reply::Fault(KeepFault::Memory)),
-        },
-        Ok(None) => Planned::unchanged(alloc, Reply::Forbidden),
-        Err(fault) => Planned::unchanged(alloc, Reply::Fault(fault)),
+    match form_of(request) {
+        Form::Read(reading) => {
+            Planned::unchanged(alloc, read_rows(alloc, keep, owner, &reading))
+        }
+        Form::Trace(tracing) => {
+            Planned::unchanged(alloc, trace_own(alloc, keep, owner, &tracing))
+        }
+        Form::Write(writing) => plan_write(alloc, keep, owner, &writing),
     }
-}
-
-/// Makes the changes of a plan. Where there are none, the keep isn't called.
-pub fn carry<K: Keep>(alloc: Global, keep: &mut K, changes: &[Change]) -> Result<(), KeepFault>
-    ensures honest { K.is_honest keep.new → K.is_honest keep.old }
-    ensures idle { changes.now ≡ [] → (keep.new ≡ keep.old) × (result ≡ Ok tt) }
-    ensures goes { (changes.now ≡ [] → ⊥) → Goes K.is_honest K.is_live K.is_closed K.has_cause K.leaves keep.old keep.new result }
-    ensures all { K.is_honest keep.new → (c : Content) → K.holds keep.old c → Fits c changes.now → OnOk result (K.holds keep.new (after changes.now c)) }
-    ensures none { K.is_honest keep.new → (c : Content) → K.holds keep.old c → OnErr result (K.holds keep.new c) }
-    ensures whole { K.is_honest keep.new → (c : Content) → K.holds keep.old c → ContentKeepsRules c → result ≢ Err KeepFault.Damaged }
-    ensures crash { K.is_honest keep.new → K.is_live keep.old → (c : Content) → K.holds keep.old c → Fits c changes.now → K.leaves keep.new (c ∷ after changes.now c ∷ []) }
-{
-    if changes.is_empty() {
-        return Ok(());
-    }
-    keep.apply(alloc, changes)
 }
 
 /// The reply to an owner's request, which is done.
@@ -101,8 +74,9 @@ pub fn owner_do<K: Keep>(
 ) -> Reply
     ensures goes { Goes K.is_honest K.is_live K.is_closed K.has_cause K.leaves keep.old keep.new (told_of result) }
     ensures whole { K.is_honest keep.new → (c : Content) → K.holds keep.old c → ContentKeepsRules c → told_of result ≢ Err KeepFault.Damaged }
-    ensures done { K.is_honest keep.new → (c : Content) (H : History) → K.holds keep.old c → StandsFor c H → IsLawful H →
-        IsDone (K.holds keep.new) (K.is_live keep.old) (K.leaves keep.new) c (after_reply owner.now key.now H (asked_of request.now)) (told_of result) (IsReply owner.now key.now H (asked_of request.now)) }
+    ensures quiet { K.is_honest keep.new → (c : Content) → K.holds keep.old c → may_change (asked_of request.now) (told_of result) ≡ false → K.holds keep.new c }
+    ensures once { K.is_honest keep.new → (c : Content) → K.holds keep.old c → (order recipe : Bytes) (batches : ℕ) → asked_of request.now ≡ AskPlace order recipe batches → is_some (order_at (c.rows owner.now) order) ≡ true → K.holds keep.new c }
+    ensures done { Over K.is_honest K.holds keep.old keep.new (λ c H. IsDone (K.holds keep.new) (K.is_live keep.old) (K.leaves keep.new) c (after_reply owner.now key.now H (asked_of request.now)) (told_of result) (IsReply owner.now key.now H (asked_of request.now))) }
 {
     let planned = owner_plan(alloc, keep, owner, key, request);
     let made = carry(alloc, keep, &planned.changes);

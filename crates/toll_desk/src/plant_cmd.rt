@@ -1,15 +1,22 @@
 //! The plant's commands, and the replies to them.
-ghost use Rattle.std.specs.Prelude.{◌≡◌, [], Ok, Some};
+ghost use Rattle.std.specs.Prelude.{◌≡◌, false, [], Ok};
 ghost use Rattle.toll_base.specs.Changes.{changes_of};
 ghost use Rattle.toll_history.specs.Decision.{verdict_of};
-ghost use Rattle.toll_desk.specs.PlantAnswers.{Judged};
-ghost use Rattle.toll_desk.specs.Plans.{finished, plant_told};
+ghost use Rattle.toll_answers.specs.PlantAnswers.{Judged};
+ghost use Rattle.toll_desk.specs.Plans.{finished, is_accepted, plant_told};
 
 use std::alloc::Global;
-use toll_base::{Change, Decision, Name, OwnerKey, Refusal, Segment};
+use toll_base::{
+    Amount, BatchNo, Change, Day, Decision, Limits, LotId, Measure, Name, OwnerKey, Refusal,
+    RequirementRow, Role, Segment, StateCommand, Value,
+};
 use toll_keep::KeepFault;
+use toll_trace::Way;
 
-/// A command of the plant.
+/// A command of the plant, or a question of it.
+///
+/// Each but [`PlantCmd::OwnerAdd`] and [`PlantCmd::UnitAdd`] is refused as [`Refusal::UnknownOwner`]
+/// where its owner is not known, before all else. Without an owner it concerns HOUSE.
 #[derive(Clone, Copy, Debug, PartialEq, Eq)]
 pub enum PlantCmd {
     /// Adds an owner with its key: [`Refusal::OwnerExists`] where there is one of this name, HOUSE
@@ -18,13 +25,163 @@ pub enum PlantCmd {
         owner: Name,
         key: OwnerKey,
     },
-    /// Adds a recipe: [`Refusal::UnknownOwner`], then as [`toll_work::add_recipe`] says.
+    /// Adds a unit: [`Refusal::UnitExists`], then [`Refusal::LimitReached`] at 200 units.
+    UnitAdd {
+        unit: Name,
+    },
+    /// Adds a material, as [`toll_stock::add_material`] says.
+    MaterialAdd {
+        owner: Name,
+        material: Name,
+        measure: Measure,
+    },
+    /// Adds a test of a material, as [`toll_stock::add_test`] says.
+    TestAdd {
+        owner: Name,
+        material: Name,
+        test: Name,
+        limits: Limits,
+    },
+    /// Adds a recipe, as [`toll_work::add_recipe`] says.
     RecipeAdd {
         owner: Name,
         recipe: Name,
         segments: Segment,
     },
-    /// A value of the command couldn't be read. It is refused so.
+    /// Adds a requirement to a recipe, as [`toll_work::require`] says.
+    Require {
+        owner: Name,
+        row: RequirementRow,
+    },
+    /// Places an order of HOUSE, as [`toll_work::place_order`] says.
+    Order {
+        order: Name,
+        recipe: Name,
+        batches: BatchNo,
+    },
+    /// Cancels an order of HOUSE, as [`toll_work::cancel_order`] says.
+    Cancel {
+        order: Name,
+    },
+    /// Opens the next batch of an order on a unit, as [`toll_work::open_batch`] says:
+    /// [`Refusal::UnitBusy`] where a batch of any owner holds the unit.
+    Open {
+        owner: Name,
+        order: Name,
+        unit: Name,
+    },
+    /// Commands a batch to another state, as [`toll_work::command_batch`] says.
+    Do {
+        owner: Name,
+        order: Name,
+        number: BatchNo,
+        command: StateCommand,
+    },
+    /// Closes a batch, as [`toll_work::close_batch`] says.
+    Close {
+        owner: Name,
+        order: Name,
+        number: BatchNo,
+    },
+    /// Receives material into a lot, as [`toll_stock::receive`] says.
+    Receive {
+        owner: Name,
+        key: Name,
+        material: Name,
+        lot: Name,
+        sublot: Name,
+        amount: Amount,
+        day: Day,
+    },
+    /// Splits a sublot, as [`toll_stock::split`] says.
+    Split {
+        owner: Name,
+        key: Name,
+        lot: Name,
+        sublot: Name,
+        target: Name,
+        amount: Amount,
+        day: Day,
+    },
+    /// Ships out of a sublot, as [`toll_stock::ship`] says.
+    Ship {
+        owner: Name,
+        key: Name,
+        lot: Name,
+        sublot: Name,
+        amount: Amount,
+        day: Day,
+    },
+    /// Scraps out of a sublot, as [`toll_stock::scrap`] says.
+    Scrap {
+        owner: Name,
+        key: Name,
+        lot: Name,
+        sublot: Name,
+        amount: Amount,
+        day: Day,
+    },
+    /// Records a result of a lot's test, as [`toll_stock::record_result`] says.
+    Result {
+        owner: Name,
+        lot: Name,
+        test: Name,
+        value: Value,
+        day: Day,
+    },
+    /// Releases a lot of HOUSE, as [`toll_stock::release`] says.
+    Release {
+        lot: Name,
+    },
+    /// Rejects a lot of HOUSE, as [`toll_stock::reject`] says.
+    Reject {
+        lot: Name,
+    },
+    /// Records an actual of a batch of the owner, as [`toll_work::record_actual`] says.
+    Actual {
+        key: Name,
+        owner: Name,
+        order: Name,
+        number: BatchNo,
+        segment: Segment,
+        role: Role,
+        material: Name,
+        lot: LotId,
+        sublot: Name,
+        amount: Amount,
+        day: Day,
+    },
+    /// Takes back an actual, as [`toll_work::void_actual`] says.
+    Void {
+        owner: Name,
+        key: Name,
+    },
+    /// The text of an owner's orders.
+    Orders {
+        owner: Name,
+    },
+    /// The text of what an owner has in stock.
+    Stock {
+        owner: Name,
+    },
+    /// The text of a batch: [`Refusal::UnknownOrder`], then [`Refusal::UnknownBatch`].
+    Batch {
+        owner: Name,
+        order: Name,
+        number: BatchNo,
+    },
+    /// The text of the lots that a lot is joined to over the batches of all owners:
+    /// [`Refusal::UnknownLot`].
+    Trace {
+        lot: LotId,
+        way: Way,
+    },
+    /// The text of the lots that a lot went into over the batches of all owners, with what is on hand
+    /// and was shipped of each: [`Refusal::UnknownLot`].
+    Recall {
+        lot: LotId,
+    },
+    /// A value of the command couldn't be read. It is refused so, and the keep isn't asked.
     Unread(Refusal),
 }
 
@@ -49,8 +206,9 @@ pub struct PlantPlan {
 impl PlantPlan {
     /// What a decision comes to.
     pub fn of(alloc: Global, decision: Decision) -> Self
-        ensures told { plant_told result.reply ≡ Ok (Some (Judged (verdict_of decision))) }
+        ensures told { plant_told result.reply ≡ Ok (Judged (verdict_of decision)) }
         ensures changes { result.changes.items ≡ changes_of decision }
+        ensures quiet { is_accepted (plant_told result.reply) ≡ false → result.changes.items ≡ [] }
     {
         match decision {
             Decision::Accept(changes) => PlantPlan {

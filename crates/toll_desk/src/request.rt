@@ -5,20 +5,46 @@ ghost use Rattle.toll_desk.specs.Plans.{finished, told_of};
 use std::alloc::Global;
 use toll_base::{BatchNo, Change, Name, OrderRow, Refusal};
 use toll_keep::KeepFault;
+use toll_trace::Step;
+use toll_views::{LotView, StockLine};
+use toll_work::BatchView;
 
 /// What an owner asks for.
 #[derive(Clone, Copy, Debug, PartialEq, Eq)]
 pub enum Request {
     /// All orders, by name.
     Orders,
-    /// One order.
+    /// One order: [`Refusal::UnknownOrder`] where there is none of this name.
     Order(Name),
-    /// An order is to be placed.
+    /// An order is to be placed, as [`toll_work::place_order`] says.
     Place {
         order: Name,
         recipe: Name,
         batches: BatchNo,
     },
+    /// An order is to be cancelled, as [`toll_work::cancel_order`] says.
+    Cancel(Name),
+    /// A batch, with what it did of each requirement: [`Refusal::UnknownOrder`], then
+    /// [`Refusal::UnknownBatch`].
+    Batch {
+        order: Name,
+        number: BatchNo,
+    },
+    /// All lots of the owner, by name, with what is on hand of each.
+    Stock,
+    /// One lot: [`Refusal::UnknownLot`] where the owner has none of this name.
+    Lot(Name),
+    /// A lot is to be released, as [`toll_stock::release`] says.
+    Release(Name),
+    /// A lot is to be rejected, as [`toll_stock::reject`] says.
+    Reject(Name),
+    /// What went into a lot of the owner: [`Refusal::UnknownLot`].
+    Back(Name),
+    /// What a lot of the owner went into: [`Refusal::UnknownLot`].
+    Forward(Name),
+    /// What a lot of HOUSE went into: [`Refusal::UnknownLot`] where no batch of the owner consumed
+    /// it.
+    HouseForward(Name),
 }
 
 /// The reply to an owner's request.
@@ -28,6 +54,11 @@ pub enum Reply {
     Forbidden,
     Orders(Vec<OrderRow>),
     Order(OrderRow),
+    Batch(BatchView),
+    Stock(Vec<StockLine>),
+    Lot(LotView),
+    /// The lots that were asked for, by steps, owner and name.
+    Trace(Vec<Step>),
     Refused(Refusal),
     Fault(KeepFault),
 }

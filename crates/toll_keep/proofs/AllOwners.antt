@@ -61,7 +61,7 @@ holder_of_some k unit None one none = each_owner (λ s. IsHolderIn s unit None) 
 
 -- ---- edges
 
-no_edges : (o : Bytes) (e : Edge) → IsEdge (empty_slice o) e → ⊥
+pub no_edges : (o : Bytes) (e : Edge) → IsEdge (empty_slice o) e → ⊥
 unfolding row_at
 no_edges o e edge = false≢true (ap is_some edge.consumption_stands.recorded)
 

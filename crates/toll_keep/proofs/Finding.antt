@@ -1,5 +1,5 @@
 -- What a search along rows finds, by their keys.
-use Rattle.std.proofs.Common.{◌≡◌, Bool, true, false, not, cond, Option, Some, None, is_some, List, [], ◌∷◌, refl, sym, ap, subst, ◌∙◌}
+use Rattle.std.proofs.Common.{◌≡◌, Bool, true, false, not, cond, Option, Some, None, is_some, List, [], ◌∷◌, refl, sym, ap, subst, ◌∙◌, inl, inr}
 use mathlib.Core.Bool.{false≢true}
 use Rattle.std.specs.Prelude.{find, Contains}
 use Rattle.std.specs.Cmp.{IsTotalOrder}
@@ -9,7 +9,7 @@ use Rattle.std.proofs.lemmas.Cmp.{tied_itself}
 use Rattle.toll_base.specs.Table.{row_at, IsInKeyOrder}
 use Rattle.toll_base.specs.Words.{is_some_where, none_or}
 use Rattle.toll_trace.proofs.Drawn.{row_of_member}
-use Rattle.toll_trace.proofs.Members.{Contains-here, Contains-later}
+use Rattle.toll_trace.proofs.Members.{Contains-none, Contains-here, Contains-later, Contains-cases}
 
 passed_over : {X : Type 0} (b : Bool) (x : X) (rest : Option X) → cond b (Some x) rest ≡ None → (b ≡ false) × (rest ≡ None)
 passed_over true x rest h = absurd (false≢true (ap is_some (sym h)))
@@ -22,6 +22,17 @@ found_in p (y ∷ xs) x h =
       | true ↦ λ e is. let same : y ≡ x = cc in (subst (Contains (y ∷ xs)) same (Contains-here y xs), ap p (sym same) ∙ e)
       | false ↦ λ e later. let found = found_in p xs x later in (Contains-later y xs x found.0, found.1)
     ] refl h
+
+pub found_one : {X : Type 0} (p : X → Bool) (xs : List X) (x : X) → Contains xs x → p x ≡ true → is_some (find p xs) ≡ true
+found_one p [] x there passes = absurd (Contains-none x there)
+found_one p (y ∷ xs) x there passes =
+    elim (p y) as (λ b. p y ≡ b → is_some (cond b (Some y) (find p xs)) ≡ true) [
+      | true ↦ λ is. refl
+      | false ↦ λ is. elim (Contains-cases y xs x there) [
+        | inl same ↦ absurd (false≢true (sym is ∙ ap p same ∙ passes))
+        | inr later ↦ found_one p xs x later passes
+      ]
+    ] refl
 
 module _ {K R : Type 0} (cmp : K → K → Ordering) (key : R → K) (p : R → Bool) where
   -- where none is found, no row passes

@@ -19,6 +19,7 @@ use Rattle.toll_history.proofs.LotMaterials.{lot_material}
 use Rattle.toll_history.proofs.Lots.{sublot_lot}
 use Rattle.toll_history.proofs.Stock.{stock_bounded}
 use Rattle.toll_base.proofs.SliceFits.{empty_keeps}
+use Rattle.toll_genealogy.proofs.KnownLots.{some_mapped}
 use Rattle.toll_keep.specs.Content.{Content, ContentKeepsRules}
 use Rattle.toll_keep.specs.Standing.{StandsFor}
 
@@ -32,10 +33,6 @@ each_made f p (Some x) each = each x refl
 each_where : {X : Type 0} (p : X → Bool) (known : Bool) (x : X) → (known ≡ true → p x ≡ true) → none_or p (where_so known x) ≡ true
 each_where p true x each = each refl
 each_where p false x each = refl
-
-pub some_mapped : {X Y : Type 0} (f : X → Y) (x : Option X) → is_some (option_map f x) ≡ is_some x
-some_mapped f None = refl
-some_mapped f (Some x) = refl
 
 module _ (H : History) (lawful : IsLawful H) (o : Bytes) where
   lot_materials_given : (k : Bytes) → none_or (λ row. is_some (material_of (acts o H) row.material)) (lot_row H o k) ≡ true

@@ -1,18 +1,21 @@
 -- What slices in a list have of each owner, and what a put does to it.
-use Rattle.std.proofs.Common.{◌≡◌, ℕ, zero, suc, ◌+◌, ◌<◌, Bool, true, false, not, cond, nat_lt, Some, None, is_some, List, [], ◌∷◌, ◌++◌, length, get_or, set, refl, sym, ap, subst, ◌∙◌, arith}
+use Rattle.std.proofs.Common.{◌≡◌, ℕ, zero, suc, ◌+◌, ◌<◌, Bool, true, false, not, cond, nat_lt, Option, Some, None, is_some, List, [], ◌∷◌, ◌++◌, length, get_or, set, refl, sym, ap, subst, ◌∙◌, arith}
 use mathlib.Core.Bool.{false≢true}
 use Rattle.std.specs.Prelude.{position}
 use Rattle.std.specs.List.{AllByRecursion, position_or_len}
 use Rattle.std.proofs.lemmas.Bool.Decides.{nat_tests}
+use Rattle.std.proofs.lemmas.Bool.{or_left, or_right}
+use Rattle.std.proofs.lemmas.List.Folds.{list_any-append, list_any_at}
 use Rattle.std.proofs.lemmas.List.Quantifiers.{position-Some}
 use Rattle.toll_base.specs.Bytes.{Bytes, same_bytes}
 use Rattle.toll_base.specs.Slice.{Slice, empty_slice, with_row}
 use Rattle.toll_base.specs.Changes.{after_change}
 use Rattle.toll_base.specs.declared.rows.Row.{Row}
 use Rattle.toll_base.specs.declared.rows.Row.TheVariants.{Material, Test, Recipe, Requirement, Order, Batch, Lot, Sublot, Move, Result, Void}
+use Rattle.toll_base.specs.declared.decision.Change.{Change}
 use Rattle.toll_base.specs.declared.decision.Change.TheVariants.{Put}
 use Rattle.toll_base.proofs.Texts.{same_bytes-exact, same_bytes-refl, same_bytes-symm}
-use Rattle.toll_keep.specs.Slices.{is_of, rows_in, put_slice, put_slices, IsOneEach}
+use Rattle.toll_keep.specs.Slices.{is_of, rows_in, put_slice, put_slices, IsOneEach, has_slice, IsTouched}
 
 -- ---- the rows of an owner are its own
 
@@ -235,6 +238,25 @@ taken_too [] slices left rows owner own others o =
     ap (λ name. cond (same_bytes name o) rows (rows_in left o)) (ap (λ (s : Slice). s.owner) own ∙ owner-rows_in slices owner)
     ∙ taken_first slices left rows owner o (same_bytes owner o) refl own (others o ∙ rows_in-put slices (empty_slice owner) o)
 taken_too (s ∷ taken) slices left rows owner own others o = ap (cond (is_of o s) s) (taken_too taken slices left rows owner own others o)
+
+-- ---- whose slices are there
+
+-- where a slice of the owner is found there is one
+pub has_found : (slices : List Slice) (o : Bytes) (at : Option ℕ) → at ≡ position (is_of o) slices → is_some at ≡ true → has_slice slices o ≡ true
+has_found slices o None is some = absurd (false≢true some)
+has_found slices o (Some at) is some = let found = position-Some (is_of o) slices at (empty_slice []) (sym is) in list_any_at (is_of o) slices at (empty_slice []) found.0 found.1
+
+-- with one more there are those from before, and its owner's
+pub has_more : (slices : List Slice) (s : Slice) (o : Bytes) → has_slice slices o ≡ true → has_slice (slices ++ s ∷ []) o ≡ true
+has_more slices s o has = list_any-append (is_of o) slices (s ∷ []) ∙ or_left _ _ has
+
+pub has_new : (slices : List Slice) (s : Slice) (o : Bytes) → s.owner ≡ o → has_slice (slices ++ s ∷ []) o ≡ true
+has_new slices s o own = list_any-append (is_of o) slices (s ∷ []) ∙ or_right _ _ (or_left _ _ (ap (λ p. same_bytes p o) own ∙ same_bytes-refl o))
+
+-- a change whose rows are there is one still
+pub touched_still : (before now : List Slice) → ((o : Bytes) → has_slice before o ≡ true → has_slice now o ≡ true) → (change : Change) → IsTouched before change → IsTouched now change
+touched_still before now stays (Put o row) has = stays o has
+touched_still before now stays _ has = tt
 
 -- ---- what is written at a place
 

@@ -1,9 +1,9 @@
 -- The batch that holds a unit, in a content and in the history that it stands for.
-use Rattle.std.proofs.Common.{◌≡◌, ◌⊎◌, ℕ, ◌+◌, ◌≤◌, Bool, true, false, not, ◌&&◌, ◌||◌, ◌==◌, cond, Option, Some, None, is_some, List, [], ◌∷◌, ◌++◌, refl, sym, ap, subst, ◌∙◌, inl, inr, arith}
+use Rattle.std.proofs.Common.{◌≡◌, ◌⊎◌, ℕ, ◌+◌, ◌≤◌, Bool, true, false, not, ◌&&◌, ◌==◌, cond, Option, Some, None, is_some, List, [], ◌∷◌, ◌++◌, refl, sym, ap, subst, ◌∙◌, inl, inr, arith}
 use mathlib.Core.Bool.{false≢true}
-use Rattle.std.specs.Prelude.{find, Contains, if◌then◌else◌}
-use Rattle.std.specs.List.{list_any}
+use Rattle.std.specs.Prelude.{Contains, if◌then◌else◌}
 use Rattle.std.specs.Option.{option_map}
+use Rattle.std.proofs.lemmas.Bool.{not-true}
 use Rattle.std.proofs.lemmas.Bool.Decides.{nat_tests}
 use Rattle.std.proofs.lemmas.List.Elements.{Contains-append_left, Contains-append_right, Contains-append_cases}
 use Rattle.toll_base.specs.Bytes.{Bytes, same_bytes}
@@ -11,26 +11,21 @@ use Rattle.toll_base.specs.Words.{is_some_where, none_or, or_else}
 use Rattle.toll_base.specs.Table.{row_at}
 use Rattle.toll_base.specs.Slice.{batch_at}
 use Rattle.toll_history.specs.Command.{Action, OpenBatch, Command}
-use Rattle.toll_history.specs.History.{History, acts, adds_owner, owner_known}
-use Rattle.toll_base.specs.Values.{house_name}
+use Rattle.toll_history.specs.History.{History, acts, owner_known}
 use Rattle.toll_history.specs.Work.{opens, count_opened, unit_opened, unit_of, is_closed, batch_of}
 use Rattle.toll_history.specs.Holders.{OpenedBatch, opened_by, opened, holder}
 use Rattle.toll_history.specs.Tables.{Tables, tables_of, tables_given}
-use Rattle.toll_history.specs.Verdict.{Accepted, needs_owner, checks, verdict, IsLawful}
-use Rattle.toll_history.proofs.Accepted.{none_applies}
-use Rattle.toll_history.proofs.Acts.{any_acts}
+use Rattle.toll_history.specs.Verdict.{IsLawful}
 use Rattle.toll_history.proofs.Own.{acts-own, acts-other}
+use Rattle.toll_base.proofs.Bools.{both, and_is}
 use Rattle.toll_base.proofs.Texts.{same_bytes-exact, same_bytes-refl, nat_eq-exact}
 use Rattle.toll_trace.proofs.Members.{Contains-none, Contains-here, Contains-cases}
 use Rattle.toll_keep.specs.declared.holder.Holder.{Holder}
 use Rattle.toll_keep.specs.Content.{Content}
-use Rattle.toll_keep.specs.Holding.{is_on, IsHolder}
+use Rattle.toll_keep.specs.Holding.{is_on, IsHolder, HoldsUnit, on_unit}
 use Rattle.toll_keep.specs.Standing.{StandsFor}
-use Rattle.toll_keep.proofs.Finding.{found_in}
-
-both : (a b : Bool) → (a && b) ≡ true → (a ≡ true) × (b ≡ true)
-both true b h = (refl, h)
-both false b h = absurd (false≢true h)
+use Rattle.toll_keep.proofs.OneHolder.{holder_is, no_holder_is}
+use Rattle.toll_keep.proofs.Unknown.{acts_of_unknown}
 
 -- a batch with its unit
 abbrev batch : (owner order : Bytes) (number : ℕ) (unit : Bytes) → OpenedBatch
@@ -116,38 +111,6 @@ opened_has (c ∷ H) b there = elim (Contains-append_cases (opened_by H c.owner 
       ] refl
 ]
 
--- ---- its owner is known
-
-or_later : (house first before : Bool) → (house || before) ≡ true → (house || (first || before)) ≡ true
-or_later true first before h = refl
-or_later false true before h = refl
-or_later false false before h = h
-
-known_later : (H : History) (c : Command) (o : Bytes) → owner_known H o ≡ true → owner_known (c ∷ H) o ≡ true
-known_later H c o known = ap (λ b. same_bytes o house_name || b) (any_acts adds_owner o c H) ∙ or_later (same_bytes o house_name) (same_bytes c.owner o && adds_owner c.action) (list_any adds_owner (acts o H)) known
-
-not_unknown : (known : Bool) → (true && not known) ≡ false → known ≡ true
-not_unknown true h = refl
-not_unknown false h = absurd (false≢true (sym h))
-
-opener_known : (H : History) (c : Command) (a : Action) (b : OpenedBatch) → c.action ≡ a → verdict H c ≡ Accepted → Contains (opened_by H c.owner a) b → owner_known H b.owner ≡ true
-unfolding checks
-opener_known H c (OpenBatch order unit) b is accepted there =
-    let needed : needs_owner c.action ≡ true = ap needs_owner is in
-    let first : (needs_owner c.action && not (owner_known H c.owner)) ≡ false = none_applies (checks H c) accepted 0 in
-    elim (Contains-cases _ [] b there) [
-      | inl same ↦ subst (λ (it : OpenedBatch). owner_known H it.owner ≡ true) same (not_unknown (owner_known H c.owner) (ap (λ n. n && not (owner_known H c.owner)) (sym needed) ∙ first))
-      | inr none ↦ absurd (Contains-none b none)
-    ]
-opener_known H c _ b is accepted there = absurd (Contains-none b there)
-
-opened_known : (H : History) → IsLawful H → (b : OpenedBatch) → Contains (opened H) b → owner_known H b.owner ≡ true
-opened_known [] lawful b there = absurd (Contains-none b there)
-opened_known (c ∷ H) lawful b there = elim (Contains-append_cases (opened_by H c.owner c.action) (opened H) b there) [
-  | inl now ↦ known_later H c b.owner (opener_known H c c.action b refl lawful.2 now)
-  | inr before ↦ known_later H c b.owner (opened_known H lawful.0 b before)
-]
-
 -- ---- in a content and in its history
 
 -- a known owner's batch, and a batch of who is not known
@@ -160,49 +123,41 @@ no_batch : (H : History) (c : Content) → StandsFor c H → (o : Bytes) (k : By
 unfolding row_at
 no_batch H c stands o k unknown = ap (λ s. batch_at s k) (stands.unknown o unknown)
 
-found_one : {X : Type 0} (p : X → Bool) (xs : List X) (x : X) → Contains xs x → p x ≡ true → is_some (find p xs) ≡ true
-found_one p [] x there passes = absurd (Contains-none x there)
-found_one p (y ∷ xs) x there passes =
-    elim (p y) as (λ b. p y ≡ b → is_some (cond b (Some y) (find p xs)) ≡ true) [
-      | true ↦ λ is. refl
-      | false ↦ λ is. elim (Contains-cases y xs x there) [
-        | inl same ↦ absurd (false≢true (sym is ∙ ap p same ∙ passes))
-        | inr later ↦ found_one p xs x later passes
-      ]
-    ] refl
-
 mapped_where : {X Y : Type 0} (p : Y → Bool) (f : X → Y) (x : Option X) → is_some_where p (option_map f x) ≡ true → (v : X) × (x ≡ Some v) × (p (f v) ≡ true)
 mapped_where p f None h = absurd (false≢true h)
 mapped_where p f (Some v) h = (v, refl, h)
 
--- what holds a unit in the history
-abbrev is_held : History → Bytes → OpenedBatch → Bool
-is_held H unit b = same_bytes b.unit unit && not (is_closed (acts b.owner H) b.order b.number)
-
-some_holder : (H : History) (c : Content) (unit o order : Bytes) (number : ℕ) → StandsFor c H → is_some_where (is_on unit) (batch_at (c.rows o) (order, number)) ≡ true → is_some (holder H unit) ≡ true
-unfolding holder
-some_holder H c unit o order number stands on =
-    elim (owner_known H o) as (λ b. owner_known H o ≡ b → is_some (find (is_held H unit) (opened H)) ≡ true) [
+-- a batch that holds the unit in the content holds it in the history
+holds_given : (H : History) (c : Content) (unit : Bytes) (h : Holder) → StandsFor c H → IsHolder c unit (Some h) → HoldsUnit H unit (on_unit unit h)
+holds_given H c unit h stands is =
+    elim (owner_known H h.owner) as (λ b. owner_known H h.owner ≡ b → HoldsUnit H unit (on_unit unit h)) [
       | true ↦ λ known.
-          let found = mapped_where (is_on unit) _ (unit_of (acts o H) order number) (ap (is_some_where (is_on unit)) (sym (batch_given H c stands o (order, number) known)) ∙ on) in
-          found_one (is_held H unit) (opened H) (batch o order number found.0) (was_opened H o order number found.0 found.1) found.2
-      | false ↦ λ unknown. absurd (false≢true (ap (is_some_where (is_on unit)) (sym (no_batch H c stands o (order, number) unknown)) ∙ on))
+          let found = mapped_where (is_on unit) _ (unit_of (acts h.owner H) h.order h.number) (ap (is_some_where (is_on unit)) (sym (batch_given H c stands h.owner (h.order, h.number) known)) ∙ is) in
+          let parts = both (same_bytes found.0 unit) (not (is_closed (acts h.owner H) h.order h.number)) found.2 in
+          record {
+            was_opened = was_opened H h.owner h.order h.number unit (found.1 ∙ ap (λ u. Some u) (same_bytes-exact found.0 unit parts.0));
+            on = refl;
+            not_closed = not-true _ parts.1;
+          }
+      | false ↦ λ unknown. absurd (false≢true (ap (is_some_where (is_on unit)) (sym (no_batch H c stands h.owner (h.order, h.number) unknown)) ∙ is))
     ] refl
 
-not_true : (b : Bool) → b ≡ true → not b ≡ true → ⊥
-not_true true h n = false≢true n
-not_true false h n = false≢true h
+-- the owner of a batch that was opened is known
+opener_known : (H : History) → IsLawful H → (b : OpenedBatch) → HasUnit (acts b.owner H) b → owner_known H b.owner ≡ true
+opener_known H lawful b has =
+    elim (owner_known H b.owner) as (λ k. owner_known H b.owner ≡ k → k ≡ true) [
+      | true ↦ λ known. refl
+      | false ↦ λ unknown. absurd (false≢true (ap is_some (subst (λ own. HasUnit own b) (acts_of_unknown b.owner H lawful unknown) has).unit))
+    ] refl
 
-no_holder : (H : History) (c : Content) (unit : Bytes) (found : Option OpenedBatch) → IsLawful H → StandsFor c H → ((o : Bytes) (k : Bytes × ℕ) → none_or (λ row. not (is_on unit row)) (batch_at (c.rows o) k) ≡ true) → find (is_held H unit) (opened H) ≡ found → is_some found ≡ false
-no_holder H c unit None lawful stands none is = refl
-no_holder H c unit (Some b) lawful stands none is =
-    let there = found_in (is_held H unit) (opened H) b is in
-    let has = opened_has H b there.0 in
-    let at : batch_at (c.rows b.owner) (b.order, b.number) ≡ batch_of (acts b.owner H) (b.order, b.number) = batch_given H c stands b.owner (b.order, b.number) (opened_known H lawful b there.0) in
-    let off = ap (none_or (λ row. not (is_on unit row))) (sym (at ∙ ap (option_map _) has.unit)) ∙ none b.owner (b.order, b.number) in
-    absurd (not_true (is_held H unit b) there.1 off)
+-- and one that holds it in the history holds it in the content
+none_holds : (H : History) (c : Content) (unit : Bytes) → IsLawful H → StandsFor c H → IsHolder c unit None → (b : OpenedBatch) → HoldsUnit H unit b → ⊥
+none_holds H c unit lawful stands none b holds =
+    let has = opened_has H b holds.was_opened in
+    let at = batch_given H c stands b.owner (b.order, b.number) (opener_known H lawful b has) ∙ ap (option_map _) has.unit in
+    let on : (same_bytes b.unit unit && not (is_closed (acts b.owner H) b.order b.number)) ≡ true = and_is _ _ (ap (λ u. same_bytes u unit) holds.on ∙ same_bytes-refl unit) (ap not holds.not_closed) in
+    false≢true (ap not (sym on) ∙ ap (none_or (λ row. not (is_on unit row))) (sym at) ∙ none b.owner (b.order, b.number))
 
-pub same_holder : (H : History) (c : Content) (unit : Bytes) (answer : Option Holder) → IsLawful H → StandsFor c H → IsHolder c unit answer → is_some answer ≡ is_some (holder H unit)
-unfolding holder
-same_holder H c unit (Some h) lawful stands on = sym (some_holder H c unit h.owner h.order h.number stands on)
-same_holder H c unit None lawful stands none = sym (no_holder H c unit (holder H unit) lawful stands none refl)
+pub same_holder : (H : History) (c : Content) (unit : Bytes) (answer : Option Holder) → IsLawful H → StandsFor c H → IsHolder c unit answer → holder H unit ≡ option_map (on_unit unit) answer
+same_holder H c unit (Some h) lawful stands is = holder_is H lawful unit (on_unit unit h) (holds_given H c unit h stands is)
+same_holder H c unit None lawful stands none = no_holder_is H unit (none_holds H c unit lawful stands none)

@@ -1,7 +1,7 @@
 -- What each call of a keep does, whatever it answers.
-use Rattle.std.specs.Prelude.{◌≡◌, ◌↔◌, ◌⊎◌, Bool, true, false, IsTrue, List, [], ◌∷◌, ◌++◌, Result, Ok, Err, OnOk}
+use Rattle.std.specs.Prelude.{◌≡◌, ◌≢◌, ◌↔◌, ◌⊎◌, Bool, true, false, IsTrue, List, [], ◌∷◌, ◌++◌, Result, Ok, Err, OnOk}
 use Rattle.std.proofs.Common.{inl, inr}
-use Rattle.toll_keep.specs.Content.{Content}
+use Rattle.toll_keep.specs.Content.{Content, ContentKeepsRules}
 use Rattle.toll_keep.specs.declared.fault.KeepFault.{KeepFault}
 use Rattle.toll_keep.specs.declared.fault.KeepFault.TheVariants.{Memory, Disk, Damaged, Closed}
 
@@ -35,6 +35,12 @@ module _ {K : Type 0} where
   pub record Keeps (holds : K → Content → Type 0) (is_live : K → Type 0) (leaves : K → List Content → Type 0) (old new : K) : Type 0 where
     pub content : (c : Content) → holds old c → holds new c
     pub crash : is_live old → (c : Content) → holds old c → leaves new (c ∷ [])
+
+  -- what is so of each reading call, whatever it reads: it goes as any call, keeps the content, and finds no damage in rows that keep the rules
+  pub record IsReading {X : Type 0} (is_honest is_live : K → Type 0) (is_closed : K → Bool) (has_cause : K → K → Type 0) (leaves : K → List Content → Type 0) (holds : K → Content → Type 0) (old new : K) (result : Result X KeepFault) : Type 0 where
+    pub goes : Goes is_honest is_live is_closed has_cause leaves old new result
+    pub keeps : is_honest new → Keeps holds is_live leaves old new
+    pub whole : is_honest new → (c : Content) → holds old c → ContentKeepsRules c → result ≢ Err Damaged
 
 -- one of these is such
 abbrev pub IsAmong : (Content → Type 0) → List Content → Type 0

@@ -1,10 +1,13 @@
 -- Slices in a list, and which rows they have of each owner.
-use Rattle.std.specs.Prelude.{◌≡◌, Bool, false, if◌then◌else◌, List, [], ◌∷◌}
-use Rattle.std.specs.List.{AllByRecursion}
+use Rattle.std.specs.Prelude.{◌≡◌, ◌+◌, ◌≤◌, Bool, true, false, if◌then◌else◌, List, [], ◌∷◌, ◌++◌, vec_len, vec_capacity}
+use Rattle.std.specs.Global.{Vec}
+use Rattle.std.specs.List.{AllByRecursion, list_any}
 use Rattle.toll_base.specs.Bytes.{Bytes, same_bytes}
 use Rattle.toll_base.specs.Slice.{Slice, empty_slice}
 use Rattle.toll_base.specs.declared.rows.OwnerRow.{OwnerRow}
 use Rattle.toll_base.specs.declared.rows.UnitRow.{UnitRow}
+use Rattle.toll_base.specs.declared.decision.Change.{Change}
+use Rattle.toll_base.specs.declared.decision.Change.TheVariants.{Put}
 use Rattle.toll_keep.specs.Content.{Content}
 use Rattle.toll_keep.specs.declared.mem_keep.MemKeep.TheInside.{Inside}
 
@@ -31,6 +34,25 @@ put_slices slices (new ∷ more) = put_slice (put_slices slices more) new
 abbrev pub IsOneEach : List Slice → Type 0
 IsOneEach [] = Unit {0}
 IsOneEach (s ∷ slices) = AllByRecursion (λ other. is_of s.owner other ≡ false) slices × IsOneEach slices
+
+-- ---- rows that are taken out of a list, to be changed
+
+-- the slices have one of this owner
+abbrev pub has_slice : List Slice → Bytes → Bool
+has_slice slices o = list_any (is_of o) slices
+
+-- if the change puts a row, the slices have one of the row's owner
+abbrev pub IsTouched : List Slice → Change → Type 0
+IsTouched slices (Put o row) = has_slice slices o ≡ true
+IsTouched slices _ = Unit {0}
+
+-- at most one slice went from the list to those that were taken: each owner has the rows that it had, and no owner has a second slice
+pub record MovesOne (slices taken slices_now taken_now : Vec Slice) : Type 0 where
+  pub rows : (o : Bytes) → rows_in (taken_now.items ++ slices_now.items) o ≡ rows_in (taken.items ++ slices.items) o
+  pub each : IsOneEach slices.items → IsOneEach slices_now.items
+  pub stays : (o : Bytes) → has_slice taken.items o ≡ true → has_slice taken_now.items o ≡ true
+  pub len : vec_len taken_now ≤ vec_len taken + 1
+  pub room : (vec_len slices_now ≡ vec_len slices) × (vec_capacity slices_now ≡ vec_capacity slices)
 
 -- ---- a keep in memory
 

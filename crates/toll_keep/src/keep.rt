@@ -2,7 +2,7 @@
 ghost use Rattle.std.specs.Prelude.{◌≡◌, ◌≢◌, Bool, Err, List, [], ◌∷◌, ◌++◌, IfOk, OnOk, OnErr};
 ghost use Rattle.toll_trace.specs.Edges.{AreEdges, IsEdge};
 ghost use Rattle.toll_keep.specs.Content.{Content, slice_of, after, Fits, ContentKeepsRules};
-ghost use Rattle.toll_keep.specs.Goes.{Goes, Keeps};
+ghost use Rattle.toll_keep.specs.Goes.{Goes, IsReading};
 ghost use Rattle.toll_keep.specs.Holding.{IsHolder, IsEdgeOfSome};
 
 use crate::fault::KeepFault;
@@ -37,45 +37,33 @@ pub trait Keep {
 
     /// All rows of an owner: `None` for an unknown one. HOUSE is always known.
     fn slice(&mut self, alloc: Global, owner: &Name) -> Result<Option<Slice>, KeepFault>
-        ensures goes { Goes is_honest is_live is_closed has_cause leaves self.old self.new result }
-        ensures reads { is_honest self.new → (c : Content) → holds self.old c → IfOk result (λ slice. slice ≡ slice_of c owner.now) }
-        ensures keeps { is_honest self.new → Keeps holds is_live leaves self.old self.new }
-        ensures whole { is_honest self.new → (c : Content) → holds self.old c → ContentKeepsRules c → result ≢ Err KeepFault.Damaged };
+        ensures reading { IsReading is_honest is_live is_closed has_cause leaves holds self.old self.new result }
+        ensures reads { is_honest self.new → (c : Content) → holds self.old c → IfOk result (λ slice. slice ≡ slice_of c owner.now) };
 
     /// The owners besides HOUSE, in the order of their names.
     fn owners(&mut self, alloc: Global) -> Result<Vec<OwnerRow>, KeepFault>
-        ensures goes { Goes is_honest is_live is_closed has_cause leaves self.old self.new result }
-        ensures reads { is_honest self.new → (c : Content) → holds self.old c → IfOk result (λ rows. rows.items ≡ c.owners) }
-        ensures keeps { is_honest self.new → Keeps holds is_live leaves self.old self.new }
-        ensures whole { is_honest self.new → (c : Content) → holds self.old c → ContentKeepsRules c → result ≢ Err KeepFault.Damaged };
+        ensures reading { IsReading is_honest is_live is_closed has_cause leaves holds self.old self.new result }
+        ensures reads { is_honest self.new → (c : Content) → holds self.old c → IfOk result (λ rows. rows.items ≡ c.owners) };
 
     /// The units, in the order of their names.
     fn units(&mut self, alloc: Global) -> Result<Vec<UnitRow>, KeepFault>
-        ensures goes { Goes is_honest is_live is_closed has_cause leaves self.old self.new result }
-        ensures reads { is_honest self.new → (c : Content) → holds self.old c → IfOk result (λ rows. rows.items ≡ c.units) }
-        ensures keeps { is_honest self.new → Keeps holds is_live leaves self.old self.new }
-        ensures whole { is_honest self.new → (c : Content) → holds self.old c → ContentKeepsRules c → result ≢ Err KeepFault.Damaged };
+        ensures reading { IsReading is_honest is_live is_closed has_cause leaves holds self.old self.new result }
+        ensures reads { is_honest self.new → (c : Content) → holds self.old c → IfOk result (λ rows. rows.items ≡ c.units) };
 
     /// The batch that holds the unit, of any owner: `None` where none does.
     fn holder(&mut self, alloc: Global, unit: &Name) -> Result<Option<Holder>, KeepFault>
-        ensures goes { Goes is_honest is_live is_closed has_cause leaves self.old self.new result }
-        ensures reads { is_honest self.new → (c : Content) → holds self.old c → IfOk result (IsHolder c unit.now) }
-        ensures keeps { is_honest self.new → Keeps holds is_live leaves self.old self.new }
-        ensures whole { is_honest self.new → (c : Content) → holds self.old c → ContentKeepsRules c → result ≢ Err KeepFault.Damaged };
+        ensures reading { IsReading is_honest is_live is_closed has_cause leaves holds self.old self.new result }
+        ensures reads { is_honest self.new → (c : Content) → holds self.old c → IfOk result (IsHolder c unit.now) };
 
     /// The genealogy of an owner's own batches, in order, each edge once: empty for an unknown owner.
     fn edges(&mut self, alloc: Global, owner: &Name) -> Result<Vec<Edge>, KeepFault>
-        ensures goes { Goes is_honest is_live is_closed has_cause leaves self.old self.new result }
-        ensures reads { is_honest self.new → (c : Content) → holds self.old c → IfOk result (λ edges. AreEdges (IsEdge (c.rows owner.now)) edges.items) }
-        ensures keeps { is_honest self.new → Keeps holds is_live leaves self.old self.new }
-        ensures whole { is_honest self.new → (c : Content) → holds self.old c → ContentKeepsRules c → result ≢ Err KeepFault.Damaged };
+        ensures reading { IsReading is_honest is_live is_closed has_cause leaves holds self.old self.new result }
+        ensures reads { is_honest self.new → (c : Content) → holds self.old c → IfOk result (λ edges. AreEdges (IsEdge (c.rows owner.now)) edges.items) };
 
     /// The genealogy of all batches, in order, each edge once.
     fn all_edges(&mut self, alloc: Global) -> Result<Vec<Edge>, KeepFault>
-        ensures goes { Goes is_honest is_live is_closed has_cause leaves self.old self.new result }
-        ensures reads { is_honest self.new → (c : Content) → holds self.old c → IfOk result (λ edges. AreEdges (IsEdgeOfSome c) edges.items) }
-        ensures keeps { is_honest self.new → Keeps holds is_live leaves self.old self.new }
-        ensures whole { is_honest self.new → (c : Content) → holds self.old c → ContentKeepsRules c → result ≢ Err KeepFault.Damaged };
+        ensures reading { IsReading is_honest is_live is_closed has_cause leaves holds self.old self.new result }
+        ensures reads { is_honest self.new → (c : Content) → holds self.old c → IfOk result (λ edges. AreEdges (IsEdgeOfSome c) edges.items) };
 
     /// Makes all of these changes, in order, or none.
     ///

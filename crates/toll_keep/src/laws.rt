@@ -1,13 +1,17 @@
 //! Laws of contents.
-ghost use Rattle.std.specs.Prelude.{◌≡◌, Option, is_some, List, []};
+ghost use Rattle.std.specs.Prelude.{◌≡◌, Option, List, []};
+ghost use Rattle.std.specs.Option.{option_map};
 ghost use Rattle.toll_base.specs.Bytes.{Bytes};
+ghost use Rattle.toll_base.specs.declared.lot.Edge.{Edge};
 ghost use Rattle.toll_history.specs.Decision.{ChangesKeepRules};
-ghost use Rattle.toll_history.specs.History.{History, owner_known};
-ghost use Rattle.toll_history.specs.Holders.{holder};
+ghost use Rattle.toll_history.specs.History.{History, acts, owner_known};
+ghost use Rattle.toll_history.specs.Holders.{OpenedBatch, holder};
 ghost use Rattle.toll_history.specs.Verdict.{IsLawful};
 ghost use Rattle.toll_base.specs.declared.decision.Change.{Change};
+ghost use Rattle.toll_trace.specs.Edges.{IsEdge, AreEdges};
+ghost use Rattle.toll_genealogy.specs.Edges.{IsOwnEdge, IsPlantEdge};
 ghost use Rattle.toll_keep.specs.Content.{Content, nothing, knows, ContentKeepsRules, Fits, PutsToKnown};
-ghost use Rattle.toll_keep.specs.Holding.{IsHolder};
+ghost use Rattle.toll_keep.specs.Holding.{IsHolder, HoldsUnit, on_unit, IsEdgeOfSome};
 ghost use Rattle.toll_keep.specs.Standing.{StandsFor};
 ghost use Rattle.toll_keep.specs.declared.holder.Holder.{Holder};
 
@@ -26,9 +30,26 @@ pub fn owners_are_known_alike()
     ensures { (H : History) (c : Content) → StandsFor c H → (o : Bytes) → knows c o ≡ owner_known H o }
 {}
 
-/// A batch holds a unit where one does in the history.
+/// Over a lawful history a unit is held by one batch at most: two that were opened on it and are not
+/// closed, of whatever owners, are one.
+pub fn a_unit_is_held_by_one_batch()
+    ensures { (H : History) (unit : Bytes) (a b : OpenedBatch) → IsLawful H → HoldsUnit H unit a → HoldsUnit H unit b → a ≡ b }
+{}
+
+/// The batch that holds a unit is the one that holds it in the history, and none does where none does
+/// there.
 pub fn units_are_held_alike()
-    ensures { (H : History) (c : Content) (unit : Bytes) (answer : Option Holder) → IsLawful H → StandsFor c H → IsHolder c unit answer → is_some answer ≡ is_some (holder H unit) }
+    ensures { (H : History) (c : Content) (unit : Bytes) (answer : Option Holder) → IsLawful H → StandsFor c H → IsHolder c unit answer → holder H unit ≡ option_map (on_unit unit) answer }
+{}
+
+/// The edges of an owner's rows are the owner's in the history: none for who is not known.
+pub fn edges_are_the_owners()
+    ensures { (H : History) (c : Content) (o : Bytes) (edges : List Edge) → IsLawful H → StandsFor c H → AreEdges (IsEdge (c.rows o)) edges → AreEdges (IsOwnEdge (acts o H)) edges }
+{}
+
+/// The edges of all rows are the plant's in the history.
+pub fn all_edges_are_the_plants()
+    ensures { (H : History) (c : Content) (edges : List Edge) → IsLawful H → StandsFor c H → AreEdges (IsEdgeOfSome c) edges → AreEdges (IsPlantEdge H) edges }
 {}
 
 /// Changes fit where they keep the rules of each owner's rows, and put rows of known owners alone.

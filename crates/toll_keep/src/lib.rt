@@ -4,6 +4,7 @@
 mod draft;
 mod everyone;
 mod fault;
+mod ghosts;
 mod holder;
 mod keep;
 mod laws;
@@ -13,10 +14,15 @@ mod refusing;
 mod slices;
 
 pub use fault::KeepFault;
+pub use ghosts::{
+    a_keep_in_memory_has_its_content, a_keep_in_memory_is_always_open,
+    a_refusing_keep_has_the_content_inside, a_refusing_keep_is_as_open_as_the_one_inside,
+};
 pub use holder::Holder;
 pub use keep::Keep;
 pub use laws::{
-    changes_that_keep_the_rules_fit, lawful_rows_keep_the_rules, nothing_stands_for_no_commands,
+    a_unit_is_held_by_one_batch, all_edges_are_the_plants, changes_that_keep_the_rules_fit,
+    edges_are_the_owners, lawful_rows_keep_the_rules, nothing_stands_for_no_commands,
     owners_are_known_alike, units_are_held_alike,
 };
 pub use mem_keep::MemKeep;

@@ -50,7 +50,8 @@ impl Drop for MemKeep {
 impl MemKeep {
     /// No owners but HOUSE, no units, no rows. It takes no memory yet.
     pub fn new(alloc: Global) -> Self
-        ensures { content_of result ≡ nothing }
+        ensures empty { content_of result ≡ nothing }
+        ensures holds { ⟦<MemKeep as Keep>⟧.holds result nothing }
     {
         MemKeep {
             owners: Table::new(alloc),

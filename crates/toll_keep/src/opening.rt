@@ -1,7 +1,7 @@
 //! The rows that changes are about to touch, taken out of a list of slices.
-ghost use Rattle.std.specs.Prelude.{◌≡◌, ◌+◌, ◌≤◌, ◌++◌, IfOk, OnErr, IsOkUnless, length, vec_len, vec_capacity};
+ghost use Rattle.std.specs.Prelude.{◌≡◌, ◌+◌, ◌≤◌, ◌++◌, true, All, IfOk, OnOk, OnErr, IsOkUnless, length, vec_len, vec_capacity};
 ghost use Rattle.toll_base.specs.Bytes.{Bytes};
-ghost use Rattle.toll_keep.specs.Slices.{rows_in, IsOneEach};
+ghost use Rattle.toll_keep.specs.Slices.{rows_in, has_slice, IsOneEach, IsTouched, MovesOne};
 
 use crate::draft::place_of_open;
 use crate::fault::KeepFault;
@@ -9,8 +9,8 @@ use crate::slices::{install, take};
 use std::alloc::Global;
 use toll_base::{Change, Name, OpenSlice, Row, Slice};
 
-/// Takes out the rows of each owner that a change puts a row for. After want of memory they are
-/// all back.
+/// Takes out the rows of each owner for which a change puts a row. After want of memory they are all
+/// back.
 pub fn open_touched(
     alloc: Global,
     slices: &mut Vec<Slice>,
@@ -18,6 +18,7 @@ pub fn open_touched(
 ) -> Result<Vec<OpenSlice>, KeepFault>
     requires { vec_len slices.old + length changes.now ≤ vec_capacity slices.old }
     ensures ok { IfOk result (λ taken. (o : Bytes) → rows_in (taken.items ++ slices.new.items) o ≡ rows_in slices.old.items o) }
+    ensures touched { IfOk result (λ taken. All (IsTouched taken.items) changes.now) }
     ensures room { IfOk result (λ taken. vec_len slices.new + vec_len taken ≤ vec_capacity slices.new) }
     ensures err { OnErr result ((o : Bytes) → rows_in slices.new.items o ≡ rows_in slices.old.items o) }
     ensures each { IsOneEach slices.old.items → IsOneEach slices.new.items }
@@ -40,10 +41,8 @@ fn open_for(
     taken: &mut Vec<OpenSlice>,
     change: &Change,
 ) -> Result<(), KeepFault>
-    ensures rows { (o : Bytes) → rows_in (taken.new.items ++ slices.new.items) o ≡ rows_in (taken.old.items ++ slices.old.items) o }
-    ensures each { IsOneEach slices.old.items → IsOneEach slices.new.items }
-    ensures len { vec_len taken.new ≤ vec_len taken.old + 1 }
-    ensures room { (vec_len slices.new ≡ vec_len slices.old) × (vec_capacity slices.new ≡ vec_capacity slices.old) }
+    ensures moves { MovesOne slices.old taken.old slices.new taken.new }
+    ensures touched { OnOk result (IsTouched taken.new.items change.now) }
     ensures fault { IsOkUnless result KeepFault.Memory }
 {
     // Named for the proof: a change may have a row.
@@ -61,10 +60,8 @@ fn open_rows(
     taken: &mut Vec<OpenSlice>,
     owner: &Name,
 ) -> Result<(), KeepFault>
-    ensures rows { (o : Bytes) → rows_in (taken.new.items ++ slices.new.items) o ≡ rows_in (taken.old.items ++ slices.old.items) o }
-    ensures each { IsOneEach slices.old.items → IsOneEach slices.new.items }
-    ensures len { vec_len taken.new ≤ vec_len taken.old + 1 }
-    ensures room { (vec_len slices.new ≡ vec_len slices.old) × (vec_capacity slices.new ≡ vec_capacity slices.old) }
+    ensures moves { MovesOne slices.old taken.old slices.new taken.new }
+    ensures touched { OnOk result (has_slice taken.new.items owner.now ≡ true) }
     ensures fault { IsOkUnless result KeepFault.Memory }
 {
     if place_of_open(taken, owner).is_some() {

@@ -5,9 +5,9 @@ use Rattle.toll_base.specs.Bytes.{Bytes, same_bytes}
 use Rattle.toll_base.specs.Values.{house_name}
 use Rattle.toll_history.specs.History.{History, part}
 use Rattle.toll_history.specs.Verdict.{IsLawful}
-use Rattle.toll_desk.specs.PlantAnswers.{Does, AsksOrders, AsksStock, AsksBatch, AsksTrace, AsksRecall, CannotRead}
-use Rattle.toll_desk.proofs.OneReply.{one_reply}
-use Rattle.toll_desk.proofs.OneAnswer.{one_plant_answer}
+use Rattle.toll_answers.specs.PlantAnswers.{Does, AsksOrders, AsksStock, AsksBatch, AsksTrace, AsksRecall, CannotRead}
+use Rattle.toll_answers.proofs.OneReply.{one_reply}
+use Rattle.toll_answers.proofs.OneAnswer.{one_plant_answer}
 use Rattle.toll_wire.specs.Runs.{Asks, Fails, Saying, By, Nobody, Happening, Request, Plant, Answered, Tells, Unavailable, PlantTells, PlantFault, Wire, IsTold, after_saying, IsStep, IsRun, is_fault, own_events, told, IsAlone, AreValid, NoFaults}
 use Rattle.toll_wire.proofs.Private.{runs-private}
 

@@ -8,10 +8,10 @@ use Rattle.toll_history.specs.History.{History, part}
 use Rattle.toll_history.specs.Verdict.{Verdict, Accepted, Repeated, Refused, verdict, grow, grown, IsLawful}
 use Rattle.toll_history.proofs.Own.{part-own, part-other}
 use Rattle.toll_base.proofs.Texts.{same_bytes-exact}
-use Rattle.toll_desk.specs.Told.{Asked, AskPlace, AskCancel, AskRelease, AskReject}
-use Rattle.toll_desk.specs.Replies.{has_key, IsReply, after_answer, after_reply}
-use Rattle.toll_desk.specs.PlantAnswers.{PlantAsked, Does, AsksOrders, AsksStock, AsksBatch, AsksTrace, AsksRecall, CannotRead, PlantTold, Judged, after_plant}
-use Rattle.toll_desk.proofs.OwnReplies.{lawful-grow, has_key-part, reply-both_ways, after_reply-part}
+use Rattle.toll_answers.specs.Told.{Asked, AskPlace, AskCancel, AskRelease, AskReject}
+use Rattle.toll_answers.specs.Replies.{has_key, IsReply, after_answer, after_reply}
+use Rattle.toll_answers.specs.PlantAnswers.{PlantAsked, Does, AsksOrders, AsksStock, AsksBatch, AsksTrace, AsksRecall, CannotRead, PlantTold, Judged, after_plant}
+use Rattle.toll_answers.proofs.OwnReplies.{lawful-grow, has_key-part, reply-both_ways, after_reply-part}
 use Rattle.toll_wire.specs.Runs.{Asking, Asks, Fails, Saying, By, Nobody, Happening, Request, Plant, Answered, Tells, Unavailable, PlantTells, PlantFault, Wire, IsTold, after_saying, IsStep, IsRun, accepts, is_own, own_events, told_by, told, IsAlone, IsPrivate, IsValidAsking, IsValidSaying, IsValidEvent, AreValid, claims}
 
 -- ---- what a request makes of a history

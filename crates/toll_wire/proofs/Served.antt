@@ -1,5 +1,5 @@
 -- Requests that are served, over any keep.
-use Rattle.std.proofs.Common.{◌≡◌, ℕ, List, [], ◌∷◌, Some, Result, Ok, Err, IfOk, refl, sym, subst}
+use Rattle.std.proofs.Common.{◌≡◌, ℕ, List, [], ◌∷◌, Option, Some, None, Result, Ok, Err, IfOk, refl, sym, ap, subst}
 use Rattle.std.specs.Global.{Vec}
 use Rattle.std.specs.Prelude.{OnOk, OnErr}
 use Rattle.std.proofs.lemmas.Result.{IfOk-weaker, on_ok_weaker}
@@ -9,14 +9,18 @@ use Rattle.toll_keep.specs.Content.{Content}
 use Rattle.toll_keep.specs.Standing.{StandsFor}
 use Rattle.toll_keep.specs.declared.fault.KeepFault.{KeepFault}
 use Rattle.toll_base.specs.declared.decision.Change.{Change}
-use Rattle.toll_desk.specs.Told.{Asked, Told}
-use Rattle.toll_desk.specs.Replies.{IsReply, after_reply}
+use Rattle.toll_answers.specs.Told.{Asked, Told}
+use Rattle.toll_answers.specs.Replies.{IsReply, after_reply}
 use Rattle.toll_desk.specs.Plans.{finished, IsPlan, IsDone}
 use Rattle.toll_desk.proofs.Carried.{IsCarried, done_of}
 use Rattle.toll_wire.specs.declared.outgoing.Out.{Out}
 use Rattle.toll_wire.specs.declared.outgoing.Out.TheVariants.{Text, Unavailable}
 use Rattle.toll_wire.specs.OutTexts.{IsText, text_if}
-use Rattle.toll_wire.specs.ReplyTexts.{text_of_told, text_if_told}
+use Rattle.toll_wire.specs.ReplyTexts.{text_of_told, text_of_reply, text_if_told}
+use Rattle.toll_wire.specs.Telling.{MayBeServed, Tells}
+use Rattle.toll_wire.specs.declared.asked.Asks.TheVariants.{For}
+use Rattle.toll_desk.specs.declared.request.Reply.{Reply}
+use Rattle.toll_desk.specs.declared.request.Request.{Request}
 use Rattle.toll_wire.specs.Runs.{Asks, By, Nobody, IsTold}
 use Rattle.toll_wire.specs.Steps.{http, outcome_of, IsServed}
 
@@ -91,3 +95,12 @@ module _ {K : Type 0} (holds : K → Content → Type 0) (is_live : K → Type 0
   plan_served text result made same is none plan live held stop carried =
       reply_served text result is (done_of holds is_live leaves old middle new result c (after_reply o key H q) (IsReply o key H q) changes made same carried held planned none
       (IfOk-weaker planned _ _ (λ told is. (is.reply, is.leads)) plan) (on_ok_weaker planned (λ now was. now) live) stop (finished planned result) refl)
+
+-- a text that is sent is the reply's
+sent_is : (text : Vec ℕ) (x : Option Bytes) → IsText (Text text) x → x ≡ Some text.items
+sent_is text None is = absurd is
+sent_is text (Some t) is = ap (λ u. Some u) (sym is)
+
+pub tells_if : (request : Request) (reply : Reply) (text : Vec ℕ) (made : Result (Unit {0}) KeepFault) → IsText (Text text) (text_of_reply reply) → Tells (MayBeServed (For request)) (text_if text made)
+tells_if request reply text (Ok done) is = (reply, sent_is text (text_of_reply reply) is)
+tells_if request reply text (Err fault) is = tt

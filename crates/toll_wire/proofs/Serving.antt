@@ -1,5 +1,5 @@
 -- Events of the office, one after another, are a run.
-use Rattle.std.proofs.Common.{List, [], ◌∷◌, ◌++◌, Option, Some, None, Result, Ok, Err, refl, sym, subst, inl, inr, ◌⊎◌}
+use Rattle.std.proofs.Common.{List, [], ◌∷◌, ◌++◌, Result, Ok, Err, refl, sym, subst, inl, inr, ◌⊎◌}
 use Rattle.std.specs.Global.{Vec}
 use Rattle.std.specs.Prelude.{ℕ}
 use Rattle.toll_history.specs.History.{History}
@@ -7,8 +7,8 @@ use Rattle.toll_history.specs.Verdict.{IsLawful}
 use Rattle.toll_keep.specs.Content.{Content}
 use Rattle.toll_keep.specs.Standing.{StandsFor}
 use Rattle.toll_keep.specs.declared.fault.KeepFault.{KeepFault}
-use Rattle.toll_desk.specs.PlantAnswers.{PlantAsked, PlantTold, after_plant}
-use Rattle.toll_desk.specs.Plans.{asked_by, plant_told, IsPlantTold, IsValidDeed, HoldsFor, IsDone}
+use Rattle.toll_answers.specs.PlantAnswers.{PlantAsked, PlantTold, IsPlantAnswer, after_plant}
+use Rattle.toll_desk.specs.Plans.{asked_by, plant_told, IsValidDeed, HoldsFor, IsDone}
 use Rattle.toll_desk.specs.declared.plant_cmd.PlantCmd.{PlantCmd}
 use Rattle.toll_desk.specs.declared.plant_cmd.PlantReply.{PlantReply}
 use Rattle.toll_wire.specs.declared.event.Event.{Event}
@@ -107,15 +107,14 @@ module _ (holds : Content → Type 0) (c : Content) (H : History) (stands : Stan
   }
   answered_step was_live leaves bytes NoText answered = nothing_told bytes answered.served.undone
 
-  plant_step : (was_live : Type 0) (leaves : List Content → Type 0) (q : PlantAsked) (outcome : Result (Option PlantTold) KeepFault) → IsDone holds was_live leaves c (after_plant H q) outcome (IsPlantTold H q) →
+  plant_step : (was_live : Type 0) (leaves : List Content → Type 0) (q : PlantAsked) (outcome : Result PlantTold KeepFault) → IsDone holds was_live leaves c (after_plant H q) outcome (IsPlantAnswer H q) →
       (told : Answered) × (next : History) × PlantShows outcome told × IsStep http H (Plant q) told next × HoldsFor holds next
-  plant_step was_live leaves q (Ok (Some told)) done = (PlantTells told, after_plant H q, refl, (done.told, refl), done.done)
-  plant_step was_live leaves q (Ok None) done = absurd done.told
+  plant_step was_live leaves q (Ok told) done = (PlantTells told, after_plant H q, refl, (done.told, refl), done.done)
   plant_step was_live leaves q (Err fault) done = (PlantFault, H, refl, refl, record { content = c; held = done.undone; stands = stands })
 
   -- a command of the plant
   pub step_of_command : (was_live : Type 0) (leaves : List Content → Type 0) (command : PlantCmd) (reply : PlantReply) → IsValidDeed (asked_by command) →
-      IsDone holds was_live leaves c (after_plant H (asked_by command)) (plant_told reply) (IsPlantTold H (asked_by command)) → IsStepOf holds H (Command command) (CommandReply reply)
+      IsDone holds was_live leaves c (after_plant H (asked_by command)) (plant_told reply) (IsPlantAnswer H (asked_by command)) → IsStepOf holds H (Command command) (CommandReply reply)
   step_of_command was_live leaves command reply valid done =
       let (told, next, shows, step, left) = plant_step was_live leaves (asked_by command) (plant_told reply) done in
       record {

@@ -1,10 +1,10 @@
 -- Events of the office, and their answers, as a run.
-use Rattle.std.specs.Prelude.{◌≡◌, Option, Some, None, List, [], ◌∷◌, Result, Ok, Err}
+use Rattle.std.specs.Prelude.{◌≡◌, List, [], ◌∷◌, Result, Ok, Err}
 use Rattle.toll_history.specs.History.{History}
 use Rattle.toll_history.specs.Verdict.{IsLawful}
 use Rattle.toll_keep.specs.Content.{Content}
 use Rattle.toll_keep.specs.declared.fault.KeepFault.{KeepFault}
-use Rattle.toll_desk.specs.PlantAnswers.{PlantTold}
+use Rattle.toll_answers.specs.PlantAnswers.{PlantTold}
 use Rattle.toll_desk.specs.Plans.{asked_by, plant_told, HoldsFor}
 use Rattle.toll_wire.specs.declared.event.Event.{Event}
 use Rattle.toll_wire.specs.declared.event.Event.TheVariants.{Owner, Plant as Command}
@@ -16,10 +16,9 @@ use Rattle.toll_wire.specs.Steps.{http, Says}
 
 -- ---- what an event and its answer are in a run
 
--- what the plant is told, or the fault that there was; no text is
-abbrev pub PlantShows : Result (Option PlantTold) KeepFault → Answered → Type 0
-PlantShows (Ok (Some told)) answered = answered ≡ PlantTells told
-PlantShows (Ok None) answered = ⊥
+-- what the plant is told, or the fault that there was
+abbrev pub PlantShows : Result PlantTold KeepFault → Answered → Type 0
+PlantShows (Ok told) answered = answered ≡ PlantTells told
 PlantShows (Err fault) answered = answered ≡ PlantFault
 
 -- the bytes of a request say it, and were told the text; of a request that had no memory for a reply, nothing is said of what it says

@@ -7,7 +7,7 @@ use Rattle.toll_base.specs.declared.refusal.Refusal.{Refusal}
 use Rattle.toll_base.specs.declared.refusal.Refusal.TheVariants.{UnknownOrder, UnknownBatch, UnknownLot}
 use Rattle.toll_keep.specs.declared.fault.KeepFault.{KeepFault}
 use Rattle.toll_desk.specs.declared.request.Reply.{Reply}
-use Rattle.toll_desk.specs.Told.{Told, TellForbidden, TellOrders, TellOrder, TellBatch, TellStock, TellLot, TellTrace, TellRefused}
+use Rattle.toll_answers.specs.Told.{Told, TellForbidden, TellOrders, TellOrder, TellBatch, TellStock, TellLot, TellTrace, TellRefused}
 use Rattle.toll_desk.specs.Plans.{told_of}
 use Rattle.toll_wire.specs.declared.verb.Verb.{Verb}
 use Rattle.toll_wire.specs.Verbs.{verb_name}
@@ -57,7 +57,7 @@ text_of_told (TellOrder row) = reply_text 200 None (compact_text (order_data row
 text_of_told (TellRefused refusal) = reply_text (refusal_status refusal) None (compact_text (refusal_data refusal))
 text_of_told (TellBatch batch lines) = []
 text_of_told (TellStock lines) = []
-text_of_told (TellLot view) = []
+text_of_told (TellLot row measure results sublots) = []
 text_of_told (TellTrace trace) = []
 
 -- nothing is told of a fault

@@ -6,9 +6,9 @@ use Rattle.toll_base.specs.Words.{is_some_where}
 use Rattle.toll_history.specs.Command.{PlaceOrder}
 use Rattle.toll_history.specs.History.{History, part}
 use Rattle.toll_history.specs.Verdict.{Accepted, IsValid}
-use Rattle.toll_desk.specs.Told.{Asked, AskPlace, Told}
-use Rattle.toll_desk.specs.Replies.{has_key, IsReply, after_reply}
-use Rattle.toll_desk.specs.PlantAnswers.{PlantAsked, Does, PlantTold, Judged, IsPlantAnswer, after_plant}
+use Rattle.toll_answers.specs.Told.{Asked, AskPlace, Told}
+use Rattle.toll_answers.specs.Replies.{has_key, IsReply, after_reply}
+use Rattle.toll_answers.specs.PlantAnswers.{PlantAsked, Does, PlantTold, Judged, IsPlantAnswer, after_plant}
 use Rattle.toll_desk.specs.Plans.{IsValidDeed}
 
 -- what is asked with a key: a request, or something that fails a check after the key's, with the text that it is told

@@ -26,7 +26,9 @@ pub fn tell(alloc: Global, reply: &Reply) -> Out
             let body = refusal_body(alloc, refusal);
             send(alloc, refusal_status(refusal), None, body)
         }
-        Reply::Fault(_) => Out::Unavailable,
+        // No route asks for these yet, and a fault has no text.
+        Reply::Batch(_) | Reply::Stock(_) | Reply::Lot(_) | Reply::Trace(_) | Reply::Fault(_) =>
+            Out::Unavailable,
     }
 }
 

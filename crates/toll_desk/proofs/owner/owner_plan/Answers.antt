@@ -1,9 +1,13 @@
-use Rattle.std.proofs.Common.{◌≡◌, true, sym, subst, ◌∙◌}
+use Rattle.std.proofs.Common.{◌≡◌, true, false, sym, subst, ◌∙◌}
 use Rattle.std.proofs.lemmas.Result.{IfOk-weaker}
+use Rattle.std.specs.Option.{is_some, IfSome}
+use Rattle.toll_base.specs.Bytes.{same_bytes}
+use Rattle.toll_base.specs.Slice.{order_at}
+use Rattle.toll_base.specs.Values.{house_name}
 use Rattle.toll_history.specs.History.{owner_known}
-use Rattle.toll_desk.specs.Replies.{has_key}
+use Rattle.toll_answers.specs.Replies.{has_key}
 use Rattle.toll_desk.specs.Plans.{asked_of, told_of, IsPlanFor}
-use Rattle.toll_desk.proofs.OwnerPlans.{right_key, wrong_key, key_known, plan_admitted, plan_forbidden}
+use Rattle.toll_desk.proofs.OwnerPlans.{right_key, wrong_key, key_known, not_house_by, plan_admitted, plan_forbidden}
 use Rattle.toll_desk.proofs.owner.owner_plan.Goals as goal
 
 pub returns-in-Ok-Some-clause-plan : goal.returns-in-Ok-Some-clause-plan
@@ -12,15 +16,23 @@ returns-in-Ok-Some-clause-plan g c honest content H held stands lawful =
     let key = c.args.key.now in
     let q = asked_of c.args.request.now in
     let changes = c.plan_for.result.changes.items in
-    let before = c.plan_for.ensures.goes.honest honest in
-    let found = right_key o c.in-Ok-Some.owner (has_key o key H) (sym c.in-Ok-Some.field-0-is ∙ c.in-Ok-Some.ensures.found before content H held stands) in
+    let before = c.plan_for.ensures.reads.goes.honest honest in
+    let found = right_key o c.in-Ok-Some.owner (has_key o key H) (sym c.in-Ok-Some.field-0-is ∙ c.in-Ok-Some.ensures.found before content H held stands lawful) in
     let known = key_known content H o key stands found.0 in
     IfOk-weaker (told_of c.plan_for.result.reply) _ _ (λ told plan. plan_admitted content H o key q told changes found.0 (subst (λ p. IsPlanFor content H p q told changes) found.1 plan))
-    (c.plan_for.ensures.plan honest content H ((c.in-Ok-Some.ensures.keeps before).content content held) stands lawful (subst (λ p. owner_known H p ≡ true) (sym found.1) known))
+    (c.plan_for.ensures.plan honest content H ((c.in-Ok-Some.ensures.reads.keeps before).content content held) stands lawful (subst (λ p. owner_known H p ≡ true) (sym found.1) known)
+    (subst (λ p. same_bytes p house_name ≡ false) (sym found.1) (not_house_by H o key found.0)))
 
 pub returns-in-Ok-None-clause-plan : goal.returns-in-Ok-None-clause-plan
 returns-in-Ok-None-clause-plan g c honest content H held stands lawful =
     let o = c.args.owner.now in
     let key = c.args.key.now in
-    let wrong = wrong_key o (has_key o key H) (sym c.in-Ok-None.field-0-is ∙ c.in-Ok-None.ensures.found honest content H held stands) in
+    let wrong = wrong_key o (has_key o key H) (sym c.in-Ok-None.field-0-is ∙ c.in-Ok-None.ensures.found honest content H held stands lawful) in
     rw (c.unchanged.ensures.reply, c.unchanged.ensures.changes) (plan_forbidden content H o key (asked_of c.args.request.now) stands wrong)
+
+pub returns-in-Ok-Some-clause-once : goal.returns-in-Ok-Some-clause-once
+returns-in-Ok-Some-clause-once g c honest content held order recipe batches asks there =
+    let before = c.plan_for.ensures.reads.goes.honest honest in
+    let named = subst (λ found. IfSome found (λ name. name ≡ c.args.owner.now)) c.in-Ok-Some.field-0-is c.in-Ok-Some.ensures.named in
+    c.plan_for.ensures.once honest content ((c.in-Ok-Some.ensures.reads.keeps before).content content held) order recipe batches asks
+    (subst (λ p. is_some (order_at (content.rows p) order) ≡ true) (sym named) there)

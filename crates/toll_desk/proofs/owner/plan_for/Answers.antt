@@ -1,21 +1,29 @@
-use Rattle.std.proofs.Common.{◌≡◌, true, sym, ap, subst, ◌∙◌}
-use mathlib.Core.Bool.{false≢true}
+use Rattle.std.proofs.Common.{IfOk, sym, ap, subst, ◌∙◌}
 use Rattle.std.proofs.lemmas.Result.{IfOk-weaker}
-use Rattle.toll_history.specs.History.{owner_known}
-use Rattle.toll_history.specs.Tables.{IsRowsOf}
-use Rattle.toll_desk.specs.Plans.{asked_of, told_of}
-use Rattle.toll_desk.proofs.OwnerPlans.{slice_read, none_read, plan_lift}
+use Rattle.toll_desk.specs.Plans.{IsPlanFor, asked_of, is_granted, told_of, writes}
+use Rattle.toll_desk.proofs.OwnerForms.{plan_read, plan_trace, write_writes, both_false}
 use Rattle.toll_desk.proofs.owner.plan_for.Goals as goal
 
-pub returns-in-Ok-clause-plan : goal.returns-in-Ok-clause-plan
-returns-in-Ok-clause-plan g c honest content H held stands lawful known =
-    let o = c.args.owner.now in
-    let s = c.in-Ok-Some.slice in
-    let is = slice_read content o s (sym c.in-Ok-Some.field-0-is ∙ c.in-Ok-Some.ensures.reads honest content held) in
-    let named : s.owner ≡ o = ap (λ t. t.owner) is ∙ stands.own o in
-    IfOk-weaker (told_of c.in-Ok.planned.reply) _ _ (λ told plan. plan_lift content H o (asked_of c.args.request.now) s told c.in-Ok.planned.changes.items stands lawful known is plan)
-    (c.in-Ok.ensures.over H lawful (subst (λ p. owner_known H p ≡ true) (sym named) known) (subst (IsRowsOf H) (sym is) (stands.known o known)))
+pub returns-in-Read-clause-plan : goal.returns-in-Read-clause-plan
+returns-in-Read-clause-plan g c honest content H held stands lawful known not_house =
+    rw (c.unchanged.ensures.reply, c.unchanged.ensures.changes)
+    (IfOk-weaker (told_of c.read_rows.result) _ _ (λ told answer. plan_read content H stands c.args.owner.now told c.in-Read.reading (asked_of c.args.request.now) c.in-Read.ensures answer)
+    (c.read_rows.ensures.over honest content H held stands lawful known))
 
-pub returns-in-Ok-None-clause-plan : goal.returns-in-Ok-None-clause-plan
-returns-in-Ok-None-clause-plan g c honest content H held stands lawful known =
-    absurd (false≢true (sym (none_read content H c.args.owner.now stands (sym c.in-Ok-None.field-0-is ∙ c.in-Ok-None.ensures.reads honest content held)) ∙ known))
+pub returns-in-Trace-clause-plan : goal.returns-in-Trace-clause-plan
+returns-in-Trace-clause-plan g c honest content H held stands lawful known not_house =
+    rw (c.unchanged-in-Trace.ensures.reply, c.unchanged-in-Trace.ensures.changes)
+    (IfOk-weaker (told_of c.trace_own.result) _ _ (λ told answer. plan_trace content H stands c.args.owner.now told c.in-Trace.tracing (asked_of c.args.request.now) c.in-Trace.ensures answer)
+    (c.trace_own.ensures.over honest content H held stands lawful known not_house))
+
+pub returns-in-Write-clause-quiet : goal.returns-in-Write-clause-quiet
+returns-in-Write-clause-quiet g c none =
+    c.plan_write.ensures.quiet (both_false (writes (asked_of c.args.request.now)) (is_granted (told_of c.plan_write.result.reply)) (ap writes c.in-Write.ensures ∙ write_writes c.in-Write.writing) none)
+
+pub returns-in-Write-clause-once : goal.returns-in-Write-clause-once
+returns-in-Write-clause-once g c honest content held order recipe batches asks there = c.plan_write.ensures.once honest content held order recipe batches (sym c.in-Write.ensures ∙ asks) there
+
+pub returns-in-Write-clause-plan : goal.returns-in-Write-clause-plan
+returns-in-Write-clause-plan g c honest content H held stands lawful known not_house =
+    subst (λ q. IfOk (told_of c.plan_write.result.reply) (λ told. IsPlanFor content H c.args.owner.now q told c.plan_write.result.changes.items)) (sym c.in-Write.ensures)
+    (c.plan_write.ensures.plan honest content H held stands lawful known)

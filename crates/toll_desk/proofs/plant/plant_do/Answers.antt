@@ -1,20 +1,23 @@
-use Rattle.std.proofs.lemmas.Result.{IfOk-weaker}
-use Rattle.toll_desk.specs.PlantAnswers.{after_plant}
-use Rattle.toll_desk.specs.Plans.{asked_by, plant_told, IsPlantTold}
-use Rattle.toll_desk.proofs.Carried.{done_of}
+use Rattle.std.proofs.Common.{sym, subst}
+use Rattle.toll_answers.specs.PlantAnswers.{IsPlantAnswer, after_plant}
+use Rattle.toll_keep.proofs.KeptRules.{standing_keeps_rules}
+use Rattle.toll_desk.specs.PlantForms.{asked_by_question}
+use Rattle.toll_desk.specs.Plans.{IsDone, plant_told}
+use Rattle.toll_desk.proofs.PlantForms.{question_done}
 use Rattle.toll_desk.proofs.plant.plant_do.Goals as goal
 
-pub returns-clause-done : goal.returns-clause-done
-returns-clause-done g c honest content H held stands lawful =
+pub returns-in-Do-clause-undamaged : goal.returns-in-Do-clause-undamaged
+returns-in-Do-clause-undamaged g c honest content H held stands lawful = c.do_deed.ensures.whole honest content held (standing_keeps_rules H content lawful stands)
+
+pub returns-in-Do-clause-done : goal.returns-in-Do-clause-done
+returns-in-Do-clause-done g c honest content H held stands lawful =
     let K = g.K.Keep in
-    let q = asked_by c.args.command.now in
-    let planned = c.plant_plan-planned in
-    let carried = c.carry-made.ensures in
-    let outcome = plant_told planned.result.reply in
-    let before = carried.honest honest in
-    let keeps = planned.ensures.keeps before in
-    let between = keeps.content content held in
-    done_of K.holds K.is_live K.leaves c.args.keep.now planned.new.keep c.carry-made.new.keep c.carry-made.result content (after_plant H q) (IsPlantTold H q) planned.result.changes.items _ c.deref.ensures.value
-    (record { idle = carried.idle; all = carried.all honest content between; none = carried.none honest content between; crash = λ live. carried.crash honest live content between }) between
-    outcome planned.ensures.none (IfOk-weaker outcome _ _ (λ x plan. (plan.told, plan.leads)) (planned.ensures.plan before content H held stands lawful))
-    (planned.ensures.live before) (λ live. keeps.crash live content held) _ c.finished.ensures
+    subst (λ q. IsDone (K.holds c.do_deed.new.keep) (K.is_live c.args.keep.now) (K.leaves c.do_deed.new.keep) content (after_plant H q) (plant_told c.do_deed.result) (IsPlantAnswer H q)) (sym c.in-Do.ensures.form)
+    (c.do_deed.ensures.done honest content H held stands lawful)
+
+pub returns-in-Ask-clause-done : goal.returns-in-Ask-clause-done
+returns-in-Ask-clause-done g c honest content H held stands lawful =
+    let K = g.K.Keep in
+    let q = asked_by_question c.in-Ask.question in
+    subst (λ q. IsDone (K.holds c.ask.new.keep) (K.is_live c.args.keep.now) (K.leaves c.ask.new.keep) content (after_plant H q) (plant_told c.ask.result) (IsPlantAnswer H q)) (sym c.in-Ask.ensures.form)
+    (question_done K.is_honest K.is_live K.is_closed K.has_cause K.leaves K.holds c.args.keep.now c.ask.new.keep (plant_told c.ask.result) content H c.in-Ask.question (IsPlantAnswer H q) stands held (c.ask.ensures.keeps honest) (c.ask.ensures.over honest content H held stands lawful))

@@ -1,0 +1,4 @@
+pub mod SameRows
+pub mod OwnReplies
+pub mod OneReply
+pub mod OneAnswer

@@ -1,0 +1,91 @@
+-- Over a list of commands the plant has one answer to a command or a question.
+use Rattle.std.proofs.Common.{◌≡◌, Option, Some, None, List, [], ◌∷◌, map, refl, sym, ap, ◌∙◌}
+use Rattle.std.specs.Cmp.Lexicographic.{nat_list_cmp_total}
+use Rattle.toll_base.specs.Bytes.{Bytes, bytes_cmp}
+use Rattle.toll_base.specs.Keys.{RequirementKey, requirement_cmp, pair_cmp}
+use Rattle.toll_history.specs.History.{History, acts}
+use Rattle.toll_history.specs.Work.{order_of}
+use Rattle.toll_history.specs.Verdict.{Verdict, Accepted, Repeated, Refused, first_of}
+use Rattle.toll_base.specs.declared.lot.LotId.{LotId}
+use Rattle.toll_base.proofs.Texts.{pair_cmp_total, requirement_cmp_total}
+use Rattle.toll_trace.proofs.Unique.{trace_unique}
+use Rattle.toll_trace.specs.declared.way.Way.{Way}
+use Rattle.toll_trace.specs.declared.way.Way.TheVariants.{Forward}
+use Rattle.toll_genealogy.specs.Edges.{IsPlantJoined}
+use Rattle.toll_answers.specs.PlantAnswers.{PlantAsked, Does, AsksOrders, AsksStock, AsksBatch, AsksTrace, AsksRecall, CannotRead, PlantTold, Shows, AreOrdersShown, IsStockShown, IsBatchShown, IsBatchShownOr, IsTraceShown, IsRecallShown, IsCheckedOr, owner_checks, lot_checks, IsPlantAnswer}
+use Rattle.toll_genealogy.specs.Recall.{recall_line, IsRecall}
+use Rattle.toll_genealogy.specs.declared.recall.RecallLine.{RecallLine}
+use Rattle.toll_print.specs.Texts.{orders_text, stock_text, shown_over, IsStockText, batch_text, trace_text, recall_text}
+use Rattle.toll_work.specs.BatchView.{line_key}
+use Rattle.toll_work.specs.declared.views.RequirementLine.{RequirementLine}
+use Rattle.toll_base.specs.declared.rows.BatchRow.{BatchRow}
+use Rattle.toll_base.specs.declared.rows.OrderRow.{OrderRow}
+use Rattle.toll_answers.proofs.OneReply.{one_list}
+
+-- a fact of what the plant is told that one answer at most meets
+abbrev IsOneShown : (PlantTold → Type 0) → Type 0
+IsOneShown P = (r r' : PlantTold) → P r → P r' → r ≡ r'
+
+one_shown : (x : PlantTold) → IsOneShown (λ r. r ≡ x)
+one_shown x r r' is is' = is ∙ sym is'
+
+one_checked_or : (v : Verdict) (shown : PlantTold → Type 0) → IsOneShown shown → IsOneShown (λ r. IsCheckedOr v (shown r) r)
+one_checked_or (Refused why) shown one = one_shown _
+one_checked_or Accepted shown one = one
+one_checked_or Repeated shown one = one
+
+somes_one : {X : Type 0} (xs ys : List X) → map (λ x. Some x) xs ≡ map (λ y. Some y) ys → xs ≡ ys
+somes_one [] [] h = refl
+somes_one [] (y ∷ ys) h = (cc)
+somes_one (x ∷ xs) [] h = (cc)
+somes_one (x ∷ xs) (y ∷ ys) h =
+    let head : x ≡ y = (cc) in
+    let tail : map (λ x. Some x) xs ≡ map (λ y. Some y) ys = (cc) in
+    λ i. head i ∷ somes_one xs ys tail i
+
+map_twice : {X Y Z : Type 0} (f : Y → Z) (g : X → Y) (xs : List X) → map (λ x. f (g x)) xs ≡ map f (map g xs)
+map_twice f g [] = refl
+map_twice f g (x ∷ xs) = ap (λ ys. f (g x) ∷ ys) (map_twice f g xs)
+
+module _ (H : History) where
+  pub one_recall : (lot : LotId) (lines lines' : List RecallLine) → IsRecall H lot lines → IsRecall H lot lines' → lines ≡ lines'
+  one_recall lot lines lines' a b =
+      let steps = trace_unique (IsPlantJoined H Forward) lot (map (λ line. line.step) lines) (map (λ line. line.step) lines') a.traced b.traced in
+      somes_one lines lines'
+      (a.each ∙ map_twice (recall_line H) (λ line. line.step) lines ∙ ap (map (recall_line H)) steps ∙ sym (map_twice (recall_line H) (λ line. line.step) lines') ∙ sym b.each)
+
+  one_orders_shown : (o : Bytes) → IsOneShown (AreOrdersShown H o)
+  one_orders_shown o r r' a b = a.shown ∙ ap (λ rows. Shows (orders_text rows)) (one_list bytes_cmp nat_list_cmp_total (λ row. row.order) (order_of (acts o H)) a.orders b.orders a.given b.given) ∙ sym b.shown
+
+  one_stock_text : (o : Bytes) (x y : Bytes) → IsStockText H o x → IsStockText H o y → x ≡ y
+  one_stock_text o x y a b = a.is ∙ ap stock_text (one_list pair_cmp pair_cmp_total (λ shown. (shown.row.lot, shown.row.sublot)) (shown_over H o) a.shown b.shown a.given b.given) ∙ sym b.is
+
+  one_stock_shown : (o : Bytes) → IsOneShown (IsStockShown H o)
+  one_stock_shown o r r' a b = a.shown ∙ ap Shows (one_stock_text o a.text b.text a.is b.is) ∙ sym b.shown
+
+  one_batch_shown : (given : RequirementKey → Option RequirementLine) (batch : BatchRow) → IsOneShown (IsBatchShown given batch)
+  one_batch_shown given batch r r' a b = a.shown ∙ ap (λ lines. Shows (batch_text batch lines)) (one_list requirement_cmp requirement_cmp_total line_key given a.lines b.lines a.are_given b.are_given) ∙ sym b.shown
+
+  one_batch_or : (o : Bytes) (order : Option OrderRow) (batch : Option BatchRow) (v : Verdict) → IsOneShown (IsBatchShownOr H o order batch v)
+  one_batch_or o (Some order) (Some batch) v = one_batch_shown _ batch
+  one_batch_or o None batch (Refused why) = one_shown _
+  one_batch_or o None batch Accepted = λ r r' a b. absurd a
+  one_batch_or o None batch Repeated = λ r r' a b. absurd a
+  one_batch_or o (Some order) None (Refused why) = one_shown _
+  one_batch_or o (Some order) None Accepted = λ r r' a b. absurd a
+  one_batch_or o (Some order) None Repeated = λ r r' a b. absurd a
+
+  one_trace_shown : (lot : LotId) (way : Way) → IsOneShown (IsTraceShown H lot way)
+  one_trace_shown lot way r r' a b = a.shown ∙ ap (λ trace. Shows (trace_text trace)) (trace_unique (IsPlantJoined H way) lot a.trace b.trace a.traced b.traced) ∙ sym b.shown
+
+  one_recall_shown : (lot : LotId) → IsOneShown (IsRecallShown H lot)
+  one_recall_shown lot r r' a b = a.shown ∙ ap (λ lines. Shows (recall_text lines)) (one_recall lot a.lines b.lines a.recalled b.recalled) ∙ sym b.shown
+
+  pub one_plant_answer : (asked : PlantAsked) → IsOneShown (IsPlantAnswer H asked)
+  one_plant_answer (Does c) = one_shown _
+  one_plant_answer (AsksOrders o) = one_checked_or (first_of (owner_checks H o)) _ (one_orders_shown o)
+  one_plant_answer (AsksStock o) = one_checked_or (first_of (owner_checks H o)) _ (one_stock_shown o)
+  one_plant_answer (AsksBatch o order number) = one_checked_or (first_of (owner_checks H o)) _ (one_batch_or o _ _ _)
+  one_plant_answer (AsksTrace lot way) = one_checked_or (first_of (lot_checks H lot)) _ (one_trace_shown lot way)
+  one_plant_answer (AsksRecall lot) = one_checked_or (first_of (lot_checks H lot)) _ (one_recall_shown lot)
+  one_plant_answer (CannotRead why) = one_shown _

@@ -1,0 +1,3 @@
+pub mod Told
+pub mod Replies
+pub mod PlantAnswers

@@ -1,0 +1,128 @@
+-- What an owner is told over a list of commands.
+use Rattle.std.specs.Prelude.{◌≡◌, ℕ, Bool, not, ◌&&◌, if◌then◌else◌, Option, Some, None, is_some, List, MatchBool}
+use Rattle.toll_base.specs.Bytes.{Bytes, same_bytes, bytes_cmp}
+use Rattle.toll_base.specs.Values.{house_name}
+use Rattle.toll_base.specs.Words.{is_some_where}
+use Rattle.toll_base.specs.Keys.{RequirementKey, requirement_cmp, result_cmp, pair_cmp}
+use Rattle.toll_history.specs.Command.{Action, PlaceOrder, CancelOrder, Release, Reject, by}
+use Rattle.toll_history.specs.History.{History, acts, owner_key}
+use Rattle.toll_history.specs.Work.{measure_of, order_of, batch_of}
+use Rattle.toll_base.specs.Lots.{lot_id}
+use Rattle.toll_history.specs.Tables.{tables_given, lot_row}
+use Rattle.toll_history.specs.Verdict.{Verdict, Refused, first_of, verdict, grow, known_batch_checks}
+use Rattle.toll_base.specs.declared.refusal.Refusal.TheVariants.{UnknownOrder, UnknownLot}
+use Rattle.toll_base.specs.declared.lot.LotId.{LotId}
+use Rattle.toll_base.specs.declared.rows.OrderRow.{OrderRow}
+use Rattle.toll_base.specs.declared.rows.BatchRow.{BatchRow}
+use Rattle.toll_base.specs.declared.rows.LotRow.{LotRow}
+use Rattle.toll_base.specs.declared.rows.ResultRow.{ResultRow}
+use Rattle.toll_base.specs.declared.rows.SublotRow.{SublotRow}
+use Rattle.toll_trace.specs.declared.way.Way.TheVariants.{Back, Forward}
+use Rattle.toll_trace.specs.declared.step.Step.{Step}
+use Rattle.toll_trace.specs.Trace.{IsTrace}
+use Rattle.toll_base.specs.Table.{AreRowsGiven}
+use Rattle.toll_answers.specs.Told.{Asked, AskOrders, AskOrder, AskPlace, AskCancel, AskBatch, AskStock, AskLot, AskRelease, AskReject, AskBack, AskForward, AskHouseForward, Told, TellForbidden, TellOrders, TellOrder, TellBatch, TellStock, TellLot, TellTrace, TellRefused}
+use Rattle.toll_genealogy.specs.Edges.{IsOwnJoined}
+use Rattle.toll_views.specs.Views.{stock_line, results_of_lot, sublots_of_lot, has_consumed}
+use Rattle.toll_views.specs.declared.stock.StockLine.{StockLine}
+use Rattle.toll_work.specs.BatchView.{line_of, line_key}
+use Rattle.toll_work.specs.declared.views.RequirementLine.{RequirementLine}
+
+-- ---- admission
+
+-- the owner was added with this key; HOUSE never was
+abbrev pub has_key : Bytes → Bytes → History → Bool
+has_key o key H = not (same_bytes o house_name) && is_some_where (same_bytes key) (owner_key (acts o H))
+
+-- ---- what is told of rows that are given, in the order of their keys
+
+pub record AreOrdersTold (given : Bytes → Option OrderRow) (r : Told) : Type 0 where
+  pub orders : List OrderRow
+  pub are_given : AreRowsGiven bytes_cmp (λ row. row.order) given orders
+  pub told : r ≡ TellOrders orders
+
+pub record IsStockTold (given : Bytes → Option StockLine) (r : Told) : Type 0 where
+  pub lines : List StockLine
+  pub are_given : AreRowsGiven bytes_cmp (λ line. line.row.lot) given lines
+  pub told : r ≡ TellStock lines
+
+-- the batch with the requirements of its order's recipe
+pub record IsBatchTold (given : RequirementKey → Option RequirementLine) (batch : BatchRow) (r : Told) : Type 0 where
+  pub lines : List RequirementLine
+  pub are_given : AreRowsGiven requirement_cmp line_key given lines
+  pub told : r ≡ TellBatch batch lines
+
+-- the lot with its results and its sublots
+pub record IsLotTold (results_given : Bytes × Bytes × ℕ → Option ResultRow) (sublots_given : Bytes × Bytes → Option SublotRow) (measure : Bytes) (row : LotRow) (r : Told) : Type 0 where
+  pub results : List ResultRow
+  pub sublots : List SublotRow
+  pub are_results : AreRowsGiven result_cmp (λ row. (row.lot, row.test, row.number)) results_given results
+  pub are_sublots : AreRowsGiven pair_cmp (λ row. (row.lot, row.sublot)) sublots_given sublots
+  pub told : r ≡ TellLot row measure results sublots
+
+-- the trace from the lot, where `E` joins lots
+pub record IsTraceTold (E : LotId → LotId → Type 0) (a : LotId) (r : Told) : Type 0 where
+  pub trace : List Step
+  pub traced : IsTrace E a trace
+  pub told : r ≡ TellTrace trace
+
+-- ---- what is told where it is there
+
+abbrev pub IsOrderOr : Option OrderRow → Told → Type 0
+IsOrderOr None r = r ≡ TellRefused UnknownOrder
+IsOrderOr (Some row) r = r ≡ TellOrder row
+
+abbrev pub IsLotOr : History → Bytes → Option LotRow → Told → Type 0
+IsLotOr H o None r = r ≡ TellRefused UnknownLot
+IsLotOr H o (Some row) r = IsLotTold (results_of_lot (acts o H) row.lot) (sublots_of_lot H o row.lot) (measure_of (acts o H) row.material) row r
+
+abbrev pub IsBatchOr : History → Bytes → Option OrderRow → Option BatchRow → Verdict → Told → Type 0
+IsBatchOr H o (Some order) (Some batch) verdict r = IsBatchTold (line_of H o batch.order batch.number order.recipe) batch r
+IsBatchOr H o _ _ (Refused why) r = r ≡ TellRefused why
+IsBatchOr H o _ _ _ r = ⊥
+
+abbrev pub IsTraceOr : (LotId → LotId → Type 0) → LotId → (known : Bool) → Told → Type 0
+IsTraceOr E a known r = MatchBool known (IsTraceTold E a r) (r ≡ TellRefused UnknownLot)
+
+-- the reply to a request that writes: the refusal, or what it left
+abbrev pub IsWritten : Verdict → Type 0 → Told → Type 0
+IsWritten (Refused why) left r = r ≡ TellRefused why
+IsWritten _ left r = left
+
+-- an order after a command about it, and a lot
+abbrev pub IsOrderAfter : History → Bytes → Action → Bytes → Told → Type 0
+IsOrderAfter H o action order r = IsWritten (verdict H (by o action)) (IsOrderOr (order_of (acts o (grow H (by o action))) order) r) r
+
+abbrev pub IsLotAfter : History → Bytes → Action → Bytes → Told → Type 0
+IsLotAfter H o action lot r = IsWritten (verdict H (by o action)) (IsLotOr (grow H (by o action)) o (lot_row (grow H (by o action)) o lot) r) r
+
+-- the answer to a request of an owner that was admitted
+abbrev pub IsAnswer : Bytes → History → Asked → Told → Type 0
+IsAnswer o H AskOrders r = AreOrdersTold (order_of (acts o H)) r
+IsAnswer o H (AskOrder order) r = IsOrderOr (order_of (acts o H) order) r
+IsAnswer o H (AskPlace order recipe batches) r = IsOrderAfter H o (PlaceOrder order recipe batches) order r
+IsAnswer o H (AskCancel order) r = IsOrderAfter H o (CancelOrder order) order r
+IsAnswer o H (AskBatch order number) r = IsBatchOr H o (order_of (acts o H) order) (batch_of (acts o H) (order, number)) (first_of (known_batch_checks (tables_given H o) order number)) r
+IsAnswer o H AskStock r = IsStockTold (stock_line H o) r
+IsAnswer o H (AskLot lot) r = IsLotOr H o (lot_row H o lot) r
+IsAnswer o H (AskRelease lot) r = IsLotAfter H o (Release lot) lot r
+IsAnswer o H (AskReject lot) r = IsLotAfter H o (Reject lot) lot r
+IsAnswer o H (AskBack lot) r = IsTraceOr (IsOwnJoined (acts o H) Back) (lot_id o lot) (is_some (lot_row H o lot)) r
+IsAnswer o H (AskForward lot) r = IsTraceOr (IsOwnJoined (acts o H) Forward) (lot_id o lot) (is_some (lot_row H o lot)) r
+IsAnswer o H (AskHouseForward lot) r = IsTraceOr (IsOwnJoined (acts o H) Forward) (lot_id house_name lot) (has_consumed (acts o H) (lot_id house_name lot)) r
+
+-- the reply to who asks as this owner with this key
+unfoldable pub IsReply : Bytes → Bytes → History → Asked → Told → Type 0
+IsReply o key H q r = MatchBool (has_key o key H) (IsAnswer o H q r) (r ≡ TellForbidden)
+
+-- ---- what a request makes of the history
+
+abbrev pub after_answer : Bytes → History → Asked → History
+after_answer o H (AskPlace order recipe batches) = grow H (by o (PlaceOrder order recipe batches))
+after_answer o H (AskCancel order) = grow H (by o (CancelOrder order))
+after_answer o H (AskRelease lot) = grow H (by o (Release lot))
+after_answer o H (AskReject lot) = grow H (by o (Reject lot))
+after_answer o H _ = H
+
+unfoldable pub after_reply : Bytes → Bytes → History → Asked → History
+after_reply o key H q = if has_key o key H then after_answer o H q else H

@@ -1,0 +1,38 @@
+-- What owners ask, and what they are told.
+use Rattle.std.specs.Prelude.{ℕ, List}
+use Rattle.toll_base.specs.Bytes.{Bytes}
+use Rattle.toll_base.specs.declared.refusal.Refusal.{Refusal}
+use Rattle.toll_base.specs.declared.rows.OrderRow.{OrderRow}
+use Rattle.toll_base.specs.declared.rows.BatchRow.{BatchRow}
+use Rattle.toll_base.specs.declared.rows.LotRow.{LotRow}
+use Rattle.toll_base.specs.declared.rows.ResultRow.{ResultRow}
+use Rattle.toll_base.specs.declared.rows.SublotRow.{SublotRow}
+use Rattle.toll_trace.specs.declared.step.Step.{Step}
+use Rattle.toll_views.specs.declared.stock.StockLine.{StockLine}
+use Rattle.toll_work.specs.declared.views.RequirementLine.{RequirementLine}
+
+-- an owner's request
+pub data Asked : Type 0 where
+  AskOrders : Asked
+  AskOrder : (order : Bytes) → Asked
+  AskPlace : (order recipe : Bytes) (batches : ℕ) → Asked
+  AskCancel : (order : Bytes) → Asked
+  AskBatch : (order : Bytes) (number : ℕ) → Asked
+  AskStock : Asked
+  AskLot : (lot : Bytes) → Asked
+  AskRelease : (lot : Bytes) → Asked
+  AskReject : (lot : Bytes) → Asked
+  AskBack : (lot : Bytes) → Asked
+  AskForward : (lot : Bytes) → Asked
+  AskHouseForward : (lot : Bytes) → Asked
+
+-- what an owner is told
+pub data Told : Type 0 where
+  TellForbidden : Told
+  TellOrders : (orders : List OrderRow) → Told
+  TellOrder : (order : OrderRow) → Told
+  TellBatch : (batch : BatchRow) (lines : List RequirementLine) → Told
+  TellStock : (lines : List StockLine) → Told
+  TellLot : (row : LotRow) (measure : Bytes) (results : List ResultRow) (sublots : List SublotRow) → Told
+  TellTrace : (trace : List Step) → Told
+  TellRefused : (why : Refusal) → Told

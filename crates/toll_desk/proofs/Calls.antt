@@ -1,0 +1,106 @@
+-- One call of a keep after another, and the same under another answer.
+use Rattle.std.proofs.Common.{◌≡◌, Bool, List, Result, Ok, Err, refl, subst, ◌∙◌}
+use Rattle.std.specs.Prelude.{◌≢◌, IsTrue}
+use mathlib.Core.Bool.{false≢true}
+use Rattle.toll_keep.specs.Content.{Content, ContentKeepsRules}
+use Rattle.toll_keep.specs.Goes.{Goes, Keeps, IsReading, closes}
+use Rattle.toll_keep.specs.declared.fault.KeepFault.{KeepFault}
+use Rattle.toll_keep.specs.declared.fault.KeepFault.TheVariants.{Memory, Disk, Damaged, Closed}
+
+module _ {K : Type 0} (is_honest is_live : K → Type 0) (is_closed : K → Bool) (has_cause : K → K → Type 0) (leaves : K → List Content → Type 0) (holds : K → Content → Type 0) where
+  abbrev GoesTo : {X : Type 0} → K → K → Result X KeepFault → Type 0
+  GoesTo old new r = Goes is_honest is_live is_closed has_cause leaves old new r
+
+  abbrev ReadsTo : {X : Type 0} → K → K → Result X KeepFault → Type 0
+  ReadsTo old new r = IsReading is_honest is_live is_closed has_cause leaves holds old new r
+
+  abbrev answered : {X : Type 0} → X → Result X KeepFault
+  answered x = Ok x
+
+  abbrev failed : {X : Type 0} → KeepFault → Result X KeepFault
+  failed fault = Err fault
+
+  -- a call that answered was of a keep that was not closed
+  open_before : {X : Type 0} (old new : K) (x : X) → GoesTo old new (answered x) → IsTrue (is_closed old) → ⊥
+  open_before old new x goes was = let e : answered x ≡ Err Closed = goes.closed.1 was in (cc)
+
+  -- after a call that answered, another
+  pub goes_then : {X Y : Type 0} (old middle new : K) (x : X) (r : Result Y KeepFault) → GoesTo old middle (answered x) → GoesTo middle new r → GoesTo old new r
+  goes_then old middle new x r first second = record {
+    honest = λ now. first.honest (second.honest now);
+    closed = (λ is. absurd (false≢true (subst (λ b. IsTrue b) first.closes (second.closed.0 is))), λ was. absurd (open_before old middle x first was));
+    closes = second.closes;
+    live = λ now lives. first.live (second.honest now) (second.live now lives);
+    shown = second.shown;
+    cause = λ now is. first.since (second.honest now) new (second.cause now is);
+    since = λ now later cause. first.since (second.honest now) later (second.since now later cause);
+    stays = λ was cs left. absurd (open_before old middle x first was);
+  }
+
+  pub reads_then : {X Y : Type 0} (old middle new : K) (x : X) (r : Result Y KeepFault) → ReadsTo old middle (answered x) → ReadsTo middle new r → ReadsTo old new r
+  reads_then old middle new x r first second = record {
+    goes = goes_then old middle new x r first.goes second.goes;
+    keeps = λ now. let before = second.goes.honest now in record {
+      content = λ c held. (second.keeps now).content c ((first.keeps before).content c held);
+      crash = λ live c held. (second.keeps now).crash (first.goes.shown before) c ((first.keeps before).content c held);
+    };
+    whole = λ now c held rules. second.whole now c ((first.keeps (second.goes.honest now)).content c held) rules;
+  }
+
+  -- what is so of a call is so under another answer, where that is a fault just where it was, or a want of memory where it was none
+  pub goes_as : {X Y : Type 0} (old new : K) (x : X) (y : Y) → GoesTo old new (answered x) → GoesTo old new (answered y)
+  goes_as old new x y goes = record {
+    honest = goes.honest;
+    closed = (λ is. (cc), λ was. absurd (open_before old new x goes was));
+    closes = goes.closes;
+    live = goes.live;
+    shown = goes.shown;
+    cause = λ now is. (cc);
+    since = goes.since;
+    stays = goes.stays;
+  }
+
+  pub goes_fault : {X Y : Type 0} (old new : K) (fault : KeepFault) → GoesTo {X = X} old new (failed fault) → GoesTo {X = Y} old new (failed fault)
+  goes_fault {X} {Y} old new fault goes = record {
+    honest = goes.honest;
+    closed = (λ is. goes.closed.0 (cc), λ was. let e : failed {X = X} fault ≡ Err Closed = goes.closed.1 was in (cc));
+    closes = goes.closes ∙ closes_alike fault;
+    live = goes.live;
+    shown = λ now. tt;
+    cause = λ now is. goes.cause now (cc);
+    since = goes.since;
+    stays = goes.stays;
+  }
+    where
+      closes_alike : (fault : KeepFault) → closes {X = X} (Err fault) ≡ closes {X = Y} (Err fault)
+      closes_alike Memory = refl
+      closes_alike Disk = refl
+      closes_alike Damaged = refl
+      closes_alike Closed = refl
+
+  pub goes_memory : {X Y : Type 0} (old new : K) (x : X) → GoesTo old new (answered x) → GoesTo {X = Y} old new (failed Memory)
+  goes_memory old new x goes = record {
+    honest = goes.honest;
+    closed = (λ is. (cc), λ was. absurd (open_before old new x goes was));
+    closes = goes.closes;
+    live = goes.live;
+    shown = λ now. tt;
+    cause = λ now is. (cc);
+    since = goes.since;
+    stays = goes.stays;
+  }
+
+  abbrev KeepsTo : K → K → Type 0
+  KeepsTo old new = is_honest new → Keeps holds is_live leaves old new
+
+  abbrev IsWhole : {X : Type 0} → K → K → Result X KeepFault → Type 0
+  IsWhole old new r = is_honest new → (c : Content) → holds old c → ContentKeepsRules c → r ≢ Err Damaged
+
+  pub read_ok : {X Y : Type 0} (old new : K) (x : X) (y : Y) → GoesTo old new (answered x) → KeepsTo old new → ReadsTo old new (answered y)
+  read_ok old new x y goes keeps = record { goes = goes_as old new x y goes; keeps = keeps; whole = λ now c held rules is. (cc) }
+
+  pub read_fault : {X Y : Type 0} (old new : K) (fault : KeepFault) → GoesTo {X = X} old new (failed fault) → KeepsTo old new → IsWhole {X = X} old new (failed fault) → ReadsTo {X = Y} old new (failed fault)
+  read_fault old new fault goes keeps whole = record { goes = goes_fault old new fault goes; keeps = keeps; whole = λ now c held rules is. whole now c held rules (cc) }
+
+  pub read_memory : {X Y : Type 0} (old new : K) (x : X) → GoesTo old new (answered x) → KeepsTo old new → ReadsTo {X = Y} old new (failed Memory)
+  read_memory old new x goes keeps = record { goes = goes_memory old new x goes; keeps = keeps; whole = λ now c held rules is. (cc) }

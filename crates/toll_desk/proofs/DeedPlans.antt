@@ -1,0 +1,191 @@
+-- The plant's decisions over the content of a keep.
+use Rattle.std.specs.Prelude.{nat_le}
+use Rattle.std.proofs.Common.{◌≡◌, Bool, true, false, not, ◌&&◌, Option, Some, None, is_some, [], ◌∷◌, refl, sym, ap, subst, ◌∙◌}
+use Rattle.std.specs.List.{list_any}
+use Rattle.toll_base.specs.Bytes.{Bytes, bytes_cmp, same_bytes}
+use Rattle.toll_base.specs.Values.{house_name}
+use Rattle.toll_base.specs.Words.{where_so}
+use Rattle.toll_base.specs.Table.{row_at}
+use Rattle.toll_history.specs.Command.{Action, AddOwner, AddUnit, OpenBatch, Command, by}
+use Rattle.toll_history.specs.History.{History, acts, adds_owner, owner_known, unit_known, count_units}
+use Rattle.toll_base.specs.Slice.{Slice}
+use Rattle.toll_history.specs.Tables.{IsRowsOf}
+use Rattle.toll_history.specs.Verdict.{Verdict, Accepted, Repeated, Refused, first_of, checks, needs_owner, verdict, grown, IsLawful, IsValid}
+use Rattle.toll_base.specs.Changes.{changes_of, after_changes}
+use Rattle.toll_history.specs.Decision.{changes_if, ChangesKeepRules, IsDecided, Decides, DecidesWith, DecisionKeepsRules}
+use Rattle.toll_history.specs.OwnChanges.{PutsOnly}
+use Rattle.toll_base.specs.declared.rows.OwnerRow.{OwnerRow}
+use Rattle.toll_base.specs.declared.rows.UnitRow.{UnitRow}
+use Rattle.toll_base.specs.declared.decision.Change.TheVariants.{Owner, Unit as UnitAdded}
+use Rattle.toll_base.specs.declared.decision.Decision.{Decision}
+use Rattle.toll_base.specs.declared.decision.Decision.TheVariants.{Refuse}
+use Rattle.toll_base.specs.declared.refusal.Refusal.TheVariants.{UnknownOwner, OwnerExists, UnitExists, LimitReached}
+use Rattle.toll_base.proofs.Texts.{same_bytes-refl}
+use Rattle.toll_history.proofs.Passed.{accepted_passes}
+use Rattle.toll_keep.specs.Content.{Content}
+use Rattle.toll_keep.specs.Standing.{StandsFor}
+use Rattle.toll_keep.proofs.Knowing.{standing_knows}
+use Rattle.toll_keep.proofs.UnitHolders.{same_holder}
+use Rattle.toll_keep.specs.Holding.{IsHolder, on_unit}
+use Rattle.toll_keep.specs.declared.holder.Holder.{Holder}
+use Rattle.toll_history.specs.Holders.{holder}
+use Rattle.toll_work.specs.Opening.{IsToldOfUnit, DecidesOpening}
+use Rattle.toll_desk.specs.PlantForms.{own_action, shared_action}
+use Rattle.toll_desk.specs.declared.plant_form.OwnDeed.{OwnDeed}
+use Rattle.toll_desk.specs.declared.plant_form.OwnDeed.TheVariants as own
+use Rattle.toll_desk.specs.declared.plant_form.StockDeed.TheVariants as stock
+use Rattle.toll_desk.specs.declared.plant_form.WorkDeed.TheVariants as work
+use Rattle.toll_desk.specs.declared.plant_form.SharedDeed.{SharedDeed}
+use Rattle.toll_desk.specs.declared.plant_form.SharedDeed.TheVariants as shared
+use mathlib.Core.Bool.{false≢true}
+use Rattle.std.specs.Option.{option_map}
+use Rattle.toll_desk.specs.Plans.{LeadsTo, PutsShared, IsOwnDecision, IsDeedDecision, owner_row_checks, unit_row_checks}
+use Rattle.toll_desk.proofs.Lift.{adds_neither, same_grown, leads_on, leads_shared, leads_nowhere, first_of_either}
+use Rattle.toll_desk.proofs.OwnerAdded.{leads_to_owner}
+use Rattle.toll_desk.proofs.UnitAdded.{leads_to_unit}
+
+-- a command of an owner that is not known is refused
+unknown_refused : (H : History) (o : Bytes) (a : Action) → needs_owner a ≡ true → owner_known H o ≡ false → verdict H (by o a) ≡ Refused UnknownOwner
+unfolding checks
+unknown_refused H o a needs unknown = rw (needs, unknown) refl
+
+pub house_known : (H : History) → owner_known H house_name ≡ true
+house_known H = first_of_either (same_bytes house_name house_name) (list_any adds_owner (acts house_name H)) (same_bytes-refl house_name)
+
+-- these decisions add neither owners nor units, and need their owner to be known
+pub own_deed_adds : (deed : OwnDeed) → adds_neither (own_action deed) ≡ true
+own_deed_adds (own.Stock (stock.AddMaterial material measure)) = refl
+own_deed_adds (own.Stock (stock.AddTest material test limits)) = refl
+own_deed_adds (own.Stock (stock.Receive key material lot sublot amount day)) = refl
+own_deed_adds (own.Stock (stock.Split key lot sublot target amount day)) = refl
+own_deed_adds (own.Stock (stock.Ship key lot sublot amount day)) = refl
+own_deed_adds (own.Stock (stock.Scrap key lot sublot amount day)) = refl
+own_deed_adds (own.Stock (stock.Result lot test value day)) = refl
+own_deed_adds (own.Stock (stock.Release lot)) = refl
+own_deed_adds (own.Stock (stock.Reject lot)) = refl
+own_deed_adds (own.Work (work.AddRecipe recipe segments)) = refl
+own_deed_adds (own.Work (work.Place order recipe batches)) = refl
+own_deed_adds (own.Work (work.Cancel order)) = refl
+own_deed_adds (own.Work (work.Command order number command)) = refl
+own_deed_adds (own.Work (work.Close order number)) = refl
+
+pub shared_deed_adds : (deed : SharedDeed) → adds_neither (shared_action deed) ≡ true
+shared_deed_adds (shared.Require row) = refl
+shared_deed_adds (shared.Actual key order number segment role material lot sublot amount day) = refl
+shared_deed_adds (shared.Void key) = refl
+
+needs_if : (a : Action) → adds_neither a ≡ true → needs_owner a ≡ true
+needs_if (AddOwner key) neither = absurd (false≢true neither)
+needs_if a neither = refl
+
+pub own_deed_needs : (deed : OwnDeed) → needs_owner (own_action deed) ≡ true
+own_deed_needs deed = needs_if (own_action deed) (own_deed_adds deed)
+
+pub shared_deed_needs : (deed : SharedDeed) → needs_owner (shared_action deed) ≡ true
+shared_deed_needs deed = needs_if (shared_action deed) (shared_deed_adds deed)
+
+-- ---- whether a unit is free
+
+no_batch : (unit : Bytes) (held : Option Holder) (b : Bool) → is_some held ≡ not b → b ≡ not (is_some (option_map (on_unit unit) held))
+no_batch unit None true e = refl
+no_batch unit None false e = absurd (false≢true e)
+no_batch unit (Some h) true e = absurd (false≢true (sym e))
+no_batch unit (Some h) false e = refl
+
+pub free_alike : (c : Content) (H : History) → StandsFor c H → IsLawful H → (unit : Bytes) (held : Option Holder) → IsHolder c unit held → (b : Bool) → is_some held ≡ not b → b ≡ not (is_some (holder H unit))
+free_alike c H stands lawful unit held is b none = no_batch unit held b none ∙ ap (λ x. not (is_some x)) (sym (same_holder H c unit held lawful stands is))
+
+known_there : (b : Bool) (x : UnitRow) → is_some (where_so b x) ≡ b
+known_there true x = refl
+known_there false x = refl
+
+pub unit_known_alike : (c : Content) (H : History) → StandsFor c H → (unit : Bytes) → is_some (row_at bytes_cmp (λ r. r.unit) c.units unit) ≡ unit_known H unit
+unit_known_alike c H stands unit = ap is_some (stands.units.each unit) ∙ known_there (unit_known H unit) (record { unit = unit })
+
+-- a decision that is right over every history is so over this one
+pub own_decision : (H : History) (s : Slice) (a : Action) (d : Decision) → IsLawful H → IsValid a → Decides (by s.owner a) s d → DecisionKeepsRules s d → PutsOnly s.owner (changes_of d) → IsOwnDecision H s a d
+unfolding Decides DecisionKeepsRules
+own_decision H s a d lawful valid decides rules own = record { right = decides H lawful valid; rules = rules; own = own }
+
+module _ (c : Content) (H : History) (stands : StandsFor c H) where
+  pub decided_unknown : (o : Bytes) (a : Action) → needs_owner a ≡ true → owner_known H o ≡ false → IsDeedDecision c H (by o a) (Refuse UnknownOwner)
+  decided_unknown o a needs unknown =
+      let refused = sym (unknown_refused H o a needs unknown) in
+      record { verdict_is = refused; leads = subst (λ v. LeadsTo c [] (grown v H (by o a))) refused (leads_nowhere c H stands) }
+
+  module _ (lawful : IsLawful H) where
+    -- a decision over the rows of an owner is so over the content
+    pub decided_own : (o : Bytes) (a : Action) (s : Slice) (d : Decision) → adds_neither a ≡ true → owner_known H o ≡ true → s ≡ c.rows o → IsOwnDecision H s a d → IsDeedDecision c H (by o a) d
+    decided_own o a s d neither known is own =
+        let named : s.owner ≡ o = ap (λ t. t.owner) is ∙ stands.own o in
+        let right = own.right (ap (owner_known H) named ∙ known) (subst (IsRowsOf H) (sym is) (stands.known o known)) in
+        record {
+          verdict_is = right.verdict_is ∙ ap (λ p. verdict H (by p a)) named;
+          leads = leads_on c H stands lawful o known (changes_of d) (subst (λ p. PutsOnly p (changes_of d)) named own.own) (subst (ChangesKeepRules (changes_of d)) is own.rules) _ (same_grown H o a neither)
+              (subst (λ p. (t : Slice) → IsRowsOf H t → IsRowsOf (grown (verdict H (by p a)) H (by p a)) (after_changes (changes_of d) t)) named right.rows_are);
+        }
+
+    -- and so is one over the rows of an owner and of HOUSE
+    pub decided_both : (o : Bytes) (a : Action) (s house : Slice) (d : Decision) → adds_neither a ≡ true → IsValid a → owner_known H o ≡ true → s ≡ c.rows o → house ≡ c.rows house_name →
+        DecidesWith (by s.owner a) s house d → DecisionKeepsRules s d → (same_bytes s.owner house.owner ≡ false → DecisionKeepsRules house d) → PutsShared s.owner (changes_of d) → IsDeedDecision c H (by o a) d
+    unfolding DecidesWith DecisionKeepsRules
+    decided_both o a s house d neither valid known is house_is decides rules house_rules own =
+        let named : s.owner ≡ o = ap (λ t. t.owner) is ∙ stands.own o in
+        let house_named : house.owner ≡ house_name = ap (λ t. t.owner) house_is ∙ stands.own house_name in
+        let right = decides H lawful valid (ap (owner_known H) named ∙ known) (subst (IsRowsOf H) (sym is) (stands.known o known)) (subst (IsRowsOf H) (sym house_is) (stands.known house_name (house_known H))) house_named in
+        record {
+          verdict_is = right.verdict_is ∙ ap (λ p. verdict H (by p a)) named;
+          leads = leads_shared c H stands lawful o known (changes_of d) (subst (λ p. PutsShared p (changes_of d)) named own) (subst (ChangesKeepRules (changes_of d)) is rules)
+              (λ other. subst (ChangesKeepRules (changes_of d)) house_is (house_rules ((λ i. same_bytes (named i) (house_named i)) ∙ other))) _ (same_grown H o a neither)
+              (subst (λ p. (t : Slice) → IsRowsOf H t → IsRowsOf (grown (verdict H (by p a)) H (by p a)) (after_changes (changes_of d) t)) named right.rows_are);
+        }
+
+    -- an owner's being added
+    module _ (row : OwnerRow) where
+      abbrev adding : Command
+      adding = by row.owner (AddOwner row.key)
+
+      owner_verdict : first_of (owner_row_checks c.owners row) ≡ verdict H adding
+      unfolding checks
+      owner_verdict i = first_of ((standing_knows H c stands row.owner i, Some OwnerExists) ∷ (nat_le 64 (stands.owners.all i), Some LimitReached) ∷ [])
+
+      leads_by : (v : Verdict) → verdict H adding ≡ v → LeadsTo c (changes_if v (Owner row ∷ [])) (grown v H adding)
+      leads_by Accepted is = leads_to_owner c H stands lawful row.owner row.key (accepted_passes H row.owner (AddOwner row.key) is 0) is
+      leads_by Repeated is = leads_nowhere c H stands
+      leads_by (Refused why) is = leads_nowhere c H stands
+
+      pub decided_owner : (d : Decision) → IsDecided (owner_row_checks c.owners row) (Owner row ∷ []) d → IsDeedDecision c H adding d
+      decided_owner d decided = record {
+        verdict_is = decided.says ∙ owner_verdict;
+        leads = subst (λ v. LeadsTo c (changes_of d) (grown v H adding)) owner_verdict
+            (subst (λ changes. LeadsTo c changes (grown (first_of (owner_row_checks c.owners row)) H adding)) (sym decided.makes) (leads_by _ (sym owner_verdict)));
+      }
+
+    -- a unit's being added
+    module _ (row : UnitRow) where
+      abbrev adding_unit : Command
+      adding_unit = by house_name (AddUnit row.unit)
+
+      unit_verdict : first_of (unit_row_checks c.units row) ≡ verdict H adding_unit
+      unfolding checks
+      unit_verdict =
+          (λ i. first_of ((unit_known_alike c H stands row.unit i, Some UnitExists) ∷ (nat_le 200 (stands.units.all i), Some LimitReached) ∷ []))
+          ∙ sym (ap (λ known. first_of ((true && not known, Some UnknownOwner) ∷ (unit_known H row.unit, Some UnitExists) ∷ (nat_le 200 (count_units H), Some LimitReached) ∷ [])) (house_known H))
+
+      unit_leads_by : (v : Verdict) → verdict H adding_unit ≡ v → LeadsTo c (changes_if v (UnitAdded row ∷ [])) (grown v H adding_unit)
+      unit_leads_by Accepted is = leads_to_unit c H stands row.unit (accepted_passes H house_name (AddUnit row.unit) is 0)
+      unit_leads_by Repeated is = leads_nowhere c H stands
+      unit_leads_by (Refused why) is = leads_nowhere c H stands
+
+      pub decided_unit : (d : Decision) → IsDecided (unit_row_checks c.units row) (UnitAdded row ∷ []) d → IsDeedDecision c H adding_unit d
+      decided_unit d decided = record {
+        verdict_is = decided.says ∙ unit_verdict;
+        leads = subst (λ v. LeadsTo c (changes_of d) (grown v H adding_unit)) unit_verdict
+            (subst (λ changes. LeadsTo c changes (grown (first_of (unit_row_checks c.units row)) H adding_unit)) (sym decided.makes) (unit_leads_by _ (sym unit_verdict)));
+      }
+
+-- ---- the opening of a batch
+
+pub opened_own : (H : History) (s : Slice) (order unit : Bytes) (known free : Bool) (d : Decision) → IsLawful H → IsToldOfUnit H unit known free → DecidesOpening order unit known free s d → DecisionKeepsRules s d → PutsOnly s.owner (changes_of d) → IsOwnDecision H s (OpenBatch order unit) d
+unfolding DecidesOpening DecisionKeepsRules
+opened_own H s order unit known free d lawful told decides rules own = record { right = λ owner there. decides H lawful owner there told; rules = rules; own = own }

@@ -1,0 +1,52 @@
+-- What is so of a request, by its form.
+use Rattle.std.proofs.Common.{◌≡◌, Bool, true, false, ◌&&◌, [], refl, sym, subst}
+use mathlib.Core.Bool.{false≢true}
+use Rattle.toll_base.specs.Bytes.{Bytes}
+use Rattle.toll_history.specs.History.{History}
+use Rattle.toll_answers.specs.Told.{Asked, Told}
+use Rattle.toll_answers.specs.Replies.{IsAnswer, after_answer}
+use Rattle.toll_keep.specs.Content.{Content}
+use Rattle.toll_keep.specs.Standing.{StandsFor}
+use Rattle.toll_desk.specs.Forms.{asked_to_read, asked_to_trace, asked_to_write}
+use Rattle.toll_desk.specs.Plans.{LeadsTo, IsPlanFor, writes}
+use Rattle.toll_desk.specs.declared.form.Reading.{Reading}
+use Rattle.toll_desk.specs.declared.form.Reading.TheVariants as reading
+use Rattle.toll_desk.specs.declared.form.Tracing.{Tracing}
+use Rattle.toll_desk.specs.declared.form.Tracing.TheVariants as tracing
+use Rattle.toll_desk.specs.declared.form.Writing.{Writing}
+use Rattle.toll_desk.specs.declared.form.Writing.TheVariants as writing
+use Rattle.toll_desk.proofs.Lift.{leads_nowhere}
+
+-- a question leaves the history
+read_stays : (o : Bytes) (H : History) (r : Reading) → after_answer o H (asked_to_read r) ≡ H
+read_stays o H reading.Orders = refl
+read_stays o H (reading.Order order) = refl
+read_stays o H (reading.Batch order number) = refl
+read_stays o H reading.Stock = refl
+read_stays o H (reading.Lot lot) = refl
+
+trace_stays : (o : Bytes) (H : History) (t : Tracing) → after_answer o H (asked_to_trace t) ≡ H
+trace_stays o H (tracing.Back lot) = refl
+trace_stays o H (tracing.Forward lot) = refl
+trace_stays o H (tracing.HouseForward lot) = refl
+
+module _ (c : Content) (H : History) (stands : StandsFor c H) (o : Bytes) (told : Told) where
+  unchanged : (q : Asked) → after_answer o H q ≡ H → IsAnswer o H q told → IsPlanFor c H o q told []
+  unchanged q stays answer = record { answer = answer; leads = subst (λ G. LeadsTo c [] G) (sym stays) (leads_nowhere c H stands); own = tt }
+
+  pub plan_read : (r : Reading) (q : Asked) → q ≡ asked_to_read r → IsAnswer o H (asked_to_read r) told → IsPlanFor c H o q told []
+  plan_read r q is answer = subst (λ q. IsPlanFor c H o q told []) (sym is) (unchanged (asked_to_read r) (read_stays o H r) answer)
+
+  pub plan_trace : (t : Tracing) (q : Asked) → q ≡ asked_to_trace t → IsAnswer o H (asked_to_trace t) told → IsPlanFor c H o q told []
+  plan_trace t q is answer = subst (λ q. IsPlanFor c H o q told []) (sym is) (unchanged (asked_to_trace t) (trace_stays o H t) answer)
+
+-- what is written is no question
+pub write_writes : (w : Writing) → writes (asked_to_write w) ≡ true
+write_writes (writing.Place order recipe batches) = refl
+write_writes (writing.Cancel order) = refl
+write_writes (writing.Release lot) = refl
+write_writes (writing.Reject lot) = refl
+
+pub both_false : (b c : Bool) → b ≡ true → (b && c) ≡ false → c ≡ false
+both_false true c so none = none
+both_false false c so none = absurd (false≢true so)

@@ -1,0 +1,151 @@
+-- What the plant is shown, over rows and edges that a keep has.
+use Rattle.std.specs.Prelude.{ℕ, is_none}
+use Rattle.std.specs.Option.{option_map}
+use Rattle.std.proofs.Common.{◌≡◌, ◌⊎◌, true, false, Option, Some, None, is_some, List, [], ◌∷◌, Result, Ok, Err, IfOk, IfErr, refl, sym, ap, subst, inl, inr, ◌∙◌, ◌&&◌, Bool}
+use mathlib.Core.Bool.{false≢true}
+use Rattle.std.specs.List.{list_any}
+use Rattle.toll_base.specs.Bytes.{Bytes, bytes_cmp}
+use Rattle.toll_base.specs.Slice.{Slice}
+use Rattle.toll_base.specs.Table.{IsInKeyOrder}
+use Rattle.toll_base.specs.declared.lot.Edge.{Edge}
+use Rattle.toll_base.specs.declared.lot.LotId.{LotId}
+use Rattle.toll_base.specs.declared.refusal.Refusal.TheVariants.{UnknownOwner, UnknownLot, UnknownOrder, UnknownBatch}
+use Rattle.toll_base.specs.declared.rows.BatchRow.{BatchRow}
+use Rattle.toll_base.specs.declared.rows.OrderRow.{OrderRow}
+use Rattle.toll_history.specs.Command.{Record}
+use Rattle.toll_history.specs.History.{History, acts, owner_known}
+use Rattle.toll_history.specs.Tables.{IsRowsOf, lot_row, tables_given}
+use Rattle.toll_history.specs.Verdict.{Checks, Refused, first_of, known_batch_checks, IsLawful}
+use Rattle.toll_history.specs.Work.{order_of, batch_of, unit_of, state_of, is_closed}
+use Rattle.toll_trace.specs.Edges.{AreEdges}
+use Rattle.toll_trace.proofs.Members.{Contains-none}
+use Rattle.toll_genealogy.specs.Edges.{IsOwnEdge, IsPlantEdge, WasDone}
+use Rattle.toll_genealogy.proofs.KnownLots.{lots_owned}
+use Rattle.toll_work.specs.BatchView.{IsViewOver}
+use Rattle.toll_work.specs.declared.views.BatchView.{BatchView}
+use Rattle.toll_print.specs.Texts.{orders_text, batch_text, recall_text}
+use Rattle.toll_genealogy.specs.Recall.{IsRecall}
+use Rattle.toll_genealogy.specs.declared.recall.RecallLine.{RecallLine}
+use Rattle.toll_desk.specs.Questions.{is_known_lot}
+use Rattle.toll_answers.specs.PlantAnswers.{PlantTold, Judged, Shows, AreOrdersShown, IsBatchShownOr, IsCheckedOr, AsksRecall, IsPlantAnswer, owner_checks, lot_checks}
+use Rattle.toll_keep.proofs.Unknown.{acts_of_unknown}
+use Rattle.toll_desk.specs.PlantForms.{asked_of_rows}
+use Rattle.toll_desk.specs.declared.plant_form.Shown.{Shown}
+use Rattle.toll_desk.specs.declared.plant_form.Shown.TheVariants.{Orders, Stock, Batch}
+use Rattle.toll_desk.proofs.DeedPlans.{house_known}
+use Rattle.toll_desk.proofs.OwnTraces.{touches, joined_edge, joined_known}
+
+-- what is so of an answer, where it is this one
+pub told_ok : {X E : Type 0} (P : X → Type 0) (r : Result X E) (x : X) → r ≡ Ok x → IfOk r P → P x
+told_ok P r x is so = subst (λ r. IfOk r P) is so
+
+pub told_err : {X E : Type 0} (P : E → Type 0) (r : Result X E) (e : E) → r ≡ Err e → IfErr r P → P e
+told_err P r e is so = subst (λ r. IfErr r P) is so
+
+-- ---- an owner's rows
+
+pub orders_shown : (H : History) (s : Slice) (text : Bytes) → IsInKeyOrder bytes_cmp (λ row. row.order) s.orders → IsRowsOf H s → text ≡ orders_text s.orders → AreOrdersShown H s.owner (Shows text)
+orders_shown H s text ordered rows is = record { orders = s.orders; given = record { ordered = ordered; at = λ k i. (rows i).order k }; shown = ap Shows is }
+
+pub rows_of_unknown : (H : History) (o : Bytes) (shown : Shown) → owner_known H o ≡ false → IsPlantAnswer H (asked_of_rows o shown) (Judged (Refused UnknownOwner))
+rows_of_unknown H o Orders unknown = rw unknown refl
+rows_of_unknown H o Stock unknown = rw unknown refl
+rows_of_unknown H o (Batch order number) unknown = rw unknown refl
+
+pub checked_owner : (H : History) (o : Bytes) (X : Type 0) (r : PlantTold) → owner_known H o ≡ true → X → IsCheckedOr (first_of (owner_checks H o)) X r
+checked_owner H o X r known x = rw known x
+
+-- ---- a batch
+
+module _ (H : History) (o order : Bytes) (number : ℕ) where
+  batch_on : Bytes → BatchRow
+  batch_on unit = record { order = order; number = number; unit = unit; state = state_of (acts o H) order number; closed = is_closed (acts o H) order number }
+
+  abbrev batch_checks : Option OrderRow → Option BatchRow → Checks
+  batch_checks known row = (is_none known, Some UnknownOrder) ∷ (is_none row, Some UnknownBatch) ∷ []
+
+  shown_or : (known : Option OrderRow) (unit : Option Bytes) (checks : Checks) (view : BatchView) → IsViewOver H o order number known (option_map batch_on unit) (Some view) → IsBatchShownOr H o known (option_map batch_on unit) (first_of checks) (Shows (batch_text view.row view.lines.items))
+  unfolding batch_on
+  shown_or None None checks view is = absurd is
+  shown_or None (Some unit) checks view is = absurd is
+  shown_or (Some known) None checks view is = absurd is
+  shown_or (Some known) (Some unit) checks view is = record { lines = view.lines.items; are_given = is.1; shown = ap (λ row. Shows (batch_text row view.lines.items)) is.0 }
+
+  no_order : (known : Option OrderRow) (row : Option BatchRow) → is_some known ≡ false → IsBatchShownOr H o known row (first_of (batch_checks known row)) (Judged (Refused UnknownOrder))
+  no_order None row none = refl
+  no_order (Some known) row none = absurd (false≢true (sym none))
+
+  no_batch : (known : Option OrderRow) (row : Option BatchRow) → is_some known ≡ true → IsViewOver H o order number known row None → IsBatchShownOr H o known row (first_of (batch_checks known row)) (Judged (Refused UnknownBatch))
+  no_batch None row some is = absurd (false≢true some)
+  no_batch (Some known) None some is = refl
+  no_batch (Some known) (Some row) some is = absurd is
+
+  module _ (known : owner_known H o ≡ true) where
+    abbrev view_over : Option BatchView → Type 0
+    view_over view = IsViewOver H o order number (order_of (acts o H) order) (batch_of (acts o H) (order, number)) view
+
+    pub batch_shown : (view : BatchView) → view_over (Some view) → IsPlantAnswer H (asked_of_rows o (Batch order number)) (Shows (batch_text view.row view.lines.items))
+    unfolding batch_on
+    batch_shown view is = checked_owner H o _ _ known (shown_or (order_of (acts o H) order) (unit_of (acts o H) order number) (known_batch_checks (tables_given H o) order number) view is)
+
+    pub order_unknown : is_some (order_of (acts o H) order) ≡ false → IsPlantAnswer H (asked_of_rows o (Batch order number)) (Judged (Refused UnknownOrder))
+    order_unknown none = checked_owner H o _ _ known (no_order (order_of (acts o H) order) (batch_of (acts o H) (order, number)) none)
+
+    pub batch_unknown : is_some (order_of (acts o H) order) ≡ true → view_over None → IsPlantAnswer H (asked_of_rows o (Batch order number)) (Judged (Refused UnknownBatch))
+    batch_unknown some is = checked_owner H o _ _ known (no_batch (order_of (acts o H) order) (batch_of (acts o H) (order, number)) some is)
+
+-- ---- a lot
+
+none_if : {X : Type 0} (x : Option X) → is_some x ≡ true → is_none x ≡ false
+none_if None some = absurd (false≢true some)
+none_if (Some x) some = refl
+
+none_if_not : {X : Type 0} (x : Option X) → is_some x ≡ false → is_none x ≡ true
+none_if_not None none = refl
+none_if_not (Some x) none = absurd (false≢true (sym none))
+
+pub checked_lot : (H : History) (lot : LotId) (X : Type 0) (r : PlantTold) → owner_known H lot.owner ≡ true → is_some (lot_row H lot.owner lot.lot) ≡ true → X → IsCheckedOr (first_of (lot_checks H lot)) X r
+checked_lot H lot X r known there x = rw (known, none_if (lot_row H lot.owner lot.lot) there) x
+
+pub lot_unknown : (H : History) (lot : LotId) (X : Type 0) → owner_known H lot.owner ≡ true → is_some (lot_row H lot.owner lot.lot) ≡ false → IsCheckedOr (first_of (lot_checks H lot)) X (Judged (Refused UnknownLot))
+lot_unknown H lot X known none = rw (known, none_if_not (lot_row H lot.owner lot.lot) none) refl
+
+pub owner_unknown : (H : History) (lot : LotId) (X : Type 0) → owner_known H lot.owner ≡ false → IsCheckedOr (first_of (lot_checks H lot)) X (Judged (Refused UnknownOwner))
+owner_unknown H lot X unknown = rw unknown refl
+
+-- ---- a lot of an edge
+
+-- an owner of whom there is an edge is known
+edge_owner : (H : History) (o : Bytes) (e : Edge) → IsLawful H → IsOwnEdge (acts o H) e → owner_known H o ≡ true
+edge_owner H o e lawful is =
+    elim (owner_known H o) as (λ b. owner_known H o ≡ b → b ≡ true) [
+      | true ↦ λ known. refl
+      | false ↦ λ unknown. let never = subst (λ own. WasDone own is.consumption) (acts_of_unknown o H lawful unknown) is.consumption_stands in absurd (Contains-none (Record is.consumption) never.recorded)
+    ] refl
+
+pub end_owner : (H : History) (o : Bytes) (lot : LotId) (e : Edge) → IsLawful H → IsOwnEdge (acts o H) e → (e.from ≡ lot) ⊎ (e.to ≡ lot) → owner_known H lot.owner ≡ true
+end_owner H o lot e lawful is (inr to) = subst (λ (l : LotId). owner_known H l.owner ≡ true) to (ap (owner_known H) (lots_owned H lawful o e is).0 ∙ edge_owner H o e lawful is)
+end_owner H o lot e lawful is (inl from) = subst (λ (l : LotId). owner_known H l.owner ≡ true) from (elim (lots_owned H lawful o e is).1 [
+  | inl own ↦ ap (owner_known H) own ∙ edge_owner H o e lawful is
+  | inr house ↦ ap (owner_known H) house ∙ house_known H
+])
+
+-- where an edge begins or ends at a lot, the lot is known, and its owner
+pub joined_there : (H : History) (lot : LotId) (edges : List Edge) → IsLawful H → AreEdges (IsPlantEdge H) edges → list_any (touches lot) edges ≡ true → (owner_known H lot.owner ≡ true) × (is_some (lot_row H lot.owner lot.lot) ≡ true)
+joined_there H lot edges lawful are any =
+    let found = joined_edge (IsPlantEdge H) edges are lot any in
+    (end_owner H found.1.0 lot found.0 lawful found.1.1 found.2, joined_known H found.1.0 lot found.0 lawful found.1.1 found.2)
+
+-- ---- recalls
+
+pub lot_refused : (H : History) (lot : LotId) (X : Type 0) → owner_known H lot.owner ≡ true → is_known_lot H lot ≡ false → IsCheckedOr (first_of (lot_checks H lot)) X (Judged (Refused UnknownLot))
+lot_refused H lot X known unknown = lot_unknown H lot X known (sym (ap (λ b. b && is_some (lot_row H lot.owner lot.lot)) known) ∙ unknown)
+
+pub recall_shown : (H : History) (lot : LotId) (lines : List RecallLine) (text : Bytes) → is_known_lot H lot ≡ true → IsRecall H lot lines → text ≡ recall_text lines → IsPlantAnswer H (AsksRecall lot) (Shows text)
+recall_shown H lot lines text known is text_is =
+    let both = both_so (owner_known H lot.owner) (is_some (lot_row H lot.owner lot.lot)) known in
+    checked_lot H lot _ _ both.0 both.1 (record { lines = lines; recalled = is; shown = ap Shows text_is })
+  where
+    both_so : (a b : Bool) → (a && b) ≡ true → (a ≡ true) × (b ≡ true)
+    both_so true b is = (refl, is)
+    both_so false b is = absurd (false≢true is)

@@ -1,0 +1,91 @@
+-- A unit that is added: the content with it stands for the history with it.
+use Rattle.std.proofs.Common.{◌≡◌, Bool, true, false, cond, ◌||◌, Option, Some, is_some, [], ◌∷◌, refl, sym, ap, subst, ◌∙◌, arith}
+use Rattle.std.specs.Cmp.Lexicographic.{nat_list_cmp_total}
+use Rattle.std.specs.List.{list_any}
+use Rattle.std.specs.Option.{option_map}
+use Rattle.std.specs.Ordering.{is_eq}
+use Rattle.toll_base.specs.Bytes.{Bytes, bytes_cmp, same_bytes}
+use Rattle.toll_base.specs.Values.{house_name}
+use Rattle.toll_base.specs.Words.{where_so}
+use Rattle.toll_base.specs.Table.{row_at, put_row}
+use Rattle.toll_history.specs.Command.{AddUnit, Command, by}
+use Rattle.toll_history.specs.History.{History, acts, key_added, adds_owner, owner_key, owner_known, unit_known}
+use Rattle.toll_history.specs.Tables.{tables_given}
+use Rattle.toll_base.specs.declared.rows.OwnerRow.{OwnerRow}
+use Rattle.toll_base.specs.declared.rows.UnitRow.{UnitRow}
+use Rattle.toll_base.specs.declared.decision.Change.TheVariants.{Unit as UnitAdded}
+use Rattle.toll_history.proofs.Acts.{first_acts, any_acts}
+use Rattle.toll_history.proofs.Grown.{tables-own, tables-others}
+use Rattle.toll_base.proofs.KeyOrder.{row_at-put_row, put_row_ordered}
+use Rattle.toll_base.proofs.PutTables.{length-new}
+use Rattle.toll_base.proofs.Texts.{same_bytes-exact, same_bytes-symm}
+use Rattle.toll_keep.specs.Content.{Content}
+use Rattle.toll_keep.specs.Standing.{StandsFor, AreOwnersOf, AreUnitsOf}
+use Rattle.toll_desk.specs.Plans.{LeadsTo}
+use Rattle.toll_desk.proofs.Lift.{none_else, idle, none_more}
+
+is_there : {X : Type 0} (b : Bool) (x : X) → is_some (where_so b x) ≡ b
+is_there true x = refl
+is_there false x = refl
+
+abbrev unit_named : Bytes → Option UnitRow
+unit_named v = Some (record { unit = v })
+
+unit_of_added : (unit u : Bytes) (b known : Bool) → same_bytes unit u ≡ b →
+    cond b (Some (record { unit = unit })) (where_so {X = UnitRow} known (record { unit = u })) ≡ where_so (b || known) (record { unit = u })
+unit_of_added unit u true known same = ap unit_named (same_bytes-exact unit u same)
+unit_of_added unit u false known same = refl
+
+module _ (c : Content) (H : History) (stands : StandsFor c H) (unit : Bytes) (absent : unit_known H unit ≡ false) where
+  abbrev row : UnitRow
+  row = record { unit = unit }
+
+  abbrev command : Command
+  command = by house_name (AddUnit unit)
+
+  abbrev G : History
+  G = command ∷ H
+
+  new : is_some (row_at bytes_cmp (λ r. r.unit) c.units unit) ≡ false
+  new = ap is_some (stands.units.each unit) ∙ is_there (unit_known H unit) row ∙ absent
+
+  units_of : AreUnitsOf G (put_row bytes_cmp (λ r. r.unit) c.units row)
+  units_of = record {
+    ordered = put_row_ordered bytes_cmp nat_list_cmp_total (λ r. r.unit) c.units row stands.units.ordered;
+    each = λ u.
+        row_at-put_row bytes_cmp nat_list_cmp_total (λ r. r.unit) c.units row u
+        ∙ ap (cond (is_eq (bytes_cmp u unit)) (Some row)) (stands.units.each u)
+        ∙ ap (λ b. cond b (Some row) (where_so {X = UnitRow} (unit_known H u) (record { unit = u }))) (same_bytes-symm u unit)
+        ∙ unit_of_added unit u (same_bytes unit u) (unit_known H u) refl;
+    all = omega (arith, length-new bytes_cmp nat_list_cmp_total (λ r. r.unit) c.units row new, stands.units.all);
+  }
+
+  owners_of : AreOwnersOf G c.owners
+  owners_of = record {
+    ordered = stands.owners.ordered;
+    each = λ p. stands.owners.each p ∙ ap (option_map {T = Bytes} {U = OwnerRow} (λ key. record { owner = p; key = key })) (sym (first_acts key_added p command H ∙ none_else (same_bytes house_name p) (owner_key (acts p H))));
+    all = stands.owners.all ∙ sym (none_more _);
+  }
+
+  known_alike : (p : Bytes) → owner_known G p ≡ owner_known H p
+  known_alike p = ap (λ b. same_bytes p house_name || b) (any_acts adds_owner p command H ∙ idle (same_bytes house_name p) (list_any adds_owner (acts p H)))
+
+  rows_alike : (p : Bytes) → tables_given G p ≡ tables_given H p
+  rows_alike p =
+      elim (same_bytes house_name p) as (λ b. same_bytes house_name p ≡ b → tables_given G p ≡ tables_given H p) [
+        | true ↦ λ is. subst (λ q. tables_given G q ≡ tables_given H q) (same_bytes-exact house_name p is) (tables-own H house_name (AddUnit unit) refl)
+        | false ↦ λ other. tables-others H house_name (AddUnit unit) refl p other
+      ] refl
+
+  -- the changes that add a unit lead to the history in which it was added
+  pub leads_to_unit : LeadsTo c (UnitAdded row ∷ []) G
+  leads_to_unit = record {
+    stands = record {
+      owners = owners_of;
+      units = units_of;
+      own = stands.own;
+      known = λ p there. stands.known p (sym (known_alike p) ∙ there) ∙ sym (rows_alike (c.rows p).owner);
+      unknown = λ p unknown. stands.unknown p (sym (known_alike p) ∙ unknown);
+    };
+    fits = (tt, tt);
+  }

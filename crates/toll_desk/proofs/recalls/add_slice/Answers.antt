@@ -1,0 +1,23 @@
+use Rattle.std.proofs.Common.{[], ◌∷◌, ◌++◌, sym, ap, subst, ◌∙◌}
+use Rattle.std.specs.Prelude.{position}
+use Rattle.toll_keep.specs.Slices.{is_of}
+use Rattle.toll_desk.specs.Questions.{AreSlicesFor}
+use Rattle.toll_desk.proofs.OwnerPlans.{none_read}
+use Rattle.toll_desk.proofs.OwnTraces.{rows_read}
+use Rattle.toll_desk.proofs.RecallLines.{step_found, step_unknown, step_added, where_true}
+use Rattle.toll_desk.proofs.recalls.add_slice.Goals as goal
+
+pub returns-then-is_some-clause-over : goal.returns-then-is_some-clause-over
+returns-then-is_some-clause-over g c honest content H held stands lawful before are =
+    step_found H before c.args.step.now c.args.slices.now.items c.place_of.result are (c.place_of.ensures ∙ ap (position (is_of c.args.step.now.lot.owner)) c.deref.ensures.value) (sym c.is_some.ensures ∙ c.if-is_some.true)
+
+pub returns-in-Ok-None-clause-over : goal.returns-in-Ok-None-clause-over
+returns-in-Ok-None-clause-over g c honest content H held stands lawful before are =
+    step_unknown H before c.args.step.now c.args.slices.now.items are (none_read content H c.args.step.now.lot.owner stands (sym c.in-Ok-None.field-0-is ∙ c.in-Ok-None.ensures.reads honest content held))
+
+pub returns-else-is_err-clause-over : goal.returns-else-is_err-clause-over
+returns-else-is_err-clause-over g c honest content H held stands lawful before are =
+    let step = c.args.step.now in
+    let s = c.in-Ok-Some.slice in
+    let read = rows_read content H step.lot.owner s stands (sym c.in-Ok-Some.field-0-is ∙ c.in-Ok-Some.ensures.reads honest content held) in
+    subst (AreSlicesFor H (before ++ step ∷ [])) (sym (where_true _ _ _ _ c.push.ensures.items c.if-is_err.ensures.negation)) (step_added H before step c.args.slices.now.items s are read.0 read.1)

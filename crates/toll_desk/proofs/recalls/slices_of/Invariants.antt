@@ -1,0 +1,13 @@
+use Rattle.std.proofs.Common.{take}
+use Rattle.toll_history.specs.Tables.{IsRowsOf}
+use Rattle.toll_desk.specs.Questions.{HaveRead, IsKept, AreSlicesFor}
+use Rattle.toll_desk.specs.Reads.{Over}
+use Rattle.toll_desk.proofs.recalls.slices_of.Given as goal
+
+-- the calls so far were answered, and the slices are for the steps so far
+abbrev pub invariant-loop-step : goal.invariant-loop-step
+invariant-loop-step g l =
+    let k = g.K.Keep in
+    ((first : g.row.K.Denot) → HaveRead k.is_honest k.is_live k.is_closed k.has_cause k.leaves k.holds first l.initial.keep → HaveRead k.is_honest k.is_live k.is_closed k.has_cause k.leaves k.holds first l.keep)
+    × IsKept k.is_honest k.holds l.initial.keep l.keep
+    × Over k.is_honest k.holds l.initial.keep l.keep (λ c H. IsRowsOf H l.fn.own → AreSlicesFor H (take l.step-index l.steps) l.slices.items)

@@ -1,0 +1,14 @@
+use Rattle.std.proofs.Common.{[], ◌∷◌, subst, ◌∙◌}
+use Rattle.toll_history.specs.Decision.{IsDecided}
+use Rattle.toll_base.specs.declared.decision.Change.TheVariants.{Unit}
+use Rattle.toll_base.specs.declared.rows.UnitRow.{UnitRow}
+use Rattle.toll_desk.specs.Plans.{unit_row_checks}
+use Rattle.toll_desk.proofs.DeedPlans.{decided_unit}
+use Rattle.toll_desk.proofs.units.decide_unit.Goals as goal
+
+pub returns-in-Ok-judge_unit-clause-over : goal.returns-in-Ok-judge_unit-clause-over
+returns-in-Ok-judge_unit-clause-over g c honest content H held stands lawful =
+    let row : UnitRow = record { unit = c.args.unit } in
+    let d = c.in-Ok-judge_unit.decision in
+    decided_unit content H stands lawful row d
+    (subst (λ rows. IsDecided (unit_row_checks rows row) (Unit row ∷ []) d) (c.deref.ensures.value ∙ c.in-Ok.ensures.reads honest content held) c.in-Ok-judge_unit.ensures)

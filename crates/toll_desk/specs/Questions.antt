@@ -1,0 +1,70 @@
+-- What traces, recalls and questions of the plant look at.
+use Rattle.std.specs.Prelude.{◌≡◌, ◌⊎◌, Bool, ◌&&◌, true, false, Option, Some, None, is_some, List, map, Contains, Result, Ok, Err, Vec}
+use Rattle.std.specs.Global.{Global}
+use Rattle.toll_base.specs.Bytes.{Bytes}
+use Rattle.toll_base.specs.Lots.{lot_id}
+use Rattle.toll_base.specs.Slice.{Slice}
+use Rattle.toll_base.specs.Values.{house_name}
+use Rattle.toll_base.specs.declared.lot.LotId.{LotId}
+use Rattle.toll_history.specs.History.{History, acts, owner_known}
+use Rattle.toll_history.specs.Tables.{IsRowsOf, lot_row}
+use Rattle.toll_trace.specs.declared.step.Step.{Step}
+use Rattle.toll_genealogy.specs.Recall.{IsRecall, recall_line}
+use Rattle.toll_genealogy.specs.declared.recall.RecallLine.{RecallLine}
+use Rattle.toll_views.specs.Views.{has_consumed}
+use Rattle.toll_keep.specs.Content.{Content}
+use Rattle.toll_keep.specs.Goes.{IsReading}
+use Rattle.toll_keep.specs.Slices.{has_slice}
+use Rattle.toll_keep.specs.declared.fault.KeepFault.{KeepFault}
+use Rattle.toll_keep.specs.declared.fault.KeepFault.TheVariants.{Damaged}
+use Rattle.toll_desk.specs.declared.form.Tracing.{Tracing}
+use Rattle.toll_desk.specs.declared.form.Tracing.TheVariants.{Back, Forward, HouseForward}
+
+-- ---- traces
+
+-- the owner has the lot; a lot of HOUSE, a batch of the owner consumed
+abbrev pub may_trace : History → Bytes → Tracing → Bool
+may_trace H o (Back lot) = is_some (lot_row H o lot)
+may_trace H o (Forward lot) = is_some (lot_row H o lot)
+may_trace H o (HouseForward lot) = has_consumed (acts o H) (lot_id house_name lot)
+
+-- ---- how a recall goes
+
+module _ {K : Type 0} (is_honest is_live : K → Type 0) (is_closed : K → Bool) (has_cause : K → K → Type 0) (leaves : K → List Content → Type 0) (holds : K → Content → Type 0) (old new : K) where
+  -- reading calls led from the one to the other, and each was answered
+  abbrev pub HaveRead : Type 0
+  HaveRead = IsReading {X = Unit {0}} is_honest is_live is_closed has_cause leaves holds old new (Ok tt)
+
+  -- it goes as a reading call; or each call was answered, and what was read is told to be damaged
+  abbrev pub IsGoing : {X : Type 0} → Result X KeepFault → Type 0
+  IsGoing result = IsReading is_honest is_live is_closed has_cause leaves holds old new result ⊎ ((result ≡ Err Damaged) × HaveRead)
+
+-- a keep that is honest now was so, and holds what it held
+abbrev pub IsKept : {K : Type 0} → (is_honest : K → Type 0) → (holds : K → Content → Type 0) → (old new : K) → Type 0
+IsKept is_honest holds old new = is_honest new → is_honest old × ((c : Content) → holds old c → holds new c)
+
+-- ---- what a recall looks at
+
+-- each slice has the rows of its owner, and whoever of the owners of these steps is known has one
+pub record AreSlicesFor (H : History) (steps : List Step) (slices : List Slice) : Type 0 where
+  pub rows : (s : Slice) → Contains slices s → IsRowsOf H s
+  pub every : (step : Step) → Contains steps step → owner_known H step.lot.owner ≡ true → has_slice slices step.lot.owner ≡ true
+
+-- the line of a step; there is none of a lot that a known owner has not
+abbrev pub IsLineOf : History → Step → Option RecallLine → Type 0
+IsLineOf H step (Some line) = recall_line H step ≡ Some line
+IsLineOf H step None = owner_known H step.lot.owner ≡ true → recall_line H step ≡ None
+
+-- the lines of the steps; there are none where a step has none
+abbrev pub AreLinesOf : History → List Step → Option (Vec RecallLine Global) → Type 0
+AreLinesOf H steps (Some lines) = map (λ line. Some line) lines.items ≡ map (recall_line H) steps
+AreLinesOf H steps None = (step : Step) × Contains steps step × IsLineOf H step None
+
+-- the owner is known, and has the lot
+abbrev pub is_known_lot : History → LotId → Bool
+is_known_lot H lot = owner_known H lot.owner && is_some (lot_row H lot.owner lot.lot)
+
+-- the recall of a lot that is known
+abbrev pub IsRecallOf : History → LotId → Option (Vec RecallLine Global) → Type 0
+IsRecallOf H lot (Some lines) = (is_known_lot H lot ≡ true) × IsRecall H lot lines.items
+IsRecallOf H lot None = is_known_lot H lot ≡ false

@@ -1,0 +1,18 @@
+-- What is so of calls that read a keep, over the histories that its content stands for.
+use Rattle.std.specs.Prelude.{◌≡◌, Option, Some, None}
+use Rattle.toll_history.specs.History.{History}
+use Rattle.toll_history.specs.Verdict.{IsLawful}
+use Rattle.toll_base.specs.Bytes.{Bytes}
+use Rattle.toll_base.specs.Values.{house_name}
+use Rattle.toll_keep.specs.Content.{Content, slice_of}
+use Rattle.toll_keep.specs.Standing.{StandsFor}
+use Rattle.toll_desk.specs.declared.deciding.Both.{Both}
+
+-- whatever lawful history the content that was held stands for, this is so of the two
+abbrev pub Over : {K : Type 0} → (is_honest : K → Type 0) → (holds : K → Content → Type 0) → (old new : K) → (Content → History → Type 0) → Type 0
+Over is_honest holds old new P = is_honest new → (c : Content) (H : History) → holds old c → StandsFor c H → IsLawful H → P c H
+
+-- the rows of an owner and of HOUSE, as the content has them; none of an owner that it does not know
+abbrev pub AreBoth : Content → Bytes → Option Both → Type 0
+AreBoth c o None = None ≡ slice_of c o
+AreBoth c o (Some both) = (Some both.own ≡ slice_of c o) × (both.house ≡ c.rows house_name)

@@ -1,0 +1,73 @@
+//! Who is admitted: an owner that was added, with its key.
+ghost use Rattle.std.specs.Prelude.{◌≡◌, IfOk, IfSome};
+ghost use Rattle.toll_base.specs.Bytes.{bytes_cmp, same_bytes};
+ghost use Rattle.toll_base.specs.Values.{house_name};
+ghost use Rattle.toll_base.specs.Table.{row_at};
+ghost use Rattle.toll_base.specs.Words.{where_so};
+ghost use Rattle.toll_keep.specs.Goes.{IsReading};
+ghost use Rattle.toll_answers.specs.Replies.{has_key};
+ghost use Rattle.toll_desk.specs.Plans.{is_admitted};
+ghost use Rattle.toll_desk.specs.Reads.{Over};
+
+use std::alloc::Global;
+use toll_base::{Name, OwnerRow};
+use toll_keep::{Keep, KeepFault};
+
+/// Whether the two are the same bytes.
+pub fn is_same(bytes: &[u8], other: &[u8]) -> bool
+    ensures { result ≡ same_bytes bytes.now other.now }
+{
+    bytes.cmp(other).is_eq()
+}
+
+/// Whether these bytes are the name of HOUSE.
+#[tactic(auto, unfolding(toll_base::specs::Values::house_name))]
+pub fn is_house(owner: &[u8]) -> bool
+    ensures { result ≡ same_bytes owner.now house_name }
+{
+    is_same(owner, Name::house().as_bytes())
+}
+
+/// The owner of this name, among those that were added.
+pub fn find_owner(rows: &[OwnerRow], owner: &[u8]) -> Option<OwnerRow>
+    ensures { result ≡ row_at bytes_cmp (λ row. row.owner) rows.now owner.now }
+{
+    for row in rows {
+        if is_same(owner, row.owner.as_bytes()) {
+            return Some(*row);
+        }
+    }
+    None
+}
+
+// The owner with this key, among those that were added.
+fn admitted(rows: &[OwnerRow], owner: &[u8], key: &[u8]) -> Option<Name>
+    ensures { result ≡ where_so (is_admitted rows.now owner.now key.now) owner.now }
+{
+    if is_house(owner) {
+        return None;
+    }
+    let row = find_owner(rows, owner)?;
+    if is_same(key, row.key.as_bytes()) {
+        Some(row.owner)
+    } else {
+        None
+    }
+}
+
+/// The owner, where it is one that was added with that key. HOUSE is none.
+pub fn admit<K: Keep>(
+    alloc: Global,
+    keep: &mut K,
+    owner: &[u8],
+    key: &[u8],
+) -> Result<Option<Name>, KeepFault>
+    ensures reads { IsReading K.is_honest K.is_live K.is_closed K.has_cause K.leaves K.holds keep.old keep.new result }
+    ensures named { IfOk result (λ found. IfSome found (λ name. name ≡ owner.now)) }
+    ensures found { Over K.is_honest K.holds keep.old keep.new (λ c H. IfOk result (λ found. found ≡ where_so (has_key owner.now key.now H) owner.now)) }
+{
+    match keep.owners(alloc) {
+        Ok(rows) => Ok(admitted(&rows, owner, key)),
+        Err(fault) => Err(fault),
+    }
+}

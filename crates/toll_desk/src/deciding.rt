@@ -1,0 +1,198 @@
+//! Decisions over the rows of a keep.
+ghost use Rattle.std.specs.Prelude.{◌≡◌, not, is_some, Some, IfOk};
+ghost use Rattle.toll_base.specs.Values.{house_name};
+ghost use Rattle.toll_history.specs.Command.{OpenBatch, by};
+ghost use Rattle.toll_history.specs.Verdict.{IsValid};
+ghost use Rattle.toll_history.specs.Holders.{holder};
+ghost use Rattle.toll_keep.specs.Content.{Content};
+ghost use Rattle.toll_keep.specs.Goes.{IsReading};
+ghost use Rattle.toll_work.specs.Opening.{IsToldOfUnit};
+ghost use Rattle.toll_desk.specs.PlantForms.{command_in, own_action, shared_action};
+ghost use Rattle.toll_desk.specs.Plans.{IsDeedDecision, IsOwnDecision};
+ghost use Rattle.toll_desk.specs.Reads.{AreBoth, Over};
+
+use crate::decisions::{decide_own, decide_shared};
+use crate::plant_form::{Deed, OwnDeed, SharedDeed};
+use crate::units::{decide_owner, decide_unit, find_unit};
+use std::alloc::Global;
+use toll_base::{Decision, Name, Refusal, Slice};
+use toll_keep::{Keep, KeepFault};
+use toll_work::open_batch;
+
+/// The decision on a command. [`Refusal::UnknownOwner`] comes before the checks of all but the adding
+/// of owners and units.
+pub fn decide<K: Keep>(alloc: Global, keep: &mut K, deed: &Deed) -> Result<Decision, KeepFault>
+    requires { IsValid (command_in deed.now).action }
+    ensures reads { IsReading K.is_honest K.is_live K.is_closed K.has_cause K.leaves K.holds keep.old keep.new result }
+    ensures over { Over K.is_honest K.holds keep.old keep.new (λ c H. IfOk result (IsDeedDecision c H (command_in deed.now))) }
+{
+    match deed {
+        Deed::AddOwner { owner, key } => decide_owner(alloc, keep, *owner, *key),
+        Deed::AddUnit(unit) => decide_unit(alloc, keep, *unit),
+        Deed::Open { owner, order, unit } => decide_opening(alloc, keep, owner, *order, *unit),
+        Deed::Over(owner, deed) => decide_over(alloc, keep, owner, deed),
+        Deed::Shared(owner, deed) => decide_both(alloc, keep, owner, deed),
+    }
+}
+
+// The decision over an owner's rows.
+fn decide_over<K: Keep>(
+    alloc: Global,
+    keep: &mut K,
+    owner: &Name,
+    deed: &OwnDeed,
+) -> Result<Decision, KeepFault>
+    requires { IsValid (own_action deed.now) }
+    ensures reads { IsReading K.is_honest K.is_live K.is_closed K.has_cause K.leaves K.holds keep.old keep.new result }
+    ensures over { Over K.is_honest K.holds keep.old keep.new (λ c H. IfOk result (IsDeedDecision c H (by owner.now (own_action deed.now)))) }
+{
+    match keep.slice(alloc, owner) {
+        Ok(Some(slice)) => match decide_own(alloc, &slice, deed) {
+            Ok(decision) => Ok(decision),
+            Err(_) => Err(KeepFault::Memory),
+        },
+        Ok(None) => Ok(Decision::Refuse(Refusal::UnknownOwner)),
+        Err(fault) => Err(fault),
+    }
+}
+
+// ---- over an owner's rows and HOUSE's
+
+/// The rows of an owner, and those of HOUSE.
+pub struct Both {
+    pub own: Slice,
+    pub house: Slice,
+}
+
+/// By hand, since what is derived is written out at every exit of every function that owns it.
+impl Drop for Both {
+    fn drop(self) {
+        let Both { own: _, house: _ } = self;
+    }
+}
+
+// The decision over an owner's rows and HOUSE's.
+fn decide_both<K: Keep>(
+    alloc: Global,
+    keep: &mut K,
+    owner: &Name,
+    deed: &SharedDeed,
+) -> Result<Decision, KeepFault>
+    requires { IsValid (shared_action deed.now) }
+    ensures reads { IsReading K.is_honest K.is_live K.is_closed K.has_cause K.leaves K.holds keep.old keep.new result }
+    ensures over { Over K.is_honest K.holds keep.old keep.new (λ c H. IfOk result (IsDeedDecision c H (by owner.now (shared_action deed.now)))) }
+{
+    match both_of(alloc, keep, owner) {
+        Ok(Some(both)) => match decide_shared(alloc, &both.own, &both.house, deed) {
+            Ok(decision) => Ok(decision),
+            Err(_) => Err(KeepFault::Memory),
+        },
+        Ok(None) => Ok(Decision::Refuse(Refusal::UnknownOwner)),
+        Err(fault) => Err(fault),
+    }
+}
+
+// The rows of the owner, where it is known, and HOUSE's.
+fn both_of<K: Keep>(alloc: Global, keep: &mut K, owner: &Name) -> Result<Option<Both>, KeepFault>
+    ensures reads { IsReading K.is_honest K.is_live K.is_closed K.has_cause K.leaves K.holds keep.old keep.new result }
+    ensures both { K.is_honest keep.new → (c : Content) → K.holds keep.old c → IfOk result (AreBoth c owner.now) }
+{
+    match keep.slice(alloc, owner) {
+        Ok(Some(own)) => with_house(alloc, keep, own),
+        Ok(None) => Ok(None),
+        Err(fault) => Err(fault),
+    }
+}
+
+// These rows, and HOUSE's, which is always known.
+fn with_house<K: Keep>(alloc: Global, keep: &mut K, own: Slice) -> Result<Option<Both>, KeepFault>
+    ensures reads { IsReading K.is_honest K.is_live K.is_closed K.has_cause K.leaves K.holds keep.old keep.new result }
+    ensures both { K.is_honest keep.new → (c : Content) → K.holds keep.old c → IfOk result (λ both. both ≡ Some (record { own = own; house = c.rows house_name })) }
+{
+    match keep.slice(alloc, &Name::house()) {
+        Ok(Some(house)) => Ok(Some(Both { own, house })),
+        Ok(None) => Ok(None),
+        Err(fault) => Err(fault),
+    }
+}
+
+// ---- the opening of a batch
+
+// Whether a unit is known, and whether no batch holds it.
+#[derive(Clone, Copy)]
+struct UnitState {
+    known: bool,
+    free: bool,
+}
+
+// The decision on a batch to be opened.
+fn decide_opening<K: Keep>(
+    alloc: Global,
+    keep: &mut K,
+    owner: &Name,
+    order: Name,
+    unit: Name,
+) -> Result<Decision, KeepFault>
+    ensures reads { IsReading K.is_honest K.is_live K.is_closed K.has_cause K.leaves K.holds keep.old keep.new result }
+    ensures over { Over K.is_honest K.holds keep.old keep.new (λ c H. IfOk result (IsDeedDecision c H (by owner.now (OpenBatch order unit)))) }
+{
+    match keep.slice(alloc, owner) {
+        Ok(Some(slice)) => open_on(alloc, keep, &slice, order, unit),
+        Ok(None) => Ok(Decision::Refuse(Refusal::UnknownOwner)),
+        Err(fault) => Err(fault),
+    }
+}
+
+// The decision on a batch to be opened, over these rows of its owner.
+fn open_on<K: Keep>(
+    alloc: Global,
+    keep: &mut K,
+    slice: &Slice,
+    order: Name,
+    unit: Name,
+) -> Result<Decision, KeepFault>
+    ensures reads { IsReading K.is_honest K.is_live K.is_closed K.has_cause K.leaves K.holds keep.old keep.new result }
+    ensures over { Over K.is_honest K.holds keep.old keep.new (λ c H. IfOk result (IsOwnDecision H slice.now (OpenBatch order unit))) }
+{
+    match unit_state(alloc, keep, &unit) {
+        Ok(state) => match open_batch(alloc, slice, order, unit, state.known, state.free) {
+            Ok(decision) => Ok(decision),
+            Err(_) => Err(KeepFault::Memory),
+        },
+        Err(fault) => Err(fault),
+    }
+}
+
+fn unit_state<K: Keep>(alloc: Global, keep: &mut K, unit: &Name) -> Result<UnitState, KeepFault>
+    ensures reads { IsReading K.is_honest K.is_live K.is_closed K.has_cause K.leaves K.holds keep.old keep.new result }
+    ensures over { Over K.is_honest K.holds keep.old keep.new (λ c H. IfOk result (λ state. IsToldOfUnit H unit.now state.known state.free)) }
+{
+    match keep.units(alloc) {
+        Ok(rows) => holding(
+            alloc,
+            keep,
+            unit,
+            find_unit(&rows, unit.as_bytes()).is_some(),
+        ),
+        Err(fault) => Err(fault),
+    }
+}
+
+// Whether no batch holds the unit, of which this is known.
+fn holding<K: Keep>(
+    alloc: Global,
+    keep: &mut K,
+    unit: &Name,
+    known: bool,
+) -> Result<UnitState, KeepFault>
+    ensures reads { IsReading K.is_honest K.is_live K.is_closed K.has_cause K.leaves K.holds keep.old keep.new result }
+    ensures over { Over K.is_honest K.holds keep.old keep.new (λ c H. IfOk result (λ state. (state.known ≡ known) × (state.free ≡ not (is_some (holder H unit.now))))) }
+{
+    match keep.holder(alloc, unit) {
+        Ok(held) => Ok(UnitState {
+            known,
+            free: held.is_none(),
+        }),
+        Err(fault) => Err(fault),
+    }
+}

@@ -1,0 +1,195 @@
+//! Questions of the plant.
+ghost use Rattle.std.specs.Prelude.{◌≡◌, ◌≢◌, true, false, Err, IfOk, IfErr};
+ghost use Rattle.toll_history.specs.History.{History, owner_known};
+ghost use Rattle.toll_history.specs.Tables.{IsRowsOf};
+ghost use Rattle.toll_history.specs.Verdict.{IsLawful, Refused};
+ghost use Rattle.toll_trace.specs.Edges.{AreEdges};
+ghost use Rattle.toll_genealogy.specs.Edges.{IsPlantEdge};
+ghost use Rattle.toll_answers.specs.PlantAnswers.{IsPlantAnswer, AreOrdersShown, IsTraceShown, AsksTrace, AsksRecall, AsksBatch, Shows, Judged};
+ghost use Rattle.toll_keep.specs.Goes.{IsReading, Keeps};
+ghost use Rattle.toll_desk.specs.PlantForms.{asked_of_rows, asked_by_question};
+ghost use Rattle.toll_desk.specs.Plans.{plant_told, asks_recall, is_accepted};
+ghost use Rattle.toll_desk.specs.Questions.{IsGoing, is_known_lot};
+ghost use Rattle.toll_desk.specs.Reads.{Over};
+
+use crate::plant_cmd::PlantReply;
+use crate::plant_form::{Question, Shown};
+use crate::recalls::recall;
+use crate::tracing::{is_joined, trace_over};
+use std::alloc::{AllocError, Global};
+use toll_base::{BatchNo, Edge, LotId, Name, Refusal, Slice};
+use toll_keep::{Keep, KeepFault};
+use toll_print::{batch_text, orders_text, recall_text, stock_text, trace_text};
+use toll_trace::Way;
+use toll_work::batch_view;
+
+/// The text that is asked for. Rows are refused as [`Refusal::UnknownOwner`]; a batch then as
+/// [`Refusal::UnknownOrder`] and [`Refusal::UnknownBatch`], a trace and a recall as
+/// [`Refusal::UnknownLot`]. A recall answers [`KeepFault::Damaged`] where a lot of it has no row, and
+/// the keep goes on then.
+pub fn ask<K: Keep>(alloc: Global, keep: &mut K, question: &Question) -> PlantReply
+    ensures going { IsGoing K.is_honest K.is_live K.is_closed K.has_cause K.leaves K.holds keep.old keep.new (plant_told result) }
+    ensures reads { asks_recall (asked_by_question question.now) ≡ false → IsReading K.is_honest K.is_live K.is_closed K.has_cause K.leaves K.holds keep.old keep.new (plant_told result) }
+    ensures whole { Over K.is_honest K.holds keep.old keep.new (λ c H. plant_told result ≢ Err KeepFault.Damaged) }
+    ensures keeps { K.is_honest keep.new → Keeps K.holds K.is_live K.leaves keep.old keep.new }
+    ensures shown { is_accepted (plant_told result) ≡ false }
+    ensures over { Over K.is_honest K.holds keep.old keep.new (λ c H. IfOk (plant_told result) (IsPlantAnswer H (asked_by_question question.now))) }
+{
+    match question {
+        Question::Rows(owner, shown) => ask_rows(alloc, keep, owner, shown),
+        Question::Trace { lot, way } => ask_trace(alloc, keep, lot, *way),
+        Question::Recall(lot) => ask_recall(alloc, keep, lot),
+    }
+}
+
+// ---- an owner's rows
+
+// The text of an owner's rows: [`Refusal::UnknownOwner`]; of a batch [`Refusal::UnknownOrder`], then
+// [`Refusal::UnknownBatch`].
+fn ask_rows<K: Keep>(alloc: Global, keep: &mut K, owner: &Name, shown: &Shown) -> PlantReply
+    ensures reads { IsReading K.is_honest K.is_live K.is_closed K.has_cause K.leaves K.holds keep.old keep.new (plant_told result) }
+    ensures shown { is_accepted (plant_told result) ≡ false }
+    ensures over { Over K.is_honest K.holds keep.old keep.new (λ c H. IfOk (plant_told result) (IsPlantAnswer H (asked_of_rows owner.now shown.now))) }
+{
+    match keep.slice(alloc, owner) {
+        Ok(Some(slice)) => match show(alloc, &slice, shown) {
+            Ok(Ok(text)) => PlantReply::Text(text),
+            Ok(Err(why)) => PlantReply::Refused(why),
+            Err(_) => PlantReply::Fault(KeepFault::Memory),
+        },
+        Ok(None) => PlantReply::Refused(Refusal::UnknownOwner),
+        Err(fault) => PlantReply::Fault(fault),
+    }
+}
+
+// The text of the rows of the slice's owner, or why there is none.
+fn show(alloc: Global, slice: &Slice, shown: &Shown) -> Result<Result<Vec<u8>, Refusal>, AllocError>
+    ensures text { (H : History) → IsLawful H → owner_known H slice.now.owner ≡ true → IsRowsOf H slice.now → IfOk result (λ told. IfOk told (λ text. IsPlantAnswer H (asked_of_rows slice.now.owner shown.now) (Shows text.items))) }
+    ensures refused { (H : History) → IsLawful H → owner_known H slice.now.owner ≡ true → IsRowsOf H slice.now → IfOk result (λ told. IfErr told (λ why. IsPlantAnswer H (asked_of_rows slice.now.owner shown.now) (Judged (Refused why)))) }
+{
+    match shown {
+        Shown::Orders => Ok(Ok(orders_in(alloc, slice)?)),
+        Shown::Stock => Ok(Ok(stock_text(alloc, slice)?)),
+        Shown::Batch { order, number } => show_batch(alloc, slice, order, *number),
+    }
+}
+
+fn orders_in(alloc: Global, slice: &Slice) -> Result<Vec<u8>, AllocError>
+    ensures { (H : History) → IsLawful H → IsRowsOf H slice.now → IfOk result (λ text. AreOrdersShown H slice.now.owner (Shows text.items)) }
+{
+    let _orders = slice.orders();
+    orders_text(alloc, slice)
+}
+
+fn show_batch(
+    alloc: Global,
+    slice: &Slice,
+    order: &Name,
+    number: BatchNo,
+) -> Result<Result<Vec<u8>, Refusal>, AllocError>
+    ensures text { (H : History) → IsLawful H → owner_known H slice.now.owner ≡ true → IsRowsOf H slice.now → IfOk result (λ told. IfOk told (λ text. IsPlantAnswer H (AsksBatch slice.now.owner order.now number) (Shows text.items))) }
+    ensures refused { (H : History) → IsLawful H → owner_known H slice.now.owner ≡ true → IsRowsOf H slice.now → IfOk result (λ told. IfErr told (λ why. IsPlantAnswer H (AsksBatch slice.now.owner order.now number) (Judged (Refused why)))) }
+{
+    match batch_view(alloc, slice, order, number)? {
+        Some(view) => Ok(Ok(batch_text(alloc, &view)?)),
+        None => {
+            if slice.order(order).is_some() {
+                Ok(Err(Refusal::UnknownBatch))
+            } else {
+                Ok(Err(Refusal::UnknownOrder))
+            }
+        }
+    }
+}
+
+// ---- traces over all edges
+
+// The text of a trace: [`Refusal::UnknownOwner`], then [`Refusal::UnknownLot`].
+fn ask_trace<K: Keep>(alloc: Global, keep: &mut K, lot: &LotId, way: Way) -> PlantReply
+    ensures reads { IsReading K.is_honest K.is_live K.is_closed K.has_cause K.leaves K.holds keep.old keep.new (plant_told result) }
+    ensures shown { is_accepted (plant_told result) ≡ false }
+    ensures over { Over K.is_honest K.holds keep.old keep.new (λ c H. IfOk (plant_told result) (IsPlantAnswer H (AsksTrace lot.now way))) }
+{
+    match keep.all_edges(alloc) {
+        Ok(edges) => {
+            if !is_joined(&edges, lot) {
+                return trace_alone(alloc, keep, &edges, lot, way);
+            }
+            match text_of_trace(alloc, &edges, lot, way) {
+                Ok(text) => PlantReply::Text(text),
+                Err(_) => PlantReply::Fault(KeepFault::Memory),
+            }
+        }
+        Err(fault) => PlantReply::Fault(fault),
+    }
+}
+
+// The same over these edges, from a lot of which they don't tell whether it is there.
+fn trace_alone<K: Keep>(
+    alloc: Global,
+    keep: &mut K,
+    edges: &[Edge],
+    lot: &LotId,
+    way: Way,
+) -> PlantReply
+    ensures reads { IsReading K.is_honest K.is_live K.is_closed K.has_cause K.leaves K.holds keep.old keep.new (plant_told result) }
+    ensures shown { is_accepted (plant_told result) ≡ false }
+    ensures over { Over K.is_honest K.holds keep.old keep.new (λ c H. AreEdges (IsPlantEdge H) edges.now → IfOk (plant_told result) (IsPlantAnswer H (AsksTrace lot.now way))) }
+{
+    match keep.slice(alloc, &lot.owner) {
+        Ok(Some(slice)) => {
+            if slice.lot(&lot.lot).is_none() {
+                return PlantReply::Refused(Refusal::UnknownLot);
+            }
+            match text_of_trace(alloc, edges, lot, way) {
+                Ok(text) => PlantReply::Text(text),
+                Err(_) => PlantReply::Fault(KeepFault::Memory),
+            }
+        }
+        Ok(None) => PlantReply::Refused(Refusal::UnknownOwner),
+        Err(fault) => PlantReply::Fault(fault),
+    }
+}
+
+fn text_of_trace(
+    alloc: Global,
+    edges: &[Edge],
+    lot: &LotId,
+    way: Way,
+) -> Result<Vec<u8>, AllocError>
+    ensures { (H : History) → AreEdges (IsPlantEdge H) edges.now → IfOk result (λ text. IsTraceShown H lot.now way (Shows text.items)) }
+{
+    trace_text(alloc, &trace_over(alloc, edges, lot, way)?)
+}
+
+// ---- recalls
+
+// The text of a recall: [`Refusal::UnknownOwner`], then [`Refusal::UnknownLot`].
+fn ask_recall<K: Keep>(alloc: Global, keep: &mut K, lot: &LotId) -> PlantReply
+    ensures going { IsGoing K.is_honest K.is_live K.is_closed K.has_cause K.leaves K.holds keep.old keep.new (plant_told result) }
+    ensures whole { Over K.is_honest K.holds keep.old keep.new (λ c H. plant_told result ≢ Err KeepFault.Damaged) }
+    ensures shown { is_accepted (plant_told result) ≡ false }
+    ensures over { Over K.is_honest K.holds keep.old keep.new (λ c H. IfOk (plant_told result) (IsPlantAnswer H (AsksRecall lot.now))) }
+{
+    match recall(alloc, keep, lot) {
+        Ok(Some(lines)) => match recall_text(alloc, &lines) {
+            Ok(text) => PlantReply::Text(text),
+            Err(_) => PlantReply::Fault(KeepFault::Memory),
+        },
+        Ok(None) => refuse_lot(alloc, keep, lot),
+        Err(fault) => PlantReply::Fault(fault),
+    }
+}
+
+// What a lot that is not known is refused for.
+fn refuse_lot<K: Keep>(alloc: Global, keep: &mut K, lot: &LotId) -> PlantReply
+    ensures reads { IsReading K.is_honest K.is_live K.is_closed K.has_cause K.leaves K.holds keep.old keep.new (plant_told result) }
+    ensures shown { is_accepted (plant_told result) ≡ false }
+    ensures over { Over K.is_honest K.holds keep.old keep.new (λ c H. is_known_lot H lot.now ≡ false → IfOk (plant_told result) (IsPlantAnswer H (AsksRecall lot.now))) }
+{
+    match keep.slice(alloc, &lot.owner) {
+        Ok(Some(_)) => PlantReply::Refused(Refusal::UnknownLot),
+        Ok(None) => PlantReply::Refused(Refusal::UnknownOwner),
+        Err(fault) => PlantReply::Fault(fault),
+    }
+}

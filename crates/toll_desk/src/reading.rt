@@ -1,0 +1,109 @@
+//! What owners are told of their rows.
+ghost use Rattle.std.specs.Prelude.{◌≡◌, true, IfOk, is_ok};
+ghost use Rattle.toll_answers.specs.Replies.{IsAnswer, IsLotOr, IsOrderOr};
+ghost use Rattle.toll_answers.specs.Told.{AskBatch, AskOrders};
+ghost use Rattle.toll_history.specs.History.{History, acts, owner_known};
+ghost use Rattle.toll_history.specs.Tables.{IsRowsOf, lot_row};
+ghost use Rattle.toll_history.specs.Verdict.{IsLawful};
+ghost use Rattle.toll_history.specs.Work.{order_of};
+ghost use Rattle.toll_keep.specs.Goes.{IsReading};
+ghost use Rattle.toll_desk.specs.Forms.{asked_to_read};
+ghost use Rattle.toll_desk.specs.Plans.{told_of};
+ghost use Rattle.toll_desk.specs.Reads.{Over};
+
+use crate::form::Reading;
+use crate::request::Reply;
+use std::alloc::{AllocError, Global};
+use toll_base::{BatchNo, Name, OrderRow, Refusal, Slice};
+use toll_keep::{Keep, KeepFault};
+use toll_views::{lot_view, stock_lines};
+use toll_work::batch_view;
+
+/// What an owner is told of its rows.
+pub fn read_rows<K: Keep>(alloc: Global, keep: &mut K, owner: &Name, reading: &Reading) -> Reply
+    ensures reads { IsReading K.is_honest K.is_live K.is_closed K.has_cause K.leaves K.holds keep.old keep.new (told_of result) }
+    ensures over { Over K.is_honest K.holds keep.old keep.new (λ c H. owner_known H owner.now ≡ true → IfOk (told_of result) (IsAnswer owner.now H (asked_to_read reading.now))) }
+{
+    match keep.slice(alloc, owner) {
+        Ok(Some(slice)) => match read_over(alloc, &slice, reading) {
+            Ok(reply) => reply,
+            Err(_) => Reply::Fault(KeepFault::Memory),
+        },
+        Ok(None) => Reply::Forbidden,
+        Err(fault) => Reply::Fault(fault),
+    }
+}
+
+fn read_over(alloc: Global, slice: &Slice, reading: &Reading) -> Result<Reply, AllocError>
+    ensures told { IfOk result (λ reply. is_ok (told_of reply) ≡ true) }
+    ensures over { (H : History) → IsLawful H → IsRowsOf H slice.now → IfOk result (λ reply. IfOk (told_of reply) (IsAnswer slice.now.owner H (asked_to_read reading.now))) }
+{
+    match reading {
+        Reading::Orders => orders_shown(alloc, slice),
+        Reading::Order(order) => Ok(order_shown(slice, order)),
+        Reading::Batch { order, number } => batch_shown(alloc, slice, order, *number),
+        Reading::Stock => match stock_lines(alloc, slice) {
+            Ok(lines) => Ok(Reply::Stock(lines)),
+            Err(error) => Err(error),
+        },
+        Reading::Lot(lot) => lot_shown(alloc, slice, lot),
+    }
+}
+
+fn orders_shown(alloc: Global, slice: &Slice) -> Result<Reply, AllocError>
+    ensures told { IfOk result (λ reply. is_ok (told_of reply) ≡ true) }
+    ensures over { (H : History) → IsLawful H → IsRowsOf H slice.now → IfOk result (λ reply. IfOk (told_of reply) (IsAnswer slice.now.owner H AskOrders)) }
+{
+    match copied(alloc, slice.orders()) {
+        Ok(orders) => Ok(Reply::Orders(orders)),
+        Err(error) => Err(error),
+    }
+}
+
+fn copied(alloc: Global, orders: &[OrderRow]) -> Result<Vec<OrderRow>, AllocError>
+    ensures { IfOk result (λ rows. rows.items ≡ orders.now) }
+{
+    orders.to_vec(alloc)
+}
+
+/// The order as it stands.
+pub fn order_shown(slice: &Slice, order: &Name) -> Reply
+    ensures told { is_ok (told_of result) ≡ true }
+    ensures over { (H : History) → IsRowsOf H slice.now → IfOk (told_of result) (IsOrderOr (order_of (acts slice.now.owner H) order.now)) }
+{
+    match slice.order(order) {
+        Some(row) => Reply::Order(row),
+        None => Reply::Refused(Refusal::UnknownOrder),
+    }
+}
+
+fn batch_shown(
+    alloc: Global,
+    slice: &Slice,
+    order: &Name,
+    number: BatchNo,
+) -> Result<Reply, AllocError>
+    ensures told { IfOk result (λ reply. is_ok (told_of reply) ≡ true) }
+    ensures over { (H : History) → IsLawful H → IsRowsOf H slice.now → IfOk result (λ reply. IfOk (told_of reply) (IsAnswer slice.now.owner H (AskBatch order.now number))) }
+{
+    if slice.order(order).is_none() {
+        return Ok(Reply::Refused(Refusal::UnknownOrder));
+    }
+    match batch_view(alloc, slice, order, number) {
+        Ok(Some(view)) => Ok(Reply::Batch(view)),
+        Ok(None) => Ok(Reply::Refused(Refusal::UnknownBatch)),
+        Err(error) => Err(error),
+    }
+}
+
+/// The lot as it stands.
+pub fn lot_shown(alloc: Global, slice: &Slice, lot: &Name) -> Result<Reply, AllocError>
+    ensures told { IfOk result (λ reply. is_ok (told_of reply) ≡ true) }
+    ensures over { (H : History) → IsLawful H → IsRowsOf H slice.now → IfOk result (λ reply. IfOk (told_of reply) (IsLotOr H slice.now.owner (lot_row H slice.now.owner lot.now))) }
+{
+    match lot_view(alloc, slice, lot) {
+        Ok(Some(view)) => Ok(Reply::Lot(view)),
+        Ok(None) => Ok(Reply::Refused(Refusal::UnknownLot)),
+        Err(error) => Err(error),
+    }
+}

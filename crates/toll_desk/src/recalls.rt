@@ -1,0 +1,201 @@
+//! Recalls.
+ghost use Rattle.std.specs.Prelude.{◌≡◌, ◌≢◌, ◌++◌, ◌∷◌, [], true, List, Contains, Err, IfOk, OnOk, position};
+ghost use Rattle.std.specs.Option.{option_map};
+ghost use Rattle.toll_base.specs.Slice.{lot_at};
+ghost use Rattle.toll_history.specs.History.{History};
+ghost use Rattle.toll_history.specs.Tables.{IsRowsOf};
+ghost use Rattle.toll_history.specs.Verdict.{IsLawful};
+ghost use Rattle.toll_base.specs.declared.lot.LotId.{LotId};
+ghost use Rattle.toll_trace.specs.Trace.{IsTrace};
+ghost use Rattle.toll_trace.specs.declared.step.Step.{Step};
+ghost use Rattle.toll_trace.specs.declared.way.Way.TheVariants.{Forward};
+ghost use Rattle.toll_genealogy.specs.Edges.{IsPlantJoined};
+ghost use Rattle.toll_genealogy.specs.Recall.{IsRecall, recall_line};
+ghost use Rattle.toll_keep.specs.Goes.{IsReading};
+ghost use Rattle.toll_keep.specs.Slices.{is_of};
+ghost use Rattle.toll_desk.specs.Questions.{HaveRead, IsGoing, IsKept, AreSlicesFor, AreLinesOf, IsLineOf, IsRecallOf, is_known_lot};
+ghost use Rattle.toll_desk.specs.Reads.{Over};
+
+use crate::tracing::trace_over;
+use std::alloc::{AllocError, Global};
+use toll_base::{Disposition, LotId, Name, Slice};
+use toll_genealogy::RecallLine;
+use toll_keep::{Keep, KeepFault};
+use toll_stock::lot_totals;
+use toll_trace::{Step, Way};
+
+/// The lots that a lot went into over the batches of all owners, with what is on hand and was shipped
+/// of each; `None` where the lot is not known, or its owner. [`KeepFault::Damaged`] where a lot of it
+/// has no row, which no history has, and after which the keep goes on.
+pub fn recall<K: Keep>(
+    alloc: Global,
+    keep: &mut K,
+    lot: &LotId,
+) -> Result<Option<Vec<RecallLine>>, KeepFault>
+    ensures going { IsGoing K.is_honest K.is_live K.is_closed K.has_cause K.leaves K.holds keep.old keep.new result }
+    ensures whole { Over K.is_honest K.holds keep.old keep.new (λ c H. result ≢ Err KeepFault.Damaged) }
+    ensures over { Over K.is_honest K.holds keep.old keep.new (λ c H. IfOk result (IsRecallOf H lot.now)) }
+{
+    match keep.slice(alloc, &lot.owner) {
+        Ok(Some(slice)) => {
+            if slice.lot(&lot.lot).is_none() {
+                return Ok(None);
+            }
+            match recall_known(alloc, keep, lot, slice) {
+                Ok(lines) => Ok(Some(lines)),
+                Err(fault) => Err(fault),
+            }
+        }
+        Ok(None) => Ok(None),
+        Err(fault) => Err(fault),
+    }
+}
+
+// The same of a lot that is known, with the rows of its owner.
+fn recall_known<K: Keep>(
+    alloc: Global,
+    keep: &mut K,
+    lot: &LotId,
+    own: Slice,
+) -> Result<Vec<RecallLine>, KeepFault>
+    ensures going { IsGoing K.is_honest K.is_live K.is_closed K.has_cause K.leaves K.holds keep.old keep.new result }
+    ensures whole { Over K.is_honest K.holds keep.old keep.new (λ c H. IsRowsOf H own → is_known_lot H lot.now ≡ true → result ≢ Err KeepFault.Damaged) }
+    ensures over { Over K.is_honest K.holds keep.old keep.new (λ c H. IsRowsOf H own → IfOk result (λ lines. IsRecall H lot.now lines.items)) }
+{
+    match keep.all_edges(alloc) {
+        Ok(edges) => match trace_over(alloc, &edges, lot, Way::Forward) {
+            Ok(steps) => recall_steps(alloc, keep, &steps, own),
+            Err(_) => Err(KeepFault::Memory),
+        },
+        Err(fault) => Err(fault),
+    }
+}
+
+// The lines of the steps of a trace.
+fn recall_steps<K: Keep>(
+    alloc: Global,
+    keep: &mut K,
+    steps: &[Step],
+    own: Slice,
+) -> Result<Vec<RecallLine>, KeepFault>
+    ensures going { (first : K) → HaveRead K.is_honest K.is_live K.is_closed K.has_cause K.leaves K.holds first keep.old → IsGoing K.is_honest K.is_live K.is_closed K.has_cause K.leaves K.holds first keep.new result }
+    ensures kept { IsKept K.is_honest K.holds keep.old keep.new }
+    ensures whole { (first : K) → HaveRead K.is_honest K.is_live K.is_closed K.has_cause K.leaves K.holds first keep.old → Over K.is_honest K.holds first keep.new (λ c H. (lot : LotId) → IsRowsOf H own → is_known_lot H lot ≡ true → IsTrace (IsPlantJoined H Forward) lot steps.now → result ≢ Err KeepFault.Damaged) }
+    ensures over { (first : K) → HaveRead K.is_honest K.is_live K.is_closed K.has_cause K.leaves K.holds first keep.old → Over K.is_honest K.holds first keep.new (λ c H. (lot : LotId) → IsRowsOf H own → IsTrace (IsPlantJoined H Forward) lot steps.now → IfOk result (λ lines. IsRecall H lot lines.items)) }
+{
+    match slices_of(alloc, keep, steps, own) {
+        Ok(slices) => match lines_of(alloc, &slices, steps) {
+            Ok(Some(lines)) => Ok(lines),
+            Ok(None) => Err(KeepFault::Damaged),
+            Err(_) => Err(KeepFault::Memory),
+        },
+        Err(fault) => Err(fault),
+    }
+}
+
+// ---- the rows of the owners of the lots
+
+// The rows of the owners of the lots, each owner's once, where these are those of one of them.
+fn slices_of<K: Keep>(
+    alloc: Global,
+    keep: &mut K,
+    steps: &[Step],
+    own: Slice,
+) -> Result<Vec<Slice>, KeepFault>
+    ensures reads { (first : K) → HaveRead K.is_honest K.is_live K.is_closed K.has_cause K.leaves K.holds first keep.old → IsReading K.is_honest K.is_live K.is_closed K.has_cause K.leaves K.holds first keep.new result }
+    ensures kept { IsKept K.is_honest K.holds keep.old keep.new }
+    ensures over { Over K.is_honest K.holds keep.old keep.new (λ c H. IsRowsOf H own → IfOk result (λ slices. AreSlicesFor H steps.now slices.items)) }
+{
+    let mut slices = Vec::new(alloc);
+    if slices.push(own).is_err() {
+        return Err(KeepFault::Memory);
+    }
+    for step in steps {
+        add_slice(alloc, keep, &mut slices, step)?;
+    }
+    Ok(slices)
+}
+
+// Adds the rows of the owner of the step's lot, where they are not there and the owner is known.
+fn add_slice<K: Keep>(
+    alloc: Global,
+    keep: &mut K,
+    slices: &mut Vec<Slice>,
+    step: &Step,
+) -> Result<(), KeepFault>
+    ensures reads { (first : K) → HaveRead K.is_honest K.is_live K.is_closed K.has_cause K.leaves K.holds first keep.old → IsReading K.is_honest K.is_live K.is_closed K.has_cause K.leaves K.holds first keep.new result }
+    ensures kept { IsKept K.is_honest K.holds keep.old keep.new }
+    ensures over { Over K.is_honest K.holds keep.old keep.new (λ c H. (before : List Step) → AreSlicesFor H before slices.old.items → OnOk result (AreSlicesFor H (before ++ step.now ∷ []) slices.new.items)) }
+{
+    if place_of(slices, &step.lot.owner).is_some() {
+        return Ok(());
+    }
+    match keep.slice(alloc, &step.lot.owner) {
+        Ok(Some(slice)) => {
+            if slices.push(slice).is_err() {
+                return Err(KeepFault::Memory);
+            }
+            Ok(())
+        }
+        Ok(None) => Ok(()),
+        Err(fault) => Err(fault),
+    }
+}
+
+// Where the rows of this owner are.
+fn place_of(slices: &[Slice], owner: &Name) -> Option<usize>
+    ensures { result ≡ position (is_of owner.now) slices.now }
+{
+    slices.iter().position(|slice| *slice.owner() == *owner)
+}
+
+// ---- lines
+
+// The lines of the steps, over these rows; `None` where a step's lot has none.
+fn lines_of(
+    alloc: Global,
+    slices: &[Slice],
+    steps: &[Step],
+) -> Result<Option<Vec<RecallLine>>, AllocError>
+    ensures { (H : History) → IsLawful H → AreSlicesFor H steps.now slices.now → IfOk result (AreLinesOf H steps.now) }
+{
+    let mut lines = Vec::new(alloc);
+    for step in steps {
+        match line_of(slices, step) {
+            Some(line) => lines.push(line)?,
+            None => return Ok(None),
+        }
+    }
+    Ok(Some(lines))
+}
+
+fn line_of(slices: &[Slice], step: &Step) -> Option<RecallLine>
+    ensures { (H : History) (steps : List Step) → IsLawful H → AreSlicesFor H steps slices.now → Contains steps step.now → IsLineOf H step.now result }
+{
+    match place_of(slices, &step.lot.owner) {
+        Some(at) => line_in(&slices[at], step),
+        None => None,
+    }
+}
+
+// The line of a step at a lot of the slice's owner.
+fn line_in(slice: &Slice, step: &Step) -> Option<RecallLine>
+    ensures { (H : History) → IsLawful H → IsRowsOf H slice.now → slice.now.owner ≡ step.now.lot.owner → result ≡ recall_line H step.now }
+{
+    let disposition = disposition_of(slice, &step.lot.lot)?;
+    let totals = lot_totals(slice, &step.lot.lot)?;
+    Some(RecallLine {
+        step: *step,
+        disposition,
+        totals,
+    })
+}
+
+fn disposition_of(slice: &Slice, lot: &Name) -> Option<Disposition>
+    ensures { result ≡ option_map (λ row. row.disposition) (lot_at slice.now lot.now) }
+{
+    match slice.lot(lot) {
+        Some(row) => Some(row.disposition),
+        None => None,
+    }
+}

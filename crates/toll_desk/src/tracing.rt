@@ -1,0 +1,133 @@
+//! Owners' traces.
+ghost use Rattle.std.specs.Prelude.{◌≡◌, ◌||◌, true, false, IfOk};
+ghost use Rattle.std.specs.List.{list_any};
+ghost use Rattle.toll_base.specs.Bytes.{same_bytes};
+ghost use Rattle.toll_base.specs.Lots.{same_lot};
+ghost use Rattle.toll_base.specs.Values.{house_name};
+ghost use Rattle.toll_history.specs.History.{History, acts, owner_known};
+ghost use Rattle.toll_history.specs.Tables.{IsRowsOf};
+ghost use Rattle.toll_history.specs.Verdict.{IsLawful};
+ghost use Rattle.toll_trace.specs.Chain.{IsJoined};
+ghost use Rattle.toll_trace.specs.Edges.{AreEdges};
+ghost use Rattle.toll_trace.specs.Trace.{IsTrace};
+ghost use Rattle.toll_genealogy.specs.Edges.{IsOwnEdge};
+ghost use Rattle.toll_answers.specs.Replies.{IsAnswer};
+ghost use Rattle.toll_keep.specs.Goes.{IsReading};
+ghost use Rattle.toll_desk.specs.Forms.{asked_to_trace, traced_from, traced_way};
+ghost use Rattle.toll_desk.specs.Plans.{told_of};
+ghost use Rattle.toll_desk.specs.Questions.{may_trace};
+ghost use Rattle.toll_desk.specs.Reads.{Over};
+
+use crate::form::Tracing;
+use crate::request::Reply;
+use std::alloc::{AllocError, Global};
+use toll_base::{Edge, LotId, Name, Refusal, Slice};
+use toll_keep::{Keep, KeepFault};
+use toll_trace::{Graph, Step, Way};
+use toll_views::has_consumed;
+
+/// The trace of an owner that was admitted, over the edges of its own batches. [`Refusal::UnknownLot`]
+/// where the owner has no such lot; of a lot of HOUSE, where no batch of the owner consumed it.
+pub fn trace_own<K: Keep>(alloc: Global, keep: &mut K, owner: &Name, tracing: &Tracing) -> Reply
+    ensures reads { IsReading K.is_honest K.is_live K.is_closed K.has_cause K.leaves K.holds keep.old keep.new (told_of result) }
+    ensures over { Over K.is_honest K.holds keep.old keep.new (λ c H. owner_known H owner.now ≡ true → same_bytes owner.now house_name ≡ false → IfOk (told_of result) (IsAnswer owner.now H (asked_to_trace tracing.now))) }
+{
+    let lot = traced_from(owner, tracing);
+    match keep.edges(alloc, owner) {
+        Ok(edges) if is_joined(&edges, &lot) => {
+            match trace_over(alloc, &edges, &lot, traced_way(tracing)) {
+                Ok(steps) => Reply::Trace(steps),
+                Err(_) => Reply::Fault(KeepFault::Memory),
+            }
+        }
+        Ok(edges) => trace_apart(alloc, keep, owner, tracing, &edges),
+        Err(fault) => Reply::Fault(fault),
+    }
+}
+
+// The trace over these edges, from a lot of which they don't tell whether it is there.
+fn trace_apart<K: Keep>(
+    alloc: Global,
+    keep: &mut K,
+    owner: &Name,
+    tracing: &Tracing,
+    edges: &[Edge],
+) -> Reply
+    ensures reads { IsReading K.is_honest K.is_live K.is_closed K.has_cause K.leaves K.holds keep.old keep.new (told_of result) }
+    ensures over { Over K.is_honest K.holds keep.old keep.new (λ c H. owner_known H owner.now ≡ true → AreEdges (IsOwnEdge (acts owner.now H)) edges.now → IfOk (told_of result) (IsAnswer owner.now H (asked_to_trace tracing.now))) }
+{
+    match keep.slice(alloc, owner) {
+        Ok(Some(slice)) => {
+            if !may_trace(&slice, tracing) {
+                return Reply::Refused(Refusal::UnknownLot);
+            }
+            let lot = traced_from(owner, tracing);
+            match trace_over(alloc, edges, &lot, traced_way(tracing)) {
+                Ok(steps) => Reply::Trace(steps),
+                Err(_) => Reply::Fault(KeepFault::Memory),
+            }
+        }
+        Ok(None) => Reply::Refused(Refusal::UnknownLot),
+        Err(fault) => Reply::Fault(fault),
+    }
+}
+
+// Whether the slice's owner has the lot; of a lot of HOUSE, whether a batch of the owner consumed it.
+fn may_trace(slice: &Slice, tracing: &Tracing) -> bool
+    ensures { (H : History) → IsLawful H → IsRowsOf H slice.now → result ≡ may_trace H slice.now.owner tracing.now }
+{
+    match tracing {
+        Tracing::Back(lot) | Tracing::Forward(lot) => slice.lot(lot).is_some(),
+        Tracing::HouseForward(lot) => has_consumed(
+            slice,
+            &LotId {
+                owner: Name::house(),
+                lot: *lot,
+            },
+        ),
+    }
+}
+
+// ---- over edges
+
+/// Whether one of the edges begins or ends at the lot.
+pub fn is_joined(edges: &[Edge], lot: &LotId) -> bool
+    ensures { result ≡ list_any (λ edge. same_lot edge.from lot.now || same_lot edge.to lot.now) edges.now }
+{
+    edges
+        .iter()
+        .any(|edge| edge.from == *lot || edge.to == *lot)
+}
+
+/// The trace over the edges.
+pub fn trace_over(
+    alloc: Global,
+    edges: &[Edge],
+    from: &LotId,
+    way: Way,
+) -> Result<Vec<Step>, AllocError>
+    ensures { IfOk result (λ steps. IsTrace (IsJoined edges.now way) from.now steps.items) }
+{
+    Graph::build(alloc, edges)?.trace(alloc, from, way)
+}
+
+fn traced_from(owner: &Name, tracing: &Tracing) -> LotId
+    ensures { result ≡ traced_from owner.now tracing.now }
+{
+    match *tracing {
+        Tracing::Back(lot) | Tracing::Forward(lot) => LotId { owner: *owner, lot },
+        Tracing::HouseForward(lot) => LotId {
+            owner: Name::house(),
+            lot,
+        },
+    }
+}
+
+fn traced_way(tracing: &Tracing) -> Way
+    ensures { result ≡ traced_way tracing.now }
+{
+    match tracing {
+        Tracing::Back(_) => Way::Back,
+        Tracing::Forward(_) | Tracing::HouseForward(_) => Way::Forward,
+    }
+}

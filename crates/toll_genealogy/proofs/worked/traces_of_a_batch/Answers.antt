@@ -1,0 +1,18 @@
+use Rattle.std.proofs.Common.{[], ◌∷◌, refl}
+use Rattle.std.specs.Prelude.{codes}
+use Rattle.std.specs.List.Sorted.{IsStrictlySortedBy}
+use Rattle.toll_history.specs.History.{acts}
+use Rattle.toll_history.specs.Worked.{acme, one_product}
+use Rattle.toll_trace.specs.declared.way.Way.TheVariants.{Back, Forward}
+use Rattle.toll_genealogy.specs.Worked.{of_acme, of_house}
+use Rattle.toll_genealogy.proofs.DrawnHere.{trace_of_a_level}
+use Rattle.toll_genealogy.proofs.WorkedEdges.{from_a, from_house, to_listed, from_listed}
+use Rattle.toll_genealogy.proofs.worked.traces_of_a_batch.Goals as goal
+
+pub returns-clause-back : goal.returns-clause-back
+unfolding IsStrictlySortedBy
+returns-clause-back c = trace_of_a_level (acts acme one_product) (from_a ∷ from_house ∷ []) to_listed from_listed Back (of_acme (codes "P1")) (of_acme (codes "A") ∷ of_house (codes "H-1") ∷ []) refl ((refl, tt), (tt, tt)) refl
+
+pub returns-clause-forward : goal.returns-clause-forward
+unfolding IsStrictlySortedBy
+returns-clause-forward c = trace_of_a_level (acts acme one_product) (from_a ∷ from_house ∷ []) to_listed from_listed Forward (of_house (codes "H-1")) (of_acme (codes "P1") ∷ []) refl (tt, tt) refl

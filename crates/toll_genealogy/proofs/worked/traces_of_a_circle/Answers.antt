@@ -1,0 +1,18 @@
+use Rattle.std.proofs.Common.{[], ◌∷◌, refl}
+use Rattle.std.specs.Prelude.{codes}
+use Rattle.std.specs.List.Sorted.{IsStrictlySortedBy}
+use Rattle.toll_history.specs.History.{acts}
+use Rattle.toll_history.specs.Worked.{acme}
+use Rattle.toll_trace.specs.declared.way.Way.TheVariants.{Back, Forward}
+use Rattle.toll_genealogy.specs.Worked.{of_acme, circle}
+use Rattle.toll_genealogy.proofs.DrawnHere.{trace_by_list}
+use Rattle.toll_genealogy.proofs.WorkedEdges.{of_circle, circle_drawn}
+use Rattle.toll_genealogy.proofs.worked.traces_of_a_circle.Goals as goal
+
+pub returns-clause-back : goal.returns-clause-back
+unfolding IsStrictlySortedBy
+returns-clause-back c = trace_by_list (acts acme circle) of_circle circle_drawn Back (of_acme (codes "P1")) (of_acme (codes "Q1") ∷ []) refl (tt, tt) refl
+
+pub returns-clause-forward : goal.returns-clause-forward
+unfolding IsStrictlySortedBy
+returns-clause-forward c = trace_by_list (acts acme circle) of_circle circle_drawn Forward (of_acme (codes "P1")) (of_acme (codes "Q1") ∷ []) refl (tt, tt) refl

@@ -1,0 +1,4 @@
+pub mod Edges
+pub mod Joints
+pub mod Recall
+pub mod Worked

@@ -1,0 +1,44 @@
+//! Genealogy of an owner, and of the plant, cut to one owner's lots.
+ghost use Rattle.std.specs.Prelude.{◌≡◌, ◌↔◌, ◌⊎◌, true, is_some, List, Contains};
+ghost use Rattle.toll_base.specs.Bytes.{Bytes};
+ghost use Rattle.toll_base.specs.Values.{house_name};
+ghost use Rattle.toll_history.specs.History.{History, acts};
+ghost use Rattle.toll_base.specs.Slice.{Slice};
+ghost use Rattle.toll_history.specs.Movements.{standing};
+ghost use Rattle.toll_history.specs.Tables.{IsRowsOf, lot_row};
+ghost use Rattle.toll_history.specs.Verdict.{IsLawful};
+ghost use Rattle.toll_base.specs.declared.lot.Edge.{Edge};
+ghost use Rattle.toll_base.specs.declared.lot.LotId.{LotId};
+ghost use Rattle.toll_base.specs.declared.movement.MoveRow.{MoveRow};
+ghost use Rattle.toll_trace.specs.declared.way.Way.{Way};
+ghost use Rattle.toll_trace.specs.declared.step.Step.{Step};
+ghost use Rattle.toll_trace.specs.Edges.{AreEdges, IsEdge};
+ghost use Rattle.toll_trace.specs.Trace.{IsTrace};
+ghost use Rattle.toll_genealogy.specs.Edges.{WasDone, IsOwnEdge, IsOwnJoined, IsPlantJoined};
+
+/// A movement of an owner stands, which is that no later command voids it, just where it was recorded
+/// and no command at all voids its key.
+pub fn a_movement_stands_unless_it_is_voided()
+    ensures { (H : History) (o : Bytes) (row : MoveRow) → IsLawful H → WasDone (acts o H) row ↔ Contains (standing H) (o, row) }
+{}
+
+/// An edge of an owner's batch leads to a lot of the owner, from one of the owner or of HOUSE, and
+/// both lots are known.
+pub fn lots_of_edges_are_known()
+    ensures owners { (H : History) (o : Bytes) (e : Edge) → IsLawful H → IsOwnEdge (acts o H) e → (e.to.owner ≡ o) × ((e.from.owner ≡ o) ⊎ (e.from.owner ≡ house_name)) }
+    ensures known { (H : History) (o : Bytes) (e : Edge) → IsLawful H → IsOwnEdge (acts o H) e → (is_some (lot_row H e.from.owner e.from.lot) ≡ true) × (is_some (lot_row H e.to.owner e.to.lot) ≡ true) }
+{}
+
+/// The edges of a slice, as `toll_trace::edges_of` gives them, are its owner's edges over every lawful
+/// history whose rows the slice has.
+pub fn edges_of_a_slice_are_the_owners()
+    ensures { (H : History) (s : Slice) (edges : List Edge) → IsLawful H → IsRowsOf H s → AreEdges (IsEdge s) edges → AreEdges (IsOwnEdge (acts s.owner H)) edges }
+{}
+
+/// The plant's trace from an owner's lot, back or forward, has at that owner's lots just the steps
+/// that the owner's own trace has there. So it is of HOUSE too: what leaves HOUSE's lots does not come
+/// back.
+pub fn plants_traces_within_an_owner_are_the_owners()
+    ensures { (H : History) (o : Bytes) (way : Way) (a : LotId) (plants own : List Step) → IsLawful H → a.owner ≡ o →
+        IsTrace (IsPlantJoined H way) a plants → IsTrace (IsOwnJoined (acts o H) way) a own → (s : Step) → s.lot.owner ≡ o → Contains plants s ↔ Contains own s }
+{}

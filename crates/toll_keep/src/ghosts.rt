@@ -1,0 +1,38 @@
+//! What the keeps of this crate choose for the ghosts of [`Keep`].
+ghost use Rattle.std.specs.Prelude.{◌≡◌, ◌↔◌, false, List, Contains};
+ghost use Rattle.toll_keep.specs.Content.{Content};
+ghost use Rattle.toll_keep.specs.Slices.{Kept, content_of};
+ghost use Rattle.toll_keep.specs.declared.refusing.Refusing.{Refusing};
+
+use crate::keep::Keep;
+use crate::mem_keep::MemKeep;
+use crate::refusing::Refusing;
+
+/// A keep in memory is always honest and live, never closed, and meets no cause of Disk.
+pub fn a_keep_in_memory_is_always_open()
+    ensures honest { (k : Kept) → ⟦<MemKeep as Keep>⟧.is_honest k }
+    ensures live { (k : Kept) → ⟦<MemKeep as Keep>⟧.is_live k }
+    ensures not_closed { (k : Kept) → ⟦<MemKeep as Keep>⟧.is_closed k ≡ false }
+    ensures no_cause { (old new : Kept) → ⟦<MemKeep as Keep>⟧.has_cause old new → ⊥ }
+{}
+
+/// A keep in memory holds its own content and no other, and that is what a stop leaves.
+pub fn a_keep_in_memory_has_its_content()
+    ensures holds { (k : Kept) (c : Content) → ⟦<MemKeep as Keep>⟧.holds k c ↔ (content_of k ≡ c) }
+    ensures leaves { (k : Kept) (cs : List Content) → ⟦<MemKeep as Keep>⟧.leaves k cs ↔ Contains cs (content_of k) }
+{}
+
+/// A keep that refuses is honest, live and closed just where the keep inside is, and meets the causes
+/// of Disk that it meets.
+pub fn a_refusing_keep_is_as_open_as_the_one_inside<K: Keep>()
+    ensures honest { (r : Refusing K) → ⟦<Refusing<K> as Keep>⟧.is_honest r ↔ K.is_honest r.keep }
+    ensures live { (r : Refusing K) → ⟦<Refusing<K> as Keep>⟧.is_live r ↔ K.is_live r.keep }
+    ensures closed { (r : Refusing K) → ⟦<Refusing<K> as Keep>⟧.is_closed r ≡ K.is_closed r.keep }
+    ensures cause { (old new : Refusing K) → ⟦<Refusing<K> as Keep>⟧.has_cause old new ↔ K.has_cause old.keep new.keep }
+{}
+
+/// A keep that refuses holds what the keep inside holds, and a stop leaves what it leaves.
+pub fn a_refusing_keep_has_the_content_inside<K: Keep>()
+    ensures holds { (r : Refusing K) (c : Content) → ⟦<Refusing<K> as Keep>⟧.holds r c ↔ K.holds r.keep c }
+    ensures leaves { (r : Refusing K) (cs : List Content) → ⟦<Refusing<K> as Keep>⟧.leaves r cs ↔ K.leaves r.keep cs }
+{}

@@ -1,0 +1,2 @@
+pub mod MadeRows
+pub mod ShownOver
