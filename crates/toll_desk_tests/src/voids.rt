@@ -1,0 +1,82 @@
+//! Stories of actuals that are taken back.
+use crate::lines::{Line, assert_said};
+use crate::setups::{WITH_BATCH, WITH_HOUSE, WITH_PRODUCT, WITH_RECIPE};
+use std::test::Fail;
+
+const CONSUMPTION_VOIDED: &[Line] = &[
+    (
+        "actual K2 ACME O 1 1 consumed M ACME A S1 40 11",
+        "accepted",
+    ),
+    (
+        "actual K3 ACME O 1 1 produced P ACME P1 S1 50 11",
+        "accepted",
+    ),
+    ("scrap ACME K4 P1 S1 20 12", "accepted"),
+    ("void ACME K3", "refused 33"),
+    ("void ACME K2", "accepted"),
+    ("void ACME K2", "refused 41"),
+];
+
+const AS_IF_NOT_CONSUMED: &[Line] = &[
+    (
+        "stock ACME",
+        "A                S1               M                released               100 kg\nP1               S1               P                quarantined             30 kg\n",
+    ),
+    ("> ACME ACMEKEY1 back P1", "     0 ACME             P1\n"),
+    ("trace ACME A forward", "     0 ACME             A\n"),
+    (
+        "> ACME ACMEKEY1 batch O 1",
+        "O/1 running U1 open\n 1 consumed ACME             M                       100              0\n 1 produced ACME             P                        90             50\n",
+    ),
+];
+
+const KEYS_STAY_TAKEN: &[Line] = &[
+    (
+        "actual K2 ACME O 1 1 consumed M ACME A S1 40 11",
+        "refused 41",
+    ),
+    (
+        "actual K2 ACME O 1 1 consumed M ACME A S1 41 11",
+        "refused 35",
+    ),
+    ("void ACME K1", "refused 40"),
+    ("void ACME K9", "refused 40"),
+    ("do ACME O 1 stop", "accepted"),
+    ("do ACME O 1 done", "accepted"),
+    ("close ACME O 1", "accepted"),
+    ("void ACME K3", "refused 24"),
+    ("void ACME K2", "refused 41"),
+];
+
+#[test]
+fn a_voided_consumption_gives_back(rt: HostRuntime) -> Result<(), Fail> {
+    assert_said(
+        &rt,
+        &[
+            WITH_RECIPE,
+            WITH_BATCH,
+            CONSUMPTION_VOIDED,
+            AS_IF_NOT_CONSUMED,
+            KEYS_STAY_TAKEN,
+        ],
+    )
+}
+
+const GIVEN_BACK_TO_HOUSE: &[Line] = &[
+    (
+        "stock HOUSE",
+        "H-1              S                W                released                 0 kg\n",
+    ),
+    ("void ACME K4", "accepted"),
+    ("> ACME ACMEKEY1 house H-1", "refused 27"),
+    (
+        "stock HOUSE",
+        "H-1              S                W                released                10 kg\n",
+    ),
+];
+
+#[test]
+fn a_void_gives_back_to_house(rt: HostRuntime) -> Result<(), Fail> {
+    assert_said(&rt, &[WITH_HOUSE, WITH_PRODUCT, GIVEN_BACK_TO_HOUSE])
+}
