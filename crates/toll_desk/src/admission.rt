@@ -4,10 +4,12 @@ ghost use Rattle.toll_base.specs.Bytes.{bytes_cmp, same_bytes};
 ghost use Rattle.toll_base.specs.Values.{house_name};
 ghost use Rattle.toll_base.specs.Table.{row_at};
 ghost use Rattle.toll_base.specs.Words.{where_so};
+ghost use Rattle.toll_history.specs.History.{History};
+ghost use Rattle.toll_keep.specs.Content.{Content};
 ghost use Rattle.toll_keep.specs.Goes.{IsReading};
+ghost use Rattle.toll_keep.specs.Standing.{StandsFor};
 ghost use Rattle.toll_answers.specs.Replies.{has_key};
 ghost use Rattle.toll_desk.specs.Plans.{is_admitted};
-ghost use Rattle.toll_desk.specs.Reads.{Over};
 
 use std::alloc::Global;
 use toll_base::{Name, OwnerRow};
@@ -64,7 +66,7 @@ pub fn admit<K: Keep>(
 ) -> Result<Option<Name>, KeepFault>
     ensures reads { IsReading K.is_honest K.is_live K.is_closed K.has_cause K.leaves K.holds keep.old keep.new result }
     ensures named { IfOk result (λ found. IfSome found (λ name. name ≡ owner.now)) }
-    ensures found { Over K.is_honest K.holds keep.old keep.new (λ c H. IfOk result (λ found. found ≡ where_so (has_key owner.now key.now H) owner.now)) }
+    ensures found { K.is_honest keep.new → (c : Content) (H : History) → K.holds keep.old c → StandsFor c H → IfOk result (λ found. found ≡ where_so (has_key owner.now key.now H) owner.now) }
 {
     match keep.owners(alloc) {
         Ok(rows) => Ok(admitted(&rows, owner, key)),
