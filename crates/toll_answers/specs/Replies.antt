@@ -9,7 +9,7 @@ use Rattle.toll_history.specs.History.{History, acts, owner_key}
 use Rattle.toll_history.specs.Work.{measure_of, order_of, batch_of}
 use Rattle.toll_base.specs.Lots.{lot_id}
 use Rattle.toll_history.specs.Tables.{tables_given, lot_row}
-use Rattle.toll_history.specs.Verdict.{Verdict, Refused, first_of, verdict, grow, known_batch_checks}
+use Rattle.toll_history.specs.Verdict.{Verdict, Refused, IsValid, first_of, verdict, grow, known_batch_checks}
 use Rattle.toll_base.specs.declared.refusal.Refusal.TheVariants.{UnknownOrder, UnknownLot}
 use Rattle.toll_base.specs.declared.lot.LotId.{LotId}
 use Rattle.toll_base.specs.declared.rows.OrderRow.{OrderRow}
@@ -126,3 +126,10 @@ after_answer o H _ = H
 
 unfoldable pub after_reply : Bytes → Bytes → History → Asked → History
 after_reply o key H q = if has_key o key H then after_answer o H q else H
+
+-- ---- values within their bounds
+
+-- the count of batches that is asked for
+abbrev pub IsValidAsked : Asked → Type 0
+IsValidAsked (AskPlace order recipe batches) = IsValid (PlaceOrder order recipe batches)
+IsValidAsked _ = Unit {0}

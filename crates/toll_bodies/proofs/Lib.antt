@@ -1,0 +1,4 @@
+pub mod NameTexts
+pub mod Sending
+pub mod Within
+mod WorkedBodies

@@ -1,0 +1,4 @@
+pub mod Bodies
+pub mod Exact
+pub mod ReplyBodies
+pub mod Sending

@@ -1,0 +1,24 @@
+//! The bodies of requests and replies, in JSON (RFC 8259). A body is read or made, unless there is no
+//! memory.
+#![tactic(auto)]
+
+mod batches;
+mod body;
+mod failures;
+mod listed;
+mod lots;
+mod orders;
+mod rows;
+mod sent;
+mod stock;
+mod told;
+mod traces;
+mod values;
+
+pub use batches::batch_body;
+pub use body::{Placing, order_asked};
+pub use failures::{error_body, refusal_body};
+pub use lots::lot_body;
+pub use orders::{order_body, orders_body};
+pub use stock::stock_body;
+pub use traces::trace_body;

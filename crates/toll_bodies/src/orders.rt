@@ -1,0 +1,47 @@
+//! The bodies of an order and of orders.
+ghost use Rattle.std.specs.Prelude.{◌≡◌, IfOk, refl, string_bytes};
+ghost use Rattle.serde_json.specs.Written.{compact_text};
+ghost use Rattle.toll_bodies.specs.ReplyBodies.{order_data, orders_data};
+ghost use Rattle.toll_print.specs.Texts as print;
+
+use crate::listed::list_text;
+use crate::sent::text_of;
+use crate::told::{Told, send_member};
+use serde::Serializer;
+use std::alloc::{AllocError, Global};
+use toll_base::OrderRow;
+
+/// The orders of an owner.
+pub fn orders_body(alloc: Global, rows: &[OrderRow]) -> Result<String, AllocError>
+    ensures { IfOk result (λ body. string_bytes body ≡ compact_text (orders_data rows.now)) }
+{
+    list_text(alloc, "orders", rows)
+}
+
+/// An order.
+pub fn order_body(alloc: Global, row: &OrderRow) -> Result<String, AllocError>
+    ensures { IfOk result (λ body. string_bytes body ≡ compact_text (order_data row.now)) }
+{
+    text_of(alloc, row)
+}
+
+impl Told for OrderRow {
+    ghost said = { order_data };
+
+    ghost exact = { λ _. refl };
+
+    fn send<S: Serializer>(&self, out: &mut S) -> Result<(), S::Error> {
+        out.begin_map(Some(4))?;
+        send_member("batches", &self.batches, out)?;
+        send_member("order", &self.order, out)?;
+        send_member("recipe", &self.recipe, out)?;
+        send_member("status", &order_status(self.cancelled), out)?;
+        out.end_map()
+    }
+}
+
+fn order_status(cancelled: bool) -> &'static str
+    ensures { result.now ≡ print.order_status cancelled }
+{
+    if cancelled { "cancelled" } else { "open" }
+}

@@ -1,0 +1,6 @@
+pub mod FieldLemmas
+pub mod Fronts
+pub mod StreamLemmas
+pub mod ReadLemmas
+pub mod Takes
+pub mod Arrivals

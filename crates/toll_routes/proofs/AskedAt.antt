@@ -1,0 +1,31 @@
+-- What is asked for at the route of a path.
+use Rattle.std.proofs.Common.{◌≡◌, ap, subst, Some, None, Result, Ok, Err}
+use Rattle.std.specs.Prelude.{IfOk}
+use Rattle.std.specs.declared.alloc.AllocError.{AllocError}
+use Rattle.toll_base.specs.Bytes.{Bytes}
+use Rattle.toll_http.specs.declared.failure.Failure.TheVariants.{MethodNotAllowed}
+use Rattle.toll_http.specs.declared.verb.Verb.{Verb}
+use Rattle.toll_routes.specs.Asking.{AsksBy, AsksOf, IsAsking, ask_of, other_of}
+use Rattle.toll_routes.specs.Places.{LeadsTo, path_of}
+use Rattle.toll_routes.specs.Routes.{Route, routes}
+use Rattle.toll_routes.specs.declared.ask.Ask.{Ask}
+use Rattle.toll_routes.specs.declared.asks.Asks.{Asks}
+use Rattle.toll_routes.specs.declared.asks.Asks.TheVariants.{Failing}
+use Rattle.toll_routes.specs.declared.values.Values.{Values}
+
+pub asked_at : (verb : Verb) (target body path : Bytes) (r : Route) (v : Values) (kind : Ask) (asked : Result Asks AllocError) → path ≡ path_of target
+    → LeadsTo routes path (Some (r, v)) → Some kind ≡ ask_of verb r → IfOk asked (AsksBy kind v body) → IfOk asked (IsAsking verb target body)
+asked_at verb target body path r v kind (Err fault) is leads e by = tt
+asked_at verb target body path r v kind (Ok asks) is leads e by = record {
+  place = Some (r, v);
+  leads = subst (λ p. LeadsTo routes p (Some (r, v))) is leads;
+  asked = subst (λ k. AsksOf verb k v body asks) e by;
+}
+
+pub not_served : (verb other : Verb) (target body path : Bytes) (r : Route) (v : Values) → path ≡ path_of target → LeadsTo routes path (Some (r, v)) → None ≡ ask_of verb r
+    → other ≡ other_of verb → IsAsking verb target body (Failing (MethodNotAllowed other))
+not_served verb other target body path r v is leads e same = record {
+  place = Some (r, v);
+  leads = subst (λ p. LeadsTo routes p (Some (r, v))) is leads;
+  asked = subst (λ k. AsksOf verb k v body (Failing (MethodNotAllowed other))) e (ap (λ m. Failing (MethodNotAllowed m)) same);
+}

@@ -1,0 +1,9 @@
+pub mod Numbers
+pub mod Reading
+pub mod Paths
+pub mod Rows
+pub mod AskedAt
+pub mod Once
+pub mod Within
+pub mod Frames
+pub mod Clients

@@ -1,0 +1,94 @@
+-- A method, a target and a body ask for one thing.
+use Rattle.std.proofs.Common.{◌≡◌, ◌∙◌, ℕ, List, [], ◌∷◌, ◌++◌, length, refl, sym, ap, subst, arith, inl, inr, Option, Some, None}
+use Rattle.std.specs.Prelude.{decimal, IsTrue, option_map}
+use Rattle.std.proofs.lemmas.Fmt.{decimal_injective}
+use Rattle.std.proofs.lemmas.List.{append_cancel_left, append_cancel_right}
+use Rattle.toll_base.specs.Bytes.{Bytes}
+use Rattle.toll_base.specs.Values.{IsBatchNo, is_name}
+use Rattle.toll_http.specs.declared.verb.Verb.{Verb}
+use Rattle.toll_bodies.specs.declared.body.Placing.{Placing}
+use Rattle.toll_bodies.specs.Bodies.{AsksFor, AsksOrder, order_in}
+use Rattle.toll_routes.specs.Asking.{AsksAt, AsksBy, AsksOf, IsAsking, IsPlacing, ask_of, placing, request_from}
+use Rattle.toll_routes.specs.Places.{AreValues, IsPath, LeadsTo, parts_of, path_of}
+use Rattle.toll_routes.specs.Routes.{Route, routes, text_of}
+use Rattle.toll_routes.specs.declared.ask.Ask.{Ask}
+use Rattle.toll_routes.specs.declared.ask.Ask.TheVariants.{Place}
+use Rattle.toll_routes.specs.declared.asks.Asks.{Asks}
+use Rattle.toll_routes.specs.declared.asks.Asks.TheVariants.{For}
+use Rattle.toll_routes.specs.declared.values.Values.{Values}
+use Rattle.toll_routes.specs.declared.values.Values.TheVariants.{Nothing, Name, NameAndNumber}
+use Rattle.toll_routes.proofs.Reading.{cut_parts, slash_behind}
+
+-- ---- a path has one place
+
+pair_once : (a b : Bytes) (m n : ℕ) → IsTrue (is_name a) → IsTrue (is_name b) → IsBatchNo m → IsBatchNo n → a ++ (47 ∷ decimal m) ≡ b ++ (47 ∷ decimal n)
+    → NameAndNumber a m ≡ NameAndNumber b n
+pair_once a b m n named other one two e =
+    let here = slash_behind a (decimal m) named in
+    let left = cut_parts (a ++ (47 ∷ decimal m)) a (decimal m) (length a) named refl here in
+    let right = cut_parts (a ++ (47 ∷ decimal m)) b (decimal n) (length a) other e here in
+    let names : a ≡ b = sym left.0 ∙ right.0 in
+    let numbers : m ≡ n = decimal_injective m n (omega arith) (omega arith) (sym left.1 ∙ right.1) in
+    cc
+
+values_once : (v w : Values) → AreValues v → AreValues w → parts_of v ≡ parts_of w → text_of v ≡ text_of w → v ≡ w
+values_once Nothing Nothing one two p e = refl
+values_once (Name a) (Name b) one two p e = ap Name e
+values_once (NameAndNumber a m) (NameAndNumber b n) one two p e = pair_once a b m n one.0 two.0 one.1 two.1 e
+values_once Nothing (Name b) one two p e = absurd (cc p)
+values_once Nothing (NameAndNumber b n) one two p e = absurd (cc p)
+values_once (Name a) Nothing one two p e = absurd (cc p)
+values_once (Name a) (NameAndNumber b n) one two p e = absurd (cc p)
+values_once (NameAndNumber a m) Nothing one two p e = absurd (cc p)
+values_once (NameAndNumber a m) (Name b) one two p e = absurd (cc p)
+
+path_once : (r : Route) (v w : Values) (path : Bytes) → IsPath r v path → IsPath r w path → v ≡ w
+path_once r v w path one two =
+    let behind : text_of v ++ r.back ≡ text_of w ++ r.back = append_cancel_left r.front (text_of v ++ r.back) (text_of w ++ r.back) (sym one.text ∙ two.text) in
+    values_once v w one.valid two.valid (one.parts ∙ sym two.parts) (append_cancel_right (text_of v) (text_of w) r.back behind)
+
+leads_once : (rs : List Route) (path : Bytes) (a b : Option (Route × Values)) → LeadsTo rs path a → LeadsTo rs path b → a ≡ b
+leads_once [] path a b one two = one ∙ sym two
+leads_once (r ∷ rs) path a b (inl (v, is, e)) (inl (w, other, f)) = e ∙ (ap (λ x. Some (r, x)) (path_once r v w path is other) ∙ sym f)
+leads_once (r ∷ rs) path a b (inl (v, is, e)) (inr (none, two)) = absurd (none v is)
+leads_once (r ∷ rs) path a b (inr (none, one)) (inl (w, other, f)) = absurd (none w other)
+leads_once (r ∷ rs) path a b (inr (none, one)) (inr (nor, two)) = leads_once rs path a b one two
+
+-- ---- a body asks for one order
+
+orders_once : (body : Bytes) (p q : Placing) → AsksFor body p → AsksFor body q → p ≡ q
+orders_once body p q one two =
+    let value : Some one.value ≡ Some two.value = sym one.reads ∙ two.reads in
+    let same : one.value ≡ two.value = cc value in
+    let order : Some p ≡ Some q = sym one.asks ∙ (ap order_in same ∙ two.asks) in cc order
+
+body_once : (body : Bytes) (p q : Option Placing) → AsksOrder body p → AsksOrder body q → p ≡ q
+body_once body None None one two = refl
+body_once body None (Some q) one two = absurd (one q two)
+body_once body (Some p) None one two = absurd (two p one)
+body_once body (Some p) (Some q) one two = ap (λ x. Some x) (orders_once body p q one two)
+
+placing_once : (body : Bytes) (a b : Asks) → IsPlacing body a → IsPlacing body b → a ≡ b
+placing_once body a b (p, one, e) (q, two, f) = e ∙ (ap placing (body_once body p q one two) ∙ sym f)
+
+-- ---- one thing is asked for
+
+same_some : (a b : Asks) (o : Option Asks) → Some a ≡ o → Some b ≡ o → a ≡ b
+same_some a b o e f = let same : Some a ≡ Some b = e ∙ sym f in cc same
+
+by_once : (kind : Ask) (v : Values) (body : Bytes) (a b : Asks) → AsksBy kind v body a → AsksBy kind v body b → a ≡ b
+by_once Place v body a b one two = placing_once body a b one two
+by_once kind v body a b one two = same_some a b (option_map For (request_from kind v)) one two
+
+of_once : (verb : Verb) (kind : Option Ask) (v : Values) (body : Bytes) (a b : Asks) → AsksOf verb kind v body a → AsksOf verb kind v body b → a ≡ b
+of_once verb None v body a b e f = e ∙ sym f
+of_once verb (Some kind) v body a b one two = by_once kind v body a b one two
+
+at_once : (verb : Verb) (place : Option (Route × Values)) (body : Bytes) (a b : Asks) → AsksAt verb place body a → AsksAt verb place body b → a ≡ b
+at_once verb None body a b e f = e ∙ sym f
+at_once verb (Some place) body a b one two = of_once verb (ask_of verb place.0) place.1 body a b one two
+
+pub asking_once : (verb : Verb) (target body : Bytes) (a b : Asks) → IsAsking verb target body a → IsAsking verb target body b → a ≡ b
+asking_once verb target body a b one two =
+    let same = leads_once routes (path_of target) one.place two.place one.leads two.leads in
+    at_once verb two.place body a b (subst (λ place. AsksAt verb place body a) same one.asked) two.asked

@@ -1,0 +1,5 @@
+pub mod Routes
+pub mod Shown
+pub mod Places
+pub mod Asking
+pub mod Addresses
