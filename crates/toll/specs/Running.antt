@@ -1,14 +1,10 @@
 -- How a script ends.
 use Rattle.std.specs.Prelude.{◌<◌, ℕ, Bool, true, false, List, length, take, Option}
 use Rattle.std.specs.Io.KnownBytes.{Appends}
-use Rattle.std.specs.List.{AllZip}
 use Rattle.toll_base.specs.Bytes.{Bytes}
-use Rattle.toll_history.specs.History.{History}
-use Rattle.toll_history.specs.Verdict.{IsLawful}
 use Rattle.toll_keep.specs.Content.{Content}
-use Rattle.toll_keep.specs.Standing.{StandsFor}
-use Rattle.toll_wire.specs.OfficeRuns.{IsRunOf}
-use Rattle.toll_wire.specs.Telling.{AnswersEvent}
+use Rattle.toll_desk.specs.Reads.{Over}
+use Rattle.toll_wire.specs.OfficeRuns.{AreServed, IsRunOf}
 use Rattle.toll_wire.specs.declared.event.Answer.{Answer}
 use Rattle.toll_wire.specs.declared.event.Event.{Event}
 use Rattle.toll.specs.Asked.{deeds_of}
@@ -18,15 +14,15 @@ use Rattle.toll.specs.Script.{AsksFor, IsFirstBad}
 use Rattle.toll.specs.declared.script.ScriptEnd.{ScriptEnd}
 use Rattle.toll.specs.declared.script.ScriptEnd.TheVariants.{Done, Memory, WriteFault}
 
--- where the keep is honest so far, and held a content that stands for a lawful history: the events and their answers are a run from that history, and what the run leaves is held
-abbrev pub AreRunOver : (is_honest : Type 0) (held holds : Content → Type 0) → List Event → List Answer → Type 0
-AreRunOver is_honest held holds events answers = is_honest → (c : Content) (H : History) → held c → StandsFor c H → IsLawful H → IsRunOf holds H events answers
+-- the events got these answers one after another, over this keep; and where it was honest so far, and held a content that stands for a lawful history, they are a run from that history, and what the run leaves is held
+pub record RanOver {K : Type 0} (is_honest is_live : K → Type 0) (is_closed : K → Bool) (has_cause : K → K → Type 0) (leaves : K → List Content → Type 0) (holds : K → Content → Type 0) (old new : K) (events : List Event) (answers : List Answer) : Type 0 where
+  pub served : AreServed is_honest is_live is_closed has_cause leaves holds old events answers new
+  pub run : Over is_honest holds old new (λ c H. IsRunOf (holds new) H events answers)
 
 -- the input's events, in order, got these answers, and so they ran
 pub record Runs (Ran : List Event → List Answer → Type 0) (input : Bytes) (answers : List Answer) : Type 0 where
   pub events : List Event
   pub asked : AsksFor input (deeds_of events)
-  pub answered : AllZip AnswersEvent events answers
   pub ran : Ran events answers
 
 -- a script that was read from one stream was run, and the lines of its answers went to another

@@ -1,7 +1,7 @@
 //! Reading a script whole.
-ghost use Rattle.std.specs.Prelude.{◌≡◌, ◌+◌, ◌<◌, ◌≤◌, length, take, IfOk, OnErr, Err};
+ghost use Rattle.std.specs.Prelude.{◌≡◌, ◌≢◌, ◌+◌, ◌<◌, ◌≤◌, length, take, IfOk, OnErr, OnOk, Err};
 ghost use Rattle.std.specs.Io.KnownBytes.{Consumes, IsAtEnd};
-ghost use Rattle.toll_wire.specs.Streams.{HasFailed};
+ghost use Rattle.toll_http.specs.Streams.{HasFailed, NoneFailed};
 ghost use Rattle.toll.specs.Inputs.{IsTooLong, IsWhole, script_limit};
 
 use std::alloc::{AllocError, Global};
@@ -31,6 +31,7 @@ pub fn read_input<R: Source>(alloc: Global, reader: &mut R) -> Result<Vec<u8>, I
     ensures whole { IfOk result (λ text. IsWhole (R.unread reader.old) (R.unread reader.new) text.items) }
     ensures too_long { result ≡ Err InputFault.TooLong → IsTooLong (R.unread reader.old) (R.unread reader.new) }
     ensures failed { result ≡ Err InputFault.Read → HasFailed (R.has_failed reader.old) (R.has_failed reader.new) }
+    ensures sound { result ≢ Err InputFault.Read → NoneFailed (R.has_failed reader.old) (R.has_failed reader.new) }
 {
     let Ok(mut text) = room(alloc) else {
         return Err(InputFault::Memory);
@@ -57,6 +58,7 @@ fn fill<R: Source>(reader: &mut R, buffer: &mut [u8]) -> io::Result<usize>
     ensures bound { IfOk result (λ n. n ≤ length buffer.new) }
     ensures given { IfOk result (λ n. Consumes (R.unread reader.old) (R.unread reader.new) (take n buffer.new)) }
     ensures whole { IfOk result (λ n. n < length buffer.new → IsAtEnd (R.unread reader.new)) }
+    ensures sound { OnOk result (NoneFailed (R.has_failed reader.old) (R.has_failed reader.new)) }
     ensures failed { OnErr result (HasFailed (R.has_failed reader.old) (R.has_failed reader.new)) }
 {
     let mut filled = 0;

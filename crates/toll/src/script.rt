@@ -1,8 +1,8 @@
 //! Running a script.
-ghost use Rattle.std.specs.Prelude.{◌≡◌, ◌⊎◌, ℕ, IsTrue};
-ghost use Rattle.toll_wire.specs.Streams.{HasFailed};
+ghost use Rattle.std.specs.Prelude.{◌≡◌, ◌≢◌, ◌⊎◌, ℕ, IsTrue};
+ghost use Rattle.toll_http.specs.Streams.{HasFailed, NoneFailed};
 ghost use Rattle.toll.specs.Inputs.{IsTooLong};
-ghost use Rattle.toll.specs.Running.{AreRunOver, HasBadLine, HasRun, IsCutShort, IsRun, is_idle, is_silent};
+ghost use Rattle.toll.specs.Running.{RanOver, HasBadLine, HasRun, IsCutShort, IsRun, is_idle, is_silent};
 
 use crate::events::{ScriptFault, events_of};
 use crate::input::{InputFault, read_input};
@@ -21,7 +21,8 @@ pub enum ScriptEnd {
     BadLine(u64),
     /// The input has more than 1,048,576 bytes. Nothing ran, and nothing was written.
     TooLong,
-    /// There was no memory. Either nothing ran, or all events ran and nothing was written.
+    /// There was no memory, and no read failed. Either nothing ran, or all events ran and nothing was
+    /// written.
     Memory,
     /// A read failed. Nothing ran, and nothing was written.
     ReadFault,
@@ -43,18 +44,20 @@ pub fn script<R: Source, W: Sink, K: Keep>(
     keep: &mut K,
 ) -> ScriptEnd
     ensures done { result ≡ ScriptEnd.Done
-        → IsRun (AreRunOver (K.is_honest keep.new) (K.holds keep.old) (K.holds keep.new)) (R.unread reader.old) (R.unread reader.new) (W.held writer.old) (W.held writer.new) }
+        → IsRun (RanOver K.is_honest K.is_live K.is_closed K.has_cause K.leaves K.holds keep.old keep.new) (R.unread reader.old) (R.unread reader.new) (W.held writer.old) (W.held writer.new) }
     ensures cut_short { result ≡ ScriptEnd.WriteFault
-        → IsCutShort (AreRunOver (K.is_honest keep.new) (K.holds keep.old) (K.holds keep.new)) (R.unread reader.old) (R.unread reader.new) (W.held writer.old) (W.held writer.new) }
+        → IsCutShort (RanOver K.is_honest K.is_live K.is_closed K.has_cause K.leaves K.holds keep.old keep.new) (R.unread reader.old) (R.unread reader.new) (W.held writer.old) (W.held writer.new) }
     ensures memory { result ≡ ScriptEnd.Memory
-        → (keep.new ≡ keep.old) ⊎ HasRun (AreRunOver (K.is_honest keep.new) (K.holds keep.old) (K.holds keep.new)) (R.unread reader.old) (R.unread reader.new) }
+        → (keep.new ≡ keep.old) ⊎ HasRun (RanOver K.is_honest K.is_live K.is_closed K.has_cause K.leaves K.holds keep.old keep.new) (R.unread reader.old) (R.unread reader.new) }
     ensures honest { K.is_honest keep.new → K.is_honest keep.old }
     ensures bad_line { (number : ℕ) → result ≡ ScriptEnd.BadLine number
         → HasBadLine (R.unread reader.old) (R.unread reader.new) number }
     ensures too_long { result ≡ ScriptEnd.TooLong → IsTooLong (R.unread reader.old) (R.unread reader.new) }
 
-    // A fault comes where a stream failed, and nothing is written or run but at the ends that say so.
+    // A fault comes where a stream failed, and no read failed at any other end. Nothing is written or run
+    // but at the ends that say so.
     ensures read_fault { result ≡ ScriptEnd.ReadFault → HasFailed (R.has_failed reader.old) (R.has_failed reader.new) }
+    ensures no_read_fault { result ≢ ScriptEnd.ReadFault → NoneFailed (R.has_failed reader.old) (R.has_failed reader.new) }
     ensures write_fault { result ≡ ScriptEnd.WriteFault → HasFailed (W.has_failed writer.old) (W.has_failed writer.new) }
     ensures silent { IsTrue (is_silent result) → writer.new ≡ writer.old }
     ensures idle { IsTrue (is_idle result) → keep.new ≡ keep.old }

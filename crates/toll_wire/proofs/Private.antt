@@ -1,5 +1,5 @@
 -- Each owner's replies in a run are those that its own events give by themselves.
-use Rattle.std.proofs.Common.{◌≡◌, Bool, true, false, ◌&&◌, cond, List, [], ◌∷◌, ◌++◌, refl, sym, ap, subst, ◌∙◌}
+use Rattle.std.proofs.Common.{◌≡◌, Bool, true, false, ◌&&◌, cond, Option, Some, None, List, [], ◌∷◌, ◌++◌, refl, sym, ap, subst, ◌∙◌}
 use mathlib.Core.Bool.{false≢true}
 use Rattle.toll_base.specs.Bytes.{Bytes, same_bytes}
 use Rattle.toll_base.specs.Values.{house_name}
@@ -9,10 +9,10 @@ use Rattle.toll_history.specs.Verdict.{Verdict, Accepted, Repeated, Refused, ver
 use Rattle.toll_history.proofs.Own.{part-own, part-other}
 use Rattle.toll_base.proofs.Texts.{same_bytes-exact}
 use Rattle.toll_answers.specs.Told.{Asked, AskPlace, AskCancel, AskRelease, AskReject}
-use Rattle.toll_answers.specs.Replies.{has_key, IsReply, after_answer, after_reply}
+use Rattle.toll_answers.specs.Replies.{IsValidAsked, has_key, IsReply, after_answer, after_reply}
 use Rattle.toll_answers.specs.PlantAnswers.{PlantAsked, Does, AsksOrders, AsksStock, AsksBatch, AsksTrace, AsksRecall, CannotRead, PlantTold, Judged, after_plant}
 use Rattle.toll_answers.proofs.OwnReplies.{lawful-grow, has_key-part, reply-both_ways, after_reply-part}
-use Rattle.toll_wire.specs.Runs.{Asking, Asks, Fails, Saying, By, Nobody, Happening, Request, Plant, Answered, Tells, Unavailable, PlantTells, PlantFault, Wire, IsTold, after_saying, IsStep, IsRun, accepts, is_own, own_events, told_by, told, IsAlone, IsPrivate, IsValidAsking, IsValidSaying, IsValidEvent, AreValid, claims}
+use Rattle.toll_wire.specs.Runs.{Asking, Asks, Fails, Saying, By, Nobody, Happening, Request, Plant, Answered, Text, Unavailable, PlantTells, PlantFault, Wire, IsTold, after_saying, IsStep, IsRun, accepts, is_own, own_events, told_by, told, IsAlone, IsPrivate, IsValidSaying, IsValidEvent, AreValid, claims}
 
 -- ---- what a request makes of a history
 
@@ -25,14 +25,14 @@ grow-other o c H other = grown-other (verdict H c)
     grown-other (Refused why) = refl
 
 module _ (wire : Wire) where
-  lawful-after_answer : (o : Bytes) (H : History) (q : Asked) → IsLawful H → IsValidAsking wire q → IsLawful (after_answer o H q)
+  lawful-after_answer : (o : Bytes) (H : History) (q : Asked) → IsLawful H → IsValidAsked q → IsLawful (after_answer o H q)
   lawful-after_answer o H (AskPlace order recipe batches) lawful valid = lawful-grow H (by o (PlaceOrder order recipe batches)) lawful valid
   lawful-after_answer o H (AskCancel order) lawful valid = lawful-grow H (by o (CancelOrder order)) lawful tt
   lawful-after_answer o H (AskRelease lot) lawful valid = lawful-grow H (by o (Release lot)) lawful tt
   lawful-after_answer o H (AskReject lot) lawful valid = lawful-grow H (by o (Reject lot)) lawful tt
   lawful-after_answer o H _ lawful valid = lawful
 
-  lawful-after_reply : (o key : Bytes) (H : History) (q : Asked) → IsLawful H → IsValidAsking wire q → IsLawful (after_reply o key H q)
+  lawful-after_reply : (o key : Bytes) (H : History) (q : Asked) → IsLawful H → IsValidAsked q → IsLawful (after_reply o key H q)
   unfolding after_reply
   lawful-after_reply o key H q lawful valid =
       elim (has_key o key H) as (λ b. IsLawful (cond b (after_answer o H q) H)) [
@@ -41,8 +41,9 @@ module _ (wire : Wire) where
       ]
 
   lawful-after_saying : (H : History) (s : Saying) → IsLawful H → IsValidSaying wire s → IsLawful (after_saying wire H s)
-  lawful-after_saying H (By o key (Asks q)) lawful valid = lawful-after_reply o key H q lawful valid
-  lawful-after_saying H (By o key (Fails text)) lawful valid = lawful
+  lawful-after_saying H (By o (Some key) (Asks q)) lawful valid = lawful-after_reply o key H q lawful valid
+  lawful-after_saying H (By o (Some key) (Fails text)) lawful valid = lawful
+  lawful-after_saying H (By o None asking) lawful valid = lawful
   lawful-after_saying H (Nobody text) lawful valid = lawful
 
   lawful-after_plant : (H : History) (asked : PlantAsked) → IsLawful H → IsValidEvent wire (Plant asked) → IsLawful (after_plant H asked)
@@ -50,13 +51,13 @@ module _ (wire : Wire) where
   lawful-after_plant H _ lawful valid = lawful
 
   pub lawful-step : (old : History) (e : Happening) (a : Answered) (new : History) → IsLawful old → IsValidEvent wire e → IsStep wire old e a new → IsLawful new
-  lawful-step old (Request s) (Tells out) new lawful valid step = subst IsLawful (sym step.1) (lawful-after_saying old s lawful valid)
+  lawful-step old (Request s) (Text out) new lawful valid step = subst IsLawful (sym step.1) (lawful-after_saying old s lawful valid)
   lawful-step old (Request s) Unavailable new lawful valid step = subst IsLawful (sym step) lawful
   lawful-step old (Plant asked) (PlantTells answer) new lawful valid step = subst IsLawful (sym step.1) (lawful-after_plant old asked lawful valid)
   lawful-step old (Plant asked) PlantFault new lawful valid step = subst IsLawful (sym step) lawful
   lawful-step old (Request s) (PlantTells answer) new lawful valid step = absurd step
   lawful-step old (Request s) PlantFault new lawful valid step = absurd step
-  lawful-step old (Plant asked) (Tells out) new lawful valid step = absurd step
+  lawful-step old (Plant asked) (Text out) new lawful valid step = absurd step
   lawful-step old (Plant asked) Unavailable new lawful valid step = absurd step
 
   -- ---- one step, seen by an owner
@@ -77,21 +78,24 @@ module _ (wire : Wire) where
       ]
 
   after_saying-other : (o : Bytes) (H : History) (s : Saying) → claims o s ≡ false → part o (after_saying wire H s) ≡ part o H
-  after_saying-other o H (By p key (Asks q)) other = after_reply-other o p key H q other
-  after_saying-other o H (By p key (Fails text)) other = refl
+  after_saying-other o H (By p (Some key) (Asks q)) other = after_reply-other o p key H q other
+  after_saying-other o H (By p (Some key) (Fails text)) other = refl
+  after_saying-other o H (By p None asking) other = refl
   after_saying-other o H (Nobody text) other = refl
 
   module _ (o : Bytes) (not_house : same_bytes o house_name ≡ false) where
     -- what an owner is told over the whole it is told over its part
-    told_over_part : (H : History) → IsLawful H → (p key : Bytes) (asking : Asking) (out : Bytes) → p ≡ o → IsTold wire H (By p key asking) out → IsTold wire (part o H) (By p key asking) out
-    told_over_part H lawful p key (Asks q) out is told = (told.0, subst (λ w. IsReply w key (part o H) q told.0) (sym is) ((reply-both_ways o not_house H lawful key q told.0).1 (subst (λ w. IsReply w key H q told.0) is told.1)), told.2)
-    told_over_part H lawful p key (Fails text) out is told =
-        told ∙ ap (λ w. cond (has_key w key H) text wire.forbidden) is ∙ ap (λ b. cond b text wire.forbidden) (sym (has_key-part o not_house key H)) ∙ ap (λ w. cond (has_key w key (part o H)) text wire.forbidden) (sym is)
+    told_over_part : (H : History) → IsLawful H → (p : Bytes) (key : Option Bytes) (asking : Asking) (out : Bytes) → p ≡ o → IsTold wire H (By p key asking) out → IsTold wire (part o H) (By p key asking) out
+    told_over_part H lawful p None asking out is told = told
+    told_over_part H lawful p (Some key) (Asks q) out is told = (told.0, subst (λ w. IsReply w key (part o H) q told.0) (sym is) ((reply-both_ways o not_house H lawful key q told.0).1 (subst (λ w. IsReply w key H q told.0) is told.1)), told.2)
+    told_over_part H lawful p (Some key) (Fails text) out is told =
+        (told.0, told.1 ∙ ap (λ w. has_key w key H) is ∙ sym (has_key-part o not_house key H) ∙ ap (λ w. has_key w key (part o H)) (sym is), told.2)
 
-    after_over_part : (H : History) → IsLawful H → (p key : Bytes) (asking : Asking) → p ≡ o → after_saying wire (part o H) (By p key asking) ≡ part o (after_saying wire H (By p key asking))
-    after_over_part H lawful p key (Asks q) is =
+    after_over_part : (H : History) → IsLawful H → (p : Bytes) (key : Option Bytes) (asking : Asking) → p ≡ o → after_saying wire (part o H) (By p key asking) ≡ part o (after_saying wire H (By p key asking))
+    after_over_part H lawful p None asking is = refl
+    after_over_part H lawful p (Some key) (Asks q) is =
         ap (λ w. after_reply w key (part o H) q) is ∙ after_reply-part o not_house H lawful key q ∙ ap (λ w. part o (after_reply w key H q)) (sym is)
-    after_over_part H lawful p key (Fails text) is = refl
+    after_over_part H lawful p (Some key) (Fails text) is = refl
 
     request_alone : (old new : History) (out : Bytes) (s : Saying) (events : List Happening) (replies : List Bytes) → IsLawful old → IsTold wire old s out → new ≡ after_saying wire old s →
         IsAlone wire (part o new) events replies → (b : Bool) → claims o s ≡ b → IsAlone wire (part o old) (cond b (Request s ∷ events) events) (cond b (out ∷ []) [] ++ replies)
@@ -125,14 +129,14 @@ module _ (wire : Wire) where
 
     step_alone : (old : History) (e : Happening) (a : Answered) (new : History) (events : List Happening) (replies : List Bytes) → IsLawful old → IsStep wire old e a new →
         IsAlone wire (part o new) events replies → IsAlone wire (part o old) (cond (is_own wire o e a) (e ∷ events) events) (told_by wire o e a ++ replies)
-    step_alone old (Request s) (Tells out) new events replies lawful step alone = request_alone old new out s events replies lawful step.0 step.1 alone (claims o s) refl
+    step_alone old (Request s) (Text out) new events replies lawful step alone = request_alone old new out s events replies lawful step.0 step.1 alone (claims o s) refl
     step_alone old (Request s) Unavailable new events replies lawful step alone = subst (λ F. IsAlone wire (part o F) events replies) step alone
     step_alone old (Plant asked) (PlantTells answer) new events replies lawful step alone = plant_alone old new asked answer events replies step alone
     step_alone old (Plant (Does c)) PlantFault new events replies lawful step alone = subst (λ F. IsAlone wire (part o F) events replies) step alone
     step_alone old (Plant _) PlantFault new events replies lawful step alone = subst (λ F. IsAlone wire (part o F) events replies) step alone
     step_alone old (Request s) (PlantTells answer) new events replies lawful step alone = absurd step
     step_alone old (Request s) PlantFault new events replies lawful step alone = absurd step
-    step_alone old (Plant asked) (Tells out) new events replies lawful step alone = absurd step
+    step_alone old (Plant asked) (Text out) new events replies lawful step alone = absurd step
     step_alone old (Plant asked) Unavailable new events replies lawful step alone = absurd step
 
   -- every run is private

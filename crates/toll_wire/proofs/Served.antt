@@ -1,54 +1,64 @@
 -- Requests that are served, over any keep.
-use Rattle.std.proofs.Common.{◌≡◌, ℕ, List, [], ◌∷◌, Option, Some, None, Result, Ok, Err, IfOk, refl, sym, ap, subst}
+use Rattle.std.proofs.Common.{◌≡◌, ℕ, Bool, true, false, ◌&&◌, cond, List, [], ◌∷◌, Some, None, Result, Ok, Err, IfOk, refl, sym, ap, subst}
 use Rattle.std.specs.Global.{Vec}
-use Rattle.std.specs.Prelude.{OnOk, OnErr}
-use Rattle.std.proofs.lemmas.Result.{IfOk-weaker, on_ok_weaker}
+use Rattle.std.specs.Prelude.{◌≢◌, OnOk, OnErr, IsTrue, nat_eq, codes}
+use Rattle.std.specs.List.{starts_with}
+use Rattle.std.specs.Fmt.{digits}
+use mathlib.Core.Bool.{false≢true}
 use Rattle.toll_base.specs.Bytes.{Bytes}
+use Rattle.toll_base.specs.declared.decision.Change.{Change}
 use Rattle.toll_history.specs.History.{History}
-use Rattle.toll_keep.specs.Content.{Content}
+use Rattle.toll_keep.specs.Content.{Content, ContentKeepsRules, Fits, after}
+use Rattle.toll_keep.specs.Goes.{Goes, IsReading}
 use Rattle.toll_keep.specs.Standing.{StandsFor}
 use Rattle.toll_keep.specs.declared.fault.KeepFault.{KeepFault}
-use Rattle.toll_base.specs.declared.decision.Change.{Change}
-use Rattle.toll_answers.specs.Told.{Asked, Told}
-use Rattle.toll_answers.specs.Replies.{IsReply, after_reply}
-use Rattle.toll_desk.specs.Plans.{finished, IsPlan, IsDone}
-use Rattle.toll_desk.proofs.Carried.{IsCarried, done_of}
+use Rattle.toll_keep.specs.declared.fault.KeepFault.TheVariants.{Memory, Damaged}
+use Rattle.toll_answers.specs.Told.{Asked, Told, TellForbidden, TellOrders, TellOrder, TellBatch, TellStock, TellLot, TellTrace, TellRefused}
+use Rattle.toll_answers.specs.Replies.{has_key, IsReply, after_reply}
+use Rattle.toll_desk.specs.Plans.{finished, is_granted, may_change, writes, IsPlan, IsDone}
+use Rattle.toll_desk.specs.Reads.{Over}
+use Rattle.toll_desk.proofs.Calls.{goes_as, goes_fault, goes_memory}
+use Rattle.toll_desk.proofs.Carried.{done_of, goes_on}
+use Rattle.toll_http.specs.Messages.{reply_text}
+use Rattle.toll_http.specs.declared.failure.Failure.{Failure}
+use Rattle.toll_http.specs.declared.failure.Failure.TheVariants.{Forbidden}
 use Rattle.toll_wire.specs.declared.outgoing.Out.{Out}
 use Rattle.toll_wire.specs.declared.outgoing.Out.TheVariants.{Text, Unavailable}
 use Rattle.toll_wire.specs.OutTexts.{IsText, text_if}
-use Rattle.toll_wire.specs.ReplyTexts.{text_of_told, text_of_reply, text_if_told}
-use Rattle.toll_wire.specs.Telling.{MayBeServed, Tells}
-use Rattle.toll_wire.specs.declared.asked.Asks.TheVariants.{For}
-use Rattle.toll_desk.specs.declared.request.Reply.{Reply}
-use Rattle.toll_desk.specs.declared.request.Request.{Request}
-use Rattle.toll_wire.specs.Runs.{Asks, By, Nobody, IsTold}
-use Rattle.toll_wire.specs.Steps.{http, outcome_of, IsServed}
+use Rattle.toll_wire.specs.ReplyTexts.{text_of_failure, text_of_told, text_if_told}
+use Rattle.toll_wire.specs.Runs.{Asking, Asks, Fails, Saying, By, Nobody, IsTold, MayBeTold, after_saying}
+use Rattle.toll_wire.specs.Steps.{http, outcome_of, IsReplyWhere, IsGranted, IsServed, IsServing, OutGoes}
 
--- what is so of the one text that there may be is so of the reply
-pub so_of_text : (out : Out) (text : Bytes) (P : Bytes → Type 0) → IsText out (Some text) → P text → IfOk (outcome_of out) P
-so_of_text (Text told) text P is so = subst P (sym is) so
-so_of_text Unavailable text P is so = tt
+-- ---- texts
 
--- what is so is so where a text is told
-pub so_where_told : {P : Type 0} (out : Out) → P → OnOk (outcome_of out) P
-so_where_told (Text text) so = so
-so_where_told Unavailable so = tt
+-- what is told of a request that was granted says 200
+granted_text : (told : Told) → is_granted (Ok told) ≡ true → IsTrue (starts_with nat_eq (text_of_told told) (codes "HTTP/1.1 200 "))
+unfolding reply_text digits
+granted_text (TellOrders rows) granted = refl
+granted_text (TellOrder row) granted = refl
+granted_text (TellBatch batch lines) granted = refl
+granted_text (TellStock lines) granted = refl
+granted_text (TellLot row measure results sublots) granted = refl
+granted_text (TellTrace trace) granted = refl
+granted_text TellForbidden granted = absurd (false≢true granted)
+granted_text (TellRefused why) granted = absurd (false≢true granted)
 
--- where a text is told, a reply was planned
-pub so_of_told : {P : Type 0} (planned : Result Told KeepFault) (text : Vec ℕ) → IsText (Text text) (text_if_told planned) → OnOk planned P → P
-so_of_told (Ok told) text is so = so
-so_of_told (Err fault) text is so = absurd is
+-- so what doesn't say 200 grants no change
+grants_none : (q : Asked) (told : Told) (text : Vec ℕ) → text.items ≡ text_of_told told → ¬ (IsGranted (Text text)) → may_change q (Ok told) ≡ false
+grants_none q told text is not = by_grant (is_granted (Ok told)) refl
+  where
+    by_grant : (b : Bool) → is_granted (Ok told) ≡ b → (writes q && is_granted (Ok told)) ≡ false
+    by_grant true granted = absurd (not (subst (λ t. IsTrue (starts_with nat_eq t (codes "HTTP/1.1 200 "))) (sym is) (granted_text told granted)))
+    by_grant false granted = rw granted (and_false (writes q))
+      where
+        and_false : (b : Bool) → (b && false) ≡ false
+        and_false true = refl
+        and_false false = refl
 
--- what is so where the changes were made is so where the text is told
-pub so_where_made : (P : Type 0) (text : Vec ℕ) (made : Result (Unit {0}) KeepFault) → OnOk made P → OnOk (outcome_of (text_if text made)) P
-so_where_made P text (Ok done) so = so
-so_where_made P text (Err fault) so = tt
+asks_none : (q : Asked) (told : Told) → writes q ≡ false → may_change q (Ok told) ≡ false
+asks_none q told none = rw none refl
 
--- a store that lives when a plan stands lives on when its changes were made
-pub lives_on : {K : Type 0} (is_live : K → Type 0) (middle new : K) (changes : List Change) (made : Result (Unit {0}) KeepFault) → is_live middle → (changes ≡ [] → new ≡ middle) → ((changes ≡ [] → ⊥) → OnOk made (is_live new)) → OnOk made (is_live new)
-lives_on is_live middle new [] (Ok done) live idle shown = subst is_live (sym (idle refl)) live
-lives_on is_live middle new [] (Err fault) live idle shown = tt
-lives_on is_live middle new (change ∷ changes) made live idle shown = shown (λ none. cc none)
+-- ---- what is done where nothing changes
 
 module _ (holds : Content → Type 0) (was_live : Type 0) (leaves : List Content → Type 0) (c : Content) (held : holds c) where
   -- nothing was done
@@ -65,42 +75,179 @@ module _ (holds : Content → Type 0) (was_live : Type 0) (leaves : List Content
   }
   none_to_do H (Err e) IsTold stands stop told = none_done H e IsTold stop
 
-  -- what the bytes alone are told
-  pub nobody_served : (H : History) (text : Bytes) (out : Out) → StandsFor c H → (was_live → leaves (c ∷ [])) → IsText out (Some text) → IsServed holds was_live leaves c H (Nobody text) out
-  nobody_served H text out stands stop is = none_to_do H (outcome_of out) (IsTold http H (Nobody text)) stands stop (so_of_text out text (IsTold http H (Nobody text)) is refl)
+-- what is so of the one text that there may be is so of the reply
+pub so_of_text : (out : Out) (text : Bytes) (P : Bytes → Type 0) → IsText out (Some text) → P text → IfOk (outcome_of out) P
+so_of_text (Text told) text P is so = subst P (sym is) so
+so_of_text Unavailable text P is so = tt
 
-module _ (holds : Content → Type 0) (was_live : Type 0) (leaves : List Content → Type 0) (c : Content) (G : History) (IsTold : Told → Type 0) where
-  -- the text is that of what is told
-  abbrev pub IsTextOfSome : Bytes → Type 0
-  IsTextOfSome text = (told : Told) × IsTold told × (text ≡ text_of_told told)
+so_of_reply : (out : Out) (text : Bytes) (P : Bytes → Type 0) → IsText out (Some text) → P text → IsReplyWhere P out
+so_of_reply (Text told) text P is so = subst P (sym is) so
+so_of_reply Unavailable text P is so = tt
 
-  -- after the changes were made the text is told
-  pub done_told : (planned : Result Told KeepFault) (text : Vec ℕ) → IsText (Text text) (text_if_told planned) → IsDone holds was_live leaves c G planned IsTold → IsDone holds was_live leaves c G (outcome_of (Text text)) IsTextOfSome
-  done_told (Ok told) text is done = record { told = (told, done.told, is); done = done.done; undone = tt; crash = done.crash }
-  done_told (Err fault) text is done = absurd is
+module _ {K : Type 0} (is_honest is_live : K → Type 0) (is_closed : K → Bool) (has_cause : K → K → Type 0) (leaves : K → List Content → Type 0) (holds : K → Content → Type 0) where
+  abbrev Serves : K → K → Saying → Out → Type 0
+  Serves old new saying out = IsServing is_honest is_live is_closed has_cause leaves holds old new saying out
 
-  -- after a fault nothing is told
-  pub undone_untold : (fault : KeepFault) → IsDone holds was_live leaves c G (Err fault) IsTold → IsDone holds was_live leaves c G (outcome_of Unavailable) IsTextOfSome
-  undone_untold fault done = record { told = tt; done = tt; undone = done.undone; crash = done.crash }
+  abbrev ReadsTo : {X : Type 0} → K → K → Result X KeepFault → Type 0
+  ReadsTo old new r = IsReading is_honest is_live is_closed has_cause leaves holds old new r
 
-module _ {K : Type 0} (holds : K → Content → Type 0) (is_live : K → Type 0) (leaves : K → List Content → Type 0) (old middle new : K) (c : Content) (H : History) (o key : Bytes) (q : Asked) (planned : Result Told KeepFault) (changes : List Change) where
-  reply_served : (text : Vec ℕ) (result : Result (Unit {0}) KeepFault) → IsText (Text text) (text_if_told planned) → IsDone (holds new) (is_live old) (leaves new) c (after_reply o key H q) (finished planned result) (IsReply o key H q) →
-      IsServed (holds new) (is_live old) (leaves new) c H (By o key (Asks q)) (text_if text result)
-  reply_served text (Ok done) is told = done_told (holds new) (is_live old) (leaves new) c (after_reply o key H q) (IsReply o key H q) planned text is told
-  reply_served text (Err fault) is told = undone_untold (holds new) (is_live old) (leaves new) c (after_reply o key H q) (IsReply o key H q) fault told
+  -- ---- without a call of the keep
 
-  -- the text of a plan is told once the changes, which are read through a reference, were made
-  pub plan_served : (text : Vec ℕ) (result : Result (Unit {0}) KeepFault) (made : List Change) → made ≡ changes → IsText (Text text) (text_if_told planned) → OnErr planned (changes ≡ []) → IfOk planned (λ told. IsPlan c H o key q told changes) → OnOk planned (is_live middle) → holds middle c → (is_live old → leaves middle (c ∷ [])) →
-      IsCarried holds is_live leaves middle new made c result → IsServed (holds new) (is_live old) (leaves new) c H (By o key (Asks q)) (text_if text result)
-  plan_served text result made same is none plan live held stop carried =
-      reply_served text result is (done_of holds is_live leaves old middle new result c (after_reply o key H q) (IsReply o key H q) changes made same carried held planned none
-      (IfOk-weaker planned _ _ (λ told is. (is.reply, is.leads)) plan) (on_ok_weaker planned (λ now was. now) live) stop (finished planned result) refl)
+  -- what the bytes alone are told, and who gives no key
+  pub untouched : (k : K) (settled : (c : Content) → is_honest k → is_live k → holds k c → leaves k (c ∷ [])) (text : Bytes) (out : Out) → IsText out (Some text) → Serves k k (Nobody text) out
+  untouched k settled text out is = record {
+    tells = so_of_reply out text (MayBeTold http (Nobody text)) is refl;
+    goes = refl;
+    honest = λ now. now;
+    asks = λ now c held none. held;
+    quiet = λ now c held not. held;
+    served = λ now c H held stands lawful. none_to_do (holds k) (is_live k) (leaves k) c held H (outcome_of out) (IsTold http H (Nobody text)) stands (λ live. settled c now live held) (so_of_text out text (IsTold http H (Nobody text)) is refl);
+  }
 
--- a text that is sent is the reply's
-sent_is : (text : Vec ℕ) (x : Option Bytes) → IsText (Text text) x → x ≡ Some text.items
-sent_is text None is = absurd is
-sent_is text (Some t) is = ap (λ u. Some u) (sym is)
+  pub keyless : (k : K) (settled : (c : Content) → is_honest k → is_live k → holds k c → leaves k (c ∷ [])) (o : Bytes) (asking : Asking) (out : Out) → IsText out (Some (text_of_failure Forbidden)) → Serves k k (By o None asking) out
+  keyless k settled o asking out is = record {
+    tells = so_of_reply out (text_of_failure Forbidden) (MayBeTold http (By o None asking)) is refl;
+    goes = refl;
+    honest = λ now. now;
+    asks = λ now c held none. held;
+    quiet = λ now c held not. held;
+    served = λ now c H held stands lawful. none_to_do (holds k) (is_live k) (leaves k) c held H (outcome_of out) (IsTold http H (By o None asking)) stands (λ live. settled c now live held) (so_of_text out (text_of_failure Forbidden) (IsTold http H (By o None asking)) is refl);
+  }
 
-pub tells_if : (request : Request) (reply : Reply) (text : Vec ℕ) (made : Result (Unit {0}) KeepFault) → IsText (Text text) (text_of_reply reply) → Tells (MayBeServed (For request)) (text_if text made)
-tells_if request reply text (Ok done) is = (reply, sent_is text (text_of_reply reply) is)
-tells_if request reply text (Err fault) is = tt
+  -- ---- after a reading
+
+  module _ (old new : K) (o key : Bytes) where
+    abbrev GoesOut : Out → Type 0
+    GoesOut out = OutGoes is_honest is_live is_closed has_cause leaves holds old new out
+
+    abbrev failed : {X : Type 0} → KeepFault → Result X KeepFault
+    failed fault = Err fault
+
+    -- calls that answered, or a fault of one, and then no reply
+    goes_untold : {X : Type 0} (r : Result X KeepFault) → ReadsTo old new r → GoesOut Unavailable
+    goes_untold (Ok x) reads = record {
+      outcome = Err Memory;
+      is = (Memory, refl);
+      goes = goes_memory is_honest is_live is_closed has_cause leaves holds old new x reads.goes;
+      whole = λ now c held rules is. (cc is);
+    }
+    goes_untold {X} (Err fault) reads = record {
+      outcome = Err fault;
+      is = (fault, refl);
+      goes = goes_fault is_honest is_live is_closed has_cause leaves holds old new fault reads.goes;
+      whole = λ now c held rules is. let same : fault ≡ Damaged = (cc is) in reads.whole now c held rules (ap (λ f. failed {X = X} f) same);
+    }
+
+    -- calls that answered, and a reply
+    goes_told : {X : Type 0} (x : X) (text : Vec ℕ) → Goes {X = X} is_honest is_live is_closed has_cause leaves old new (Ok x) → GoesOut (Text text)
+    goes_told x text goes = record {
+      outcome = Ok tt;
+      is = refl;
+      goes = goes_as is_honest is_live is_closed has_cause leaves holds old new x tt goes;
+      whole = λ now c held rules is. (cc is);
+    }
+
+    -- no reply, after calls that answered or after a fault of one
+    pub untold : {X : Type 0} (asking : Asking) (r : Result X KeepFault) → ReadsTo old new r → Serves old new (By o (Some key) asking) Unavailable
+    untold asking r reads = record {
+      tells = tt;
+      goes = goes_untold r reads;
+      honest = reads.goes.honest;
+      asks = λ now c held none. (reads.keeps now).content c held;
+      quiet = λ now c held not. (reads.keeps now).content c held;
+      served = λ now c H held stands lawful.
+          none_done (holds new) (is_live old) (leaves new) c ((reads.keeps now).content c held) (after_saying http H (By o (Some key) asking)) tt (IsTold http H (By o (Some key) asking)) (λ live. (reads.keeps now).crash live c held);
+    }
+
+    module _ (failure : Failure) {X : Type 0} (x : X) (reads : ReadsTo {X = X} old new (Ok x)) (b : Bool) (admits : is_honest new → (c : Content) (H : History) → holds old c → StandsFor c H → b ≡ has_key o key H) where
+      abbrev failing : Saying
+      failing = By o (Some key) (Fails (text_of_failure failure))
+
+      -- who has the key is told which check failed, and everybody else that it is forbidden
+      pub refused : (out : Out) → IsText out (Some (cond b (text_of_failure failure) (text_of_failure Forbidden))) → Serves old new failing out
+      refused Unavailable is = untold (Fails (text_of_failure failure)) (Ok x) reads
+      refused (Text text) is = record {
+        tells = (b, tt, is);
+        goes = goes_told x text reads.goes;
+        honest = reads.goes.honest;
+        asks = λ now c held none. (reads.keeps now).content c held;
+        quiet = λ now c held not. (reads.keeps now).content c held;
+        served = λ now c H held stands lawful.
+            none_to_do (holds new) (is_live old) (leaves new) c ((reads.keeps now).content c held) H (outcome_of (Text text)) (IsTold http H failing) stands (λ live. (reads.keeps now).crash live c held)
+            (b, admits now c H held stands, is);
+      }
+
+  -- ---- after a plan
+
+  -- what is so of the call that made the changes of a plan, over any content
+  pub record Carries (middle new : K) (changes : List Change) (made : Result (Unit {0}) KeepFault) : Type 0 where
+    pub honest : is_honest new → is_honest middle
+    pub idle : changes ≡ [] → (new ≡ middle) × (made ≡ Ok tt)
+    pub goes : (changes ≡ [] → ⊥) → Goes is_honest is_live is_closed has_cause leaves middle new made
+    pub all : is_honest new → (c : Content) → holds middle c → Fits c changes → OnOk made (holds new (after changes c))
+    pub none : is_honest new → (c : Content) → holds middle c → OnErr made (holds new c)
+    pub whole : is_honest new → (c : Content) → holds middle c → ContentKeepsRules c → made ≢ Err Damaged
+    pub crash : is_honest new → is_live middle → (c : Content) → holds middle c → Fits c changes → leaves new (c ∷ after changes c ∷ [])
+
+  module _ (old middle new : K) (o key : Bytes) (q : Asked) (told : Told) (changes : List Change) (reads : ReadsTo {X = Told} old middle (Ok told)) (quiet : may_change q (Ok told) ≡ false → changes ≡ [])
+      (plan : Over is_honest holds old middle (λ c H. IsPlan c H o key q told changes)) (text : Vec ℕ) (is : text.items ≡ text_of_told told) where
+    abbrev asking : Saying
+    asking = By o (Some key) (Asks q)
+
+    abbrev planned : Result Told KeepFault
+    planned = Ok told
+
+    goes_made : (made : Result (Unit {0}) KeepFault) → Carries middle new changes made → Goes is_honest is_live is_closed has_cause leaves old new (finished planned made)
+    goes_made made carries = goes_on is_honest is_live is_closed has_cause leaves holds old middle new planned changes made reads.goes tt carries.idle carries.goes
+
+    goes_out : (made : Result (Unit {0}) KeepFault) → Carries middle new changes made → OutGoes is_honest is_live is_closed has_cause leaves holds old new (text_if text made)
+    goes_out (Ok done) carries = goes_told old new o key told text (goes_made (Ok done) carries)
+    goes_out (Err fault) carries = record {
+      outcome = Err fault;
+      is = (fault, refl);
+      goes = goes_fault is_honest is_live is_closed has_cause leaves holds old new fault (goes_made (Err fault) carries);
+      whole = λ now c held rules damaged. let same : fault ≡ Damaged = (cc damaged) in carries.whole now c ((reads.keeps (carries.honest now)).content c held) rules (ap (λ f. Err f) same);
+    }
+
+    -- where there was nothing to change, what was held is held
+    still : (made : Result (Unit {0}) KeepFault) → Carries middle new changes made → is_honest new → (c : Content) → holds old c → changes ≡ [] → holds new c
+    still made carries now c held none = subst (λ k. holds k c) (sym (carries.idle none).0) ((reads.keeps (carries.honest now)).content c held)
+
+    -- and what says no 200 changed nothing
+    quiet_out : (made : Result (Unit {0}) KeepFault) → Carries middle new changes made → is_honest new → (c : Content) → holds old c → ¬ (IsGranted (text_if text made)) → holds new c
+    quiet_out (Ok done) carries now c held not = still (Ok done) carries now c held (quiet (grants_none q told text is not))
+    quiet_out (Err fault) carries now c held not = carries.none now c ((reads.keeps (carries.honest now)).content c held)
+
+    tells_out : (made : Result (Unit {0}) KeepFault) → IsReplyWhere (MayBeTold http asking) (text_if text made)
+    tells_out (Ok done) = (told, tt, is)
+    tells_out (Err fault) = tt
+
+    served_out : (made : Result (Unit {0}) KeepFault) (c : Content) (H : History) → IsDone (holds new) (is_live old) (leaves new) c (after_reply o key H q) (finished planned made) (IsReply o key H q) →
+        IsServed (holds new) (is_live old) (leaves new) c H asking (text_if text made)
+    served_out (Ok done) c H came = record { told = (told, came.told, is); done = came.done; undone = tt; crash = came.crash }
+    served_out (Err fault) c H came = record { told = tt; done = tt; undone = came.undone; crash = came.crash }
+
+    -- the text of a plan is told once its changes were made
+    pub told_after : (made : Result (Unit {0}) KeepFault) → Carries middle new changes made → Serves old new asking (text_if text made)
+    told_after made carries = record {
+      tells = tells_out made;
+      goes = goes_out made carries;
+      honest = λ now. reads.goes.honest (carries.honest now);
+      asks = λ now c held none. still made carries now c held (quiet (asks_none q told none));
+      quiet = quiet_out made carries;
+      served = λ now c H held stands lawful.
+          let before = carries.honest now in
+          let keeps = reads.keeps before in
+          let between = keeps.content c held in
+          let plans = plan before c H held stands lawful in
+          served_out made c H (done_of holds is_live leaves old middle new made c (after_reply o key H q) (IsReply o key H q) changes changes refl
+          (record { idle = carries.idle; all = carries.all now c between; none = carries.none now c between; crash = λ live. carries.crash now live c between }) between
+          planned tt (plans.reply, plans.leads) (λ was. reads.goes.shown before) (λ live. keeps.crash live c held) (finished planned made) refl);
+    }
+
+  -- the same for a plan that was told, whose changes are read through a reference
+  pub plan_told : (old middle new : K) (o key : Bytes) (q : Asked) (planned : Result Told KeepFault) (changes made_of : List Change) → made_of ≡ changes → ReadsTo old middle planned → (may_change q planned ≡ false → changes ≡ []) →
+      Over is_honest holds old middle (λ c H. IfOk planned (λ told. IsPlan c H o key q told changes)) → (text : Vec ℕ) → IsText (Text text) (text_if_told planned) → (made : Result (Unit {0}) KeepFault) → Carries middle new made_of made → Serves old new (By o (Some key) (Asks q)) (text_if text made)
+  plan_told old middle new o key q (Ok told) changes made_of same reads quiet plan text is made carries =
+      told_after old middle new o key q told changes reads quiet plan text is made (subst (λ changes. Carries middle new changes made) same carries)
+  plan_told old middle new o key q (Err fault) changes made_of same reads quiet plan text is made carries = absurd is

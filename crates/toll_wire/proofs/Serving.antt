@@ -1,14 +1,19 @@
 -- Events of the office, one after another, are a run.
-use Rattle.std.proofs.Common.{List, [], ◌∷◌, ◌++◌, Result, Ok, Err, refl, sym, subst, inl, inr, ◌⊎◌}
+use Rattle.std.proofs.Common.{◌≡◌, Bool, false, List, [], ◌∷◌, ◌++◌, Result, Ok, Err, refl, sym, subst, ap, ◌∙◌, inl, inr}
 use Rattle.std.specs.Global.{Vec}
+use Rattle.std.specs.List.{AllByRecursion}
 use Rattle.std.specs.Prelude.{ℕ}
+use mathlib.Core.Bool.{false≢true}
+use Rattle.toll_base.specs.declared.refusal.Refusal.{Refusal}
 use Rattle.toll_history.specs.History.{History}
 use Rattle.toll_history.specs.Verdict.{IsLawful}
 use Rattle.toll_keep.specs.Content.{Content}
+use Rattle.toll_keep.specs.Goes.{Goes}
 use Rattle.toll_keep.specs.Standing.{StandsFor}
 use Rattle.toll_keep.specs.declared.fault.KeepFault.{KeepFault}
-use Rattle.toll_answers.specs.PlantAnswers.{PlantAsked, PlantTold, IsPlantAnswer, after_plant}
-use Rattle.toll_desk.specs.Plans.{asked_by, plant_told, IsValidDeed, HoldsFor, IsDone}
+use Rattle.toll_keep.specs.declared.fault.KeepFault.TheVariants.{Memory, Disk, Damaged, Closed}
+use Rattle.toll_answers.specs.PlantAnswers.{PlantAsked, PlantTold, Does, AsksOrders, AsksStock, AsksBatch, AsksTrace, AsksRecall, CannotRead, IsPlantAnswer, after_plant}
+use Rattle.toll_desk.specs.Plans.{asked_by, plant_told, GoesFor, IsDone, IsValidDeed}
 use Rattle.toll_desk.specs.declared.plant_cmd.PlantCmd.{PlantCmd}
 use Rattle.toll_desk.specs.declared.plant_cmd.PlantReply.{PlantReply}
 use Rattle.toll_wire.specs.declared.event.Event.{Event}
@@ -16,120 +21,206 @@ use Rattle.toll_wire.specs.declared.event.Event.TheVariants.{Owner, Plant as Com
 use Rattle.toll_wire.specs.declared.event.Answer.{Answer}
 use Rattle.toll_wire.specs.declared.event.Answer.TheVariants.{Bytes as Reply, Plant as CommandReply}
 use Rattle.toll_wire.specs.declared.outgoing.Out.{Out}
-use Rattle.toll_wire.specs.declared.outgoing.Out.TheVariants.{Text, Unavailable as NoText}
-use Rattle.toll_wire.specs.Runs.{Nobody, Happening, Request, Plant, Answered, Tells, Unavailable, PlantTells, PlantFault, Wire, after_saying, IsStep, IsRun, IsRunUpToFault, IsValidEvent, AreValid}
-use Rattle.toll_wire.specs.Steps.{http, IsAnswered, IsUnread}
-use Rattle.toll_wire.specs.OfficeRuns.{PlantShows, Shows, AllShow, IsStepOf, IsRunOf}
+use Rattle.toll_wire.specs.declared.outgoing.Out.TheVariants.{Text as OutText, Unavailable as NoText}
+use Rattle.toll_wire.specs.Runs.{Saying, Request, Plant, Text, Unavailable, PlantTells, PlantFault, after_saying, IsRun}
+use Rattle.toll_wire.specs.Steps.{http, Says, IsServed}
+use Rattle.toll_wire.specs.OfficeRuns.{PlantShows, nothing, IsStepOf, IsEventServed, AreServed, AreSteps, IsOpenAnswer, IsRunOf}
 use Rattle.toll_wire.proofs.Private.{lawful-step, runs-private}
 use Rattle.toll_wire.proofs.Valid.{says_valid}
 
--- ---- one more event of a run
+module _ {K : Type 0} (is_honest is_live : K → Type 0) (is_closed : K → Bool) (has_cause : K → K → Type 0) (leaves : K → List Content → Type 0) (holds : K → Content → Type 0) where
+  abbrev Served : K → List Event → List Answer → K → Type 0
+  Served old events answers new = AreServed is_honest is_live is_closed has_cause leaves holds old events answers new
 
-module _ (wire : Wire) where
-  run-push : (start : History) (events : List Happening) (answers : List Answered) (mid : History) (e : Happening) (a : Answered) (end : History) →
-      IsRun wire start events answers mid → IsStep wire mid e a end → IsRun wire start (events ++ e ∷ []) (answers ++ a ∷ []) end
-  run-push start [] [] mid e a end run step = (end, subst (λ m. IsStep wire m e a end) run step, refl)
-  run-push start (f ∷ events) (b ∷ answers) mid e a end run step = (run.0, run.1, run-push run.0 events answers mid e a end run.2 step)
-  run-push start _ _ mid e a end run step = absurd run
+  abbrev EventServed : K → K → Event → Answer → Type 0
+  EventServed old new e a = IsEventServed is_honest is_live is_closed has_cause leaves holds old new e a
 
-  valid-push : (events : List Happening) (e : Happening) → AreValid wire events → IsValidEvent wire e → AreValid wire (events ++ e ∷ [])
-  valid-push [] e valid last = (last, tt)
-  valid-push (f ∷ events) e valid last = (valid.0, valid-push events e valid.1 last)
+  -- one more event
+  pub served_more : (old middle new : K) (events : List Event) (answers : List Answer) (e : Event) (a : Answer) → Served old events answers middle → EventServed middle new e a → Served old (events ++ e ∷ []) (answers ++ a ∷ []) new
+  served_more old middle new [] [] e a before last = (new, subst (λ k. EventServed k new e a) before last, refl)
+  served_more old middle new (f ∷ events) (b ∷ answers) e a before last = (before.0, before.1, served_more before.0 middle new events answers e a before.2 last)
+  served_more old middle new [] (b ∷ answers) e a before last = absurd before
+  served_more old middle new (f ∷ events) [] e a before last = absurd before
 
-  -- a run is one up to a fault
-  pub run_up_to_fault : (start : History) (events : List Happening) (answers : List Answered) (end : History) → IsRun wire start events answers end → IsRunUpToFault wire start events answers
-  run_up_to_fault start [] [] end run = tt
-  run_up_to_fault start (e ∷ events) (a ∷ answers) end run = inl (run.0, run.1, run_up_to_fault run.0 events answers end run.2)
-  run_up_to_fault start _ _ end run = absurd run
+  -- a keep that is honest now has always been so
+  event_honest : (old new : K) (e : Event) (a : Answer) → EventServed old new e a → is_honest new → is_honest old
+  event_honest old new (Owner bytes) (Reply out) (inl answered) = answered.2.honest
+  event_honest old new (Owner bytes) (Reply out) (inr unread) = subst is_honest unread.same
+  event_honest old new (Command command) (CommandReply reply) served = served.honest
+  event_honest old new (Owner bytes) (CommandReply reply) served = absurd served
+  event_honest old new (Command command) (Reply out) served = absurd served
 
-show-push : (events : List Event) (answers : List Answer) (happenings : List Happening) (told : List Answered) (e : Event) (a : Answer) (h : Happening) (t : Answered) →
-    AllShow events answers happenings told → Shows e a h t → AllShow (events ++ e ∷ []) (answers ++ a ∷ []) (happenings ++ h ∷ []) (told ++ t ∷ [])
-show-push [] [] [] [] e a h t all last = (last, tt)
-show-push (f ∷ events) (b ∷ answers) (i ∷ happenings) (u ∷ told) e a h t all last = (all.0, show-push events answers happenings told e a h t all.1 last)
-show-push _ _ _ _ e a h t all last = absurd all
+  pub all_honest : (old new : K) (events : List Event) (answers : List Answer) → Served old events answers new → is_honest new → is_honest old
+  all_honest old new [] [] served now = subst is_honest served now
+  all_honest old new (e ∷ events) (a ∷ answers) served now = event_honest old served.0 e a served.1 (all_honest served.0 new events answers served.2 now)
+  all_honest old new [] (a ∷ answers) served now = absurd served
+  all_honest old new (e ∷ events) [] served now = absurd served
 
-module _ (H : History) (lawful : IsLawful H) where
-  -- before the first event
-  pub run_of_none : (holds : Content → Type 0) (c : Content) → holds c → StandsFor c H → IsRunOf holds H [] []
-  run_of_none holds c held stands = record {
-    happenings = [];
-    told = [];
-    shown = tt;
-    valid = tt;
-    last = H;
-    run = refl;
-    private = runs-private http H [] [] H lawful tt refl;
-    lawful = lawful;
-    left = record { content = c; held = held; stands = stands };
-  }
+  module _ (settled : (k : K) (c : Content) → is_honest k → is_live k → holds k c → leaves k (c ∷ [])) where
+    -- ---- one event is a step
 
-  -- after one more
-  pub run_goes_on : (was now : Content → Type 0) (events : List Event) (answers : List Answer) (e : Event) (a : Answer) → (before : IsRunOf was H events answers) → IsStepOf now before.last e a → IsRunOf now H (events ++ e ∷ []) (answers ++ a ∷ [])
-  run_goes_on was now events answers e a before after =
-      let run = run-push http H before.happenings before.told before.last after.happening after.told after.next before.run after.step in
-      let valid = valid-push http before.happenings after.happening before.valid after.valid in
-      record {
-        happenings = before.happenings ++ after.happening ∷ [];
-        told = before.told ++ after.told ∷ [];
-        shown = show-push events answers before.happenings before.told e a after.happening after.told before.shown after.shows;
-        valid = valid;
-        last = after.next;
-        run = run;
-        private = runs-private http H (before.happenings ++ after.happening ∷ []) (before.told ++ after.told ∷ []) after.next lawful valid run;
-        lawful = lawful-step http before.last after.happening after.told after.next before.lawful after.valid after.step;
-        left = after.left;
+    module _ (old new : K) (now : is_honest new) (c : Content) (H : History) (held : holds old c) (stands : StandsFor c H) (lawful : IsLawful H) where
+      abbrev Step : Event → Answer → Type 0
+      Step e a = IsStepOf (holds new) (is_live old) (leaves new) c H e a
+
+      -- its bytes were not read, and nothing happened
+      unread_step : (bytes : Vec ℕ) → new ≡ old → Step (Owner bytes) (Reply NoText)
+      unread_step bytes same =
+          let still = subst (λ k. holds k c) (sym same) held in
+          record {
+            happening = Request nothing;
+            told = Unavailable;
+            shows = (inr refl, refl);
+            valid = tt;
+            next = H;
+            step = refl;
+            left = record { content = c; held = still; stands = stands };
+            crash = λ live. record { others = []; stand = tt; left = settled new c now (subst is_live (sym same) live) still };
+          }
+
+      -- what its bytes say was served
+      reply_step : (bytes : Vec ℕ) (saying : Saying) (out : Out) → Says bytes.items saying → IsServed (holds new) (is_live old) (leaves new) c H saying out → Step (Owner bytes) (Reply out)
+      reply_step bytes saying (OutText text) says served = record {
+        happening = Request saying;
+        told = Text text.items;
+        shows = (says, refl);
+        valid = says_valid bytes.items saying says;
+        next = after_saying http H saying;
+        step = (served.told, refl);
+        left = served.done;
+        crash = served.crash;
+      }
+      reply_step bytes saying NoText says served = record {
+        happening = Request saying;
+        told = Unavailable;
+        shows = (inl says, refl);
+        valid = says_valid bytes.items saying says;
+        next = H;
+        step = refl;
+        left = record { content = c; held = served.undone; stands = stands };
+        crash = served.crash;
       }
 
--- ---- one event
-
-module _ (holds : Content → Type 0) (c : Content) (H : History) (stands : StandsFor c H) where
-  -- an owner is told nothing, and nothing happened
-  nothing_told : (bytes : Vec ℕ) → holds c → IsStepOf holds H (Owner bytes) (Reply NoText)
-  nothing_told bytes held = record {
-    happening = Request (Nobody []);
-    told = Unavailable;
-    shows = refl;
-    valid = tt;
-    next = H;
-    step = refl;
-    left = record { content = c; held = held; stands = stands };
-  }
-
-  answered_step : (was_live : Type 0) (leaves : List Content → Type 0) (bytes : Vec ℕ) (out : Out) → IsAnswered holds was_live leaves c H bytes.items out → IsStepOf holds H (Owner bytes) (Reply out)
-  answered_step was_live leaves bytes (Text text) answered = record {
-    happening = Request answered.saying;
-    told = Tells text.items;
-    shows = (answered.says, refl);
-    valid = says_valid bytes.items answered.saying answered.says;
-    next = after_saying http H answered.saying;
-    step = (answered.served.told, refl);
-    left = answered.served.done;
-  }
-  answered_step was_live leaves bytes NoText answered = nothing_told bytes answered.served.undone
-
-  plant_step : (was_live : Type 0) (leaves : List Content → Type 0) (q : PlantAsked) (outcome : Result PlantTold KeepFault) → IsDone holds was_live leaves c (after_plant H q) outcome (IsPlantAnswer H q) →
-      (told : Answered) × (next : History) × PlantShows outcome told × IsStep http H (Plant q) told next × HoldsFor holds next
-  plant_step was_live leaves q (Ok told) done = (PlantTells told, after_plant H q, refl, (done.told, refl), done.done)
-  plant_step was_live leaves q (Err fault) done = (PlantFault, H, refl, refl, record { content = c; held = done.undone; stands = stands })
-
-  -- a command of the plant
-  pub step_of_command : (was_live : Type 0) (leaves : List Content → Type 0) (command : PlantCmd) (reply : PlantReply) → IsValidDeed (asked_by command) →
-      IsDone holds was_live leaves c (after_plant H (asked_by command)) (plant_told reply) (IsPlantAnswer H (asked_by command)) → IsStepOf holds H (Command command) (CommandReply reply)
-  step_of_command was_live leaves command reply valid done =
-      let (told, next, shows, step, left) = plant_step was_live leaves (asked_by command) (plant_told reply) done in
-      record {
+      -- the plant was told something, or there was a fault
+      plant_step : (command : PlantCmd) (reply : PlantReply) (outcome : Result PlantTold KeepFault) → plant_told reply ≡ outcome → IsValidDeed (asked_by command) →
+          IsDone (holds new) (is_live old) (leaves new) c (after_plant H (asked_by command)) outcome (IsPlantAnswer H (asked_by command)) → Step (Command command) (CommandReply reply)
+      plant_step command reply (Ok told) outcome_is valid done = record {
         happening = Plant (asked_by command);
-        told = told;
-        shows = (refl, shows);
+        told = PlantTells told;
+        shows = (refl, subst (λ r. PlantShows r (PlantTells told)) (sym outcome_is) refl);
         valid = valid;
-        next = next;
-        step = step;
-        left = left;
+        next = after_plant H (asked_by command);
+        step = (done.told, refl);
+        left = done.done;
+        crash = done.crash;
+      }
+      plant_step command reply (Err fault) outcome_is valid done = record {
+        happening = Plant (asked_by command);
+        told = PlantFault;
+        shows = (refl, subst (λ r. PlantShows r PlantFault) (sym outcome_is) refl);
+        valid = valid;
+        next = H;
+        step = refl;
+        left = record { content = c; held = done.undone; stands = stands };
+        crash = done.crash;
       }
 
--- a request, read or not
-pub step_of_request : {K : Type 0} (holds : K → Content → Type 0) (old new : K) (c : Content) (H : History) (was_live : Type 0) (leaves : List Content → Type 0) (bytes : Vec ℕ) (out : Out) → holds old c → StandsFor c H →
-    IsAnswered (holds new) was_live leaves c H bytes.items out ⊎ IsUnread old new out → IsStepOf (holds new) H (Owner bytes) (Reply out)
-step_of_request holds old new c H was_live leaves bytes out held stands (inl answered) = answered_step (holds new) c H stands was_live leaves bytes out answered
-step_of_request holds old new c H was_live leaves bytes out held stands (inr unread) =
-    subst (λ o. IsStepOf (holds new) H (Owner bytes) (Reply o)) (sym unread.unavailable) (nothing_told (holds new) c H stands bytes (subst (λ k. holds k c) (sym unread.same) held))
+      event_step : (e : Event) (a : Answer) → EventServed old new e a → Step e a
+      event_step (Owner bytes) (Reply out) (inl answered) = reply_step bytes answered.0 out answered.1 (answered.2.served now c H held stands lawful)
+      event_step (Owner bytes) (Reply out) (inr unread) = subst (λ out. Step (Owner bytes) (Reply out)) (sym unread.unavailable) (unread_step bytes unread.same)
+      event_step (Command command) (CommandReply reply) served = plant_step command reply (plant_told reply) refl served.valid (served.done now c H held stands lawful)
+      event_step (Owner bytes) (CommandReply reply) served = absurd served
+      event_step (Command command) (Reply out) served = absurd served
+
+    -- ---- events in order
+
+    abbrev Steps : K → Content → History → List Event → List Answer → K → Type 0
+    Steps old c H events answers new = AreSteps is_honest is_live is_closed has_cause leaves holds old c H events answers new
+
+    -- the history after a step is lawful
+    lawful_next : (was : Type 0) (after : Content → Type 0) (left : List Content → Type 0) (c : Content) (H : History) (e : Event) (a : Answer) → IsLawful H → (step : IsStepOf after was left c H e a) → IsLawful step.next
+    lawful_next was after left c H e a lawful step = lawful-step http H step.happening step.told step.next lawful step.valid step.step
+
+    pub steps_of : (old new : K) (events : List Event) (answers : List Answer) → Served old events answers new → is_honest new → (c : Content) (H : History) → holds old c → StandsFor c H → IsLawful H → Steps old c H events answers new
+    steps_of old new [] [] served now c H held stands lawful = served
+    steps_of old new (e ∷ events) (a ∷ answers) served now c H held stands lawful =
+        let middle = served.0 in
+        let then = all_honest middle new events answers served.2 now in
+        let step = event_step old middle then c H held stands lawful e a served.1 in
+        (middle, step, steps_of middle new events answers served.2 now step.left.content step.next step.left.held step.left.stands (lawful_next (is_live old) (holds middle) (leaves middle) c H e a lawful step))
+    steps_of old new [] (a ∷ answers) served now c H held stands lawful = absurd served
+    steps_of old new (e ∷ events) [] served now c H held stands lawful = absurd served
+
+    pub run_of : (old new : K) (events : List Event) (answers : List Answer) (c : Content) (H : History) → holds old c → StandsFor c H → IsLawful H → Steps old c H events answers new → IsRunOf (holds new) H events answers
+    run_of old new [] [] c H held stands lawful steps = record {
+      happenings = [];
+      told = [];
+      shown = tt;
+      valid = tt;
+      last = H;
+      run = refl;
+      private = runs-private http H [] [] H lawful tt refl;
+      lawful = lawful;
+      left = record { content = c; held = subst (λ k. holds k c) (sym steps) held; stands = stands };
+    }
+    run_of old new (e ∷ events) (a ∷ answers) c H held stands lawful steps =
+        let step = steps.1 in
+        let rest = run_of steps.0 new events answers step.left.content step.next step.left.held step.left.stands (lawful_next (is_live old) (holds steps.0) (leaves steps.0) c H e a lawful step) steps.2 in
+        let run : IsRun http H (step.happening ∷ rest.happenings) (step.told ∷ rest.told) rest.last = (step.next, step.step, rest.run) in
+        record {
+          happenings = step.happening ∷ rest.happenings;
+          told = step.told ∷ rest.told;
+          shown = (step.shows, rest.shown);
+          valid = (step.valid, rest.valid);
+          last = rest.last;
+          run = run;
+          private = runs-private http H (step.happening ∷ rest.happenings) (step.told ∷ rest.told) rest.last lawful (step.valid, rest.valid) run;
+          lawful = rest.lawful;
+          left = rest.left;
+        }
+    run_of old new [] (a ∷ answers) c H held stands lawful steps = absurd steps
+    run_of old new (e ∷ events) [] c H held stands lawful steps = absurd steps
+
+    -- ---- over a keep that never closes
+
+    module _ (never_closes : (k : K) → is_closed k ≡ false) where
+      -- a fault of a call that went so is want of memory
+      memory_alone : {X : Type 0} (old new : K) (fault : KeepFault) → Goes {X = X} is_honest is_live is_closed has_cause leaves old new (Err fault) → fault ≡ Memory
+      memory_alone old new Memory goes = refl
+      memory_alone old new Disk goes = absurd (false≢true (sym (never_closes new) ∙ goes.closes))
+      memory_alone old new Damaged goes = absurd (false≢true (sym (never_closes new) ∙ goes.closes))
+      memory_alone old new Closed goes = absurd (false≢true (sym (never_closes new) ∙ goes.closes))
+
+      abbrev GoesAs : K → K → PlantAsked → Result PlantTold KeepFault → Type 0
+      GoesAs old new asked outcome = GoesFor is_honest is_live is_closed has_cause leaves old new asked outcome
+
+      fault_alone : (old new : K) (asked : PlantAsked) (fault : KeepFault) → GoesAs old new asked (Err fault) → ¬ (fault ≡ Damaged) → ((why : Refusal) → asked ≡ CannotRead why → ⊥) → fault ≡ Memory
+      fault_alone old new (Does c) fault goes whole read = memory_alone old new fault goes
+      fault_alone old new (AsksOrders o) fault goes whole read = memory_alone old new fault goes
+      fault_alone old new (AsksStock o) fault goes whole read = memory_alone old new fault goes
+      fault_alone old new (AsksBatch o order number) fault goes whole read = memory_alone old new fault goes
+      fault_alone old new (AsksTrace lot way) fault goes whole read = memory_alone old new fault goes
+      fault_alone old new (AsksRecall lot) fault (inl goes) whole read = memory_alone old new fault goes
+      fault_alone old new (AsksRecall lot) fault (inr damaged) whole read = let is : fault ≡ Damaged = (cc damaged.0) in absurd (whole is)
+      fault_alone old new (CannotRead why) fault goes whole read = absurd (read why refl)
+
+      open_event : (old new : K) → is_honest new → (c : Content) (H : History) → holds old c → StandsFor c H → IsLawful H → (e : Event) (a : Answer) → EventServed old new e a → IsOpenAnswer a
+      open_event old new now c H held stands lawful (Owner bytes) (Reply out) served = tt
+      open_event old new now c H held stands lawful (Command command) (CommandReply reply) served = λ fault is.
+          fault_alone old new (asked_by command) fault (subst (GoesAs old new (asked_by command)) is served.goes)
+          (λ damaged. served.undamaged now c H held stands lawful (is ∙ ap (λ f. Err f) damaged))
+          (λ why unread. let read = (served.unread why unread).0 in let never : Ok _ ≡ Err fault = sym read ∙ is in (cc never))
+      open_event old new now c H held stands lawful (Owner bytes) (CommandReply reply) served = absurd served
+      open_event old new now c H held stands lawful (Command command) (Reply out) served = absurd served
+
+      pub all_open : (old new : K) (events : List Event) (answers : List Answer) → Served old events answers new → is_honest new → (c : Content) (H : History) → holds old c → StandsFor c H → IsLawful H → AllByRecursion IsOpenAnswer answers
+      all_open old new [] [] served now c H held stands lawful = tt
+      all_open old new (e ∷ events) (a ∷ answers) served now c H held stands lawful =
+          let middle = served.0 in
+          let then = all_honest middle new events answers served.2 now in
+          let step = event_step old middle then c H held stands lawful e a served.1 in (
+            open_event old middle then c H held stands lawful e a served.1,
+            all_open middle new events answers served.2 now step.left.content step.next step.left.held step.left.stands (lawful_next (is_live old) (holds middle) (leaves middle) c H e a lawful step),
+          )
+      all_open old new [] (a ∷ answers) served now c H held stands lawful = absurd served
+      all_open old new (e ∷ events) [] served now c H held stands lawful = absurd served

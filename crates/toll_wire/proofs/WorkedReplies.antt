@@ -6,9 +6,10 @@ use Rattle.serde_json.proofs.OnLiterals.{serde_json_on_literals}
 use Rattle.toll_base.specs.declared.rows.OrderRow.{OrderRow}
 use Rattle.toll_base.specs.declared.refusal.Refusal.TheVariants.{OrderExists}
 use Rattle.toll_desk.specs.declared.request.Reply.TheVariants.{Order, Refused}
-use Rattle.toll_wire.specs.declared.failure.Failure.TheVariants.{Forbidden, MethodNotAllowed, NotImplemented}
-use Rattle.toll_wire.specs.declared.verb.Verb.TheVariants.{Get}
-use Rattle.toll_wire.specs.ReplyTexts.{reply_text, text_of_failure, text_of_reply}
+use Rattle.toll_http.specs.declared.failure.Failure.TheVariants.{Forbidden, MethodNotAllowed, NotImplemented}
+use Rattle.toll_http.specs.declared.verb.Verb.TheVariants.{Get}
+use Rattle.toll_http.specs.Messages.{reply_text}
+use Rattle.toll_wire.specs.ReplyTexts.{text_of_failure, text_of_reply}
 
 abbrev open_order : OrderRow
 open_order = record { order = codes "O-1"; recipe = codes "R-1"; batches = 2; cancelled = false }

@@ -1,18 +1,23 @@
 -- Events of the office, and their answers, as a run.
-use Rattle.std.specs.Prelude.{◌≡◌, List, [], ◌∷◌, Result, Ok, Err}
+use Rattle.std.specs.Prelude.{◌≡◌, ◌≢◌, ◌⊎◌, Bool, false, List, [], ◌∷◌, Result, Ok, Err}
+use Rattle.toll_base.specs.declared.refusal.Refusal.{Refusal}
 use Rattle.toll_history.specs.History.{History}
-use Rattle.toll_history.specs.Verdict.{IsLawful}
-use Rattle.toll_keep.specs.Content.{Content}
+use Rattle.toll_history.specs.Verdict.{Refused, IsLawful}
+use Rattle.toll_keep.specs.Content.{Content, ContentKeepsRules}
 use Rattle.toll_keep.specs.declared.fault.KeepFault.{KeepFault}
-use Rattle.toll_answers.specs.PlantAnswers.{PlantTold}
-use Rattle.toll_desk.specs.Plans.{asked_by, plant_told, HoldsFor}
+use Rattle.toll_keep.specs.declared.fault.KeepFault.TheVariants.{Memory, Damaged}
+use Rattle.toll_answers.specs.PlantAnswers.{PlantTold, CannotRead, Judged, IsPlantAnswer, after_plant}
+use Rattle.toll_desk.specs.Plans.{asked_by, asks_recall, is_accepted, plant_told, GoesFor, HoldsFor, IsDone, IsValidDeed, LeavesOr}
+use Rattle.toll_desk.specs.Reads.{Over}
+use Rattle.toll_desk.specs.declared.plant_cmd.PlantCmd.{PlantCmd}
+use Rattle.toll_desk.specs.declared.plant_cmd.PlantReply.{PlantReply}
 use Rattle.toll_wire.specs.declared.event.Event.{Event}
 use Rattle.toll_wire.specs.declared.event.Event.TheVariants.{Owner, Plant as Command}
 use Rattle.toll_wire.specs.declared.event.Answer.{Answer}
 use Rattle.toll_wire.specs.declared.event.Answer.TheVariants.{Bytes as Reply, Plant as CommandReply}
 use Rattle.toll_wire.specs.declared.outgoing.Out.TheVariants.{Text, Unavailable as NoText}
-use Rattle.toll_wire.specs.Runs.{Happening, Request, Plant, Answered, Tells, Unavailable, PlantTells, PlantFault, IsStep, IsRun, IsPrivate, IsValidEvent, AreValid}
-use Rattle.toll_wire.specs.Steps.{http, Says}
+use Rattle.toll_wire.specs.Runs.{Saying, Nobody, Happening, Request, Plant, Answered, Text as Told, Unavailable, PlantTells, PlantFault, after_event, IsStep, IsRun, IsPrivate, IsValidEvent, AreValid}
+use Rattle.toll_wire.specs.Steps.{http, Says, IsAnswered}
 
 -- ---- what an event and its answer are in a run
 
@@ -21,10 +26,14 @@ abbrev pub PlantShows : Result PlantTold KeepFault → Answered → Type 0
 PlantShows (Ok told) answered = answered ≡ PlantTells told
 PlantShows (Err fault) answered = answered ≡ PlantFault
 
--- the bytes of a request say it, and were told the text; of a request that had no memory for a reply, nothing is said of what it says
+-- a request whose bytes could not be read, for want of memory, says nothing
+abbrev pub nothing : Saying
+nothing = Nobody []
+
+-- the bytes of a request say it, and were told the text, or there was no reply; a command of the plant was told so
 abbrev pub Shows : Event → Answer → Happening → Answered → Type 0
-Shows (Owner bytes) (Reply (Text text)) (Request saying) answered = Says bytes.items saying × (answered ≡ Tells text.items)
-Shows (Owner bytes) (Reply NoText) (Request saying) answered = answered ≡ Unavailable
+Shows (Owner bytes) (Reply (Text text)) (Request saying) answered = Says bytes.items saying × (answered ≡ Told text.items)
+Shows (Owner bytes) (Reply NoText) (Request saying) answered = (Says bytes.items saying ⊎ (saying ≡ nothing)) × (answered ≡ Unavailable)
 Shows (Command command) (CommandReply reply) (Plant asked) answered = (asked ≡ asked_by command) × PlantShows (plant_told reply) answered
 Shows _ _ _ _ = ⊥
 
@@ -36,8 +45,8 @@ AllShow _ _ _ _ = ⊥
 
 -- ---- one event
 
--- the event and its answer are a step from this history, and what it leaves is held
-pub record IsStepOf (holds : Content → Type 0) (H : History) (event : Event) (answer : Answer) : Type 0 where
+-- the event and its answer are a step from this history, whose rows were held, and what the step leaves is held; a stop on the way leaves the rows from before, or those that the event makes of them
+pub record IsStepOf (holds : Content → Type 0) (was_live : Type 0) (leaves : List Content → Type 0) (c : Content) (H : History) (event : Event) (answer : Answer) : Type 0 where
   pub happening : Happening
   pub told : Answered
   pub shows : Shows event answer happening told
@@ -45,6 +54,43 @@ pub record IsStepOf (holds : Content → Type 0) (H : History) (event : Event) (
   pub next : History
   pub step : IsStep http H happening told next
   pub left : HoldsFor holds next
+  pub crash : was_live → LeavesOr leaves c (after_event http H happening)
+
+module _ {K : Type 0} (is_honest is_live : K → Type 0) (is_closed : K → Bool) (has_cause : K → K → Type 0) (leaves : K → List Content → Type 0) (holds : K → Content → Type 0) where
+  -- what is so where the plant was answered, as the desk says it
+  pub record IsPlantServed (old new : K) (command : PlantCmd) (reply : PlantReply) : Type 0 where
+    pub honest : is_honest new → is_honest old
+    pub unread : (why : Refusal) → asked_by command ≡ CannotRead why → (plant_told reply ≡ Ok (Judged (Refused why))) × (new ≡ old)
+    pub goes : GoesFor is_honest is_live is_closed has_cause leaves old new (asked_by command) (plant_told reply)
+    pub whole : asks_recall (asked_by command) ≡ false → is_honest new → (c : Content) → holds old c → ContentKeepsRules c → plant_told reply ≢ Err Damaged
+    pub undamaged : Over is_honest holds old new (λ c H. plant_told reply ≢ Err Damaged)
+    pub valid : IsValidDeed (asked_by command)
+    pub quiet : is_honest new → (c : Content) → holds old c → is_accepted (plant_told reply) ≡ false → holds new c
+    pub done : Over is_honest holds old new (λ c H. IsDone (holds new) (is_live old) (leaves new) c (after_plant H (asked_by command)) (plant_told reply) (IsPlantAnswer H (asked_by command)))
+
+  -- the event got this answer
+  abbrev pub IsEventServed : K → K → Event → Answer → Type 0
+  IsEventServed old new (Owner bytes) (Reply out) = IsAnswered is_honest is_live is_closed has_cause leaves holds old new bytes.items out
+  IsEventServed old new (Command command) (CommandReply reply) = IsPlantServed old new command reply
+  IsEventServed old new _ _ = ⊥
+
+  -- the events got these answers one after another, and made the one keep of the other
+  abbrev pub AreServed : K → List Event → List Answer → K → Type 0
+  AreServed old [] [] new = new ≡ old
+  AreServed old (e ∷ events) (a ∷ answers) new = (middle : K) × IsEventServed old middle e a × AreServed middle events answers new
+  AreServed old _ _ new = ⊥
+
+  -- the events are steps one after another, from rows that were held; a stop during one leaves the rows that all before it left, or those that it makes of them
+  abbrev pub AreSteps : K → Content → History → List Event → List Answer → K → Type 0
+  AreSteps old c H [] [] new = new ≡ old
+  AreSteps old c H (e ∷ events) (a ∷ answers) new =
+      (middle : K) × (step : IsStepOf (holds middle) (is_live old) (leaves middle) c H e a) × AreSteps middle step.left.content step.next events answers new
+  AreSteps old c H _ _ new = ⊥
+
+-- the only fault that the plant is told is want of memory
+abbrev pub IsOpenAnswer : Answer → Type 0
+IsOpenAnswer (Reply out) = Unit {0}
+IsOpenAnswer (CommandReply reply) = (fault : KeepFault) → plant_told reply ≡ Err fault → fault ≡ Memory
 
 -- ---- events in order
 

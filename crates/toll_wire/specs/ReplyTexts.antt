@@ -1,6 +1,6 @@
 -- The texts of replies (RFC 9112, section 6; RFC 9110, section 15).
-use Rattle.std.specs.Prelude.{ℕ, [], ◌∷◌, ◌++◌, Option, Some, None, Result, Ok, Err, codes, decimal, length}
-use Rattle.http.specs.StatusCode.{status_text}
+use Rattle.std.specs.Prelude.{ℕ, [], Option, Some, None, Result, Ok, Err, codes}
+use Rattle.serde_json.specs.Data.{Data}
 use Rattle.serde_json.specs.Written.{compact_text}
 use Rattle.toll_base.specs.Bytes.{Bytes}
 use Rattle.toll_base.specs.declared.refusal.Refusal.{Refusal}
@@ -9,28 +9,11 @@ use Rattle.toll_keep.specs.declared.fault.KeepFault.{KeepFault}
 use Rattle.toll_desk.specs.declared.request.Reply.{Reply}
 use Rattle.toll_answers.specs.Told.{Told, TellForbidden, TellOrders, TellOrder, TellBatch, TellStock, TellLot, TellTrace, TellRefused}
 use Rattle.toll_desk.specs.Plans.{told_of}
-use Rattle.toll_wire.specs.declared.verb.Verb.{Verb}
-use Rattle.toll_wire.specs.Verbs.{verb_name}
-use Rattle.toll_wire.specs.declared.failure.Failure.{Failure}
-use Rattle.toll_wire.specs.declared.failure.Failure.TheVariants.{Forbidden}
-use Rattle.toll_wire.specs.Failures.{status_of_failure, word_of_failure, allowed_after}
-use Rattle.toll_wire.specs.ReplyBodies.{order_data, orders_data, refusal_data, error_data}
-
--- absent where there is no body
-abbrev pub content_type : Bytes → Bytes
-content_type [] = []
-content_type (b ∷ body) = codes "content-type: application/json\r\n"
-
--- absent but where a method is not allowed
-abbrev pub allow_line : Option Verb → Bytes
-allow_line None = []
-allow_line (Some verb) = codes "allow: " ++ (verb_name verb ++ codes "\r\n")
-
--- a whole reply: a status, the method that is allowed, a body
-unfoldable pub reply_text : ℕ → Option Verb → Bytes → Bytes
-reply_text status allowed body =
-    codes "HTTP/1.1 " ++ (status_text status ++ (codes "\r\n" ++ (content_type body ++ (codes "content-length: " ++ (decimal (length body)
-    ++ (codes "\r\n" ++ (allow_line allowed ++ (codes "connection: close\r\n\r\n" ++ body))))))))
+use Rattle.toll_http.specs.Messages.{reply_text}
+use Rattle.toll_http.specs.declared.failure.Failure.{Failure}
+use Rattle.toll_http.specs.declared.failure.Failure.TheVariants.{Forbidden}
+use Rattle.toll_http.specs.Failures.{status_of_failure, word_of_failure, allowed_after}
+use Rattle.toll_bodies.specs.ReplyBodies.{batch_data, error_data, lot_data, order_data, orders_data, refusal_data, stock_data, trace_data}
 
 -- ---- where a check fails
 
@@ -49,16 +32,20 @@ refusal_status UnknownBatch = 404
 refusal_status UnknownLot = 404
 refusal_status _ = 409
 
--- what an owner is told; no request is told of batches, stock, lots or traces yet
+-- a reply of what was asked for, with this body
+abbrev pub granted : Data → Bytes
+granted body = reply_text 200 None (compact_text body)
+
+-- what an owner is told
 abbrev pub text_of_told : Told → Bytes
 text_of_told TellForbidden = text_of_failure Forbidden
-text_of_told (TellOrders rows) = reply_text 200 None (compact_text (orders_data rows))
-text_of_told (TellOrder row) = reply_text 200 None (compact_text (order_data row))
+text_of_told (TellOrders rows) = granted (orders_data rows)
+text_of_told (TellOrder row) = granted (order_data row)
+text_of_told (TellBatch batch lines) = granted (batch_data batch lines)
+text_of_told (TellStock lines) = granted (stock_data lines)
+text_of_told (TellLot row measure results sublots) = granted (lot_data row measure results sublots)
+text_of_told (TellTrace trace) = granted (trace_data trace)
 text_of_told (TellRefused refusal) = reply_text (refusal_status refusal) None (compact_text (refusal_data refusal))
-text_of_told (TellBatch batch lines) = []
-text_of_told (TellStock lines) = []
-text_of_told (TellLot row measure results sublots) = []
-text_of_told (TellTrace trace) = []
 
 -- nothing is told of a fault
 abbrev pub text_if_told : Result Told KeepFault → Option Bytes

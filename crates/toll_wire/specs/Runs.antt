@@ -1,13 +1,12 @@
 -- Runs of events with their answers, and what one owner's events give alone.
-use Rattle.std.specs.Prelude.{◌≡◌, ◌⊎◌, Bool, false, true, ◌&&◌, if◌then◌else◌, Option, Some, None, List, [], ◌∷◌, ◌++◌, length}
+use Rattle.std.specs.Prelude.{◌≡◌, Bool, false, true, ◌&&◌, if◌then◌else◌, Option, Some, None, List, [], ◌∷◌, ◌++◌}
 use Rattle.toll_base.specs.Bytes.{Bytes, same_bytes}
 use Rattle.toll_base.specs.Values.{house_name}
 use Rattle.toll_base.specs.Words.{is_some_where}
-use Rattle.toll_history.specs.Command.{PlaceOrder}
 use Rattle.toll_history.specs.History.{History, part}
-use Rattle.toll_history.specs.Verdict.{Accepted, IsValid}
-use Rattle.toll_answers.specs.Told.{Asked, AskPlace, Told}
-use Rattle.toll_answers.specs.Replies.{has_key, IsReply, after_reply}
+use Rattle.toll_history.specs.Verdict.{Accepted}
+use Rattle.toll_answers.specs.Told.{Asked, Told}
+use Rattle.toll_answers.specs.Replies.{IsValidAsked, has_key, IsReply, after_reply}
 use Rattle.toll_answers.specs.PlantAnswers.{PlantAsked, Does, PlantTold, Judged, IsPlantAnswer, after_plant}
 use Rattle.toll_desk.specs.Plans.{IsValidDeed}
 
@@ -16,9 +15,9 @@ pub data Asking : Type 0 where
   Asks : (q : Asked) → Asking
   Fails : (text : Bytes) → Asking
 
--- what the bytes of a request say: who asks, with which key and for what, or what is told by the bytes alone
+-- what the bytes of a request say: whose it claims to be, with which key if with one, and for what it asks; or, where it claims to be nobody's, what is told by the bytes alone
 pub data Saying : Type 0 where
-  By : (owner key : Bytes) (asking : Asking) → Saying
+  By : (owner : Bytes) (key : Option Bytes) (asking : Asking) → Saying
   Nobody : (text : Bytes) → Saying
 
 -- an event: a request, as its bytes are read, or what the plant does
@@ -26,9 +25,9 @@ pub data Happening : Type 0 where
   Request : (saying : Saying) → Happening
   Plant : (asked : PlantAsked) → Happening
 
--- an answer: the bytes of a reply, that there was no memory for one, what the plant is told, or a fault
+-- an answer: the bytes of a reply, that there was none, what the plant is told, or a fault
 pub data Answered : Type 0 where
-  Tells : (text : Bytes) → Answered
+  Text : (text : Bytes) → Answered
   Unavailable : Answered
   PlantTells : (told : PlantTold) → Answered
   PlantFault : Answered
@@ -50,20 +49,34 @@ pub record Wire : Type 0 where
 module _ (wire : Wire) where
   -- ---- one step
 
-  -- over this history, who says this is told this text
-  abbrev pub IsTold : History → Saying → Bytes → Type 0
-  IsTold H (Nobody told) out = out ≡ told
-  IsTold H (By o key (Fails told)) out = out ≡ (if has_key o key H then told else wire.forbidden)
-  IsTold H (By o key (Asks q)) out = (r : Told) × IsReply o key H q r × (out ≡ wire.text r)
+  -- who says this is told this text, where `Admits` says whether a key is the owner's and `Replies` what a request is told; without a key it is forbidden
+  abbrev pub Tells : (Admits : Bytes → Bytes → Bool → Type 0) → (Replies : Bytes → Bytes → Asked → Told → Type 0) → Saying → Bytes → Type 0
+  Tells Admits Replies (Nobody told) out = out ≡ told
+  Tells Admits Replies (By o None asking) out = out ≡ wire.forbidden
+  Tells Admits Replies (By o (Some key) (Fails told)) out = (b : Bool) × Admits o key b × (out ≡ (if b then told else wire.forbidden))
+  Tells Admits Replies (By o (Some key) (Asks q)) out = (r : Told) × Replies o key q r × (out ≡ wire.text r)
 
-  -- and it makes this of the history
+  -- what is told over this history
+  abbrev pub IsTold : History → Saying → Bytes → Type 0
+  IsTold H = Tells (λ o key b. b ≡ has_key o key H) (λ o key q r. IsReply o key H q r)
+
+  -- what may be told, whatever the keep has: one of the texts that there are for it
+  abbrev pub MayBeTold : Saying → Bytes → Type 0
+  MayBeTold = Tells (λ o key b. Unit {0}) (λ o key q r. Unit {0})
+
+  -- what it makes of the history
   abbrev pub after_saying : History → Saying → History
-  after_saying H (By o key (Asks q)) = after_reply o key H q
+  after_saying H (By o (Some key) (Asks q)) = after_reply o key H q
   after_saying H _ = H
+
+  -- what an event makes of the history where it is answered
+  abbrev pub after_event : History → Happening → History
+  after_event H (Request s) = after_saying H s
+  after_event H (Plant asked) = after_plant H asked
 
   -- from old, the event may get the answer and leave new
   abbrev pub IsStep : History → Happening → Answered → History → Type 0
-  IsStep old (Request s) (Tells out) new = IsTold old s out × (new ≡ after_saying old s)
+  IsStep old (Request s) (Text out) new = IsTold old s out × (new ≡ after_saying old s)
   IsStep old (Request s) Unavailable new = new ≡ old
   IsStep old (Plant asked) (PlantTells told) new = IsPlantAnswer old asked told × (new ≡ after_plant old asked)
   IsStep old (Plant asked) PlantFault new = new ≡ old
@@ -83,12 +96,6 @@ module _ (wire : Wire) where
   is_fault PlantFault = true
   is_fault _ = false
 
-  -- a run up to the event that closed the office; of that event and the later ones nothing is said but that they are answered
-  abbrev pub IsRunUpToFault : History → List Happening → List Answered → Type 0
-  IsRunUpToFault old [] [] = Unit {0}
-  IsRunUpToFault old (e ∷ events) (a ∷ answers) = ((new : History) × IsStep old e a new × IsRunUpToFault new events answers) ⊎ (length events ≡ length answers)
-  IsRunUpToFault old _ _ = ⊥
-
   -- ---- one owner's part of a run
 
   abbrev pub accepts : PlantTold → Bool
@@ -97,7 +104,7 @@ module _ (wire : Wire) where
 
   -- an event of the owner's own: a request that claims it and was told something, or an accepted command that concerns it
   abbrev pub is_own : Bytes → Happening → Answered → Bool
-  is_own o (Request s) (Tells out) = claims o s
+  is_own o (Request s) (Text out) = claims o s
   is_own o (Plant (Does c)) (PlantTells told) = accepts told && same_bytes c.owner o
   is_own o _ _ = false
 
@@ -107,7 +114,7 @@ module _ (wire : Wire) where
 
   -- what the owner is told
   abbrev pub told_by : Bytes → Happening → Answered → List Bytes
-  told_by o (Request s) (Tells out) = if claims o s then out ∷ [] else []
+  told_by o (Request s) (Text out) = if claims o s then out ∷ [] else []
   told_by o _ _ = []
 
   abbrev pub told : Bytes → List Happening → List Answered → List Bytes
@@ -134,13 +141,9 @@ module _ (wire : Wire) where
 
   -- ---- values within their bounds
 
-  -- a request's count of batches, and a command's values
-  abbrev pub IsValidAsking : Asked → Type 0
-  IsValidAsking (AskPlace order recipe batches) = IsValid (PlaceOrder order recipe batches)
-  IsValidAsking _ = Unit {0}
-
+  -- of a request, and of a command
   abbrev pub IsValidSaying : Saying → Type 0
-  IsValidSaying (By o key (Asks q)) = IsValidAsking q
+  IsValidSaying (By o key (Asks q)) = IsValidAsked q
   IsValidSaying _ = Unit {0}
 
   abbrev pub IsValidEvent : Happening → Type 0

@@ -1,17 +1,22 @@
 -- A request is one step of a run.
-use Rattle.std.specs.Prelude.{◌≡◌, Some, None, List, Result, Ok, Err}
+use Rattle.std.specs.Prelude.{◌≡◌, ◌≢◌, ◌⊎◌, Bool, false, Some, None, List, Result, Ok, Err, IsTrue, nat_eq, codes}
+use Rattle.std.specs.List.{starts_with}
 use Rattle.toll_base.specs.Bytes.{Bytes}
 use Rattle.toll_history.specs.History.{History}
-use Rattle.toll_keep.specs.Content.{Content}
-use Rattle.toll_desk.specs.Plans.{asked_of, IsDone}
-use Rattle.toll_wire.specs.declared.failure.Failure.TheVariants.{Forbidden}
-use Rattle.toll_wire.specs.declared.asked.Asks.{Asks as AsksFor}
-use Rattle.toll_wire.specs.declared.asked.Asks.TheVariants.{Failing, For}
+use Rattle.toll_keep.specs.Content.{Content, ContentKeepsRules}
+use Rattle.toll_keep.specs.Goes.{Goes}
+use Rattle.toll_keep.specs.declared.fault.KeepFault.{KeepFault}
+use Rattle.toll_keep.specs.declared.fault.KeepFault.TheVariants.{Damaged}
+use Rattle.toll_desk.specs.Plans.{asked_of, writes, IsDone}
+use Rattle.toll_desk.specs.Reads.{Over}
+use Rattle.toll_http.specs.declared.failure.Failure.TheVariants.{Forbidden}
+use Rattle.toll_routes.specs.declared.asks.Asks.{Asks as AsksFor}
+use Rattle.toll_routes.specs.declared.asks.Asks.TheVariants.{Failing, For}
 use Rattle.toll_wire.specs.declared.outgoing.Out.{Out}
 use Rattle.toll_wire.specs.declared.outgoing.Out.TheVariants.{Text, Unavailable}
 use Rattle.toll_wire.specs.Asking.{Asked, refused, claimed, Reads}
 use Rattle.toll_wire.specs.ReplyTexts.{text_of_failure, text_of_told}
-use Rattle.toll_wire.specs.Runs.{Asking, Asks, Fails, Saying, By, Nobody, Wire, IsTold, after_saying}
+use Rattle.toll_wire.specs.Runs.{Asking, Asks, Fails, Saying, By, Nobody, Wire, IsTold, MayBeTold, after_saying}
 
 -- how the office writes its replies
 abbrev pub http : Wire
@@ -23,16 +28,20 @@ abbrev pub asking_of : AsksFor → Asking
 asking_of (Failing failure) = Fails (text_of_failure failure)
 asking_of (For request) = Asks (asked_of request)
 
--- without one owner and one key the request is forbidden
+-- bytes with one `toll-owner` field claim that owner, with a key or without; without one they are forbidden by themselves
 abbrev pub saying_of : Asked → Saying
 saying_of (refused failure) = Nobody (text_of_failure failure)
 saying_of (claimed None key asks) = Nobody (text_of_failure Forbidden)
-saying_of (claimed (Some owner) None asks) = Nobody (text_of_failure Forbidden)
-saying_of (claimed (Some owner) (Some key) asks) = By owner key (asking_of asks)
+saying_of (claimed (Some owner) key asks) = By owner key (asking_of asks)
 
 -- the bytes of a request say this
 abbrev pub Says : Bytes → Saying → Type 0
 Says bytes saying = (asked : Asked) × Reads bytes asked × (saying ≡ saying_of asked)
+
+-- what is said asks for a change
+abbrev pub may_write : Saying → Bool
+may_write (By o (Some key) (Asks q)) = writes q
+may_write _ = false
 
 -- ---- what came of it
 
@@ -41,17 +50,56 @@ abbrev pub outcome_of : Out → Result Bytes (Unit {0})
 outcome_of (Text text) = Ok text.items
 outcome_of Unavailable = Err tt
 
+-- the reply, if there is one, is such a text
+abbrev pub IsReplyWhere : (Bytes → Type 0) → Out → Type 0
+IsReplyWhere P (Text text) = P text.items
+IsReplyWhere P Unavailable = Unit {0}
+
+-- a reply that says 200
+abbrev pub IsGranted : Out → Type 0
+IsGranted (Text text) = IsTrue (starts_with nat_eq text.items (codes "HTTP/1.1 200 "))
+IsGranted Unavailable = ⊥
+
 -- who says this is told so and what it makes of the history is held, or after Unavailable the content from before; and a stop leaves one of the two
 abbrev pub IsServed : (Content → Type 0) → Type 0 → (List Content → Type 0) → Content → History → Saying → Out → Type 0
 IsServed holds was_live leaves c H saying out = IsDone holds was_live leaves c (after_saying http H saying) (outcome_of out) (IsTold http H saying)
 
--- what the bytes say was served
-pub record IsAnswered (holds : Content → Type 0) (was_live : Type 0) (leaves : List Content → Type 0) (c : Content) (H : History) (bytes : Bytes) (out : Out) : Type 0 where
-  pub saying : Saying
-  pub says : Says bytes saying
-  pub served : IsServed holds was_live leaves c H saying out
+-- a reply where the calls of the keep answered, and none where one met a fault or there was no memory
+abbrev pub IsOutcome : Out → Result (Unit {0}) KeepFault → Type 0
+IsOutcome (Text text) outcome = outcome ≡ Ok tt
+IsOutcome Unavailable outcome = (fault : KeepFault) × (outcome ≡ Err fault)
 
--- there was no memory to read the bytes, and the keep is untouched
-pub record IsUnread {K : Type 0} (old new : K) (out : Out) : Type 0 where
-  pub unavailable : out ≡ Unavailable
-  pub same : new ≡ old
+module _ {K : Type 0} (is_honest is_live : K → Type 0) (is_closed : K → Bool) (has_cause : K → K → Type 0) (leaves : K → List Content → Type 0) (holds : K → Content → Type 0) (old new : K) where
+  -- the keep was called and goes as after a call that answered so; and no damage is found in rows that keep the rules
+  pub record OutGoes (out : Out) : Type 0 where
+    pub outcome : Result (Unit {0}) KeepFault
+    pub is : IsOutcome out outcome
+    pub goes : Goes is_honest is_live is_closed has_cause leaves old new outcome
+    pub whole : is_honest new → (c : Content) → holds old c → ContentKeepsRules c → outcome ≢ Err Damaged
+
+  -- the keep is called for who has a key, and for nobody else
+  abbrev pub OutGoesFor : Saying → Out → Type 0
+  OutGoesFor (By o (Some key) asking) out = OutGoes out
+  OutGoesFor _ out = new ≡ old
+
+  -- what is so where who says this was served
+  pub record IsServing (saying : Saying) (out : Out) : Type 0 where
+    -- the reply is one of the texts that there are for it, whatever the keep has
+    pub tells : IsReplyWhere (MayBeTold http saying) out
+    -- how the calls of the keep went
+    pub goes : OutGoesFor saying out
+    pub honest : is_honest new → is_honest old
+    -- what asks for no change, and what isn't told 200, leaves what is held, whatever rows there are
+    pub asks : is_honest new → (c : Content) → holds old c → may_write saying ≡ false → holds new c
+    pub quiet : is_honest new → (c : Content) → holds old c → ¬ (IsGranted out) → holds new c
+    -- it is told what the definitions say, and what they say is held
+    pub served : Over is_honest holds old new (λ c H. IsServed (holds new) (is_live old) (leaves new) c H saying out)
+
+  -- there was no memory to read the bytes, and the keep is untouched
+  pub record IsUnread (out : Out) : Type 0 where
+    pub unavailable : out ≡ Unavailable
+    pub same : new ≡ old
+
+  -- what the bytes say was served, or they could not be read
+  abbrev pub IsAnswered : Bytes → Out → Type 0
+  IsAnswered bytes out = ((saying : Saying) × Says bytes saying × IsServing saying out) ⊎ IsUnread out

@@ -1,25 +1,12 @@
-//! What a request asks for.
+//! What the bytes of a request say.
 ghost use Rattle.std.specs.Prelude.{◌≡◌, IfOk};
-ghost use Rattle.toll_wire.specs.Asking.{IsAsking, PostAsks, Reads, get_asks};
+ghost use Rattle.toll_wire.specs.Asking.{Reads};
 ghost use Rattle.toll_wire.specs.Asking as spec;
 ghost use Rattle.toll_wire.specs.Shown.{asked_of};
 
-use crate::arrival::{Arrival, arrive};
-use crate::body::order_asked;
-use crate::failure::Failure;
-use crate::place::{Place, place_of};
-use crate::verb::Verb;
 use std::alloc::{AllocError, Global};
-use toll_desk::Request;
-
-/// What is asked for, once the key is right.
-#[derive(Clone, Copy, Debug, PartialEq, Eq)]
-pub enum Asks {
-    /// Nothing that is served: a check that comes after the key's fails.
-    Failing(Failure),
-    /// A request of the owner.
-    For(Request),
-}
+use toll_http::{Failure, arrive};
+use toll_routes::{Asks, asks_of};
 
 /// What the bytes of a request come to.
 #[derive(Clone, Copy)]
@@ -41,7 +28,7 @@ pub fn read(alloc: Global, bytes: &[u8]) -> Result<Asked<'_>, AllocError>
 {
     match arrive(bytes) {
         Err(failure) => Ok(Asked::Refused(failure)),
-        Ok(arrival) => match asks_of(alloc, &arrival) {
+        Ok(arrival) => match asks_of(alloc, arrival.verb, arrival.target, arrival.body) {
             Ok(asks) => Ok(Asked::Claimed {
                 owner: arrival.owner,
                 key: arrival.key,
@@ -49,38 +36,5 @@ pub fn read(alloc: Global, bytes: &[u8]) -> Result<Asked<'_>, AllocError>
             }),
             Err(e) => Err(e),
         },
-    }
-}
-
-// The checks of the target, the method and the body.
-fn asks_of(alloc: Global, arrival: &Arrival<'_>) -> Result<Asks, AllocError>
-    ensures { IfOk result (IsAsking arrival.now.verb arrival.now.target.now arrival.now.body.now) }
-{
-    let place = place_of(alloc, arrival.target)?;
-    match (place, arrival.verb) {
-        (None, _) => Ok(Asks::Failing(Failure::NoRoute)),
-        (Some(place), Verb::Get) => Ok(get_asks(place)),
-        (Some(place), Verb::Post) => post_asks(alloc, place, arrival.body),
-    }
-}
-
-fn get_asks(place: Place) -> Asks
-    ensures { result ≡ get_asks place }
-{
-    match place {
-        Place::Orders => Asks::For(Request::Orders),
-        Place::Order(order) => Asks::For(Request::Order(order)),
-    }
-}
-
-fn post_asks(alloc: Global, place: Place, body: &[u8]) -> Result<Asks, AllocError>
-    ensures { IfOk result (PostAsks place body.now) }
-{
-    match place {
-        Place::Orders => match order_asked(alloc, body)? {
-            Some(request) => Ok(Asks::For(request)),
-            None => Ok(Asks::Failing(Failure::BadRequest)),
-        },
-        Place::Order(_) => Ok(Asks::Failing(Failure::MethodNotAllowed(Verb::Get))),
     }
 }

@@ -1,37 +1,22 @@
-//! Bytes of requests and replies: what a request asks for, what is sent back, and runs of events.
+//! Owners' requests over HTTP, from bytes to bytes, and runs of events.
 #![tactic(auto)]
 
 mod answering;
-mod arrival;
 mod asked;
-mod body;
 mod event;
-mod failure;
-mod field;
-mod head;
 mod laws;
 mod outgoing;
-mod place;
-mod reading;
 mod reply;
-mod reply_body;
-mod route;
 mod run;
-mod settled;
-mod sink;
-mod source;
-mod verb;
-mod writing;
 
 pub use answering::answer;
 pub use event::{Answer, Event};
 pub use laws::{
-    answers_are_determined, runs_are_private, runs_are_runs_up_to_a_fault,
-    runs_that_agree_tell_the_same,
+    a_part_alone_gives_one_list_of_replies, an_owners_traces_are_told_byte_for_byte,
+    answers_are_determined, bytes_say_one_thing, every_run_has_its_parts,
+    recalls_print_the_same_lines_of_an_owner, replies_are_those_that_the_owners_part_gives_alone,
+    runs_are_private, runs_with_the_same_part_give_the_same_replies, the_plants_traces_are_printed,
 };
 pub use outgoing::Out;
-pub use reading::{ReadFault, read_request};
 pub use run::run_events;
-pub use sink::Sink;
-pub use source::{Source, read_behind};
-pub use writing::{WriteFault, write_reply};
+pub use toll_http::{ReadFault, Sink, Source, WriteFault, read_behind, read_request, write_reply};

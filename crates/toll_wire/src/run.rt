@@ -1,12 +1,8 @@
 //! Runs of events.
-ghost use Rattle.std.specs.Prelude.{◌≡◌, IfOk, OnErr};
-ghost use Rattle.std.specs.List.{AllZip};
-ghost use Rattle.toll_history.specs.History.{History};
-ghost use Rattle.toll_history.specs.Verdict.{IsLawful};
-ghost use Rattle.toll_keep.specs.Content.{Content};
-ghost use Rattle.toll_keep.specs.Standing.{StandsFor};
-ghost use Rattle.toll_wire.specs.OfficeRuns.{IsRunOf, IsStepOf};
-ghost use Rattle.toll_wire.specs.Telling.{AnswersEvent};
+ghost use Rattle.std.specs.Prelude.{◌≡◌, false, IfOk, OnErr};
+ghost use Rattle.std.specs.List.{AllByRecursion};
+ghost use Rattle.toll_desk.specs.Reads.{Over};
+ghost use Rattle.toll_wire.specs.OfficeRuns.{AreServed, AreSteps, IsEventServed, IsOpenAnswer, IsRunOf};
 
 use crate::answering::answer;
 use crate::event::{Answer, Event};
@@ -15,17 +11,20 @@ use toll_desk::plant_do;
 use toll_keep::Keep;
 
 /// Answers the events one by one, each over what those before it left: a run, in which each owner's
-/// replies are those that its own events give by themselves. An `Err` means that no event acted.
+/// replies are those that its own events give by themselves. A stop during an event leaves the rows
+/// that all events before it left, or those that it leaves with them. Over a keep that never closes no
+/// answer is a fault but want of memory. An `Err` means that no event acted.
 pub fn run_events<K: Keep>(
     alloc: Global,
     keep: &mut K,
     events: &[Event],
 ) -> Result<Vec<Answer>, AllocError>
-    ensures each { IfOk result (λ answers. AllZip AnswersEvent events.now answers.items) }
     ensures err { OnErr result (keep.new ≡ keep.old) }
     ensures honest { K.is_honest keep.new → K.is_honest keep.old }
-    ensures run { K.is_honest keep.new → (c : Content) (H : History) → K.holds keep.old c → StandsFor c H → IsLawful H →
-        IfOk result (λ answers. IsRunOf (K.holds keep.new) H events.now answers.items) }
+    ensures served { IfOk result (λ answers. AreServed K.is_honest K.is_live K.is_closed K.has_cause K.leaves K.holds keep.old events.now answers.items keep.new) }
+    ensures run { Over K.is_honest K.holds keep.old keep.new (λ c H. IfOk result (λ answers. IsRunOf (K.holds keep.new) H events.now answers.items)) }
+    ensures steps { Over K.is_honest K.holds keep.old keep.new (λ c H. IfOk result (λ answers. AreSteps K.is_honest K.is_live K.is_closed K.has_cause K.leaves K.holds keep.old c H events.now answers.items keep.new)) }
+    ensures open { ((k : K) → K.is_closed k ≡ false) → Over K.is_honest K.holds keep.old keep.new (λ c H. IfOk result (λ answers. AllByRecursion IsOpenAnswer answers.items)) }
 {
     let mut answers = Vec::with_capacity(alloc, events.len())?;
     for event in events {
@@ -36,10 +35,7 @@ pub fn run_events<K: Keep>(
 }
 
 fn answer_event<K: Keep>(alloc: Global, keep: &mut K, event: &Event) -> Answer
-    ensures answers { AnswersEvent event.now result }
-    ensures honest { K.is_honest keep.new → K.is_honest keep.old }
-    ensures step { K.is_honest keep.new → (c : Content) (H : History) → K.holds keep.old c → StandsFor c H → IsLawful H →
-        IsStepOf (K.holds keep.new) H event.now result }
+    ensures { IsEventServed K.is_honest K.is_live K.is_closed K.has_cause K.leaves K.holds keep.old keep.new event.now result }
 {
     match event {
         Event::Owner(bytes) => Answer::Bytes(answer(alloc, keep, bytes)),

@@ -1,5 +1,5 @@
 use Rattle.std.proofs.Common.{rules}
-use Rattle.toll_wire.proofs.StreamLemmas.{none_more_failed, read_more}
+use Rattle.toll_http.proofs.StreamLemmas.{none_more_failed, read_more}
 use Rattle.toll.proofs.input.fill.Goals as goal
 
 pub loop-filled-preserved : goal.loop-filled-preserved

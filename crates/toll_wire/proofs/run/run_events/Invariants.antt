@@ -1,12 +1,6 @@
--- The events so far were answered, as a run, and there is room for the others.
+-- The events so far were answered, one after another, and there is room for the others.
 use Rattle.std.proofs.Common.{◌≡◌, ◌≤◌, length, take, vec_len, vec_capacity}
-use Rattle.std.specs.List.{AllZip}
-use Rattle.toll_history.specs.History.{History}
-use Rattle.toll_history.specs.Verdict.{IsLawful}
-use Rattle.toll_keep.specs.Content.{Content}
-use Rattle.toll_keep.specs.Standing.{StandsFor}
-use Rattle.toll_wire.specs.Telling.{AnswersEvent}
-use Rattle.toll_wire.specs.OfficeRuns.{IsRunOf}
+use Rattle.toll_wire.specs.OfficeRuns.{AreServed}
 use Rattle.toll_wire.proofs.run.run_events.Given as goal
 
 abbrev pub invariant-loop-event : goal.invariant-loop-event
@@ -15,7 +9,5 @@ invariant-loop-event g l =
     record {
       count : vec_len l.answers ≡ l.event-index;
       room : length l.events ≤ vec_capacity l.answers;
-      each : AllZip AnswersEvent (take l.event-index l.events) l.answers.items;
-      honest : K.is_honest l.keep → K.is_honest l.fn.keep;
-      run : K.is_honest l.keep → (c : Content) (H : History) → K.holds l.fn.keep c → StandsFor c H → IsLawful H → IsRunOf (K.holds l.keep) H (take l.event-index l.events) l.answers.items;
+      served : AreServed K.is_honest K.is_live K.is_closed K.has_cause K.leaves K.holds l.fn.keep (take l.event-index l.events) l.answers.items l.keep;
     }

@@ -1,0 +1,70 @@
+-- What is printed of a recall and a trace is that of the definitions.
+use Rattle.std.proofs.Common.{◌≡◌, true, is_some, Some, List, ap, subst, ◌∙◌}
+use Rattle.std.specs.Prelude.{Contains, MatchBool}
+use Rattle.toll_base.specs.Bytes.{Bytes}
+use Rattle.toll_base.specs.Lots.{lot_id}
+use Rattle.toll_base.specs.declared.lot.LotId.{LotId}
+use Rattle.toll_base.specs.declared.refusal.Refusal.TheVariants.{UnknownLot}
+use Rattle.toll_history.specs.History.{History, acts}
+use Rattle.toll_history.specs.Tables.{lot_row}
+use Rattle.toll_history.specs.Verdict.{Verdict, Accepted, Repeated, Refused, first_of}
+use Rattle.toll_answers.specs.PlantAnswers.{AsksRecall, AsksTrace, Shows, IsCheckedOr, IsPlantAnswer, IsRecallShown, IsTraceShown, lot_checks}
+use Rattle.toll_answers.specs.Replies.{has_key, IsAnswer, IsReply, IsTraceTold}
+use Rattle.toll_answers.specs.Told.{Asked, Told, TellForbidden, TellRefused, TellTrace}
+use Rattle.toll_genealogy.specs.Edges.{IsOwnJoined}
+use Rattle.toll_genealogy.specs.declared.recall.RecallLine.{RecallLine}
+use Rattle.toll_print.specs.Texts.{recall_text}
+use Rattle.toll_trace.specs.Trace.{IsTrace}
+use Rattle.toll_trace.specs.declared.step.Step.{Step}
+use Rattle.toll_trace.specs.declared.way.Way.{Way}
+use Rattle.toll_trace.specs.declared.way.Way.TheVariants.{Back, Forward}
+use Rattle.toll_wire.specs.Printed.{PrintsLine, asks_trace}
+use Rattle.toll_wire.specs.ReplyTexts.{text_of_told}
+use Rattle.toll_wire.specs.Runs.{Asks, By, IsTold}
+use Rattle.toll_wire.specs.Steps.{http}
+
+-- where a text is shown, the checks were passed
+shown_past : (v : Verdict) (S : Type 0) (text : Bytes) → IsCheckedOr v S (Shows text) → S
+shown_past Accepted S text shown = shown
+shown_past Repeated S text shown = shown
+shown_past (Refused why) S text shown = absurd (cc shown)
+
+pub recall_shown : (H : History) (lot : LotId) (text : Bytes) → IsPlantAnswer H (AsksRecall lot) (Shows text) → IsRecallShown H lot (Shows text)
+recall_shown H lot text shown = shown_past (first_of (lot_checks H lot)) (IsRecallShown H lot (Shows text)) text shown
+
+pub trace_shown : (H : History) (lot : LotId) (way : Way) (text : Bytes) → IsPlantAnswer H (AsksTrace lot way) (Shows text) → IsTraceShown H lot way (Shows text)
+trace_shown H lot way text shown = shown_past (first_of (lot_checks H lot)) (IsTraceShown H lot way (Shows text)) text shown
+
+pub text_is : (text other : Bytes) → Shows text ≡ Shows other → text ≡ other
+text_is text other e = (cc e)
+
+-- a line of the one recall is one of the other, where its shown line is
+pub line_printed : (G H : History) (lot : LotId) (o text other line : Bytes) → (p : PrintsLine G lot o text line) → (shown : IsRecallShown H lot (Shows other)) → ((s : RecallLine) → s.step.lot.owner ≡ o → Contains p.lines s → Contains shown.lines s) → PrintsLine H lot o other line
+line_printed G H lot o text other line p shown agree = record {
+  lines = shown.lines;
+  recalled = shown.recalled;
+  printed = text_is other (recall_text shown.lines) shown.shown;
+  shown = p.shown;
+  among = agree p.shown p.own p.among;
+  own = p.own;
+  is = p.is;
+}
+
+module _ (H : History) (o key lot : Bytes) (has : has_key o key H ≡ true) (known : is_some (lot_row H o lot) ≡ true) where
+  abbrev TracedTo : Way → Told → Type 0
+  TracedTo way r = IsTraceTold (IsOwnJoined (acts o H) way) (lot_id o lot) r
+
+  answered : (q : Asked) (r : Told) → IsReply o key H q r → IsAnswer o H q r
+  unfolding IsReply
+  answered q r reply = subst (λ b. MatchBool b (IsAnswer o H q r) (r ≡ TellForbidden)) has reply
+
+  traced : (way : Way) (r : Told) → IsAnswer o H (asks_trace way lot) r → TracedTo way r
+  traced Back r answer = subst (λ b. MatchBool b (TracedTo Back r) (r ≡ TellRefused UnknownLot)) known answer
+  traced Forward r answer = subst (λ b. MatchBool b (TracedTo Forward r) (r ≡ TellRefused UnknownLot)) known answer
+
+  -- an owner that has the lot is told its trace
+  pub own_trace_told : (way : Way) (reply : Bytes) → IsTold http H (By o (Some key) (Asks (asks_trace way lot))) reply →
+      (trace : List Step) × IsTrace (IsOwnJoined (acts o H) way) (lot_id o lot) trace × (reply ≡ text_of_told (TellTrace trace))
+  own_trace_told way reply told =
+      let is = traced way told.0 (answered (asks_trace way lot) told.0 told.1) in
+      (is.trace, is.traced, told.2 ∙ ap text_of_told is.told)

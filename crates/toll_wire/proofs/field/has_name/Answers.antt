@@ -1,6 +1,0 @@
-use Rattle.std.proofs.lemmas.Slice.Eq.{bytes_eq-Decides}
-use Rattle.std.proofs.lemmas.Bool.Decides.{same_from_decides}
-use Rattle.toll_wire.proofs.field.has_name.Goals as goal
-
-pub returns : goal.returns
-returns c = same_from_decides _ _ (rw c.of.ensures at c.eq_ignore_ascii_case.ensures.test) (bytes_eq-Decides _ _)

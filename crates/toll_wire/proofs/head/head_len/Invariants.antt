@@ -1,6 +1,0 @@
--- No shorter front ends the head.
-use Rattle.toll_wire.specs.Head.{IsSearched}
-use Rattle.toll_wire.proofs.head.head_len.Given as goal
-
-abbrev pub invariant-loop-n : goal.invariant-loop-n
-invariant-loop-n l = IsSearched l.text l.n

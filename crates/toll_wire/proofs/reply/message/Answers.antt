@@ -1,8 +1,0 @@
-use Rattle.std.proofs.Common.{◌∙◌, refl}
-use Rattle.std.proofs.lemmas.Result.{IfOk-weaker}
-use Rattle.toll_wire.specs.ReplyTexts.{reply_text}
-use Rattle.toll_wire.proofs.reply.message.Goals as goal
-
-pub returns : goal.returns
-unfolding reply_text
-returns c = IfOk-weaker c.format.result _ _ (λ s e. e ∙ rw (c.content_type-kind.ensures, c.allow_line-allow.ensures) refl) c.format.ensures.ok

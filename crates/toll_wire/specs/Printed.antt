@@ -1,0 +1,26 @@
+-- Traces and recalls down to the bytes that are told.
+use Rattle.std.specs.Prelude.{◌≡◌, List, Contains}
+use Rattle.toll_base.specs.Bytes.{Bytes}
+use Rattle.toll_base.specs.declared.lot.LotId.{LotId}
+use Rattle.toll_answers.specs.Told.{Asked, AskBack, AskForward}
+use Rattle.toll_genealogy.specs.Recall.{IsRecall}
+use Rattle.toll_genealogy.specs.declared.recall.RecallLine.{RecallLine}
+use Rattle.toll_history.specs.History.{History}
+use Rattle.toll_print.specs.Texts.{recall_line, recall_text}
+use Rattle.toll_trace.specs.declared.way.Way.{Way}
+use Rattle.toll_trace.specs.declared.way.Way.TheVariants.{Back, Forward}
+
+-- the request for an owner's trace this way
+abbrev pub asks_trace : Way → Bytes → Asked
+asks_trace Back lot = AskBack lot
+asks_trace Forward lot = AskForward lot
+
+-- the text is that of the recall, and this is its line of some lot of the owner
+pub record PrintsLine (H : History) (lot : LotId) (o text line : Bytes) : Type 0 where
+  pub lines : List RecallLine
+  pub recalled : IsRecall H lot lines
+  pub printed : text ≡ recall_text lines
+  pub shown : RecallLine
+  pub among : Contains lines shown
+  pub own : shown.step.lot.owner ≡ o
+  pub is : line ≡ recall_line shown
