@@ -15,8 +15,6 @@ mod movements;
 #[cfg(test)]
 mod owners;
 #[cfg(test)]
-mod plant_words;
-#[cfg(test)]
 mod request_words;
 #[cfg(test)]
 mod said;
@@ -24,5 +22,3 @@ mod said;
 mod setups;
 #[cfg(test)]
 mod voids;
-#[cfg(test)]
-mod words;

@@ -1,12 +1,12 @@
 //! Lines of what is asked, and what is said to each.
-use crate::plant_words::plant_cmd;
 use crate::request_words::request;
-use crate::said::{owner_said, plant_said};
+use crate::said::owner_said;
 use std::alloc::{AllocError, Global};
 use std::process::Abort;
 use std::test::Fail;
 use toll_desk::{owner_do, plant_do};
 use toll_keep::{Keep, MemKeep};
+use toll_stories::{plant_cmd, plant_said};
 
 /// What is asked, and what is said to it. The plant asks in its words; an owner's line begins with
 /// `>`, its name and its key.

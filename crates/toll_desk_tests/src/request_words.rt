@@ -1,7 +1,7 @@
 //! Owners' lines, read as requests.
-use crate::words::Words;
 use toll_base::Refusal;
 use toll_desk::Request;
+use toll_stories::Words;
 
 /// The request of these words; `None` where one can't be read.
 pub(crate) fn request(words: &[&str]) -> Option<Request> {

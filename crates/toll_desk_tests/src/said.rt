@@ -1,49 +1,15 @@
-//! What is said, as text.
+//! What is said to an owner, as text.
 use std::alloc::{AllocError, Global};
-use toll_base::{Disposition, Name, OrderRow, Origin, Refusal, ResultRow, SublotRow};
-use toll_desk::{PlantReply, Reply};
-use toll_keep::KeepFault;
+use toll_base::{Disposition, Name, OrderRow, Origin, ResultRow, SublotRow};
+use toll_desk::Reply;
 use toll_print::{batch_text, trace_text};
+use toll_stories::{said_fault, said_refusal, said_text, text_of};
 use toll_trace::Step;
 use toll_views::{LotView, StockLine};
 use toll_work::BatchView;
 
-fn text_of(bytes: &[u8]) -> &str {
-    match str::from_utf8(bytes) {
-        Ok(text) => text,
-        Err(_) => "?",
-    }
-}
-
 fn name_of(name: &Name) -> &str {
     text_of(name.as_bytes())
-}
-
-fn refused(alloc: Global, why: &Refusal) -> Result<String, AllocError> {
-    let code = why.code();
-    format!(in alloc; "refused {code}")
-}
-
-fn fault(alloc: Global, fault: &KeepFault) -> Result<String, AllocError> {
-    let name = fault.name();
-    format!(in alloc; "fault {name}")
-}
-
-fn shown(alloc: Global, bytes: &[u8]) -> Result<String, AllocError> {
-    let text = text_of(bytes);
-    format!(in alloc; "{text}")
-}
-
-/// What the plant is told: `accepted`, `repeated`, `refused` and its number, the text itself, or
-/// `fault` and its name.
-pub(crate) fn plant_said(alloc: Global, reply: &PlantReply) -> Result<String, AllocError> {
-    match reply {
-        PlantReply::Accepted => format!(in alloc; "accepted"),
-        PlantReply::Repeated => format!(in alloc; "repeated"),
-        PlantReply::Refused(why) => refused(alloc, why),
-        PlantReply::Text(text) => shown(alloc, text),
-        PlantReply::Fault(why) => fault(alloc, why),
-    }
 }
 
 /// What an owner is told. A batch and a trace are told in the plant's columns.
@@ -56,8 +22,8 @@ pub(crate) fn owner_said(alloc: Global, reply: &Reply) -> Result<String, AllocEr
         Reply::Stock(lines) => stock(alloc, lines),
         Reply::Lot(view) => lot(alloc, view),
         Reply::Trace(steps) => trace(alloc, steps),
-        Reply::Refused(why) => refused(alloc, why),
-        Reply::Fault(why) => fault(alloc, why),
+        Reply::Refused(why) => said_refusal(alloc, why),
+        Reply::Fault(why) => said_fault(alloc, why),
     }
 }
 
@@ -127,12 +93,12 @@ fn orders(alloc: Global, rows: &[OrderRow]) -> Result<String, AllocError> {
 
 fn batch(alloc: Global, view: &BatchView) -> Result<String, AllocError> {
     let text = batch_text(alloc, view)?;
-    shown(alloc, &text)
+    said_text(alloc, &text)
 }
 
 fn trace(alloc: Global, steps: &[Step]) -> Result<String, AllocError> {
     let text = trace_text(alloc, steps)?;
-    shown(alloc, &text)
+    said_text(alloc, &text)
 }
 
 fn stock(alloc: Global, lines: &[StockLine]) -> Result<String, AllocError> {

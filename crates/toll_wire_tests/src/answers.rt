@@ -161,40 +161,6 @@ fn requests_get_their_replies(rt: HostRuntime) -> Result<(), Fail> {
     Ok(expect_all(&rt, rt.alloc(), &mut keep, REPLIES)?)
 }
 
-const OTHER_METHODS: &[(&str, &str)] = &[
-    (
-        "POST /orders/O-1",
-        "HTTP/1.1 405 Method Not Allowed\r\ncontent-type: application/json\r\ncontent-length: 28\r\nallow: GET\r\nconnection: close\r\n\r\n{\"error\":\"MethodNotAllowed\"}",
-    ),
-    (
-        "PUT /orders",
-        "HTTP/1.1 501 Not Implemented\r\ncontent-length: 0\r\nconnection: close\r\n\r\n",
-    ),
-];
-
-fn expect_text(
-    rt: &impl Abort,
-    alloc: Global,
-    keep: &mut MemKeep,
-    line: &str,
-    want: &str,
-) -> Result<(), AllocError> {
-    let bytes = request(alloc, line, "")?;
-    let out = answer(alloc, keep, &bytes);
-    assert_eq!(rt; out.bytes(), want.as_bytes(), "{line}");
-    Ok(())
-}
-
-#[test]
-fn another_method_is_told(rt: HostRuntime) -> Result<(), Fail> {
-    let mut keep = office(&rt, rt.alloc());
-    for row in OTHER_METHODS {
-        let (line, want) = *row;
-        expect_text(&rt, rt.alloc(), &mut keep, line, want)?;
-    }
-    Ok(())
-}
-
 const PLACING: &[Row] = &[["POST /orders", PLACE, "200 OK", ORDER]];
 
 const LISTING: &[Row] = &[["GET /orders", "", "200 OK", ORDERS]];

@@ -1,6 +1,8 @@
 //! Readers and writers that fail.
+use std::alloc::Global;
 use std::io;
 use std::io::{ErrorKind, Read, Write};
+use toll_wire::{ReadFault, read_request};
 
 /// Gives these bytes, so many at most with each read, and then fails or ends.
 #[derive(Drop)]
@@ -21,6 +23,21 @@ impl Read for Source<'_> {
         self.bytes = rest;
         Ok(n)
     }
+}
+
+/// Reads a request from a stream that gives these bytes in pieces, and then fails or ends.
+pub fn read_pieces(
+    alloc: Global,
+    bytes: &[u8],
+    piece: usize,
+    fails: bool,
+) -> Result<Vec<u8>, ReadFault> {
+    let mut source = Source {
+        bytes,
+        piece,
+        fails,
+    };
+    read_request(alloc, &mut source)
 }
 
 /// Takes so many bytes, so many at most with each write, and then fails.

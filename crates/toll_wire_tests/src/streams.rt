@@ -1,27 +1,12 @@
 //! Requests that come in pieces, and streams that fail.
 use crate::answers::{PLACE, PLACED, office};
-use crate::fakes::{Sink, Source};
+use crate::fakes::{Sink, read_pieces};
 use crate::requests::{repeated, request, with_fields};
 use std::alloc::{AllocError, Global};
 use std::process::Abort;
 use std::test::Fail;
 use toll_keep::MemKeep;
-use toll_wire::{ReadFault, WriteFault, answer, read_request, write_reply};
-
-/// Reads a request from a stream that gives these bytes in pieces, and then fails or ends.
-fn read_pieces(
-    alloc: Global,
-    bytes: &[u8],
-    piece: usize,
-    fails: bool,
-) -> Result<Vec<u8>, ReadFault> {
-    let mut source = Source {
-        bytes,
-        piece,
-        fails,
-    };
-    read_request(alloc, &mut source)
-}
+use toll_wire::{ReadFault, WriteFault, answer, write_reply};
 
 fn expect_answer(
     rt: &impl Abort,
@@ -63,8 +48,8 @@ fn expect_status(
 
 /// A front, a part so many times, and an end of a head's fields, and the status.
 const HEADS: &[(&str, &str, usize, &str, &str)] = &[
-    ("x: ", "x", 8192 - 84, "\r\n", "200"),
-    ("x: ", "x", 8193 - 84, "\r\n", "400"),
+    ("x: ", "x", 8192 - 83, "\r\n", "200"),
+    ("x: ", "x", 8193 - 83, "\r\n", "400"),
     ("", "x: y\r\n", 29, "", "200"),
     ("", "x: y\r\n", 30, "", "400"),
 ];
@@ -75,7 +60,7 @@ fn a_head_has_limits(rt: HostRuntime) -> Result<(), Fail> {
     for row in HEADS {
         let (front, part, count, end, status) = *row;
         let fields = repeated(alloc, front, part, count, end)?;
-        let bytes = with_fields(alloc, "GET /orders HTTP/1.1", fields.as_str(), "")?;
+        let bytes = with_fields(alloc, "GET /stock HTTP/1.1", fields.as_str(), "")?;
         expect_status(&rt, alloc, &bytes, status)?;
     }
     Ok(())
@@ -89,6 +74,7 @@ fn a_body_has_a_limit(rt: HostRuntime) -> Result<(), Fail> {
         ("content-length: 4096\r\n", body.as_str(), "200"),
         ("content-length: 4097\r\n", body.as_str(), "413"),
         ("content-length: 10\r\n", "123456789", "400"),
+        ("content-length: 5000\r\n", "1234567890", "413"),
     ];
     for (fields, body, status) in rows {
         let bytes = with_fields(alloc, "POST /orders HTTP/1.1", fields, body)?;
@@ -107,7 +93,7 @@ fn fields_are_checked(rt: HostRuntime) -> Result<(), Fail> {
         ("content-length: 999999999999999999999999999999\r\n", "413"),
     ];
     for (fields, status) in rows {
-        let bytes = with_fields(rt.alloc(), "GET /orders HTTP/1.1", fields, "")?;
+        let bytes = with_fields(rt.alloc(), "GET /stock HTTP/1.1", fields, "")?;
         expect_status(&rt, rt.alloc(), &bytes, status)?;
     }
     Ok(())
@@ -117,24 +103,32 @@ fn fields_are_checked(rt: HostRuntime) -> Result<(), Fail> {
 fn forms_of_heads_are_told_apart(rt: HostRuntime) -> Result<(), Fail> {
     let rows = [
         (
-            "GET /orders HTTP/1.0\r\ntoll-owner: ACME\r\ntoll-key: ACMEKEY1\r\n\r\n",
+            "GET /stock HTTP/1.0\r\ntoll-owner: ACME\r\ntoll-key: ACMEKEY1\r\n\r\n",
             "200",
         ),
         (
-            "GET /orders HTTP/1.1\r\nhost: h\r\nTOLL-OWNER: ACME\r\ntoll-key: ACMEKEY1\r\n\r\n",
+            "GET /stock HTTP/1.1\r\nhost: h\r\nTOLL-OWNER: ACME\r\ntoll-key: ACMEKEY1\r\n\r\n",
             "200",
         ),
         (
-            "GET /orders HTTP/1.1\nhost: h\ntoll-owner: ACME\ntoll-key: ACMEKEY1\n\n",
+            "GET /stock HTTP/1.1\nhost: h\ntoll-owner: ACME\ntoll-key: ACMEKEY1\n\n",
             "400",
         ),
         (
-            "GET /orders HTTP/1.1\r\ntoll-owner: ACME\r\ntoll-key: ACMEKEY1\r\n\r\n",
+            "GET /stock HTTP/1.1\r\ntoll-owner: ACME\r\ntoll-key: ACMEKEY1\r\n\r\n",
             "400",
         ),
         (
-            "GET /orders HTTP/1.1\r\nhost: h\r\ntoll-owner: ACME\r\n\r\n",
+            "GET /stock HTTP/1.1\r\nhost: h\r\ntoll-owner: ACME\r\n\r\n",
             "403",
+        ),
+        (
+            "GET /stock?x=1 HTTP/1.1\r\nhost: h\r\ntoll-owner: ACME\r\ntoll-key: ACMEKEY1\r\n\r\n",
+            "200",
+        ),
+        (
+            "GET http://127.0.0.1/stock HTTP/1.1\r\nhost: h\r\ntoll-owner: ACME\r\ntoll-key: ACMEKEY1\r\n\r\n",
+            "404",
         ),
     ];
     for (text, status) in rows {

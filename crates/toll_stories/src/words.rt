@@ -9,14 +9,15 @@ use toll_trace::Way;
 /// The words of a line, and why the first of them that can't be read is refused. Such a word is read
 /// as some value of its kind.
 #[derive(Drop)]
-pub(crate) struct Words<'a> {
+pub struct Words<'a> {
     words: &'a [&'a str],
+    /// Why the first word that can't be read is refused.
     pub unread: Option<Refusal>,
 }
 
 impl<'a> Words<'a> {
     /// These words, none of which is read yet.
-    pub(crate) fn new(words: &'a [&'a str]) -> Self {
+    pub fn new(words: &'a [&'a str]) -> Self {
         Words {
             words,
             unread: None,
@@ -24,21 +25,22 @@ impl<'a> Words<'a> {
     }
 
     /// The word at this place, counted from 0; empty where there is none.
-    pub(crate) fn word(&self, place: usize) -> &'a str {
+    pub fn word(&self, place: usize) -> &'a str {
         match self.words.get(place) {
             Some(word) => word,
             None => "",
         }
     }
 
-    /// A word is refused so, unless one was before.
-    pub(crate) fn refuse(&mut self, why: Refusal) {
+    /// A word is refused for this, unless one was before.
+    pub fn refuse(&mut self, why: Refusal) {
         if self.unread.is_none() {
             self.unread = Some(why);
         }
     }
 
-    pub(crate) fn name(&mut self, place: usize) -> Name {
+    /// The name at this place.
+    pub fn name(&mut self, place: usize) -> Name {
         match Name::parse(self.word(place).as_bytes()) {
             Ok(name) => name,
             Err(why) => {
@@ -48,7 +50,8 @@ impl<'a> Words<'a> {
         }
     }
 
-    pub(crate) fn owner_key(&mut self, place: usize) -> OwnerKey {
+    /// The owner's key at this place.
+    pub fn owner_key(&mut self, place: usize) -> OwnerKey {
         match OwnerKey::parse(self.word(place).as_bytes()) {
             Ok(key) => key,
             Err(why) => {
@@ -58,7 +61,8 @@ impl<'a> Words<'a> {
         }
     }
 
-    pub(crate) fn measure(&mut self, place: usize) -> Measure {
+    /// The measure at this place.
+    pub fn measure(&mut self, place: usize) -> Measure {
         match Measure::parse(self.word(place).as_bytes()) {
             Ok(measure) => measure,
             Err(why) => {
@@ -68,7 +72,8 @@ impl<'a> Words<'a> {
         }
     }
 
-    pub(crate) fn number<const LEAST: u64, const MOST: u64>(
+    /// The number within the bounds at this place.
+    pub fn number<const LEAST: u64, const MOST: u64>(
         &mut self,
         place: usize,
     ) -> Bounded<LEAST, MOST>
@@ -84,8 +89,8 @@ impl<'a> Words<'a> {
         }
     }
 
-    /// A value of a test, with `M` before it where it is negative.
-    pub(crate) fn value(&mut self, place: usize) -> Value {
+    /// The value of a test at this place, with `M` before it where it is negative.
+    pub fn value(&mut self, place: usize) -> Value {
         match value_of(self.word(place)) {
             Some(value) => value,
             None => {
@@ -95,8 +100,8 @@ impl<'a> Words<'a> {
         }
     }
 
-    /// The limits that stand from this place on.
-    pub(crate) fn limits(&mut self, place: usize) -> Limits {
+    /// The limits of a test that stand from this place on.
+    pub fn limits(&mut self, place: usize) -> Limits {
         let low = self.value(place);
         let high = self.value(place.wrapping_add(1));
         match Limits::new(low, high) {
@@ -108,7 +113,8 @@ impl<'a> Words<'a> {
         }
     }
 
-    pub(crate) fn role(&mut self, place: usize) -> Role {
+    /// The role at this place: `consumed` or `produced`.
+    pub fn role(&mut self, place: usize) -> Role {
         match self.word(place) {
             "consumed" => Role::Consumed,
             "produced" => Role::Produced,
@@ -119,7 +125,8 @@ impl<'a> Words<'a> {
         }
     }
 
-    pub(crate) fn way(&mut self, place: usize) -> Way {
+    /// The way of a trace at this place: `back` or `forward`.
+    pub fn way(&mut self, place: usize) -> Way {
         match self.word(place) {
             "back" => Way::Back,
             "forward" => Way::Forward,
@@ -130,7 +137,8 @@ impl<'a> Words<'a> {
         }
     }
 
-    pub(crate) fn state_command(&mut self, place: usize) -> StateCommand {
+    /// The command to a batch's state at this place.
+    pub fn state_command(&mut self, place: usize) -> StateCommand {
         match StateCommand::read(self.word(place).as_bytes()) {
             Some(command) => command,
             None => {
@@ -141,7 +149,7 @@ impl<'a> Words<'a> {
     }
 
     /// The lot whose owner and name stand from this place on.
-    pub(crate) fn lot(&mut self, place: usize) -> LotId {
+    pub fn lot(&mut self, place: usize) -> LotId {
         LotId {
             owner: self.name(place),
             lot: self.name(place.wrapping_add(1)),

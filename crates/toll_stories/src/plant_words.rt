@@ -4,7 +4,7 @@ use toll_base::{Refusal, RequirementRow};
 use toll_desk::PlantCmd;
 
 /// The command of these words. Where a word can't be read, it is unread.
-pub(crate) fn plant_cmd(words: &[&str]) -> PlantCmd {
+pub fn plant_cmd(words: &[&str]) -> PlantCmd {
     let mut words = Words::new(words);
     let command = read(&mut words);
     match words.unread {
