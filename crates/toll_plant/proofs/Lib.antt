@@ -5,3 +5,4 @@ pub mod OfficeLemmas
 pub mod WordLemmas
 pub mod ReadLemmas
 pub mod TableLemmas
+pub mod LimitLemmas

@@ -1,15 +1,20 @@
 -- Each line of the table makes a command of its values.
-use Rattle.std.proofs.Common.{◌≡◌, ℕ, Bool, true, false, cond, List, [], ◌∷◌, length, drop, refl, subst, arith, Option, Some, None}
-use Rattle.std.specs.Prelude.{◌&&◌, ◌==◌, IsSome, Result, Ok, Err, find, nat_le, if◌then◌else◌}
+use Rattle.std.proofs.Common.{◌≡◌, ℕ, ℤ, Bool, true, false, cond, List, [], ◌∷◌, length, drop, refl, subst, arith, Option, Some, None}
+use Rattle.std.specs.Prelude.{◌==◌, IsSome, Result, Ok, Err, find}
 use Rattle.std.specs.List.{AllByRecursion}
 use Rattle.std.specs.Str.{bytes_eq}
 use Rattle.toll_base.specs.Bytes.{Bytes}
-use Rattle.toll_base.specs.Values.{is_name, is_owner_key, number_of}
+use Rattle.toll_base.specs.States.{read_command}
+use Rattle.toll_base.specs.Values.{is_measure, is_name, is_owner_key}
+use Rattle.toll_base.specs.Words.{where_so}
+use Rattle.toll_base.specs.declared.role.Role.{Role}
+use Rattle.toll_base.specs.declared.state_command.StateCommand.{StateCommand}
+use Rattle.toll_trace.specs.declared.way.Way.{Way}
 use Rattle.toll_base.specs.declared.refusal.Refusal.{Refusal}
 use Rattle.toll_base.specs.declared.refusal.Refusal.TheVariants.{BadName, BadAmount}
 use Rattle.toll_plant.specs.Commands.{command_from}
 use Rattle.toll_plant.specs.Lines.{Argument, Line, line_named, line_of}
-use Rattle.toll_plant.specs.Readings.{read_as, within}
+use Rattle.toll_plant.specs.Readings.{number_within, or_refused, read_as, role_of, value_of, way_of}
 use Rattle.toll_plant.specs.Table.{plant_lines}
 use Rattle.toll_plant.specs.Words.{command_read, command_with, in_front, values_read}
 use Rattle.toll_plant.proofs.OfficeLemmas.{line_taken, same_number}
@@ -23,26 +28,37 @@ use Rattle.toll_plant.specs.declared.argument.Reading.TheVariants as by
 abbrev HoldsOfAll : Reading → (Given → Type 0) → Type 0
 HoldsOfAll by.Name P = (name : Bytes) → P (given.Name name)
 HoldsOfAll by.OwnerKey P = (key : Bytes) → P (given.OwnerKey key)
+HoldsOfAll by.Measure P = (measure : Bytes) → P (given.Measure measure)
+HoldsOfAll by.Role P = (role : Role) → P (given.Role role)
+HoldsOfAll by.Way P = (way : Way) → P (given.Way way)
+HoldsOfAll by.StateCommand P = (command : StateCommand) → P (given.StateCommand command)
+HoldsOfAll by.Amount P = (amount : ℕ) → P (given.Amount amount)
+HoldsOfAll by.Day P = (day : ℕ) → P (given.Day day)
 HoldsOfAll by.Segment P = (segment : ℕ) → P (given.Segment segment)
+HoldsOfAll by.BatchNo P = (number : ℕ) → P (given.BatchNo number)
+HoldsOfAll by.Value P = (value : ℤ) → P (given.Value value)
 
 -- the fact holds of all lists of values that are read so
 abbrev HoldsOfEach : List Argument → (List Given → Type 0) → Type 0
 HoldsOfEach [] P = P []
 HoldsOfEach (a ∷ rest) P = HoldsOfAll a.reading (λ value. HoldsOfEach rest (λ values. P (value ∷ values)))
 
-if_ok : (b : Bool) (v : Given) (why : Refusal) (w : Given) → (if b then Ok v else Err why) ≡ Ok w → v ≡ w
-if_ok true v why w e = cc
-if_ok false v why w e = absurd (cc e)
-
-within_ok : (least most : ℕ) (made : ℕ → Given) (n : Option ℕ) (P : Given → Type 0) (v : Given) → ((k : ℕ) → P (made k))
-    → within least most made n ≡ Ok v → P v
-within_ok least most made None P v all e = absurd (cc e)
-within_ok least most made (Some n) P v all e = subst P (if_ok (nat_le least n && nat_le n most) (made n) BadAmount v e) (all n)
+read_has : {A : Type 0} (why : Refusal) (made : A → Given) (o : Option A) (P : Given → Type 0) (v : Given) → ((x : A) → P (made x)) → or_refused why made o ≡ Ok v → P v
+read_has why made None P v all e = absurd (cc e)
+read_has why made (Some x) P v all e = let same : made x ≡ v = cc in subst P same (all x)
 
 value_has : (r : Reading) (P : Given → Type 0) (word : Bytes) (v : Given) → HoldsOfAll r P → read_as r word ≡ Ok v → P v
-value_has by.Name P word v all e = subst P (if_ok (is_name word) (given.Name word) BadName v e) (all word)
-value_has by.OwnerKey P word v all e = subst P (if_ok (is_owner_key word) (given.OwnerKey word) BadName v e) (all word)
-value_has by.Segment P word v all e = within_ok 1 50 given.Segment (number_of word) P v all e
+value_has by.Name P word v all e = read_has BadName given.Name (where_so (is_name word) word) P v all e
+value_has by.OwnerKey P word v all e = read_has BadName given.OwnerKey (where_so (is_owner_key word) word) P v all e
+value_has by.Measure P word v all e = read_has BadName given.Measure (where_so (is_measure word) word) P v all e
+value_has by.Role P word v all e = read_has BadName given.Role (role_of word) P v all e
+value_has by.Way P word v all e = read_has BadName given.Way (way_of word) P v all e
+value_has by.StateCommand P word v all e = read_has BadName given.StateCommand (read_command word) P v all e
+value_has by.Amount P word v all e = read_has BadAmount given.Amount (number_within 1 1000000000 word) P v all e
+value_has by.Day P word v all e = read_has BadAmount given.Day (number_within 0 9999999 word) P v all e
+value_has by.Segment P word v all e = read_has BadAmount given.Segment (number_within 1 50 word) P v all e
+value_has by.BatchNo P word v all e = read_has BadAmount given.BatchNo (number_within 1 99 word) P v all e
+value_has by.Value P word v all e = read_has BadAmount given.Value (value_of word) P v all e
 
 -- what the first value and those behind it are, where all were read
 record Parts (first : Result Given Refusal) (behind : Result (List Given) Refusal) (values : List Given) : Type 0 where
@@ -71,8 +87,39 @@ values_have (a ∷ rest) P (w ∷ words) values same all e =
 abbrev Makes : Line → Type 0
 Makes l = HoldsOfEach l.values (λ values. IsSome (command_from l.command values))
 
+-- a fact of a line, and of those behind it
+infixr 30 ◌and◌
+◌and◌ : {A B : Type 0} → A → B → A × B
+first and others = (first, others)
+
 every_line : AllByRecursion Makes plant_lines
-every_line = (λ owner key. refl, (λ owner recipe segments. refl, tt))
+every_line =
+    (λ owner key. refl)
+    and (λ unit. refl)
+    and (λ owner material measure. refl)
+    and (λ owner material test low high. refl)
+    and (λ owner recipe segments. refl)
+    and (λ owner recipe segment role source material amount. refl)
+    and (λ order recipe batches. refl)
+    and (λ order. refl)
+    and (λ owner order unit. refl)
+    and (λ owner order number command. refl)
+    and (λ owner order number. refl)
+    and (λ owner key material lot sublot amount day. refl)
+    and (λ owner key lot sublot target amount day. refl)
+    and (λ owner key lot sublot amount day. refl)
+    and (λ owner key lot sublot amount day. refl)
+    and (λ owner lot test value day. refl)
+    and (λ lot. refl)
+    and (λ lot. refl)
+    and (λ key owner order number segment role material lot_owner lot sublot amount day. refl)
+    and (λ owner key. refl)
+    and (λ owner. refl)
+    and (λ owner. refl)
+    and (λ owner order number. refl)
+    and (λ owner lot way. refl)
+    and (λ owner lot. refl)
+    and tt
 
 found_has : {A : Type 0} (P : A → Type 0) (p : A → Bool) (xs : List A) (x : A) → AllByRecursion P xs → find p xs ≡ Some x → P x
 found_has P p [] x all e = absurd (cc e)

@@ -1,22 +1,69 @@
 -- How the values of a command are read.
-use Rattle.std.specs.Prelude.{ℕ, Option, Some, None, Result, Ok, Err, if◌then◌else◌, nat_le, ◌&&◌}
-use Rattle.toll_base.specs.Bytes.{Bytes}
-use Rattle.toll_base.specs.Values.{is_name, is_owner_key, number_of}
-use Rattle.toll_base.specs.declared.bounded.TheConstants.{MOST_SEGMENTS}
+use Rattle.std.specs.Prelude.{ℕ, ℤ, pos, neg_ℤ, nat_abs, ◌==◌, ◌&&◌, nat_le, [], ◌∷◌, find, codes, Option, Some, None, option_map, option_and_then, Result, Ok, Err, if◌then◌else◌}
+use Rattle.toll_base.specs.Bytes.{Bytes, same_bytes}
+use Rattle.toll_base.specs.States.{read_command}
+use Rattle.toll_base.specs.Values.{is_measure, is_name, is_owner_key, number_of}
+use Rattle.toll_base.specs.Words.{where_so}
+use Rattle.toll_base.specs.declared.bounded.TheConstants.{MOST_AMOUNT, MOST_BATCHES, MOST_DAY, MOST_SEGMENTS}
 use Rattle.toll_base.specs.declared.refusal.Refusal.{Refusal}
 use Rattle.toll_base.specs.declared.refusal.Refusal.TheVariants.{BadName, BadAmount}
+use Rattle.toll_base.specs.declared.role.Role.{Role}
+use Rattle.toll_base.specs.declared.role.Role.TheVariants.{Consumed, Produced}
+use Rattle.toll_base.specs.declared.value.TheConstants.{LEAST_VALUE, MOST_VALUE}
+use Rattle.toll_print.specs.Texts.{use_word}
+use Rattle.toll_trace.specs.declared.way.Way.{Way}
+use Rattle.toll_trace.specs.declared.way.Way.TheVariants.{Back, Forward}
 use Rattle.toll_plant.specs.declared.argument.Reading.{Reading}
 use Rattle.toll_plant.specs.declared.argument.Reading.TheVariants as by
 use Rattle.toll_plant.specs.declared.argument.Given.{Given}
 use Rattle.toll_plant.specs.declared.argument.Given.TheVariants as given
 
--- a number within these bounds
-abbrev pub within : (least most : ℕ) → (ℕ → Given) → Option ℕ → Result Given Refusal
-within least most made None = Err BadAmount
-within least most made (Some n) = if nat_le least n && nat_le n most then Ok (made n) else Err BadAmount
+-- ---- words
+
+-- the use of a material that the word names
+abbrev pub role_of : Bytes → Option Role
+role_of word = find (λ role. same_bytes word (use_word role)) (Consumed ∷ Produced ∷ [])
+
+-- the word of a way
+abbrev pub way_word : Way → Bytes
+way_word Back = codes "back"
+way_word Forward = codes "forward"
+
+-- the way that the word names
+abbrev pub way_of : Bytes → Option Way
+way_of word = find (λ way. same_bytes word (way_word way)) (Back ∷ Forward ∷ [])
+
+-- ---- numbers
+
+-- the number that the bytes write, if it is within these bounds
+abbrev pub number_within : (least most : ℕ) → Bytes → Option ℕ
+number_within least most word = option_and_then (λ n. where_so (nat_le least n && nat_le n most) n) (number_of word)
+
+-- the value of a test that the bytes write: a negative one has `M` before its size, and there is no negative 0
+abbrev pub value_of : Bytes → Option ℤ
+value_of [] = None
+value_of (b ∷ word) =
+    if b == 77
+    then option_map (λ n. neg_ℤ (pos n)) (number_within 1 (nat_abs LEAST_VALUE) word)
+    else option_map pos (number_within 0 (nat_abs MOST_VALUE) (b ∷ word))
+
+-- ---- values
+
+-- what was read, or the refusal of bytes that are nothing of the kind
+abbrev pub or_refused : {A : Type 0} → Refusal → (A → Given) → Option A → Result Given Refusal
+or_refused why made None = Err why
+or_refused why made (Some value) = Ok (made value)
 
 -- a value as it is read, or the refusal of one that can't be read
 abbrev pub read_as : Reading → Bytes → Result Given Refusal
-read_as by.Name word = if is_name word then Ok (given.Name word) else Err BadName
-read_as by.OwnerKey word = if is_owner_key word then Ok (given.OwnerKey word) else Err BadName
-read_as by.Segment word = within 1 MOST_SEGMENTS given.Segment (number_of word)
+read_as by.Name word = or_refused BadName given.Name (where_so (is_name word) word)
+read_as by.OwnerKey word = or_refused BadName given.OwnerKey (where_so (is_owner_key word) word)
+read_as by.Measure word = or_refused BadName given.Measure (where_so (is_measure word) word)
+read_as by.Role word = or_refused BadName given.Role (role_of word)
+read_as by.Way word = or_refused BadName given.Way (way_of word)
+read_as by.StateCommand word = or_refused BadName given.StateCommand (read_command word)
+read_as by.Amount word = or_refused BadAmount given.Amount (number_within 1 MOST_AMOUNT word)
+read_as by.Day word = or_refused BadAmount given.Day (number_within 0 MOST_DAY word)
+read_as by.Segment word = or_refused BadAmount given.Segment (number_within 1 MOST_SEGMENTS word)
+read_as by.BatchNo word = or_refused BadAmount given.BatchNo (number_within 1 MOST_BATCHES word)
+read_as by.Value word = or_refused BadAmount given.Value (value_of word)

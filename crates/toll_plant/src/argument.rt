@@ -1,8 +1,14 @@
 //! The values of a command, and how each is read.
-ghost use Rattle.std.specs.Prelude.{◌≡◌};
-ghost use Rattle.toll_plant.specs.Readings.{read_as};
+ghost use Rattle.std.specs.Prelude.{◌≡◌, pos, neg_ℤ, nat_abs, option_map};
+ghost use Rattle.toll_base.specs.Bytes.{same_bytes};
+ghost use Rattle.toll_base.specs.declared.value.TheConstants.{LEAST_VALUE, MOST_VALUE};
+ghost use Rattle.toll_plant.specs.Readings.{number_within, read_as, role_of, value_of, way_of};
 
-use toll_base::{Name, OwnerKey, Refusal, Segment, number};
+use toll_base::{
+    Amount, BatchNo, Bounded, Day, Measure, Name, OwnerKey, Refusal, Role, Segment, StateCommand,
+    Value, number,
+};
+use toll_trace::Way;
 
 /// A value of a command: what it is called, and how it is read.
 #[derive(Clone, Copy, Debug)]
@@ -16,7 +22,15 @@ pub struct Argument<'a> {
 pub enum Reading {
     Name,
     OwnerKey,
+    Measure,
+    Role,
+    Way,
+    StateCommand,
+    Amount,
+    Day,
     Segment,
+    BatchNo,
+    Value,
 }
 
 /// A value that was read.
@@ -24,22 +38,108 @@ pub enum Reading {
 pub enum Given {
     Name(Name),
     OwnerKey(OwnerKey),
+    Measure(Measure),
+    Role(Role),
+    Way(Way),
+    StateCommand(StateCommand),
+    Amount(Amount),
+    Day(Day),
     Segment(Segment),
+    BatchNo(BatchNo),
+    Value(Value),
 }
 
+// The greatest size of a value of a test.
+const MOST_SIZE: u64 = 1_000_000_000;
+
 impl Reading {
-    /// The value that these bytes write: [`Refusal::BadName`] for bytes that are no name or key,
-    /// [`Refusal::BadAmount`] for bytes that are no number or one out of its bounds.
+    /// The value that these bytes write: [`Refusal::BadName`] for bytes that are no name, key,
+    /// measure or word of their kind, [`Refusal::BadAmount`] for bytes that are no number or one out
+    /// of its bounds.
     pub fn read(self, word: &[u8]) -> Result<Given, Refusal>
         ensures { result ≡ read_as self word.now }
     {
         match self {
             Reading::Name => Ok(Given::Name(Name::parse(word)?)),
             Reading::OwnerKey => Ok(Given::OwnerKey(OwnerKey::parse(word)?)),
-            Reading::Segment => {
-                let number = number(word).ok_or(Refusal::BadAmount)?;
-                Ok(Given::Segment(Segment::new(number)?))
-            }
+            Reading::Measure => Ok(Given::Measure(Measure::parse(word)?)),
+            Reading::Role => Ok(Given::Role(role_of(word).ok_or(Refusal::BadName)?)),
+            Reading::Way => Ok(Given::Way(way_of(word).ok_or(Refusal::BadName)?)),
+            Reading::StateCommand => Ok(Given::StateCommand(StateCommand::read(word).ok_or(
+                Refusal::BadName,
+            )?)),
+            Reading::Amount => Ok(Given::Amount(bounded(word).ok_or(Refusal::BadAmount)?)),
+            Reading::Day => Ok(Given::Day(bounded(word).ok_or(Refusal::BadAmount)?)),
+            Reading::Segment => Ok(Given::Segment(bounded(word).ok_or(Refusal::BadAmount)?)),
+            Reading::BatchNo => Ok(Given::BatchNo(bounded(word).ok_or(Refusal::BadAmount)?)),
+            Reading::Value => Ok(Given::Value(value_of(word).ok_or(Refusal::BadAmount)?)),
         }
     }
+}
+
+// What is done with a material.
+fn role_of(word: &[u8]) -> Option<Role>
+    ensures { result ≡ role_of word.now }
+{
+    if is_word(word, "consumed") {
+        Some(Role::Consumed)
+    } else if is_word(word, "produced") {
+        Some(Role::Produced)
+    } else {
+        None
+    }
+}
+
+// Which way a trace goes.
+fn way_of(word: &[u8]) -> Option<Way>
+    ensures { result ≡ way_of word.now }
+{
+    if is_word(word, "back") {
+        Some(Way::Back)
+    } else if is_word(word, "forward") {
+        Some(Way::Forward)
+    } else {
+        None
+    }
+}
+
+fn is_word(bytes: &[u8], word: &str) -> bool
+    ensures { result ≡ same_bytes bytes.now word.now }
+{
+    bytes.cmp(word.as_bytes()).is_eq()
+}
+
+// The number, within its bounds.
+fn bounded<const LEAST: u64, const MOST: u64>(word: &[u8]) -> Option<Bounded<LEAST, MOST>>
+    ensures { result ≡ number_within LEAST MOST word.now }
+{
+    let number = number(word)?;
+    Bounded::new(number).ok()
+}
+
+// The value of a test: a negative one has `M` before its size.
+fn value_of(word: &[u8]) -> Option<Value>
+    ensures { result ≡ value_of word.now }
+{
+    match word.split_first() {
+        None => None,
+        Some((b'M', size)) => negative(size),
+        Some(_) => positive(word),
+    }
+}
+
+// The value below 0 of this size.
+fn negative(size: &[u8]) -> Option<Value>
+    ensures { result ≡ option_map (λ n. neg_ℤ (pos n)) (number_within 1 (nat_abs LEAST_VALUE) size.now) }
+{
+    let size: Bounded<1, MOST_SIZE> = bounded(size)?;
+    Value::new(-(size.get() as i64)).ok()
+}
+
+// The value from 0 on of this size.
+fn positive(size: &[u8]) -> Option<Value>
+    ensures { result ≡ option_map pos (number_within 0 (nat_abs MOST_VALUE) size.now) }
+{
+    let size: Bounded<0, MOST_SIZE> = bounded(size)?;
+    Value::new(size.get() as i64).ok()
 }

@@ -1,0 +1,44 @@
+//! What was used or made.
+ghost use Rattle.std.specs.Prelude.{◌≡◌};
+ghost use Rattle.toll_plant.specs.Commands.{taken_from};
+
+use crate::argument::Given;
+use toll_base::{Amount, Day, LotId, Name, Role};
+
+/// What was used or made in a segment of a batch, and when.
+#[derive(Clone, Copy, Debug, PartialEq, Eq)]
+pub struct Taken {
+    pub role: Role,
+    pub material: Name,
+    pub lot: LotId,
+    pub sublot: Name,
+    pub amount: Amount,
+    pub day: Day,
+}
+
+impl Taken {
+    /// What these values say: `None` where one is missing, of another kind or too much.
+    pub fn from_values(values: &[Given]) -> Option<Self>
+        ensures { result ≡ taken_from values.now }
+    {
+        match *values {
+            [
+                Given::Role(role),
+                Given::Name(material),
+                Given::Name(owner),
+                Given::Name(lot),
+                Given::Name(sublot),
+                Given::Amount(amount),
+                Given::Day(day),
+            ] => Some(Taken {
+                role,
+                material,
+                lot: LotId { owner, lot },
+                sublot,
+                amount,
+                day,
+            }),
+            _ => None,
+        }
+    }
+}
