@@ -2,4 +2,6 @@
 mod fakes;
 mod faults;
 mod lines;
+mod office;
+mod prints;
 mod rows;

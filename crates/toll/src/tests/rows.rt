@@ -1,8 +1,5 @@
 //! Scripts of orders.
-use crate::script::ScriptEnd;
-use crate::tests::fakes::run;
-use std::process::Abort;
-use toll_keep::MemKeep;
+use crate::tests::prints::assert_prints;
 
 const PLACE: &str = "owner-add ACME ACMEKEY1
 recipe-add ACME R-1 2
@@ -15,16 +12,6 @@ accepted
 200 {\"batches\":2,\"order\":\"O-1\",\"recipe\":\"R-1\",\"status\":\"open\"}
 200 {\"orders\":[{\"batches\":2,\"order\":\"O-1\",\"recipe\":\"R-1\",\"status\":\"open\"}]}
 ";
-
-// Asserts that each script, one after another over one keep, runs and prints this.
-fn assert_prints(rt: &(impl Abort + AllocGlobal), rows: &[(&str, &str)]) {
-    let mut keep = MemKeep::new(rt.alloc());
-    for (text, wanted) in rows {
-        let (end, printed) = run(rt.alloc(), &mut keep, text.as_bytes());
-        assert!(rt; end == ScriptEnd::Done, "{end:?} at {text}");
-        assert_eq!(rt; printed.as_slice(), wanted.as_bytes(), "at {text}");
-    }
-}
 
 #[test]
 fn an_order_is_placed_and_listed(rt: HostRuntime) {
