@@ -12,19 +12,19 @@ pub fn text_of(bytes: &[u8]) -> &str {
     }
 }
 
-/// What is said of a refusal: `refused` and its number.
+/// What is said of a refusal: `refused` and its number. An `Err` means that there was no memory.
 pub fn said_refusal(alloc: Global, why: &Refusal) -> Result<String, AllocError> {
     let code = why.code();
     format!(in alloc; "refused {code}")
 }
 
-/// What is said of a fault of the keep: `fault` and its name.
+/// What is said of a fault of the keep: `fault` and its name. An `Err` means that there was no memory.
 pub fn said_fault(alloc: Global, fault: &KeepFault) -> Result<String, AllocError> {
     let name = fault.name();
     format!(in alloc; "fault {name}")
 }
 
-/// What is said where a text is shown: the text itself.
+/// What is said where a text is shown: the text itself. An `Err` means that there was no memory.
 pub fn said_text(alloc: Global, bytes: &[u8]) -> Result<String, AllocError> {
     String::from_str(alloc, text_of(bytes))
 }
