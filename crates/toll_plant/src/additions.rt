@@ -1,4 +1,4 @@
-//! What is added to the plant.
+//! What is added to the plant. Each is `None` where the values aren't those of its command.
 ghost use Rattle.std.specs.Prelude.{◌≡◌};
 ghost use Rattle.toll_plant.specs.Commands.{command_from, limits_of, test_add};
 ghost use Rattle.toll_plant.specs.declared.command.CommandName.TheVariants as called;
@@ -45,7 +45,7 @@ pub fn material_add(values: &[Given]) -> Option<PlantCmd>
     }
 }
 
-/// A test of a material.
+/// A test of a material: [`PlantCmd::Unread`] where the low limit is above the high one.
 pub fn test_add(values: &[Given]) -> Option<PlantCmd>
     ensures { result ≡ command_from called.TestAdd values.now }
 {

@@ -14,7 +14,8 @@ use std::alloc::Global;
 use toll_desk::PlantCmd;
 
 /// The command that these words ask for: [`PlantCmd::Unread`] with the refusal of the first value,
-/// from left to right, that can't be read.
+/// from left to right, that can't be read. Where all were read and the low limit of a test is above
+/// the high one, it is [`PlantCmd::Unread`] with [`Refusal::BadAmount`](toll_base::Refusal).
 ///
 /// Words that are a command's name and as many words as it has values are never
 /// [`WordsFault::Usage`], if none of these is empty, begins with `-` or is `help`. All other words
