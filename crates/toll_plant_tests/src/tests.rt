@@ -226,11 +226,17 @@ fn movements_are_read(rt: HostRuntime) {
     assert_commands(&rt, rows.as_slice());
 }
 
+fn lot_of_acme(rt: &impl Abort) -> LotId {
+    LotId {
+        owner: name(rt, "ACME"),
+        lot: name(rt, "L"),
+    }
+}
+
 #[test]
 fn lots_are_read(rt: HostRuntime) {
     let owner = name(&rt, "ACME");
     let lot = name(&rt, "L");
-    let id = LotId { owner, lot };
     let rows: [(&[&str], PlantCmd); 6] = [
         (
             &["result", "ACME", "L", "PH", "M1000000000", "9999999"],
@@ -248,11 +254,16 @@ fn lots_are_read(rt: HostRuntime) {
         (
             &["trace", "ACME", "L", "back"],
             PlantCmd::Trace {
-                lot: id,
+                lot: lot_of_acme(&rt),
                 way: Way::Back,
             },
         ),
-        (&["recall", "ACME", "L"], PlantCmd::Recall { lot: id }),
+        (
+            &["recall", "ACME", "L"],
+            PlantCmd::Recall {
+                lot: lot_of_acme(&rt),
+            },
+        ),
     ];
     assert_commands(&rt, rows.as_slice());
 }
