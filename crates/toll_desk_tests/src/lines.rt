@@ -17,7 +17,18 @@ pub(crate) fn say<K: Keep>(alloc: Global, keep: &mut K, line: &str) -> Result<St
     let words: Vec<&str> = line.split(' ').collect(alloc)?;
     match words.as_slice() {
         [">", owner, key, asked @ ..] => say_to_owner(alloc, keep, owner, key, asked),
-        asked => plant_said(alloc, &plant_do(alloc, keep, &plant_cmd(asked))),
+        asked => say_to_plant(alloc, keep, asked),
+    }
+}
+
+fn say_to_plant<K: Keep>(
+    alloc: Global,
+    keep: &mut K,
+    asked: &[&str],
+) -> Result<String, AllocError> {
+    match plant_cmd(alloc, asked)? {
+        Some(command) => plant_said(alloc, &plant_do(alloc, keep, &command)),
+        None => format!(in alloc; "unread"),
     }
 }
 

@@ -1,50 +1,54 @@
 //! Owners' lines, read as requests.
-use toll_base::Refusal;
+use toll_base::{BatchNo, Name, number};
 use toll_desk::Request;
-use toll_stories::Words;
 
 /// The request of these words; `None` where one can't be read.
 pub(crate) fn request(words: &[&str]) -> Option<Request> {
-    let mut words = Words::new(words);
-    let request = read(&mut words);
-    match words.unread {
-        Some(_) => None,
-        None => Some(request),
+    match words {
+        ["orders"] => Some(Request::Orders),
+        ["stock"] => Some(Request::Stock),
+        ["place", order, recipe, batches] => placing(order, recipe, batches),
+        ["batch", order, number] => batch(order, number),
+        [what, of] => about(what, of),
+        _ => None,
     }
 }
 
-fn read(words: &mut Words<'_>) -> Request {
-    match words.word(0) {
-        "orders" => Request::Orders,
-        "stock" => Request::Stock,
-        "place" => Request::Place {
-            order: words.name(1),
-            recipe: words.name(2),
-            batches: words.number(3),
-        },
-        "batch" => Request::Batch {
-            order: words.name(1),
-            number: words.number(2),
-        },
-        _ => about(words),
-    }
+fn name(word: &str) -> Option<Name> {
+    Name::parse(word.as_bytes()).ok()
+}
+
+fn batch_no(word: &str) -> Option<BatchNo> {
+    BatchNo::new(number(word.as_bytes())?).ok()
+}
+
+fn placing(order: &str, recipe: &str, batches: &str) -> Option<Request> {
+    Some(Request::Place {
+        order: name(order)?,
+        recipe: name(recipe)?,
+        batches: batch_no(batches)?,
+    })
+}
+
+fn batch(order: &str, number: &str) -> Option<Request> {
+    Some(Request::Batch {
+        order: name(order)?,
+        number: batch_no(number)?,
+    })
 }
 
 // A request that names one order or one lot.
-fn about(words: &mut Words<'_>) -> Request {
-    let name = words.name(1);
-    match words.word(0) {
-        "order" => Request::Order(name),
-        "cancel" => Request::Cancel(name),
-        "lot" => Request::Lot(name),
-        "release" => Request::Release(name),
-        "reject" => Request::Reject(name),
-        "back" => Request::Back(name),
-        "forward" => Request::Forward(name),
-        "house" => Request::HouseForward(name),
-        _ => {
-            words.refuse(Refusal::BadName);
-            Request::Orders
-        }
+fn about(what: &str, of: &str) -> Option<Request> {
+    let name = name(of)?;
+    match what {
+        "order" => Some(Request::Order(name)),
+        "cancel" => Some(Request::Cancel(name)),
+        "lot" => Some(Request::Lot(name)),
+        "release" => Some(Request::Release(name)),
+        "reject" => Some(Request::Reject(name)),
+        "back" => Some(Request::Back(name)),
+        "forward" => Some(Request::Forward(name)),
+        "house" => Some(Request::HouseForward(name)),
+        _ => None,
     }
 }

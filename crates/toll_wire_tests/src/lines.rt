@@ -14,27 +14,28 @@ use toll_wire::{Event, answer};
 /// said to it is the status and, where there is one, the body.
 pub type Line = (&'static str, &'static str);
 
-/// What comes to the office with this line.
-pub fn event_of(alloc: Global, line: &str) -> Result<Event, AllocError> {
+/// What comes to the office with this line: nothing with words that are no command's.
+pub fn event_of(alloc: Global, line: &str) -> Result<Option<Event>, AllocError> {
     let words: Vec<&str> = line.split(' ').collect(alloc)?;
     match words.as_slice() {
         [">", owner, key, method, target] => {
             let bytes = asked(alloc, [owner, key, method, target], "")?;
-            Ok(Event::Owner(bytes))
+            Ok(Some(Event::Owner(bytes)))
         }
         [">", owner, key, method, target, body] => {
             let bytes = asked(alloc, [owner, key, method, target], body)?;
-            Ok(Event::Owner(bytes))
+            Ok(Some(Event::Owner(bytes)))
         }
-        command => Ok(Event::Plant(plant_cmd(command))),
+        command => Ok(plant_cmd(alloc, command)?.map(Event::Plant)),
     }
 }
 
 /// What is said to this line.
 fn say<K: Keep>(alloc: Global, keep: &mut K, line: &str) -> Result<String, AllocError> {
     match event_of(alloc, line)? {
-        Event::Owner(bytes) => say_to_owner(alloc, keep, &bytes),
-        Event::Plant(command) => plant_said(alloc, &plant_do(alloc, keep, &command)),
+        Some(Event::Owner(bytes)) => say_to_owner(alloc, keep, &bytes),
+        Some(Event::Plant(command)) => plant_said(alloc, &plant_do(alloc, keep, &command)),
+        None => String::from_str(alloc, "unread"),
     }
 }
 

@@ -45,7 +45,9 @@ const BESIDE_BOLT: &[&str] = &[
 fn events_of(alloc: Global, lines: &[&str]) -> Result<Vec<Event>, AllocError> {
     let mut events = Vec::new(alloc);
     for line in lines {
-        events.push(event_of(alloc, line)?)?;
+        if let Some(event) = event_of(alloc, line)? {
+            events.push(event)?;
+        }
     }
     Ok(events)
 }
