@@ -12,7 +12,7 @@ use Rattle.toll_base.specs.declared.rows.ResultRow.{ResultRow}
 use Rattle.toll_base.specs.declared.rows.SublotRow.{SublotRow}
 
 -- what comes first is not above where the whole is not
-first_not_above : (r s : Ordering) → is_gt (ordering_then r s) ≡ false → is_gt r ≡ false
+pub first_not_above : (r s : Ordering) → is_gt (ordering_then r s) ≡ false → is_gt r ≡ false
 first_not_above Less s h = refl
 first_not_above Equal s h = refl
 first_not_above Greater s h = h

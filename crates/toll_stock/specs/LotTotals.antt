@@ -1,5 +1,5 @@
 -- How much of a lot is on hand, and how much was shipped.
-use Rattle.std.specs.Prelude.{ℕ, Bool, false, if◌then◌else◌, Option, is_some}
+use Rattle.std.specs.Prelude.{ℕ, Bool, false, if◌then◌else◌, Option, is_some, List}
 use Rattle.toll_base.specs.Bytes.{Bytes, same_bytes}
 use Rattle.toll_base.specs.Words.{total, where_so}
 use Rattle.toll_history.specs.Amounts.{on_hand, shipped}
@@ -9,6 +9,7 @@ use Rattle.toll_base.specs.Slice.{Slice, lot_at}
 use Rattle.toll_base.specs.declared.lot.LotId.{LotId}
 use Rattle.toll_base.specs.declared.movement.Move.{Move}
 use Rattle.toll_base.specs.declared.movement.Move.TheVariants.{Ship}
+use Rattle.toll_base.specs.declared.rows.SublotRow.{SublotRow}
 use Rattle.toll_stock.specs.declared.stock.Totals.{Totals}
 
 -- ---- over a history
@@ -19,9 +20,13 @@ totals_given H id = where_so (is_some (lot_made H id)) (record { on_hand = on_ha
 
 -- ---- over a slice
 
+-- what is in the lot's sublots, of these
+abbrev pub held_in : Bytes → List SublotRow → ℕ
+held_in lot sublots = total (λ row. if same_bytes row.lot lot then row.amount else 0) sublots
+
 -- what is in the lot's sublots
 abbrev pub on_hand_in : Slice → Bytes → ℕ
-on_hand_in s lot = total (λ row. if same_bytes row.lot lot then row.amount else 0) s.sublots
+on_hand_in s lot = held_in lot s.sublots
 
 -- the movement is a shipment of the lot
 abbrev pub is_shipment_of : Bytes → Move → Bool

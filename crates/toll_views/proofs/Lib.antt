@@ -1,3 +1,4 @@
 pub mod ConsumedLaw
 pub mod LotLaw
 pub mod StockLaw
+pub mod StockWalk

@@ -1,19 +1,20 @@
 //! What is in stock.
-ghost use Rattle.std.specs.Prelude.{◌≡◌, true, is_some, map, IfOk};
-ghost use Rattle.toll_base.specs.Bytes.{bytes_cmp};
+ghost use Rattle.std.specs.Prelude.{◌≡◌, ◌<◌, ◌^◌, map, IfOk};
+ghost use Rattle.std.specs.declared.cmp.Ordering.TheVariants.{Less};
+ghost use Rattle.toll_base.specs.Bytes.{Bytes, bytes_cmp};
 ghost use Rattle.toll_base.specs.Keys.{pair_cmp};
-ghost use Rattle.toll_base.specs.Slice.{material_at};
 ghost use Rattle.toll_base.specs.Table.{IsInKeyOrder, AreRowsGiven};
 ghost use Rattle.toll_history.specs.History.{History};
 ghost use Rattle.toll_history.specs.Tables.{IsRowsOf};
 ghost use Rattle.toll_history.specs.Verdict.{IsLawful};
+ghost use Rattle.toll_stock.specs.LotTotals.{held_in};
 ghost use Rattle.toll_views.specs.InSlice.{line_in};
 ghost use Rattle.toll_views.specs.Views.{stock_line};
 
 use crate::lot::measure_of;
 use std::alloc::{AllocError, Global};
-use toll_base::{LotRow, Measure, Slice};
-use toll_stock::on_hand_of;
+use std::cmp::Ordering;
+use toll_base::{LotRow, Measure, Name, Slice, SublotRow};
 
 /// A lot, the measure of its material, and how much of it is on hand: the sum of its sublots.
 #[derive(Clone, Copy, Debug, PartialEq, Eq)]
@@ -36,24 +37,40 @@ fn lines_in_slice(alloc: Global, slice: &Slice) -> Result<Vec<StockLine>, AllocE
     ensures lots { IsInKeyOrder bytes_cmp (λ row. row.lot) slice.now.lots }
     ensures sublots { IsInKeyOrder pair_cmp (λ row. (row.lot, row.sublot)) slice.now.sublots }
 {
-    // For the proof: what the slice keeps, and in which order, is known where it is read.
+    // For the proof: what the slice keeps is known where it is read.
     let _owner = slice.owner();
-    let _sublots = slice.sublots();
     let rows = slice.lots();
+    let mut sublots = slice.sublots();
     let mut lines = Vec::with_capacity(alloc, rows.len())?;
     for row in rows {
-        lines.push(line(slice, row))?;
+        let (amount, later) = take_lot(sublots, &row.lot);
+        sublots = later;
+        lines.push(StockLine {
+            row: *row,
+            measure: measure_of(slice, row),
+            amount,
+        })?;
     }
     Ok(lines)
 }
 
-fn line(slice: &Slice, row: &LotRow) -> StockLine
-    requires { is_some (material_at slice.now row.now.material) ≡ true }
-    ensures { result ≡ line_in slice.now row.now }
+// How much of the lot these sublots hold, and the sublots behind its own: those of later lots.
+fn take_lot<'a>(sublots: &'a [SublotRow], lot: &Name) -> (u64, &'a [SublotRow])
+    requires order { IsInKeyOrder pair_cmp (λ row. (row.lot, row.sublot)) sublots.now }
+    requires fits { held_in lot.now sublots.now < 2 ^ 64 }
+    ensures amount { result.0 ≡ held_in lot.now sublots.now }
+    ensures later { (l : Bytes) → bytes_cmp lot.now l ≡ Less → held_in l result.1.now ≡ held_in l sublots.now }
+    ensures order { IsInKeyOrder pair_cmp (λ row. (row.lot, row.sublot)) result.1.now }
 {
-    StockLine {
-        row: *row,
-        measure: measure_of(slice, row),
-        amount: on_hand_of(slice, &row.lot),
+    let mut sum: u64 = 0;
+    let mut rest = sublots;
+    while let Some((row, behind)) = rest.split_first() {
+        match row.lot.cmp(lot) {
+            Ordering::Less => {}
+            Ordering::Equal => sum += row.amount,
+            Ordering::Greater => break,
+        }
+        rest = behind;
     }
+    (sum, rest)
 }
