@@ -17,7 +17,7 @@ use Rattle.toll_keep.proofs.Slicing.{owner-with_row}
 
 -- ---- a slice stays its owner's
 
-own_after : (change : Change) (s : Slice) → (after_change change s).owner ≡ s.owner
+pub own_after : (change : Change) (s : Slice) → (after_change change s).owner ≡ s.owner
 own_after (Owner row) s = refl
 own_after (UnitAdded row) s = refl
 own_after (Put o row) s = elim (same_bytes o s.owner) as (λ b. (cond b (with_row s row) s).owner ≡ s.owner) [ true ↦ owner-with_row s row | false ↦ refl ]
@@ -28,7 +28,7 @@ or_more : (house before now : Bool) → (before ≡ true → now ≡ true) → (
 or_more true before now more h = refl
 or_more false before now more h = more h
 
-known_after : (change : Change) (c : Content) (o : Bytes) → knows c o ≡ true → knows (after (change ∷ []) c) o ≡ true
+pub known_after : (change : Change) (c : Content) (o : Bytes) → knows c o ≡ true → knows (after (change ∷ []) c) o ≡ true
 known_after (Owner row) c o h = or_more (same_bytes o house_name) _ _ (still_there bytes_cmp nat_list_cmp_total (λ row. row.owner) c.owners row o) h
 known_after (UnitAdded row) c o h = h
 known_after (Put p row) c o h = h

@@ -12,3 +12,4 @@ pub mod StandingEdges
 pub mod OneHolder
 pub mod UnitHolders
 pub mod Undoing
+pub mod RememberedLemmas

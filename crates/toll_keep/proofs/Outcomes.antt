@@ -1,5 +1,6 @@
 -- What follows from what an outcome gives.
-use Rattle.std.proofs.Common.{OnOk, OnErr, Result, Ok, Err}
+use Rattle.std.proofs.Common.{◌≡◌, true, is_ok, OnOk, OnErr, Result, Ok, Err}
+use mathlib.Core.Bool.{false≢true}
 
 pub on_ok : {T E P Q : Type 0} (r : Result T E) → (P → Q) → OnOk r P → OnOk r Q
 on_ok (Ok x) so h = so h
@@ -13,3 +14,8 @@ on_err (Err e) so h = so h
 pub either_way : {T E P Q S : Type 0} (r : Result T E) → (P → S) → (Q → S) → OnOk r P → OnErr r Q → S
 either_way (Ok x) ok err p q = ok p
 either_way (Err e) ok err p q = err q
+
+-- what is so after Ok, at a result that is one
+pub of_ok : {T E P : Type 0} (r : Result T E) → is_ok r ≡ true → OnOk r P → P
+of_ok (Ok x) is h = h
+of_ok (Err e) is h = absurd (false≢true is)

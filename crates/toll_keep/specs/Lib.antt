@@ -5,3 +5,4 @@ pub mod Goes
 pub mod Holding
 pub mod Slices
 pub mod Drafts
+pub mod Remembered

@@ -1,12 +1,15 @@
 //! What the keeps of this crate choose for the ghosts of [`Keep`].
 ghost use Rattle.std.specs.Prelude.{◌≡◌, ◌↔◌, false, List, Contains};
 ghost use Rattle.toll_keep.specs.Content.{Content};
+ghost use Rattle.toll_keep.specs.Remembered.{AreOf};
 ghost use Rattle.toll_keep.specs.Slices.{Kept, content_of};
 ghost use Rattle.toll_keep.specs.declared.refusing.Refusing.{Refusing};
+ghost use Rattle.toll_keep.specs.declared.remembering.Remembering.{Remembering};
 
 use crate::keep::Keep;
 use crate::mem_keep::MemKeep;
 use crate::refusing::Refusing;
+use crate::remembering::Remembering;
 
 /// A keep in memory is always honest and live, never closed, and meets no cause of Disk.
 pub fn a_keep_in_memory_is_always_open()
@@ -35,4 +38,20 @@ pub fn a_refusing_keep_is_as_open_as_the_one_inside<K: Keep>()
 pub fn a_refusing_keep_has_the_content_inside<K: Keep>()
     ensures holds { (r : Refusing K) (c : Content) → ⟦<Refusing<K> as Keep>⟧.holds r c ↔ K.holds r.keep c }
     ensures leaves { (r : Refusing K) (cs : List Content) → ⟦<Refusing<K> as Keep>⟧.leaves r cs ↔ K.leaves r.keep cs }
+{}
+
+/// A keep that remembers is honest, live and closed just where the keep inside is, and meets the causes
+/// of Disk that it meets.
+pub fn a_remembering_keep_is_as_open_as_the_one_inside<K: Keep>()
+    ensures honest { (r : Remembering K ⟦<K as Keep>⟧) → ⟦<Remembering<K> as Keep>⟧.is_honest r ↔ K.is_honest r.keep }
+    ensures live { (r : Remembering K ⟦<K as Keep>⟧) → ⟦<Remembering<K> as Keep>⟧.is_live r ↔ K.is_live r.keep }
+    ensures closed { (r : Remembering K ⟦<K as Keep>⟧) → ⟦<Remembering<K> as Keep>⟧.is_closed r ≡ K.is_closed r.keep }
+    ensures cause { (old new : Remembering K ⟦<K as Keep>⟧) → ⟦<Remembering<K> as Keep>⟧.has_cause old new ↔ K.has_cause old.keep new.keep }
+{}
+
+/// A keep that remembers holds what the keep inside holds, where each slice that it remembers is its
+/// owner's of that. A stop leaves what the keep inside leaves.
+pub fn a_remembering_keep_has_the_content_inside<K: Keep>()
+    ensures holds { (r : Remembering K ⟦<K as Keep>⟧) (c : Content) → ⟦<Remembering<K> as Keep>⟧.holds r c ↔ (K.holds r.keep c × AreOf c r.slices.items) }
+    ensures leaves { (r : Remembering K ⟦<K as Keep>⟧) (cs : List Content) → ⟦<Remembering<K> as Keep>⟧.leaves r cs ↔ K.leaves r.keep cs }
 {}

@@ -81,6 +81,9 @@ pub trait Keep {
     // While the store lives, a stop between two calls leaves the content and nothing else.
     ghost settled: { (k : Self) (c : Content) → is_honest k → is_live k → holds k c → leaves k (c ∷ []) };
 
+    // That its store has not shut itself is one fact.
+    ghost lives_once: { (k : Self) (a b : is_live k) → a ≡ b };
+
     // One of some contents is one of more.
     ghost widened: { (k : Self) (cs more : List Content) → leaves k cs → leaves k (cs ++ more) };
 }

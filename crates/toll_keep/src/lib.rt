@@ -11,12 +11,15 @@ mod laws;
 mod mem_keep;
 mod opening;
 mod refusing;
+mod remembered;
+mod remembering;
 mod slices;
 
 pub use fault::KeepFault;
 pub use ghosts::{
     a_keep_in_memory_has_its_content, a_keep_in_memory_is_always_open,
     a_refusing_keep_has_the_content_inside, a_refusing_keep_is_as_open_as_the_one_inside,
+    a_remembering_keep_has_the_content_inside, a_remembering_keep_is_as_open_as_the_one_inside,
 };
 pub use holder::Holder;
 pub use keep::Keep;
@@ -27,3 +30,4 @@ pub use laws::{
 };
 pub use mem_keep::MemKeep;
 pub use refusing::Refusing;
+pub use remembering::Remembering;

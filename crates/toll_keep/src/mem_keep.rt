@@ -156,10 +156,12 @@ impl Keep for MemKeep {
         self.change(alloc, changes)
     }
 
-    ghost use Rattle.std.proofs.Common.{inl};
+    ghost use Rattle.std.proofs.Common.{inl, refl};
     ghost use Rattle.toll_keep.specs.Goes.{among-more};
 
     ghost settled = { λ k c _ _ held. inl held };
+
+    ghost lives_once = { λ _ _ _. refl };
 
     ghost widened = { λ k cs more. among-more (λ c. content_of k ≡ c) cs more };
 }

@@ -90,5 +90,7 @@ impl<K: Keep> Keep for Refusing<K> {
 
     ghost settled = { λ r c honest live held. K.settled r.keep c honest live held };
 
+    ghost lives_once = { λ r. K.lives_once r.keep };
+
     ghost widened = { λ r cs more left. K.widened r.keep cs more left };
 }

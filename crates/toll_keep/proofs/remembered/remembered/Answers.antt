@@ -1,0 +1,7 @@
+use Rattle.std.proofs.Common.{sym, ◌∙◌, ap, Some}
+use Rattle.toll_keep.proofs.RememberedLemmas.{remembered_there}
+use Rattle.toll_keep.proofs.remembered.remembered.Goals as goal
+
+pub returns-clause-own : goal.returns-clause-own
+returns-clause-own c = λ content all.
+    remembered_there content c.args.slices.now c.args.owner.now c.in_ok-place_of.field-0 c.index-slices-branch.result (sym c.in_ok-place_of.ensures) all ∙ ap (λ s. Some s) (sym c.index-slices-branch.is)

@@ -1,0 +1,136 @@
+//! A keep that remembers the slices that it read.
+ghost use Rattle.std.specs.Prelude.{◌≡◌, ◌≢◌, ◌↔◌, false, []};
+ghost use Rattle.toll_keep.specs.Content.{Content};
+ghost use Rattle.toll_keep.specs.Remembered.{AreOf};
+
+use crate::fault::KeepFault;
+use crate::holder::Holder;
+use crate::keep::Keep;
+use crate::remembered::{follow_all, remember, remembered};
+use std::alloc::Global;
+use std::mem;
+use toll_base::{Change, Edge, Name, OwnerRow, Row, Slice, UnitRow};
+use toll_trace::edges_of;
+
+/// A keep around another one, that remembers the slices that it read. What is changed is changed in
+/// them too, in place where no copy that was handed out is left. At any fault they are all forgotten.
+pub struct Remembering<K: Keep> {
+    keep: K,
+    slices: Vec<Slice>,
+    ghost unclosed: { slices.items ≢ [] → K.is_closed keep ≡ false },
+    ghost live: { slices.items ≢ [] → K.is_honest keep → ∥ K.is_live keep ∥₁ },
+}
+
+/// By hand, since what is derived is written out at every exit of every function that owns a keep.
+impl<K: Keep + Drop> Drop for Remembering<K> {
+    fn drop(self) {
+        let Remembering { keep: _, slices: _ } = self;
+    }
+}
+
+impl<K: Keep> Remembering<K> {
+    /// Around this keep, holding what that holds. It remembers nothing yet, and takes no memory.
+    pub fn new(alloc: Global, keep: K) -> Self
+        ensures keep { result.keep ≡ keep }
+        ensures holds { (c : Content) → ⟦<Remembering<K> as Keep>⟧.holds result c ↔ K.holds keep c }
+    {
+        Remembering {
+            keep,
+            slices: Vec::new(alloc),
+        }
+    }
+
+    /// The keep that it is around, open or closed as it was.
+    pub fn inside(self) -> K
+        ensures { result ≡ self.keep }
+    {
+        let Remembering { keep, slices: _ } = self;
+        keep
+    }
+}
+
+// Each call takes the slices out, and puts them back where all went well.
+impl<K: Keep> Keep for Remembering<K> {
+    ghost holds = { λ r c. K.holds r.keep c × AreOf c r.slices.items };
+
+    ghost is_honest = { λ r. K.is_honest r.keep };
+
+    ghost is_closed = { λ r. K.is_closed r.keep };
+
+    ghost is_live = { λ r. K.is_live r.keep };
+
+    ghost has_cause = { λ r s. K.has_cause r.keep s.keep };
+
+    ghost leaves = { λ r cs. K.leaves r.keep cs };
+
+    fn slice(&mut self, alloc: Global, owner: &Name) -> Result<Option<Slice>, KeepFault> {
+        let mut slices = mem::replace(&mut self.slices, Vec::new(alloc));
+        if let Some(slice) = remembered(&slices, owner) {
+            let copied = slice.copy(alloc)?;
+            self.slices = slices;
+            return Ok(Some(copied));
+        }
+        let read = self.keep.slice(alloc, owner)?;
+        let told = remember(alloc, &mut slices, owner, read);
+        self.slices = slices;
+        Ok(told)
+    }
+
+    fn owners(&mut self, alloc: Global) -> Result<Vec<OwnerRow>, KeepFault> {
+        let slices = mem::replace(&mut self.slices, Vec::new(alloc));
+        let rows = self.keep.owners(alloc)?;
+        self.slices = slices;
+        Ok(rows)
+    }
+
+    fn units(&mut self, alloc: Global) -> Result<Vec<UnitRow>, KeepFault> {
+        let slices = mem::replace(&mut self.slices, Vec::new(alloc));
+        let rows = self.keep.units(alloc)?;
+        self.slices = slices;
+        Ok(rows)
+    }
+
+    fn holder(&mut self, alloc: Global, unit: &Name) -> Result<Option<Holder>, KeepFault> {
+        let slices = mem::replace(&mut self.slices, Vec::new(alloc));
+        let holder = self.keep.holder(alloc, unit)?;
+        self.slices = slices;
+        Ok(holder)
+    }
+
+    fn edges(&mut self, alloc: Global, owner: &Name) -> Result<Vec<Edge>, KeepFault> {
+        let slices = mem::replace(&mut self.slices, Vec::new(alloc));
+        if let Some(slice) = remembered(&slices, owner) {
+            let edges = edges_of(alloc, slice)?;
+            self.slices = slices;
+            return Ok(edges);
+        }
+        let edges = self.keep.edges(alloc, owner)?;
+        self.slices = slices;
+        Ok(edges)
+    }
+
+    fn all_edges(&mut self, alloc: Global) -> Result<Vec<Edge>, KeepFault> {
+        let slices = mem::replace(&mut self.slices, Vec::new(alloc));
+        let edges = self.keep.all_edges(alloc)?;
+        self.slices = slices;
+        Ok(edges)
+    }
+
+    // The keep inside makes the changes first: it alone can refuse them.
+    fn apply(&mut self, alloc: Global, changes: &[Change]) -> Result<(), KeepFault> {
+        // Named for the proof: a change may have a row.
+        let _row: Option<Row> = None;
+        let mut slices = mem::replace(&mut self.slices, Vec::new(alloc));
+        self.keep.apply(alloc, changes)?;
+        if follow_all(alloc, &mut slices, changes).is_ok() {
+            self.slices = slices;
+        }
+        Ok(())
+    }
+
+    ghost settled = { λ r c honest live held. K.settled r.keep c honest live held.0 };
+
+    ghost lives_once = { λ r. K.lives_once r.keep };
+
+    ghost widened = { λ r cs more left. K.widened r.keep cs more left };
+}
