@@ -1,0 +1,72 @@
+//! A keep that counts the slices that are read of it.
+use std::alloc::Global;
+use toll_base::{Change, Edge, Name, OwnerRow, Slice, UnitRow};
+use toll_keep::{Holder, Keep, KeepFault};
+
+/// A keep around another one, that counts the calls of `slice`, and passes on all.
+#[derive(Drop)]
+pub struct Counting<K> {
+    keep: K,
+    read: u64,
+}
+
+impl<K: Keep> Counting<K> {
+    /// Around this keep, none read yet.
+    pub fn new(keep: K) -> Self {
+        Counting { keep, read: 0 }
+    }
+
+    /// How many slices were read.
+    pub fn read(&self) -> u64 {
+        self.read
+    }
+}
+
+impl<K: Keep> Keep for Counting<K> {
+    ghost holds = { λ r c. K.holds r.keep c };
+
+    ghost is_honest = { λ r. K.is_honest r.keep };
+
+    ghost is_closed = { λ r. K.is_closed r.keep };
+
+    ghost is_live = { λ r. K.is_live r.keep };
+
+    ghost has_cause = { λ r s. K.has_cause r.keep s.keep };
+
+    ghost leaves = { λ r cs. K.leaves r.keep cs };
+
+    fn slice(&mut self, alloc: Global, owner: &Name) -> Result<Option<Slice>, KeepFault> {
+        self.read = self.read.saturating_add(1);
+        self.keep.slice(alloc, owner)
+    }
+
+    fn owners(&mut self, alloc: Global) -> Result<Vec<OwnerRow>, KeepFault> {
+        self.keep.owners(alloc)
+    }
+
+    fn units(&mut self, alloc: Global) -> Result<Vec<UnitRow>, KeepFault> {
+        self.keep.units(alloc)
+    }
+
+    fn holder(&mut self, alloc: Global, unit: &Name) -> Result<Option<Holder>, KeepFault> {
+        self.keep.holder(alloc, unit)
+    }
+
+    fn edges(&mut self, alloc: Global, owner: &Name) -> Result<Vec<Edge>, KeepFault> {
+        self.keep.edges(alloc, owner)
+    }
+
+    fn all_edges(&mut self, alloc: Global) -> Result<Vec<Edge>, KeepFault> {
+        self.keep.all_edges(alloc)
+    }
+
+    fn apply(&mut self, alloc: Global, changes: &[Change]) -> Result<(), KeepFault> {
+        self.keep.apply(alloc, changes)
+    }
+
+    ghost settled = { λ r c honest live held. K.settled r.keep c honest live held };
+
+    ghost lives_once = { λ r. K.lives_once r.keep };
+
+    ghost widened = { λ r cs more left. K.widened r.keep cs more left };
+}

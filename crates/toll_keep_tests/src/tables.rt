@@ -1,0 +1,157 @@
+//! Rows in SQLite: told as those in memory, found again, and damaged ones never taken as true.
+use crate::rows::{acme, counts, fill_all};
+use crate::told::{assert_edges_told, assert_holder_told, assert_owners_told, assert_rows_told};
+use sqlite::{Connection, MemStore};
+use std::alloc::Global;
+use std::process::Abort;
+use std::test::Fail;
+use toll_keep::{Keep, KeepFault, Remembering};
+use toll_sql::{OpenFault, SqlKeep};
+
+fn filled(alloc: Global) -> Result<SqlKeep<MemStore>, Fail> {
+    let mut keep = SqlKeep::in_memory(alloc)?;
+    fill_all(alloc, &mut keep)?;
+    Ok(keep)
+}
+
+/// The keep that is found in the store.
+pub(crate) fn adopted(
+    alloc: Global,
+    conn: Connection<MemStore>,
+) -> Result<SqlKeep<MemStore>, Fail> {
+    match SqlKeep::adopt(alloc, conn) {
+        Ok(keep) => Ok(keep),
+        Err((fault, _)) => Err(fault.into()),
+    }
+}
+
+/// Asserts that all rows that were put are told.
+pub(crate) fn assert_told<K: Keep>(
+    rt: &(impl Abort + AllocGlobal),
+    keep: &mut K,
+) -> Result<(), Fail> {
+    assert_owners_told(rt, keep)?;
+    assert_rows_told(rt, keep)?;
+    assert_holder_told(rt, keep)?;
+    assert_edges_told(rt, keep)
+}
+
+#[test]
+fn tables_are_told_as_lists_are(rt: HostRuntime) -> Result<(), Fail> {
+    assert_told(&rt, &mut filled(rt.alloc())?)
+}
+
+#[test]
+fn tables_are_told_by_a_keep_that_remembers(rt: HostRuntime) -> Result<(), Fail> {
+    assert_told(&rt, &mut Remembering::new(rt.alloc(), filled(rt.alloc())?))
+}
+
+#[test]
+fn a_store_that_is_adopted_has_its_rows(rt: HostRuntime) -> Result<(), Fail> {
+    let conn = filled(rt.alloc())?.into_connection();
+    assert_told(&rt, &mut adopted(rt.alloc(), conn)?)
+}
+
+#[test]
+fn tables_are_made_once(rt: HostRuntime) -> Result<(), Fail> {
+    let conn = filled(rt.alloc())?.into_connection();
+    let Some((fault, conn)) = SqlKeep::create(conn).err() else {
+        panic!(rt; "made over tables");
+    };
+    assert_eq!(rt; fault, OpenFault::NotOurs);
+    assert_told(&rt, &mut adopted(rt.alloc(), conn)?)
+}
+
+/// Asserts that a store is refused so after this statement.
+pub(crate) fn assert_refused(
+    rt: &(impl Abort + AllocGlobal),
+    mut conn: Connection<MemStore>,
+    statement: &str,
+    wanted: OpenFault,
+) -> Result<(), Fail> {
+    conn.execute(statement, &[])?;
+    let refused = SqlKeep::adopt(rt.alloc(), conn)
+        .err()
+        .map(|(fault, _)| fault);
+    assert_eq!(rt; refused, Some(wanted), "{statement}");
+    Ok(())
+}
+
+#[test]
+fn a_store_of_others_is_not_ours(rt: HostRuntime) -> Result<(), Fail> {
+    let foreign = Connection::open_in_memory(rt.alloc())?;
+    assert_refused(
+        &rt,
+        foreign,
+        "CREATE TABLE notes (note TEXT)",
+        OpenFault::NotOurs,
+    )?;
+    let later = filled(rt.alloc())?.into_connection();
+    assert_refused(&rt, later, "UPDATE meta SET value = 3", OpenFault::NotOurs)?;
+    let emptied = filled(rt.alloc())?.into_connection();
+    assert_refused(&rt, emptied, "DELETE FROM meta", OpenFault::NotOurs)
+}
+
+#[test]
+fn a_missing_table_is_damage(rt: HostRuntime) -> Result<(), Fail> {
+    let conn = filled(rt.alloc())?.into_connection();
+    assert_refused(&rt, conn, "DROP TABLE voids", OpenFault::Damaged)
+}
+
+#[test]
+fn tables_that_tell_version_1_are_damage(rt: HostRuntime) -> Result<(), Fail> {
+    let conn = filled(rt.alloc())?.into_connection();
+    assert_refused(&rt, conn, "UPDATE meta SET value = 1", OpenFault::Damaged)
+}
+
+// Statements that leave rows which nobody may take as true.
+const DAMAGES: [&str; 7] = [
+    "UPDATE batches SET state = 12",
+    "UPDATE batches SET closed = 2",
+    "UPDATE moves SET amount = -1",
+    "UPDATE moves SET lot = 'in'",
+    "UPDATE moves SET kind = 9",
+    "INSERT INTO lots VALUES ('ACME', 'A', 'M', '', 0, 0)",
+    "INSERT INTO orders VALUES ('ACME', 'O-1', 'R', 100, 0)",
+];
+
+// Asserts that the damage is found when the rows are read, and that the keep is closed then.
+fn assert_damage_found(rt: &(impl Abort + AllocGlobal), damage: &str) -> Result<(), Fail> {
+    let alloc = rt.alloc();
+    let mut conn = filled(alloc)?.into_connection();
+    conn.execute(damage, &[])?;
+    let mut keep = adopted(alloc, conn)?;
+    let owner = acme()?.owner;
+    assert_eq!(rt;
+        keep.slice(alloc, &owner).err(),
+        Some(KeepFault::Damaged),
+        "{damage}"
+    );
+    assert_eq!(rt;
+        keep.units(alloc).err(),
+        Some(KeepFault::Closed),
+        "{damage}"
+    );
+    Ok(())
+}
+
+#[test]
+fn damaged_rows_are_found_and_close_the_keep(rt: HostRuntime) -> Result<(), Fail> {
+    for damage in DAMAGES {
+        assert_damage_found(&rt, damage)?;
+    }
+    Ok(())
+}
+
+#[test]
+fn another_owners_damage_is_no_harm(rt: HostRuntime) -> Result<(), Fail> {
+    let alloc = rt.alloc();
+    let mut conn = filled(alloc)?.into_connection();
+    conn.execute(
+        "INSERT INTO orders VALUES ('HOUSE', 'O-1', 'R', 100, 0)",
+        &[],
+    )?;
+    let mut keep = adopted(alloc, conn)?;
+    assert_eq!(rt; counts(alloc, &mut keep, &acme()?.owner)?, Some((1, 2)));
+    Ok(())
+}

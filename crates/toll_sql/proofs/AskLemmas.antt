@@ -1,0 +1,154 @@
+-- What a text that reads rows is answered.
+use Rattle.std.proofs.Common.{◌≡◌, ℕ, zero, suc, Bool, true, false, cond, ◌&&◌, List, [], ◌∷◌, map, length, Result, IfOk, IfErr, refl, sym, ap, ap₂, subst, ◌∙◌, Ordering}
+use Rattle.std.specs.Ordering.{on, ordering_then}
+use Rattle.std.specs.List.{list_all}
+use Rattle.std.specs.Prelude.{filter, IsPermutation, IsSorted}
+use Rattle.std.proofs.lemmas.List.Elements.{filter_agree}
+use Rattle.std.proofs.lemmas.Result.{IfErr-weaker}
+use Rattle.sqlite.proofs.Callers.{IsPlain, command_of, reads_as, never_commits}
+use Rattle.sqlite.proofs.StateLemmas.{survives_weaker}
+use Rattle.sqlite.specs.Listing.{understood, reads_listing}
+use Rattle.sqlite.specs.Order.{Row, column, row_cmp}
+use Rattle.sqlite.specs.Program.{overlay}
+use Rattle.sqlite.specs.Query.{IsAnswer, key_cmp}
+use Rattle.sqlite.specs.Schema.{Schema}
+use Rattle.sqlite.specs.State.{State, HasCleanDisk, Survives, Shown, FailsToQuery, CommitsShowing}
+use Rattle.sqlite.specs.Term.{Env, eval_all, holds}
+use Rattle.sqlite.specs.Tree.{Trees}
+use Rattle.sqlite.specs.declared.error.Error.{Error}
+use Rattle.sqlite.specs.declared.types.Value.TheVariants.{Null, Text}
+use Rattle.toll_base.specs.Bytes.{Bytes}
+use Rattle.toll_sql.specs.Asking.{IsQuerying}
+use Rattle.toll_sql.specs.Bag.{owned_by}
+use Rattle.toll_sql.specs.Cells.{columns_from, key_cells, key_order}
+use Rattle.toll_sql.specs.Rows.{AreSorted, AreOfOwner, AreAll}
+use Rattle.toll_sql.specs.Select.{AreShown}
+use Rattle.toll_sql.specs.Tables.{ours, tree_of, keys_of, width_of, is_owned, select_text}
+use Rattle.toll_sql.specs.declared.table_kind.TableKind.{TableKind}
+use Rattle.toll_sql.specs.declared.table_kind.TableKind.TheVariants.{Meta, Owners, Units, Materials, Tests, Recipes, Requirements, Orders, Batches, Lots, Sublots, Moves, Results, Voids}
+use Rattle.toll_sql.proofs.Calls.{plain_given, shown_same}
+use Rattle.toll_sql.proofs.CellLemmas.{all_columns}
+use Rattle.toll_sql.proofs.PutCommon.{equals_text}
+use Rattle.toll_sql.proofs.PutTexts.{terms_from}
+use Rattle.toll_sql.proofs.QueryLemmas.{query_fails, live_of, open_of, same_of}
+use Rattle.toll_sql.proofs.SelectLemmas.{shown_by}
+use Rattle.toll_sql.proofs.SelectTexts.{owner_is, test_of, keys_from, query_of, selecting, select_is, select_given}
+
+-- ---- any text that is understood, whatever it asks
+
+module _ (sql : List ℕ) (params : Row) (old new : State) (plain : IsPlain (understood ours sql)) where
+  under : old.now.schema ≡ ours → IsPlain (understood old.now.schema sql)
+  under has = subst (λ s. IsPlain (understood s sql)) (sym has) plain
+
+  pub querying : {X : Type 0} (items : X → List Row) (r : Result X Error) → (old.in_transaction ≡ false → new.in_transaction ≡ false) → (HasCleanDisk new → IfOk r (λ x. Shown sql params old new (items x)))
+      → (HasCleanDisk new → IfErr r (FailsToQuery sql params old new)) → Survives old new (CommitsShowing sql params old) → IsQuerying old new r
+  querying {X} items r mode ok err survives = record {
+    asks = record {
+      live = λ clean live. live_of old new X items sql params r (ok clean) (err clean) live;
+      shown = λ clean. open_of old new X items sql params r (ok clean);
+      same = λ clean has live idle. same_of old new X items sql params r (λ rows h. shown_same sql params old new rows (under has) h) (ok clean) (err clean) live idle;
+      mode = mode;
+      survives = survives_weaker _ _ _ _ (λ _ db h has idle. never_commits sql params old db (under has) h) survives;
+    };
+    cause = λ clean. IfErr-weaker r _ _ (λ e h. (query_fails old new sql params e h).1) (err clean);
+  }
+
+-- ---- columns, keys and tests
+
+columns_shown : (at n : ℕ) (params row : Row) → eval_all (terms_from 1 at n) (params ∷ row ∷ []) ≡ columns_from at n row
+columns_shown at zero params row = refl
+columns_shown at (suc n) params row = ap (λ cells. column row at ∷ cells) (columns_shown (suc at) n params row)
+
+told : (k : TableKind) (env : Env) → eval_all (map (λ key. key.0) (keys_from 1 (length (keys_of k)))) env ≡ columns_from 0 (length (keys_of k)) (eval_all (terms_from 1 1 (width_of k)) env)
+told Meta env = refl
+told Owners env = refl
+told Units env = refl
+told Materials env = refl
+told Tests env = refl
+told Recipes env = refl
+told Requirements env = refl
+told Orders env = refl
+told Batches env = refl
+told Lots env = refl
+told Sublots env = refl
+told Moves env = refl
+told Results env = refl
+told Voids env = refl
+
+keys_compare : (at from n : ℕ) (a b : Row) → key_cmp at (map (λ key. key.1) (keys_from from n)) a b ≡ row_cmp (columns_from at n a) (columns_from at n b)
+keys_compare at from zero a b = refl
+keys_compare at from (suc n) a b = ap (ordering_then _) (keys_compare (suc at) (suc from) n a b)
+
+as_long : (at n : ℕ) (row : Row) → length (columns_from at n row) ≡ n
+as_long at zero row = refl
+as_long at (suc n) row = ap suc (as_long (suc at) n row)
+
+pub again : (n : ℕ) (row : Row) → columns_from 0 n (columns_from 0 n row) ≡ columns_from 0 n row
+again n row = ap (λ m. columns_from 0 m (columns_from 0 n row)) (sym (as_long 0 n row)) ∙ all_columns (columns_from 0 n row)
+
+same_order : (k : TableKind) (a b : Row) → on (key_cells k) (key_cmp 0 (map (λ key. key.1) (keys_from 1 (length (keys_of k))))) a b ≡ key_order k a b
+same_order k a b =
+    let n = length (keys_of k) in
+    keys_compare 0 1 n (key_cells k a) (key_cells k b) ∙ ap₂ row_cmp (again n a) (again n b)
+
+-- ---- the rows
+
+pub seen : (k : TableKind) (db : Trees) → overlay db [] (tree_of k) ≡ db (tree_of k)
+seen Meta db = refl
+seen Owners db = refl
+seen Units db = refl
+seen Materials db = refl
+seen Tests db = refl
+seen Recipes db = refl
+seen Requirements db = refl
+seen Orders db = refl
+seen Batches db = refl
+seen Lots db = refl
+seen Sublots db = refl
+seen Moves db = refl
+seen Results db = refl
+seen Voids db = refl
+
+and_true : (b : Bool) → (b && true) ≡ b
+and_true true = refl
+and_true false = refl
+
+all_pass : (rows : List Row) (params : Row) → filter (λ row. list_all (holds (params ∷ row ∷ [])) []) rows ≡ rows
+all_pass [] params = refl
+all_pass (row ∷ rows) params = ap (λ more. row ∷ more) (all_pass rows params)
+
+own_pass : (o : Bytes) (rows : List Row) → filter (λ row. list_all (holds ((Text o ∷ []) ∷ row ∷ [])) owner_is) rows ≡ owned_by o rows
+own_pass o rows = filter_agree _ _ (λ row. and_true _ ∙ equals_text (column row 1) o) rows
+
+module _ (k : TableKind) (params : Row) (old new : State) (schema : Schema) (has : old.now.schema ≡ schema) (is : (command_of (understood schema (select_text k)) ≡ selecting k) × (reads_listing schema (select_text k) ≡ false)) (hits : List Row)
+    (passed : filter (λ row. list_all (holds (params ∷ row ∷ [])) (test_of (is_owned k))) (old.now.trees (tree_of k)) ≡ hits) (plain : IsPlain (understood schema (select_text k))) where
+  pub selected : (rows : List Row) → Shown (select_text k) params old new rows → AreSorted k hits rows
+  selected rows h =
+      let read = reads_as (select_text k) params old new schema has (selecting k) is.0 plain is.1 rows h in
+      let a : IsAnswer (query_of k) (overlay old.now.trees []) params rows = read.answer Null in
+      let shown = shown_by (tree_of k) (test_of (is_owned k)) (terms_from 1 1 (width_of k)) (keys_from 1 (length (keys_of k))) (key_cells k) (told k) (overlay old.now.trees []) params rows a in
+      let there = subst (λ rs. AreShown (λ row. eval_all (terms_from 1 1 (width_of k)) (params ∷ row ∷ [])) (key_cells k) (map (λ key. key.1) (keys_from 1 (length (keys_of k)))) rs rows)
+      (ap (filter (λ row. list_all (holds (params ∷ row ∷ [])) (test_of (is_owned k)))) (seen k old.now.trees) ∙ passed) shown in
+      record {
+        same = subst (λ (show : Row → Row). IsPermutation (map show hits) rows) (λ i. λ row. columns_shown 1 (width_of k) params row i) there.same;
+        sorted = subst (λ (cmp : Row → Row → Ordering). IsSorted cmp rows) (λ i. λ a b. same_order k a b i) there.sorted;
+      }
+
+module _ (k : TableKind) (old new : State) where
+  plain_of : (n : ℕ) → cond (is_owned k) 1 0 ≡ n → IsPlain (understood ours (select_text k))
+  plain_of n is = plain_given (select_text k) (cond (is_owned k) 1 0) (understood ours (select_text k)) (select_given k)
+
+  pub plain : IsPlain (understood ours (select_text k))
+  plain = plain_of (cond (is_owned k) 1 0) refl
+
+  pub owners_selected : (o : Bytes) → is_owned k ≡ true → old.now.schema ≡ ours → (rows : List Row) → Shown (select_text k) (Text o ∷ []) old new rows → AreOfOwner k o old.now.trees rows
+  owners_selected o owned has rows h = selected k (Text o ∷ []) old new ours has (select_is k) (owned_by o (old.now.trees (tree_of k)))
+      (ap (λ (b : Bool). filter (λ row. list_all (holds ((Text o ∷ []) ∷ row ∷ [])) (test_of b)) (old.now.trees (tree_of k))) owned ∙ own_pass o (old.now.trees (tree_of k))) plain rows h
+
+  pub all_selected_in : (schema : Schema) → old.now.schema ≡ schema → (command_of (understood schema (select_text k)) ≡ selecting k) × (reads_listing schema (select_text k) ≡ false) → IsPlain (understood schema (select_text k)) → is_owned k ≡ false
+      → (rows : List Row) → Shown (select_text k) [] old new rows → AreAll k old.now.trees rows
+  all_selected_in schema has is plain unowned rows h = selected k [] old new schema has is (old.now.trees (tree_of k))
+      (ap (λ (b : Bool). filter (λ row. list_all (holds ([] ∷ row ∷ [])) (test_of b)) (old.now.trees (tree_of k))) unowned ∙ all_pass (old.now.trees (tree_of k)) []) plain rows h
+
+  pub all_selected : is_owned k ≡ false → old.now.schema ≡ ours → (rows : List Row) → Shown (select_text k) [] old new rows → AreAll k old.now.trees rows
+  all_selected unowned has rows h = all_selected_in ours has (select_is k) plain unowned rows h

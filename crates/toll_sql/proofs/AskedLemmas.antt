@@ -1,0 +1,77 @@
+-- What a text reads of a database, whatever its tables are.
+use Rattle.std.proofs.Common.{◌≡◌, ◌≢◌, ◌⊎◌, inl, inr, ℕ, true, false, List, [], Option, None, Ok, Err, Result, IfOk, IfErr, refl, sym, ap, subst, ◌∙◌}
+use Rattle.sqlite.specs.Effect.{Database, RefusesToRead}
+use Rattle.sqlite.specs.Order.{Row}
+use Rattle.sqlite.specs.Listing.{IsSourceOf, reads_listing, understood}
+use Rattle.sqlite.specs.State.{State, Shown, FailsToQuery, FailsToShow, HasCause, IsNotRun, IsNoStatement, IsTooLate, store_error}
+use Rattle.sqlite.specs.declared.error.Error.{Error}
+use Rattle.sqlite.specs.declared.error.Error.TheVariants.{SqliteFailure}
+use Rattle.sqlite.specs.declared.error.ErrorCode.TheVariants as code
+use Rattle.sqlite_resolve.specs.declared.compiled.Compiled.{Compiled}
+use Rattle.sqlite_resolve.specs.declared.error.CompileError.{CompileError}
+use Rattle.sqlite_trees.specs.declared.error.StoreError.{StoreError}
+use Rattle.sqlite_trees.specs.declared.error.StoreError.TheVariants.{OutOfMemory, Io, Corrupt, Full, Broken, Unstorable}
+use Rattle.toll_sql.specs.Asked.{AreReadBy, IsUnreadBy, IsWholeText}
+use Rattle.toll_sql.specs.Causes.{is_disk_fault}
+
+pub read_by : (sql : List ℕ) (old new : State) (rows : List Row) → Shown sql [] old new rows → AreReadBy old.now sql rows
+unfolding Shown
+read_by sql old new rows h = (h.0, h.1.is, λ none. let it = (rw none at h.2) in (it.0, it.1, (h.1.now, it.2)))
+
+abbrev IsOther : Error → Type 0
+IsOther e = (e ≢ SqliteFailure code.OutOfMemory) × (is_disk_fault e ≡ false)
+
+-- no fault of the store is such
+module _ (old new : State) (e : Error) (other : IsOther e) where
+  no_disk : (x : Error) → e ≡ x → is_disk_fault x ≡ true → ⊥
+  no_disk x is disk = absurd (let f : false ≡ true = sym other.1 ∙ ap is_disk_fault is ∙ disk in cc)
+
+  no_fault : (cause : StoreError) → e ≡ store_error cause → HasCause old new ⊥ cause → ⊥
+  no_fault OutOfMemory is h = other.0 is
+  no_fault Io is h = no_disk _ is refl
+  no_fault Corrupt is h = no_disk _ is refl
+  no_fault Full is h = no_disk _ is refl
+  no_fault Broken is h = no_disk _ is refl
+  no_fault Unstorable is h = h
+
+  module _ (sql : List ℕ) (c : Compiled) (is : understood old.now.schema sql ≡ Ok c) (none : c.returning ≡ None) (whole : IsWholeText sql c) where
+    same : (d : Compiled) → understood old.now.schema sql ≡ Ok d → d ≡ c
+    same d so = subst (λ (x : Result Compiled CompileError). IfOk x (λ k. k ≡ c)) (sym is ∙ so) refl
+
+    a_statement : ¬ IsNoStatement old sql [] e
+    a_statement (inl h) = absurd (let both : Ok c ≡ Err h.0 = sym is ∙ h.1 in cc)
+    a_statement (inr h) =
+        let w = subst (IsWholeText sql) (sym (same h.0 h.1)) whole in
+        elim h.2 [
+          | inl long ↦ long.0 w.whole
+          | inr (inl many) ↦ many.0 (sym w.given)
+          | inr (inr timed) ↦ timed.0 w.untimed
+        ]
+
+    unrun : ¬ IsNotRun old new sql [] e
+    unfolding IsNotRun
+    unrun (inl h) = a_statement h.0
+    unrun (inr h) = no_fault h.0 h.1 h.2
+
+    refused : (d : Compiled) → understood old.now.schema sql ≡ Ok d → (params : Row) → FailsToShow old new sql d params e d.returning → (source : Database) × IsSourceOf (reads_listing old.now.schema sql) old.now source × ((limit : Option ℕ) × (params : Row) × (e : Error) × RefusesToRead limit c.command source params e)
+    refused d so params h =
+        let it = same d so in
+        let bare : d.returning ≡ None = ap (λ (k : Compiled). k.returning) it ∙ none in
+        let r = (rw bare at h) in
+        (r.0, r.1, (old.step_limit, params, e, subst (λ (k : Compiled). RefusesToRead old.step_limit k.command r.0 params e) it r.2))
+
+  pub unread_by : (sql : List ℕ) → FailsToQuery sql [] old new e ⊎ IsTooLate sql [] old new e → IsUnreadBy old.now sql
+  unfolding FailsToQuery
+  unread_by sql (inl (inl h)) = λ c is none whole. absurd (unrun sql c is none whole h)
+  unread_by sql (inl (inr h)) = λ c is none whole. refused sql c is none whole h.0 h.1.is _ h.2
+  unread_by sql (inr h) = λ c is none whole. absurd (let it = same sql c is none whole h.0 h.1.is in let some = h.2 in let bare : h.0.returning ≡ None = ap (λ (k : Compiled). k.returning) it ∙ none in cc)
+
+-- an answer, or an error of what was asked
+module _ {X : Type 0} (items : X → List Row) (sql : List ℕ) (old new : State) where
+  pub read_of : (r : Result X Error) → IfOk r (λ x. Shown sql [] old new (items x)) → IfOk r (λ x. AreReadBy old.now sql (items x))
+  read_of (Ok x) h = read_by sql old new (items x) h
+  read_of (Err e) h = tt
+
+  pub unread_of : (r : Result X Error) → IfErr r (λ e. FailsToQuery sql [] old new e ⊎ IsTooLate sql [] old new e) → IfErr r (λ e. e ≢ SqliteFailure code.OutOfMemory → is_disk_fault e ≡ false → IsUnreadBy old.now sql)
+  unread_of (Ok x) h = tt
+  unread_of (Err e) h = λ memory disk. unread_by old new e (memory, disk) sql h

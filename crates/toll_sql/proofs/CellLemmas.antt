@@ -1,0 +1,53 @@
+-- Cells of rows that fill their table's columns.
+use Rattle.std.proofs.Common.{◌≡◌, ℕ, zero, suc, true, List, [], ◌∷◌, length, ap, ap₂, ◌∙◌, refl}
+use mathlib.Core.Bool.{false≢true}
+use Rattle.std.proofs.lemmas.Bool.{and_parts}
+use Rattle.sqlite.specs.Cast.{cast, cast_all, cast_row}
+use Rattle.sqlite.specs.Kind.{Kind}
+use Rattle.sqlite.specs.Kind.TheVariants as kind
+use Rattle.sqlite.specs.Order.{Row, column}
+use Rattle.sqlite.specs.Table.{Table}
+use Rattle.sqlite.specs.declared.types.Value.{Value}
+use Rattle.sqlite.specs.declared.types.Value.TheVariants.{Null, Int, Real, Text, Blob}
+use Rattle.sqlite_schema.specs.declared.schema.Column.{Column}
+use Rattle.toll_sql.specs.Cells.{columns_from, is_of_kind, fit}
+use Rattle.toll_sql.proofs.PutCommon.{cast_int}
+
+pub later_columns : (at n : ℕ) (v : Value) (row : Row) → columns_from (suc at) n (v ∷ row) ≡ columns_from at n row
+later_columns at zero v row = refl
+later_columns at (suc n) v row = ap (λ cells. column row at ∷ cells) (later_columns (suc at) n v row)
+
+pub all_columns : (row : Row) → columns_from 0 (length row) row ≡ row
+all_columns [] = refl
+all_columns (v ∷ row) = ap (λ cells. v ∷ cells) (later_columns 0 (length row) v row ∙ all_columns row)
+
+pub fit_length : (columns : List Column) (cells : Row) → fit columns cells ≡ true → length cells ≡ length columns
+fit_length [] [] h = refl
+fit_length [] (v ∷ cells) h = absurd (false≢true h)
+fit_length (c ∷ columns) [] h = absurd (false≢true h)
+fit_length (c ∷ columns) (v ∷ cells) h = ap suc (fit_length columns cells (and_parts _ _ h).1)
+
+-- a cell of the column's kind is not changed where it is stored
+cast_one : (k : Kind) (v : Value) → is_of_kind k v ≡ true → cast k v ≡ v
+cast_one kind.Text (Text t) h = refl
+cast_one kind.Text Null h = absurd (false≢true h)
+cast_one kind.Text (Int n) h = absurd (false≢true h)
+cast_one kind.Text (Real x) h = absurd (false≢true h)
+cast_one kind.Text (Blob b) h = absurd (false≢true h)
+cast_one kind.Integer (Int n) h = cast_int n
+cast_one kind.Integer Null h = absurd (false≢true h)
+cast_one kind.Integer (Text t) h = absurd (false≢true h)
+cast_one kind.Integer (Real x) h = absurd (false≢true h)
+cast_one kind.Integer (Blob b) h = absurd (false≢true h)
+cast_one kind.Real v h = absurd (false≢true h)
+cast_one kind.Blob v h = absurd (false≢true h)
+cast_one kind.Any v h = absurd (false≢true h)
+
+cast_cells : (columns : List Column) (cells : Row) → fit columns cells ≡ true → cast_all columns cells ≡ cells
+cast_cells [] [] h = refl
+cast_cells [] (v ∷ cells) h = absurd (false≢true h)
+cast_cells (c ∷ columns) [] h = absurd (false≢true h)
+cast_cells (c ∷ columns) (v ∷ cells) h = let parts = and_parts _ _ h in ap₂ (λ w ws. w ∷ ws) (cast_one c.kind v parts.0) (cast_cells columns cells parts.1)
+
+pub cast_is : (t : Table) (v w : Value) (cells : Row) → cast kind.Integer v ≡ w → fit t.columns cells ≡ true → cast_row t (v ∷ cells) ≡ w ∷ cells
+cast_is t v w cells first h = ap₂ (λ x xs. x ∷ xs) first (cast_cells t.columns cells h)

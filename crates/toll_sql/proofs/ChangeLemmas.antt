@@ -1,0 +1,38 @@
+-- A change is put as the row that it has.
+use Rattle.std.proofs.Common.{◌≡◌, ℕ, true, Ok, Err, Result, OnOk, refl, sym, subst}
+use Rattle.sqlite.specs.Order.{Row}
+use Rattle.sqlite.specs.State.{State}
+use Rattle.sqlite.specs.declared.error.Error.{Error}
+use Rattle.toll_base.specs.declared.decision.Change.{Change}
+use Rattle.toll_base.specs.declared.decision.Change.TheVariants.{Owner, Unit as UnitAdded, Put}
+use Rattle.toll_base.specs.declared.rows.Row.TheVariants as of
+use Rattle.toll_sql.specs.Cells.{fill}
+use Rattle.toll_sql.specs.Stores.{IsValid, IsWriting, MakesPut, MakesRow, table_of_change, cells_of_change}
+
+-- its cells fill the columns of its table
+pub fills : (change : Change) → fill (table_of_change change) (cells_of_change change) ≡ true
+fills (Owner row) = refl
+fills (UnitAdded row) = refl
+fills (Put o (of.Material row)) = refl
+fills (Put o (of.Test row)) = refl
+fills (Put o (of.Recipe row)) = refl
+fills (Put o (of.Requirement row)) = refl
+fills (Put o (of.Order row)) = refl
+fills (Put o (of.Batch row)) = refl
+fills (Put o (of.Lot row)) = refl
+fills (Put o (of.Sublot row)) = refl
+fills (Put o (of.Move row)) = refl
+fills (Put o (of.Result row)) = refl
+fills (Put o (of.Void row)) = refl
+
+module _ (change : Change) (old new : State) (valid : IsValid change) where
+  made : {X : Type 0} (r : Result X Error) → OnOk r (MakesRow (table_of_change change) (cells_of_change change) old new) → OnOk r (MakesPut change old new)
+  made (Ok x) h = record { put = record { valid = valid; put = h.put }; ready = h.ready; committed = h.committed }
+  made (Err e) h = tt
+
+  pub as_change : (cells : Row) (r : Result ℕ Error) → cells ≡ cells_of_change change
+      → (fill (table_of_change change) cells ≡ true → IsWriting (MakesRow (table_of_change change) cells) old new r) → IsWriting (MakesPut change) old new r
+  as_change cells r is writes =
+      let w : IsWriting (MakesRow (table_of_change change) (cells_of_change change)) old new r =
+      subst (λ c. IsWriting (MakesRow (table_of_change change) c) old new r) is (writes (subst (λ c. fill (table_of_change change) c ≡ true) (sym is) (fills change))) in
+      record { makes = λ clean ready. made r (w.makes clean ready); inside = w.inside; fault = w.fault; kept = w.kept; survives = w.survives }

@@ -1,0 +1,36 @@
+-- Why files could not be closed.
+use Rattle.std.proofs.Common.{◌≡◌, ◌⊎◌, inl, inr, false, true, IsTrue, sym, ap, ◌∙◌}
+use Rattle.sqlite.specs.Files.{ExcusesClose, FailsToClose, IsClosed}
+use Rattle.sqlite.specs.Held.{Held}
+use Rattle.sqlite.specs.State.{store_error}
+use Rattle.sqlite.specs.declared.error.Error.{Error}
+use Rattle.sqlite_disk.specs.Disk.{MoreFaults}
+use Rattle.sqlite_disk.specs.declared.Disk.{Ghosts}
+use Rattle.sqlite_store.specs.FileStore.{faults, view}
+use Rattle.sqlite_store.specs.declared.store.FileStore.{FileStore}
+use Rattle.sqlite_trees.specs.View.{IsClean}
+use Rattle.sqlite_trees.specs.declared.error.StoreError.{StoreError}
+use Rattle.sqlite_trees.specs.declared.error.StoreError.TheVariants.{OutOfMemory, Io, Corrupt, Full, Broken, Unstorable}
+use Rattle.toll_keep.specs.declared.fault.KeepFault.{KeepFault}
+use Rattle.toll_keep.specs.declared.fault.KeepFault.TheVariants.{Memory, Disk}
+use Rattle.toll_sql.specs.Causes.{is_disk_fault}
+use Rattle.toll_sql.specs.FromFiles.{IsUnclosed}
+
+module _ {D : Type 0} {g : Ghosts D} (conn : Held (FileStore D g)) (last : FileStore D g) where
+  excused : (cause : StoreError) → IsTrue (is_disk_fault (store_error cause)) → ExcusesClose conn last cause → ((view conn.store).is_open ≡ false) ⊎ MoreFaults (faults conn.store) (faults last)
+  excused OutOfMemory disk h = absurd (let f : false ≡ true = disk in cc)
+  excused Io disk h = inr h
+  excused Corrupt disk h = inr h
+  excused Full disk h = inr h
+  excused Broken disk h = h
+  excused Unstorable disk h = absurd h
+
+  pub unclosed : (e : Error) (fault : KeepFault) → ((fault ≡ Memory) × (is_disk_fault e ≡ false)) ⊎ ((fault ≡ Disk) × IsTrue (is_disk_fault e)) → IsClosed conn last → (IsClean (view last) → FailsToClose conn last e) → IsUnclosed conn last fault
+  unclosed e fault told closed fails = record {
+    closed = closed;
+    known = elim told [ inl m ↦ inl m.0 | inr d ↦ inr d.0 ];
+    cause = λ is clean. elim told [
+      | inl m ↦ absurd (let no : Memory ≡ Disk = sym m.0 ∙ is in cc)
+      | inr d ↦ (let f = fails clean in excused f.0 (sym (ap is_disk_fault f.1) ∙ d.1) f.2)
+    ];
+  }

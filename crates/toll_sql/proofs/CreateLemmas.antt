@@ -1,0 +1,63 @@
+-- What CREATE TABLE and CREATE INDEX make of a database.
+use Rattle.std.proofs.Common.{◌≡◌, ℕ, false, List, [], slice_get, None, Some, Ok, sym, ap, subst, ◌∙◌}
+use Rattle.sqlite.proofs.Callers.{IsPlain, command_of, statement_of, runs_as}
+use Rattle.sqlite.specs.Change.{created, next_tree, KeepsRows}
+use Rattle.sqlite.specs.Command.TheVariants.{CreateTable, CreateIndex}
+use Rattle.sqlite.specs.Compile.{table_defined_by}
+use Rattle.sqlite.specs.Does.{Tally, Does, OnTable, AtPlace, Defines, MakesIndex, lacks_sequence}
+use Rattle.sqlite.specs.Effect.{Database}
+use Rattle.sqlite.specs.Listing.{understood}
+use Rattle.sqlite.specs.Schema.{Schema}
+use Rattle.sqlite.specs.State.{State, Writes, Executes, mode_of}
+use Rattle.sqlite.specs.Table.{Table}
+use Rattle.sqlite_catalog.specs.Change.{indexed}
+use Rattle.sqlite_resolve.specs.Compile.{index_defined_by}
+use Rattle.sqlite_schema.specs.declared.schema.Index.{Index}
+use Rattle.toll_sql.proofs.UpsertLemmas.{went, same_value}
+
+module _ (sql : List ℕ) (schema : Schema) (whole : statement_of sql (understood schema sql) ≡ sql) (plain : IsPlain (understood schema sql)) (old new : State) (count : ℕ) (has : old.now.schema ≡ schema)
+    (h : Executes sql [] old new (Ok count)) where
+  pub record Adds (table : Table) : Type 0 where
+    pub schema_is : new.now.schema ≡ created schema table
+    pub empty : new.now.trees (next_tree schema) ≡ []
+    pub others : KeepsRows schema.tables old.now.trees new.now.trees
+
+  pub adds : (table : Table) → command_of (understood schema sql) ≡ CreateTable → table_defined_by sql ≡ Ok table → lacks_sequence (created schema table) ≡ false → Adds table
+  adds table is made uncounted =
+      let w = subst (λ t. Writes old new None CreateTable t [] count) whole (runs_as sql [] old new schema has CreateTable is plain count h) in
+      let all = went w.changed in
+      let first = went all.1 in
+      let it = first.1 in
+      let both : Ok it.table ≡ Ok table = sym it.defined ∙ made in
+      let same : it.table ≡ table = cc in
+      let after : first.0.schema ≡ created schema table = it.is ∙ ap (λ s. created s it.table) has ∙ ap (created schema) same in
+      let lacks : lacks_sequence first.0.schema ≡ false = ap lacks_sequence after ∙ uncounted in
+      let now : new.now ≡ first.0 = ap (λ (p : Tally × Database). p.1) (same_value all.2) ∙ same_value (rw lacks at first.2) in
+      let empty : first.0.trees (next_tree schema) ≡ [] = subst (λ s. first.0.trees (next_tree s) ≡ []) has it.empty in
+      let others : KeepsRows schema.tables old.now.trees first.0.trees = subst (λ (s : Schema). KeepsRows s.tables old.now.trees first.0.trees) has it.others in
+      record {
+        schema_is = ap (λ (d : Database). d.schema) now ∙ after;
+        empty = subst (λ (d : Database). d.trees (next_tree schema) ≡ []) (sym now) empty;
+        others = subst (λ (d : Database). KeepsRows schema.tables old.now.trees d.trees) (sym now) others;
+      }
+
+  pub record Lists (table : Table) (index : Index) : Type 0 where
+    pub schema_is : new.now.schema ≡ indexed schema table index
+    pub others : KeepsRows schema.tables old.now.trees new.now.trees
+
+  pub lists : (table : Table) (index : Index) (at : ℕ) → slice_get schema.tables at ≡ Some table → command_of (understood schema sql) ≡ CreateIndex at → index_defined_by table sql ≡ Ok index → Lists table index
+  lists table index at listed is made =
+      let w = subst (λ t. Writes old new None (CreateIndex at) t [] count) whole (runs_as sql [] old new schema has (CreateIndex at) is plain count h) in
+      let all : OnTable old.step_limit (mode_of old) [] (record { schema = schema; trees = old.now.trees }) at (λ task. Defines (mode_of old) (MakesIndex sql (record { schema = schema; trees = old.now.trees }) task.table)) (Ok (w.tally, new.now)) =
+      subst (λ s. Does old.step_limit (mode_of old) [] (record { schema = s; trees = old.now.trees }) sql None (CreateIndex at) (Ok (w.tally, new.now))) has w.changed in
+      let here : Defines (mode_of old) (MakesIndex sql (record { schema = schema; trees = old.now.trees }) table) (Ok (w.tally, new.now)) =
+      subst (λ o. AtPlace (λ table. Defines (mode_of old) (MakesIndex sql (record { schema = schema; trees = old.now.trees }) table)) o (Ok (w.tally, new.now))) listed all in
+      let done = went here in
+      let it = done.1 in
+      let both : Ok it.index ≡ Ok index = sym it.defined ∙ made in
+      let same : it.index ≡ index = cc in
+      let now : new.now ≡ done.0 = ap (λ (p : Tally × Database). p.1) (same_value done.2) in
+      record {
+        schema_is = ap (λ (d : Database). d.schema) now ∙ it.is ∙ ap (indexed schema table) same;
+        others = subst (λ (d : Database). KeepsRows schema.tables old.now.trees d.trees) (sym now) it.rows;
+      }

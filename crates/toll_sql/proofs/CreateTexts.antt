@@ -1,0 +1,149 @@
+-- What the texts that make the tables and the index mean. Written by tools/sql-texts.
+use Rattle.std.proofs.Common.{◌≡◌, ◌<◌, ℕ, zero, suc, false, [], ◌∷◌, take, slice_get, get_or, Some, Ok, refl, arith}
+use Rattle.sqlite.proofs.Callers.{IsPlain, command_of, statement_of}
+use Rattle.sqlite.specs.Change.{created, next_tree}
+use Rattle.sqlite.specs.Command.TheVariants.{CreateTable, CreateIndex}
+use Rattle.sqlite.specs.Compile.{table_defined_by}
+use Rattle.sqlite.specs.Does.{lacks_sequence}
+use Rattle.sqlite.specs.Listing.{understood}
+use Rattle.sqlite.specs.Table.{Table}
+use Rattle.sqlite_resolve.specs.Compile.{index_defined_by}
+use Rattle.sqlite_tied.specs.Compute.{everything}
+use Rattle.toll_sql.specs.Plain.{no_schema}
+use Rattle.toll_sql.specs.Tables.{every_table, with_tables, earlier, table_of, tree_of, made_before, made_all, by_batch, create_text, index_text}
+use Rattle.toll_sql.specs.declared.table_kind.TableKind.{TableKind}
+use Rattle.toll_sql.specs.declared.table_kind.TableKind.TheVariants.{Meta, Owners, Units, Materials, Tests, Recipes, Requirements, Orders, Batches, Lots, Sublots, Moves, Results, Voids}
+use Rattle.toll_sql.proofs.PutTexts.{number_of}
+
+-- the table before it has a tree
+abbrev pub unplaced : TableKind → Table
+unplaced k = record (table_of k) { tree = 0 }
+
+pub create_is : (k : TableKind) → (command_of (understood (made_before k) (create_text k)) ≡ CreateTable) × (statement_of (create_text k) (understood (made_before k) (create_text k)) ≡ create_text k) × IsPlain (understood (made_before k) (create_text k))
+unfolding understood everything
+create_is Meta = (refl, refl, (refl, refl))
+create_is Owners = (refl, refl, (refl, refl))
+create_is Units = (refl, refl, (refl, refl))
+create_is Materials = (refl, refl, (refl, refl))
+create_is Tests = (refl, refl, (refl, refl))
+create_is Recipes = (refl, refl, (refl, refl))
+create_is Requirements = (refl, refl, (refl, refl))
+create_is Orders = (refl, refl, (refl, refl))
+create_is Batches = (refl, refl, (refl, refl))
+create_is Lots = (refl, refl, (refl, refl))
+create_is Sublots = (refl, refl, (refl, refl))
+create_is Moves = (refl, refl, (refl, refl))
+create_is Results = (refl, refl, (refl, refl))
+create_is Voids = (refl, refl, (refl, refl))
+
+pub create_defines : (k : TableKind) → table_defined_by (create_text k) ≡ Ok (unplaced k)
+unfolding everything
+create_defines Meta = refl
+create_defines Owners = refl
+create_defines Units = refl
+create_defines Materials = refl
+create_defines Tests = refl
+create_defines Recipes = refl
+create_defines Requirements = refl
+create_defines Orders = refl
+create_defines Batches = refl
+create_defines Lots = refl
+create_defines Sublots = refl
+create_defines Moves = refl
+create_defines Results = refl
+create_defines Voids = refl
+
+pub create_uncounted : (k : TableKind) → lacks_sequence (created (made_before k) (unplaced k)) ≡ false
+create_uncounted Meta = refl
+create_uncounted Owners = refl
+create_uncounted Units = refl
+create_uncounted Materials = refl
+create_uncounted Tests = refl
+create_uncounted Recipes = refl
+create_uncounted Requirements = refl
+create_uncounted Orders = refl
+create_uncounted Batches = refl
+create_uncounted Lots = refl
+create_uncounted Sublots = refl
+create_uncounted Moves = refl
+create_uncounted Results = refl
+create_uncounted Voids = refl
+
+-- where its rows come to stand
+pub create_place : (k : TableKind) → next_tree (made_before k) ≡ tree_of k
+create_place Meta = refl
+create_place Owners = refl
+create_place Units = refl
+create_place Materials = refl
+create_place Tests = refl
+create_place Recipes = refl
+create_place Requirements = refl
+create_place Orders = refl
+create_place Batches = refl
+create_place Lots = refl
+create_place Sublots = refl
+create_place Moves = refl
+create_place Results = refl
+create_place Voids = refl
+
+-- the tables before it are the first ones of all
+pub earlier_is : (k : TableKind) → earlier k ≡ take (number_of k) every_table
+earlier_is Meta = refl
+earlier_is Owners = refl
+earlier_is Units = refl
+earlier_is Materials = refl
+earlier_is Tests = refl
+earlier_is Recipes = refl
+earlier_is Requirements = refl
+earlier_is Orders = refl
+earlier_is Batches = refl
+earlier_is Lots = refl
+earlier_is Sublots = refl
+earlier_is Moves = refl
+earlier_is Results = refl
+earlier_is Voids = refl
+
+pub place_of : (i : ℕ) → i < 14 → number_of (get_or every_table i Meta) ≡ i
+place_of zero low = refl
+place_of (suc zero) low = refl
+place_of (suc (suc zero)) low = refl
+place_of (suc (suc (suc zero))) low = refl
+place_of (suc (suc (suc (suc zero)))) low = refl
+place_of (suc (suc (suc (suc (suc zero))))) low = refl
+place_of (suc (suc (suc (suc (suc (suc zero)))))) low = refl
+place_of (suc (suc (suc (suc (suc (suc (suc zero))))))) low = refl
+place_of (suc (suc (suc (suc (suc (suc (suc (suc zero)))))))) low = refl
+place_of (suc (suc (suc (suc (suc (suc (suc (suc (suc zero))))))))) low = refl
+place_of (suc (suc (suc (suc (suc (suc (suc (suc (suc (suc zero)))))))))) low = refl
+place_of (suc (suc (suc (suc (suc (suc (suc (suc (suc (suc (suc zero))))))))))) low = refl
+place_of (suc (suc (suc (suc (suc (suc (suc (suc (suc (suc (suc (suc zero)))))))))))) low = refl
+place_of (suc (suc (suc (suc (suc (suc (suc (suc (suc (suc (suc (suc (suc zero))))))))))))) low = refl
+place_of (suc (suc (suc (suc (suc (suc (suc (suc (suc (suc (suc (suc (suc (suc i)))))))))))))) low = absurd (omega (arith, low))
+
+-- with it the first of all tables are one more
+pub next_is : (k : TableKind) → with_tables (made_before k) (k ∷ []) ≡ with_tables no_schema (take (suc (number_of k)) every_table)
+next_is Meta = refl
+next_is Owners = refl
+next_is Units = refl
+next_is Materials = refl
+next_is Tests = refl
+next_is Recipes = refl
+next_is Requirements = refl
+next_is Orders = refl
+next_is Batches = refl
+next_is Lots = refl
+next_is Sublots = refl
+next_is Moves = refl
+next_is Results = refl
+next_is Voids = refl
+
+pub index_is : (command_of (understood made_all index_text) ≡ CreateIndex (number_of Moves)) × (statement_of index_text (understood made_all index_text) ≡ index_text) × IsPlain (understood made_all index_text)
+unfolding understood everything
+index_is = (refl, refl, (refl, refl))
+
+pub index_listed : slice_get made_all.tables (number_of Moves) ≡ Some (table_of Moves)
+index_listed = refl
+
+pub index_defines : index_defined_by (table_of Moves) index_text ≡ Ok by_batch
+unfolding everything
+index_defines = refl

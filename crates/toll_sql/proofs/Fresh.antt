@@ -1,0 +1,141 @@
+-- What the tables hold once the index and the version are there.
+use Rattle.std.proofs.Common.{◌≡◌, true, List, [], ◌∷◌, map, refl, sym, subst, ◌∙◌, arith}
+use Rattle.std.specs.List.{AllByRecursion}
+use Rattle.sqlite.specs.Order.{Row}
+use Rattle.sqlite.specs.State.{State}
+use Rattle.sqlite.specs.Table.{Table}
+use Rattle.sqlite.specs.Tree.{Trees}
+use Rattle.sqlite_trees.specs.View.{IsShaped}
+use Rattle.sqlite_trees.specs.declared.store.Shape.TheVariants as shape
+use Rattle.toll_base.specs.Bytes.{Bytes}
+use Rattle.toll_base.specs.Slice.{empty_slice}
+use Rattle.toll_keep.specs.Content.{Content, nothing}
+use Rattle.toll_sql.specs.Bag.{all_cells, owned_by, place}
+use Rattle.toll_sql.specs.Cells.{key_order}
+use Rattle.toll_sql.specs.Create.{Finishes, IsNew, IsShapedAs, MakesAllTables}
+use Rattle.toll_sql.specs.Encode.{meta_cells, owner_cells, unit_cells, rows_for}
+use Rattle.toll_sql.specs.First.{as_second}
+use Rattle.toll_sql.specs.Holds.{HasRows, Holds, HoldsSlice, NamesOwner, version}
+use Rattle.toll_sql.specs.Tables.{made_all, tree_of, is_owned}
+use Rattle.toll_sql.specs.Valid.{AreValidIn}
+use Rattle.toll_sql.specs.declared.table_kind.TableKind.{TableKind}
+use Rattle.toll_sql.specs.declared.table_kind.TableKind.TheVariants.{Meta, Owners, Units, Materials, Tests, Recipes, Requirements, Orders, Batches, Lots, Sublots, Moves, Results, Voids}
+use Rattle.toll_sql.proofs.HoldsAfter.{other_tree, rows_after, same_slice, unowned_apart}
+use Rattle.toll_sql.proofs.PutTexts.{number_of}
+use Rattle.toll_sql.proofs.WriteLemmas.{at_table}
+
+-- ---- tables that differ in the version alone
+
+abbrev pub IsOther : TableKind → Type 0
+IsOther k = number_of k ≡ number_of Meta → ⊥
+
+holds_same : (c : Content) (old new : Trees) → ((k : TableKind) → IsOther k → new (tree_of k) ≡ old (tree_of k)) → HasRows Meta (meta_cells version ∷ []) (new (tree_of Meta)) → Holds old c → Holds new c
+holds_same c old new same meta h =
+    let tables = λ (k : TableKind) (owned : is_owned k ≡ true). same k (λ e. unowned_apart Meta k refl owned (sym e)) in
+    record {
+      meta = meta;
+      owners = subst (λ tree. HasRows Owners (map owner_cells c.owners) tree) (sym (same Owners (λ e. absurd (omega (arith, e))))) h.owners;
+      are_owners = h.are_owners;
+      units = subst (λ tree. HasRows Units (map unit_cells c.units) tree) (sym (same Units (λ e. absurd (omega (arith, e))))) h.units;
+      are_units = h.are_units;
+      slices = λ o. same_slice old new o (c.rows o) tables (h.slices o);
+      owned = λ k owned. subst (λ tree. AllByRecursion NamesOwner (all_cells tree)) (sym (tables k owned)) (h.owned k owned);
+    }
+
+pub finished_holds : (c : Content) (db : Trees) (rows : List Row) (old new : State) → Finishes old new → HasRows Meta rows (old.now.trees (tree_of Meta)) → place (key_order Meta) (meta_cells version) rows ≡ meta_cells version ∷ []
+    → ((k : TableKind) → IsOther k → old.now.trees (tree_of k) ≡ db (tree_of k)) → Holds db c → Holds new.now.trees c
+finished_holds c db rows old new h has placed same holds =
+    let kept = λ (k : TableKind). at_table (λ tree. h.mid tree ≡ old.now.trees tree) k h.rows in
+    let before = subst (λ stored. HasRows Meta rows stored) (sym (kept Meta)) has in
+    let meta = subst (λ r. HasRows Meta r (new.now.trees (tree_of Meta))) placed (rows_after Meta (meta_cells version) refl rows (h.mid (tree_of Meta)) (new.now.trees (tree_of Meta)) before h.put.here) in
+    holds_same c db new.now.trees (λ k other. other_tree k Meta (meta_cells version) h.mid new.now.trees other h.put ∙ kept k ∙ same k other) meta holds
+
+-- ---- no rows
+
+abbrev no_rows : Trees
+no_rows = λ _. []
+
+none_for : (k : TableKind) (o : Bytes) → rows_for k (empty_slice o) ≡ []
+none_for Meta o = refl
+none_for Owners o = refl
+none_for Units o = refl
+none_for Materials o = refl
+none_for Tests o = refl
+none_for Recipes o = refl
+none_for Requirements o = refl
+none_for Orders o = refl
+none_for Batches o = refl
+none_for Lots o = refl
+none_for Sublots o = refl
+none_for Moves o = refl
+none_for Results o = refl
+none_for Voids o = refl
+
+none_valid : (k : TableKind) (o : Bytes) → AreValidIn k (empty_slice o)
+none_valid Meta o = tt
+none_valid Owners o = tt
+none_valid Units o = tt
+none_valid Materials o = tt
+none_valid Tests o = tt
+none_valid Recipes o = tt
+none_valid Requirements o = tt
+none_valid Orders o = tt
+none_valid Batches o = tt
+none_valid Lots o = tt
+none_valid Sublots o = tt
+none_valid Moves o = tt
+none_valid Results o = tt
+none_valid Voids o = tt
+
+none_there : (k : TableKind) → IsOther k → [] ≡ as_second no_rows (tree_of k)
+none_there Meta other = absurd (other refl)
+none_there Owners other = refl
+none_there Units other = refl
+none_there Materials other = refl
+none_there Tests other = refl
+none_there Recipes other = refl
+none_there Requirements other = refl
+none_there Orders other = refl
+none_there Batches other = refl
+none_there Lots other = refl
+none_there Sublots other = refl
+none_there Moves other = refl
+none_there Results other = refl
+none_there Voids other = refl
+
+other_is : (k : TableKind) → is_owned k ≡ true → IsOther k
+other_is k owned = λ same. unowned_apart Meta k refl owned (sym same)
+
+no_slice : (o : Bytes) → HoldsSlice (as_second no_rows) o (empty_slice o)
+no_slice o = record {
+  named = refl;
+  stored = λ k owned. subst (λ rows. HasRows k rows (owned_by o (as_second no_rows (tree_of k)))) (sym (none_for k o))
+      (subst (λ tree. HasRows k [] (owned_by o tree)) (none_there k (other_is k owned)) (record { same = λ f. refl; rising = tt }));
+  valid = λ k. none_valid k o;
+}
+
+holds_nothing : Holds (as_second no_rows) nothing
+holds_nothing = record {
+  meta = record { same = λ f. refl; rising = (tt, tt) };
+  owners = record { same = λ f. refl; rising = tt };
+  are_owners = tt;
+  units = record { same = λ f. refl; rising = tt };
+  are_units = tt;
+  slices = no_slice;
+  owned = λ k owned. subst (λ tree. AllByRecursion NamesOwner (all_cells tree)) (none_there k (other_is k owned)) tt;
+}
+
+pub made_new : (old mid new : State) → MakesAllTables old mid → Finishes mid new → IsNew new.now
+made_new old mid new h f =
+    let empty = λ (k : TableKind). at_table (λ tree. mid.now.trees tree ≡ []) k h.empty in
+    record {
+      ours = f.ours;
+      rows = finished_holds nothing (as_second no_rows) [] mid new f (subst (λ stored. HasRows Meta [] stored) (sym (empty Meta)) (record { same = λ g. refl; rising = tt })) refl (λ k other. empty k ∙ none_there k other) holds_nothing;
+    }
+
+none_shaped : (ts : List Table) (db : Trees) → AllByRecursion (λ t. db t.tree ≡ []) ts → AllByRecursion (λ t. IsShaped shape.Table (db t.tree)) ts
+none_shaped [] db none = tt
+none_shaped (t ∷ ts) db none = (subst (IsShaped shape.Table) (sym none.0) (tt, tt), none_shaped ts db none.1)
+
+pub shaped_new : (old new : State) → MakesAllTables old new → IsShapedAs made_all new
+shaped_new old new h = record { making = h.making; shaped = none_shaped made_all.tables new.now.trees h.empty }

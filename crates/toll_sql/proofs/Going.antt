@@ -1,0 +1,25 @@
+-- Changes that are put one after another.
+use Rattle.std.proofs.Common.{◌≡◌, List, [], ◌∷◌, refl, ◌∙◌}
+use Rattle.sqlite.specs.State.{State}
+use Rattle.sqlite.specs.Tree.{Trees}
+use Rattle.toll_base.specs.declared.decision.Change.{Change}
+use Rattle.toll_sql.specs.Stores.{IsReady, MakesAll, MakesPut, PutsAll}
+
+-- so far: what the changes that are left make of the trees, all changes make of the first
+pub record GoesOn (all rest : List Change) (old now : State) : Type 0 where
+  pub ready : IsReady now
+  pub committed : now.committed ≡ old.committed
+  pub rest_puts : (last : Trees) → PutsAll rest now.now.trees last → PutsAll all old.now.trees last
+
+pub begun : (all : List Change) (old : State) → IsReady old → GoesOn all all old old
+begun all old ready = record { ready = ready; committed = refl; rest_puts = λ last h. h }
+
+pub one_more : (all rest : List Change) (change : Change) (old now next : State) → GoesOn all (change ∷ rest) old now → MakesPut change now next → GoesOn all rest old next
+one_more all rest change old now next so h = record {
+  ready = h.ready;
+  committed = h.committed ∙ so.committed;
+  rest_puts = λ last more. so.rest_puts last (next.now.trees, h.put, more);
+}
+
+pub all_made : (all : List Change) (old new : State) → GoesOn all [] old new → MakesAll all old new
+all_made all old new so = record { put = so.rest_puts new.now.trees refl; ready = so.ready; committed = so.committed }

@@ -1,0 +1,191 @@
+-- What is found on a unit are just the batches that hold it.
+use Rattle.std.proofs.Common.{◌≡◌, ℕ, pos, Bool, true, false, not, Option, Some, None, List, [], ◌∷◌, map, codes, Result, IfOk, refl, sym, ap, subst, ◌∙◌}
+use mathlib.Core.Bool.{false≢true}
+use Rattle.std.specs.List.{list_all}
+use Rattle.std.specs.Ordering.{ordering_reverse}
+use Rattle.std.specs.Prelude.{Contains, IsPermutation, filter}
+use Rattle.std.proofs.lemmas.Bool.{and_parts}
+use Rattle.std.proofs.lemmas.Cmp.{tied_itself}
+use Rattle.std.proofs.lemmas.List.Sorted.{Contains-permutation, IsPermutation-sym}
+use Rattle.std.proofs.lemmas.Result.{IfOk-weaker}
+use Rattle.sqlite.proofs.Callers.{IsPlain, command_of, reads_as}
+use Rattle.sqlite.specs.Collation.TheVariants.{Binary}
+use Rattle.sqlite.specs.Command.{Command}
+use Rattle.sqlite.specs.Command.TheVariants.{Select}
+use Rattle.sqlite.specs.Listing.{understood, reads_listing}
+use Rattle.sqlite.specs.Order.{Row, column, bytes}
+use Rattle.sqlite.specs.Program.{overlay}
+use Rattle.sqlite.specs.Query.{Query, IsAnswer}
+use Rattle.sqlite.specs.State.{State, Shown}
+use Rattle.sqlite.specs.Term.{Term, col, lit, op2, holds, eval_all}
+use Rattle.sqlite.specs.Tree.{Trees}
+use Rattle.sqlite.specs.declared.types.Value.{Value}
+use Rattle.sqlite.specs.declared.types.Value.TheVariants.{Null, Int, Text}
+use Rattle.sqlite_sql.specs.declared.ops.BinaryOp.TheVariants.{Compare}
+use Rattle.sqlite_sql.specs.declared.ops.CompareOp.TheVariants.{Eq}
+use Rattle.sqlite_tied.specs.Compute.{everything}
+use Rattle.toll_base.proofs.Texts.{batch_cmp_total, same_bytes-exact, same_bytes-refl}
+use Rattle.toll_base.specs.Bytes.{Bytes, same_bytes}
+use Rattle.toll_base.specs.Keys.{batch_cmp}
+use Rattle.toll_base.specs.Slice.{Slice, batch_at}
+use Rattle.toll_base.specs.Table.{IsInKeyOrder}
+use Rattle.toll_base.specs.Words.{is_some_where, none_or}
+use Rattle.toll_base.specs.declared.rows.BatchRow.{BatchRow}
+use Rattle.toll_keep.specs.Content.{Content}
+use Rattle.toll_keep.specs.Holding.{IsHolder, is_on}
+use Rattle.toll_keep.specs.declared.holder.Holder.{Holder}
+use Rattle.toll_sql.specs.Cells.{columns_from}
+use Rattle.toll_sql.specs.Encode.{flag, batch_cells}
+use Rattle.toll_sql.specs.HolderRows.{HasNoHolder, IsNamedHolder, IsShownIn, ShowHolders, holder_cells}
+use Rattle.toll_sql.specs.Holds.{Holds, HoldsSlice}
+use Rattle.toll_sql.specs.Select.{plain_query}
+use Rattle.toll_sql.specs.Tables.{ours, tree_of}
+use Rattle.toll_sql.specs.Valid.{IsBatch}
+use Rattle.toll_sql.specs.declared.table_kind.TableKind.TheVariants.{Batches}
+use Rattle.toll_sql.proofs.AskedTexts.{unit_text}
+use Rattle.toll_sql.proofs.JoinTests.{equals, texts_same, text_itself, numbers_same, number_itself, both}
+use Rattle.toll_sql.proofs.MemberRows.{AreRows, rows_kept, seen, under, named_owner}
+use Rattle.toll_sql.proofs.Orders.{batches_order}
+use Rattle.toll_sql.proofs.Placing.{in_key_order}
+use Rattle.toll_sql.proofs.SelectLemmas.{shown_by}
+use Rattle.toll_trace.proofs.Drawn.{row_of_member, member_of_row}
+use Rattle.toll_trace.proofs.Members.{Contains-none, Contains-map, Contains-from_map, Contains-filter, Contains-from_filter, member_of_all}
+
+-- ---- the text
+
+abbrev unit_tests : List Term
+unit_tests = op2 (Compare Eq Binary) (col 1 4) (col 0 0) ∷ op2 (Compare Eq Binary) (col 1 6) (lit (Int (pos 0))) ∷ []
+
+abbrev batch_columns : List Term
+batch_columns = col 1 1 ∷ col 1 2 ∷ col 1 3 ∷ []
+
+abbrev pub unit_query : Query
+unit_query = plain_query (tree_of Batches) unit_tests batch_columns []
+
+abbrev selecting : Command
+selecting = Select (record { lets = []; body = unit_query }) (codes "owner" ∷ codes "ord" ∷ codes "number" ∷ [])
+
+unit_is : (command_of (understood ours unit_text) ≡ selecting) × (reads_listing ours unit_text ≡ false)
+unfolding understood everything
+unit_is = (refl, refl)
+
+pub unit_plain : IsPlain (understood ours unit_text)
+unfolding understood everything
+unit_plain = (refl, refl)
+
+pub unit_answered : (old new : State) → old.now.schema ≡ ours → (params : Row) (rows : List Row) → Shown unit_text params old new rows → IsAnswer unit_query (overlay old.now.trees []) params rows
+unit_answered old new has params rows h = (reads_as unit_text params old new ours has selecting unit_is.0 unit_plain unit_is.1 rows h).answer Null
+
+-- ---- the stored rows that are answered
+
+abbrev passes : Bytes → Row → Bool
+passes unit r = list_all (holds ((Text unit ∷ []) ∷ r ∷ [])) unit_tests
+
+abbrev told : Bytes → Row → Row
+told unit r = eval_all batch_columns ((Text unit ∷ []) ∷ r ∷ [])
+
+module _ (unit : Bytes) (db : Trees) (rows : List Row) (a : IsAnswer unit_query db (Text unit ∷ []) rows) where
+  same : IsPermutation (map (told unit) (filter (passes unit) (db (tree_of Batches)))) rows
+  same = (shown_by (tree_of Batches) unit_tests batch_columns [] (λ _. []) (λ _. refl) db (Text unit ∷ []) rows a).same
+
+  pub stored_row : (row : Row) → Contains rows row → (r : Row) × Contains (db (tree_of Batches)) r × (passes unit r ≡ true) × (told unit r ≡ row)
+  stored_row row i =
+      let k = Contains-permutation rows (map (told unit) (filter (passes unit) (db (tree_of Batches)))) row (IsPermutation-sym (map (told unit) (filter (passes unit) (db (tree_of Batches)))) rows same) i in
+      let r = Contains-from_map (told unit) (filter (passes unit) (db (tree_of Batches))) row k in
+      let f = Contains-from_filter (passes unit) (db (tree_of Batches)) r.0 r.1 in
+      (r.0, f.0, f.1, r.2)
+
+  pub row_told : (r : Row) → Contains (db (tree_of Batches)) r → passes unit r ≡ true → Contains rows (told unit r)
+  row_told r i h = Contains-permutation (map (told unit) (filter (passes unit) (db (tree_of Batches)))) rows (told unit r) same (Contains-map (told unit) (filter (passes unit) (db (tree_of Batches))) r (Contains-filter (passes unit) (db (tree_of Batches)) r i h))
+
+-- ---- batches on the unit
+
+open_flag : (b : Bool) → flag b ≡ 0 → b ≡ false
+open_flag false h = refl
+open_flag true h = absurd (let e : ◌≡◌ {A = ℕ} 1 0 = h in cc)
+
+module _ (unit : Bytes) (o : Bytes) (id : Value) (x : BatchRow) where
+  abbrev stored : Row
+  stored = id ∷ batch_cells o x
+
+  on_passes : is_on unit x ≡ true → passes unit stored ≡ true
+  on_passes on =
+      let parts = and_parts _ _ on in
+      let is : x.unit ≡ unit = same_bytes-exact x.unit unit parts.0 in
+      let open_ : x.closed ≡ false = unclosed x.closed parts.1 in
+      both _ _ (subst (λ u. equals (Text u) (Text unit) ≡ true) (sym is) (text_itself unit)) (both _ true (subst (λ b. equals (Int (pos (flag b))) (Int (pos 0)) ≡ true) (sym open_) (number_itself 0)) refl)
+    where
+      unclosed : (b : Bool) → not b ≡ true → b ≡ false
+      unclosed false h = refl
+      unclosed true h = absurd (false≢true h)
+
+  passes_on : passes unit stored ≡ true → is_on unit x ≡ true
+  passes_on h =
+      let parts = and_parts (equals (Text x.unit) (Text unit)) _ h in
+      let is : x.unit ≡ unit = texts_same x.unit unit parts.0 in
+      let open_ : x.closed ≡ false = open_flag x.closed (numbers_same (flag x.closed) 0 (and_parts _ true parts.1).0) in
+      both _ _ (subst (λ u. same_bytes u unit ≡ true) (sym is) (same_bytes-refl unit)) (ap not open_)
+
+module _ (db : Trees) (s : Slice) (has : HoldsSlice db s.owner s) where
+  pub batches_kept : AreRows s.owner (batch_cells s.owner) s.batches (db (tree_of Batches))
+  batches_kept = rows_kept Batches s.owner (batch_cells s.owner) s.batches (db (tree_of Batches)) (λ x. refl) (λ x. refl) (has.stored Batches refl).same
+
+  batches_rise : IsInKeyOrder batch_cmp (λ (row : BatchRow). (row.order, row.number)) s.batches
+  batches_rise = in_key_order batch_cmp batch_cmp_total (λ (row : BatchRow). (row.order, row.number)) (batch_cells s.owner) _ (batches_order s.owner) s.batches (has.stored Batches refl).rising
+
+  pub batch_there : (x : BatchRow) → Contains s.batches x → batch_at s (x.order, x.number) ≡ Some x
+  batch_there x i = row_of_member batch_cmp (λ (row : BatchRow). (row.order, row.number)) (tied_itself batch_cmp_total) (λ a b lt. batch_cmp_total.antisymm b a ∙ ap ordering_reverse lt) s.batches x batches_rise i
+
+module _ (db : Trees) (c : Content) (has : Holds db c) (unit : Bytes) (rows : List Row) (a : IsAnswer unit_query (seen db) (Text unit ∷ []) rows) where
+  shown_one : (row : Row) → Contains rows row → (h : Holder) × IsHolder c unit (Some h) × IsNamedHolder h × (row ≡ holder_cells h)
+  shown_one row i =
+      let r = stored_row unit (seen db) rows a row i in
+      let o = named_owner db c has Batches refl r.0 r.1 in
+      let s = c.rows o.0 in
+      let x = (batches_kept db s (under db c has o.0)).only r.0 r.1 o.2 in
+      let valid = member_of_all IsBatch s.batches x.1 ((has.slices o.0).valid Batches) x.2 in
+      let on = passes_on unit s.owner x.0 x.1 (subst (λ r. passes unit r ≡ true) x.3 r.2) in
+      let h : Holder = record { owner = o.0; order = x.1.order; number = x.1.number } in (
+        h,
+        ap (is_some_where (is_on unit)) (batch_there db s (under db c has o.0) x.1 x.2) ∙ on,
+        record { owner = o.1; order = valid.order; number = valid.number },
+        sym r.3 ∙ ap (told unit) x.3 ∙ ap (λ n. holder_cells (record { owner = n; order = x.1.order; number = x.1.number })) (has.slices o.0).named,
+      )
+
+  none_there : rows ≡ [] → (o : Bytes) (k : Bytes × ℕ) → none_or (λ row. not (is_on unit row)) (batch_at (c.rows o) k) ≡ true
+  none_there empty o k = at (batch_at (c.rows o) k) refl
+    where
+      off : (x : BatchRow) → Contains (c.rows o).batches x → (b : Bool) → is_on unit x ≡ b → not b ≡ true
+      off x i false e = refl
+      off x i true e =
+          let s = c.rows o in
+          let r = (batches_kept db s (under db c has o)).every x i in
+          let there = row_told unit (seen db) rows a (r.0 ∷ batch_cells s.owner x) r.1 (on_passes unit s.owner r.0 x e) in
+          absurd (Contains-none _ (subst (λ xs. Contains xs (told unit (r.0 ∷ batch_cells s.owner x))) empty there))
+
+      at : (found : Option BatchRow) → batch_at (c.rows o) k ≡ found → none_or (λ row. not (is_on unit row)) found ≡ true
+      at None e = refl
+      at (Some x) e = off x (member_of_row batch_cmp (λ (row : BatchRow). (row.order, row.number)) (c.rows o).batches k x e) (is_on unit x) refl
+
+  pub holders_shown : ShowHolders c unit rows
+  holders_shown = record { only = shown_one; none = none_there }
+
+-- ---- the batch that is read
+
+module _ (c : Content) (unit : Bytes) (rows : List Row) (shown : ShowHolders c unit rows) where
+  holder_same : (h k : Holder) → holder_cells h ≡ holder_cells k → h ≡ k
+  holder_same h k e = let number : h.number ≡ k.number = (cc) in ap (λ r. record { owner = bytes (column r 0); order = bytes (column r 1); number = h.number }) e ∙ ap (λ n. record { owner = k.owner; order = k.order; number = n }) number
+
+  holder_is : (found : Option Holder) → IsShownIn rows found → IsHolder c unit found
+  holder_is None empty = shown.none empty
+  holder_is (Some h) (row, i, e) =
+      let f = shown.only row i in
+      subst (λ h. IsHolder c unit (Some h)) (holder_same f.0 h (ap (columns_from 0 3) (sym f.3) ∙ e)) f.1
+
+  pub read_from : {E : Type 0} (r : Result (Option Holder) E) → IfOk r (IsShownIn rows) → IfOk r (IsHolder c unit)
+  read_from r h = IfOk-weaker r _ _ (λ found is. holder_is found is) h
+
+  pub each_named : ¬ HasNoHolder rows
+  each_named bad =
+      let f = shown.only bad.0 bad.1 in
+      bad.2 f.0 f.2 (ap (columns_from 0 3) f.3)

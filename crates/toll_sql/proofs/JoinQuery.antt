@@ -1,0 +1,87 @@
+-- What the texts that pair movements mean.
+use Rattle.std.proofs.Common.{◌≡◌, ℕ, pos, negsuc, false, List, [], ◌∷◌, ◌++◌, None, codes, refl}
+use Rattle.sqlite.proofs.Callers.{IsPlain, command_of, reads_as}
+use Rattle.sqlite.specs.Collation.TheVariants.{Binary}
+use Rattle.sqlite.specs.Command.{Command}
+use Rattle.sqlite.specs.Command.TheVariants.{Select}
+use Rattle.sqlite.specs.Listing.{understood, reads_listing}
+use Rattle.sqlite.specs.Order.{Row}
+use Rattle.sqlite.specs.Program.{overlay}
+use Rattle.sqlite.specs.Query.{Query, Join, IsAnswer, inner, left, end}
+use Rattle.sqlite.specs.State.{State, Shown}
+use Rattle.sqlite.specs.Term.{Term, lit, col, op2}
+use Rattle.sqlite.specs.declared.types.Value.TheVariants.{Null, Int}
+use Rattle.sqlite_sql.specs.declared.ops.BinaryOp.TheVariants.{Compare, Is}
+use Rattle.sqlite_sql.specs.declared.ops.CompareOp.TheVariants.{Eq, Le}
+use Rattle.sqlite_tied.specs.Compute.{everything}
+use Rattle.toll_sql.specs.Tables.{ours, tree_of}
+use Rattle.toll_sql.specs.declared.table_kind.TableKind.TheVariants.{Moves, Voids}
+use Rattle.toll_sql.proofs.AskedTexts.{owners_text, all_text}
+
+abbrev same : Term → Term → Term
+same a b = op2 (Compare Eq Binary) a b
+
+abbrev is_null : Term → Term
+is_null a = op2 (Is Binary) a (lit Null)
+
+-- the consumption is in slot 1, the production in 2; the columns are those of the table, 0 the rowid
+abbrev pub lots : List Term
+lots = col 1 4 ∷ col 1 5 ∷ col 2 4 ∷ col 2 5 ∷ []
+
+-- a void, in slot v, of the movement in slot m
+abbrev pub void_of : ℕ → ℕ → List Term
+void_of v m = same (col v 1) (col m 1) ∷ same (col v 2) (col m 2) ∷ []
+
+abbrev batch_tests : List Term
+batch_tests = same (col 2 1) (col 1 1) ∷ same (col 2 9) (col 1 9) ∷ same (col 2 10) (col 1 10) ∷ []
+
+abbrev pair_tests : List Term
+pair_tests = same (col 1 3) (lit (Int (pos 4))) ∷ same (col 2 3) (lit (Int (pos 5))) ∷ op2 (Compare Le Binary) (col 1 11) (col 2 11) ∷ is_null (col 3 2) ∷ is_null (col 4 2) ∷ []
+
+abbrev pub owners_tests : List Term
+owners_tests = batch_tests ++ same (col 1 1) (col 0 0) ∷ pair_tests
+
+abbrev pub all_tests : List Term
+all_tests = batch_tests ++ pair_tests
+
+abbrev pub sources : Join
+sources = inner (tree_of Moves) (inner (tree_of Moves) (left (tree_of Voids) (void_of 3 1) (left (tree_of Voids) (void_of 4 2) end)))
+
+abbrev pub pairs_that : List Term → Query
+pairs_that tests = record {
+  from = sources;
+  filter = tests;
+  group = None;
+  project = lots;
+  distinct = false;
+  collations = [];
+  order = [];
+  limit = lit (Int (negsuc 0));
+  offset = lit (Int (pos 0));
+}
+
+abbrev selecting : List Term → Command
+selecting tests = Select (record { lets = []; body = pairs_that tests }) (codes "lot_owner" ∷ codes "lot" ∷ codes "lot_owner" ∷ codes "lot" ∷ [])
+
+owners_is : (command_of (understood ours owners_text) ≡ selecting owners_tests) × (reads_listing ours owners_text ≡ false)
+unfolding understood everything
+owners_is = (refl, refl)
+
+pub owners_plain : IsPlain (understood ours owners_text)
+unfolding understood everything
+owners_plain = (refl, refl)
+
+all_is : (command_of (understood ours all_text) ≡ selecting all_tests) × (reads_listing ours all_text ≡ false)
+unfolding understood everything
+all_is = (refl, refl)
+
+pub all_plain : IsPlain (understood ours all_text)
+unfolding understood everything
+all_plain = (refl, refl)
+
+module _ (old new : State) (has : old.now.schema ≡ ours) (params : Row) (rows : List Row) where
+  pub owners_answered : Shown owners_text params old new rows → IsAnswer (pairs_that owners_tests) (overlay old.now.trees []) params rows
+  owners_answered h = (reads_as owners_text params old new ours has (selecting owners_tests) owners_is.0 owners_plain owners_is.1 rows h).answer Null
+
+  pub all_answered : Shown all_text params old new rows → IsAnswer (pairs_that all_tests) (overlay old.now.trees []) params rows
+  all_answered h = (reads_as all_text params old new ours has (selecting all_tests) all_is.0 all_plain all_is.1 rows h).answer Null

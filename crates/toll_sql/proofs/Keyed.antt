@@ -1,0 +1,114 @@
+-- A stored row has the key of some cells just where the order of the key finds them equal.
+use Rattle.std.proofs.Common.{◌≡◌, ◌≤◌, ℕ, zero, suc, ◌+◌, pos, true, ◌&&◌, List, [], ◌∷◌, length, refl, sym, ap, ap₂, ◌∙◌, arith}
+use mathlib.Core.Bool.{false≢true}
+use Rattle.std.specs.List.{AllByRecursion}
+use Rattle.std.specs.Ordering.{is_eq}
+use Rattle.std.proofs.lemmas.Bool.{and_parts}
+use Rattle.sqlite.specs.Kind.{Kind}
+use Rattle.sqlite.specs.Kind.TheVariants as kind
+use Rattle.sqlite.specs.Order.{Row, column, row_cmp, value_cmp}
+use Rattle.sqlite.specs.declared.types.Value.{Value}
+use Rattle.sqlite.specs.declared.types.Value.TheVariants.{Null, Int, Real, Text, Blob}
+use Rattle.sqlite_schema.specs.Rules.{agree, equal}
+use Rattle.sqlite_schema.specs.declared.schema.Column.{Column}
+use Rattle.sqlite_value.proofs.KeyLemmas.{first_key-plain}
+use Rattle.sqlite_value.specs.Keys.{plain, first_key}
+use Rattle.toll_base.proofs.Texts.{is_eq-then}
+use Rattle.toll_sql.specs.Cells.{columns_from, cells_of, fit, is_of_kind, key_order}
+use Rattle.toll_sql.specs.Stores.{has_key}
+use Rattle.toll_sql.specs.Tables.{keys_of}
+use Rattle.toll_sql.specs.declared.table_kind.TableKind.{TableKind}
+use Rattle.toll_sql.specs.declared.table_kind.TableKind.TheVariants.{Meta, Owners, Units, Materials, Tests, Recipes, Requirements, Orders, Batches, Lots, Sublots, Moves, Results, Voids}
+use Rattle.toll_sql.proofs.PutCommon.{key_equals}
+use Rattle.toll_sql.proofs.UpsertLemmas.{equals_int}
+
+-- a text or a whole number
+abbrev pub IsCell : Value → Type 0
+IsCell (Text t) = Unit {0}
+IsCell (Int n) = Unit {0}
+IsCell _ = ⊥
+
+equal_cells : (v w : Value) → IsCell w → equal (first_key plain).collation v w ≡ is_eq (value_cmp v w)
+equal_cells v (Text t) h = key_equals v t
+equal_cells v (Int n) h = rw first_key-plain (equals_int v n)
+equal_cells v Null h = absurd h
+equal_cells v (Real x) h = absurd h
+equal_cells v (Blob b) h = absurd h
+
+-- numbers one after another
+upto : ℕ → ℕ → List ℕ
+upto from zero = []
+upto from (suc n) = from ∷ upto (suc from) n
+
+pub behind : (row : Row) (at : ℕ) → column row (suc at) ≡ column (cells_of row) at
+behind [] at = refl
+behind (v ∷ row) at = refl
+
+agree_is : (at n : ℕ) (row cells : Row) (v : Value) → AllByRecursion IsCell (columns_from at n cells)
+    → agree plain (upto (suc at) n) row (upto (suc at) n) (v ∷ cells) ≡ is_eq (row_cmp (columns_from at n (cells_of row)) (columns_from at n cells))
+unfolding upto
+agree_is at zero row cells v h = refl
+agree_is at (suc n) row cells v h =
+    ap₂ (λ a b. a && b) (equal_cells (column row (suc at)) (column cells at) h.0 ∙ ap (λ x. is_eq (value_cmp x (column cells at))) (behind row at)) (agree_is (suc at) n row cells v h.1)
+    ∙ sym (is_eq-then (value_cmp (column (cells_of row) at) (column cells at)) (row_cmp (columns_from (suc at) n (cells_of row)) (columns_from (suc at) n cells)))
+
+-- ---- cells that fill the columns
+
+one_cell : (k : Kind) (v : Value) → is_of_kind k v ≡ true → IsCell v
+one_cell k (Text t) h = tt
+one_cell k (Int n) h = tt
+one_cell kind.Text Null h = absurd (false≢true h)
+one_cell kind.Integer Null h = absurd (false≢true h)
+one_cell kind.Real Null h = absurd (false≢true h)
+one_cell kind.Blob Null h = absurd (false≢true h)
+one_cell kind.Any Null h = absurd (false≢true h)
+one_cell kind.Text (Real x) h = absurd (false≢true h)
+one_cell kind.Integer (Real x) h = absurd (false≢true h)
+one_cell kind.Real (Real x) h = absurd (false≢true h)
+one_cell kind.Blob (Real x) h = absurd (false≢true h)
+one_cell kind.Any (Real x) h = absurd (false≢true h)
+one_cell kind.Text (Blob b) h = absurd (false≢true h)
+one_cell kind.Integer (Blob b) h = absurd (false≢true h)
+one_cell kind.Real (Blob b) h = absurd (false≢true h)
+one_cell kind.Blob (Blob b) h = absurd (false≢true h)
+one_cell kind.Any (Blob b) h = absurd (false≢true h)
+
+pub cells_are : (columns : List Column) (cells : Row) → fit columns cells ≡ true → AllByRecursion IsCell cells
+cells_are [] [] h = tt
+cells_are [] (v ∷ cells) h = absurd (false≢true h)
+cells_are (c ∷ columns) [] h = absurd (false≢true h)
+cells_are (c ∷ columns) (v ∷ cells) h = let parts = and_parts _ _ h in (one_cell c.kind v parts.0, cells_are columns cells parts.1)
+
+column_is : (row : Row) (at : ℕ) → suc at ≤ length row → AllByRecursion IsCell row → IsCell (column row at)
+column_is [] at lt all = absurd (omega (arith, lt))
+column_is (v ∷ row) zero lt all = all.0
+column_is (v ∷ row) (suc at) lt all = column_is row at (omega (arith, lt)) all.1
+
+some_cells : (at n : ℕ) (row : Row) → at + n ≤ length row → AllByRecursion IsCell row → AllByRecursion IsCell (columns_from at n row)
+some_cells at zero row le all = tt
+some_cells at (suc n) row le all = (column_is row at (omega (arith, le)) all, some_cells (suc at) n row (omega (arith, le)) all)
+
+-- ---- the key of a table
+
+keys_are : (k : TableKind) → keys_of k ≡ upto 1 (length (keys_of k))
+unfolding upto
+keys_are Meta = refl
+keys_are Owners = refl
+keys_are Units = refl
+keys_are Materials = refl
+keys_are Tests = refl
+keys_are Recipes = refl
+keys_are Requirements = refl
+keys_are Orders = refl
+keys_are Batches = refl
+keys_are Lots = refl
+keys_are Sublots = refl
+keys_are Moves = refl
+keys_are Results = refl
+keys_are Voids = refl
+
+module _ (k : TableKind) (cells : Row) (long : length (keys_of k) ≤ length cells) (all : AllByRecursion IsCell cells) where
+  pub has_key_is : (row : Row) → has_key k cells row ≡ is_eq (key_order k (cells_of row) cells)
+  has_key_is row =
+      ap (λ keys. agree plain keys row keys (Int (pos 0) ∷ cells)) (keys_are k)
+      ∙ agree_is 0 (length (keys_of k)) row cells (Int (pos 0)) (some_cells 0 (length (keys_of k)) cells (omega (arith, long)) all)

@@ -1,0 +1,76 @@
+-- What is read of a store whose tables hold a content.
+use Rattle.std.proofs.Common.{◌≡◌, ◌≢◌, true, List, [], ◌∷◌, map, Ok, Err, Result, OnOk, IsTrue, refl, sym, subst, ◌∙◌}
+use Rattle.std.specs.List.{AllByRecursion}
+use Rattle.sqlite.specs.Effect.{Database}
+use Rattle.sqlite.specs.Order.{Row}
+use Rattle.sqlite.specs.State.{State, HasCleanDisk}
+use Rattle.toll_base.specs.Bytes.{Bytes}
+use Rattle.toll_base.specs.Slice.{Slice}
+use Rattle.toll_keep.specs.Content.{Content}
+use Rattle.toll_keep.specs.declared.fault.KeepFault.{KeepFault}
+use Rattle.toll_keep.specs.declared.fault.KeepFault.TheVariants.{Disk, Closed}
+use Rattle.toll_sql.specs.Asking.{Asks, IsLooking}
+use Rattle.toll_sql.specs.Bag.{owned_by}
+use Rattle.toll_sql.specs.Cells.{fill}
+use Rattle.toll_sql.specs.Encode.{rows_for, material_cells, test_cells, recipe_cells, requirement_cells, order_cells, batch_cells, lot_cells, sublot_cells, move_cells, result_cells, void_cells}
+use Rattle.toll_sql.specs.Fronts.{IsStoredAs}
+use Rattle.toll_sql.specs.Holds.{Holds}
+use Rattle.toll_sql.specs.Rows.{AreOfOwner}
+use Rattle.toll_sql.specs.Stores.{HoldsIn, IsOurs}
+use Rattle.toll_sql.specs.Tables.{tree_of, is_owned}
+use Rattle.toll_sql.specs.declared.table_kind.TableKind.{TableKind}
+use Rattle.toll_sql.specs.declared.table_kind.TableKind.TheVariants.{Meta, Owners, Units, Materials, Tests, Recipes, Requirements, Orders, Batches, Lots, Sublots, Moves, Results, Voids}
+use Rattle.toll_sql.proofs.ReadLemmas.{rows_read}
+
+-- ---- the rows of a slice fill the columns of their tables
+
+pub all_map : {X : Type 0} (k : TableKind) (cells : X → Row) → ((x : X) → fill k (cells x) ≡ true) → (l : List X) → AllByRecursion (λ c. fill k c ≡ true) (map cells l)
+all_map k cells fits [] = tt
+all_map k cells fits (x ∷ l) = (fits x, all_map k cells fits l)
+
+all_fill : (k : TableKind) (s : Slice) → AllByRecursion (λ c. fill k c ≡ true) (rows_for k s)
+all_fill Meta s = tt
+all_fill Owners s = tt
+all_fill Units s = tt
+all_fill Materials s = all_map Materials (material_cells s.owner) (λ x. refl) s.materials
+all_fill Tests s = all_map Tests (test_cells s.owner) (λ x. refl) s.tests
+all_fill Recipes s = all_map Recipes (recipe_cells s.owner) (λ x. refl) s.recipes
+all_fill Requirements s = all_map Requirements (requirement_cells s.owner) (λ x. refl) s.requirements
+all_fill Orders s = all_map Orders (order_cells s.owner) (λ x. refl) s.orders
+all_fill Batches s = all_map Batches (batch_cells s.owner) (λ x. refl) s.batches
+all_fill Lots s = all_map Lots (lot_cells s.owner) (λ x. refl) s.lots
+all_fill Sublots s = all_map Sublots (sublot_cells s.owner) (λ x. refl) s.sublots
+all_fill Moves s = all_map Moves (move_cells s.owner) (λ x. refl) s.moves
+all_fill Results s = all_map Results (result_cells s.owner) (λ x. refl) s.results
+all_fill Voids s = all_map Voids (void_cells s.owner) (λ x. refl) s.voids
+
+-- ---- what is answered
+
+pub stored_as : (s : State) (c : Content) → HoldsIn s c → (k : TableKind) → is_owned k ≡ true → (o : Bytes) (rows : List Row) → AreOfOwner k o s.now.trees rows → IsStoredAs k (c.rows o) rows
+stored_as s c held k owned o rows read =
+    let slice = held.rows.slices o in
+    let has = slice.stored k owned in
+    record { are = rows_read k (owned_by o (s.now.trees (tree_of k))) rows (rows_for k (c.rows o)) read has (all_fill k (c.rows o)); rising = has.rising; valid = slice.valid k }
+
+-- rows that were read are looked at without the store
+pub looking : {X Y E : Type 0} (old new : State) (x : X) (r : Result Y KeepFault) → Asks {X = X} {E = E} old new (Ok x) → r ≢ Err Disk → r ≢ Err Closed → IsLooking old new r
+looking {X} {Y} {E} old new x r asks disk closed = record {
+  asks = record { live = asks.live; shown = λ clean. shown r (asks.shown clean); same = asks.same; mode = asks.mode; survives = asks.survives };
+  cause = λ clean e. absurd (disk e);
+  unclosed = closed;
+  damaged = λ clean e. asks.shown clean;
+}
+  where
+    shown : (r : Result Y KeepFault) → IsTrue new.is_open → OnOk r (IsTrue new.is_open)
+    shown (Ok y) live = live
+    shown (Err e) live = tt
+
+-- what was held is held after a look that succeeded
+pub held_on : {X E : Type 0} (old new : State) (x : X) (c : Content) → Asks {X = X} {E = E} old new (Ok x) → HasCleanDisk new → HoldsIn old c → HoldsIn new c
+held_on old new x c asks clean held =
+    let same = asks.same clean held.ours.schema (asks.shown clean) held.idle in
+    record {
+      ours = subst IsOurs (sym same.0) held.ours;
+      idle = same.0 ∙ held.idle ∙ sym same.1;
+      rows = subst (λ (db : Database). Holds db.trees c) (sym same.0) held.rows;
+    }

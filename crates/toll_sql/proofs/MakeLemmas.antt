@@ -1,0 +1,96 @@
+-- What is made of the tables by making one more, the index, and the row of the version.
+use Rattle.std.proofs.Common.{◌≡◌, inl, ℕ, suc, ◌+◌, false, List, [], ◌∷◌, ◌++◌, take, arith, Ok, Result, IsTrue, ap, subst, ◌∙◌, sym, refl}
+use Rattle.std.specs.List.{AllByRecursion}
+use Rattle.sqlite.specs.State.{State, ExecutesInside, Survives, HasCleanDisk}
+use Rattle.sqlite.specs.Table.{Table}
+use Rattle.sqlite.specs.Tree.{Trees}
+use Rattle.sqlite.specs.declared.error.Error.{Error}
+use Rattle.sqlite_catalog.specs.Change.{KeepsRows, next_tree}
+use Rattle.sqlite_trees.specs.View.{IsShaped}
+use Rattle.sqlite_trees.specs.declared.store.Shape.TheVariants as shape
+use Rattle.toll_sql.specs.Create.{AreEmpty, IsStep, IsMaking, MakesTable, Keeps, IsShapedAs, Finishes}
+use Rattle.toll_sql.specs.Encode.{meta_cells}
+use Rattle.toll_sql.specs.Holds.{version}
+use Rattle.toll_sql.specs.Stores.{IsReady, MakesRow}
+use Rattle.toll_sql.specs.Plain.{no_schema}
+use Rattle.toll_sql.specs.Tables.{every_table, with_tables, made_before, made_all, ours, table_of, by_batch, create_text, index_text}
+use Rattle.toll_sql.specs.declared.table_kind.TableKind.{TableKind}
+use Rattle.toll_sql.specs.declared.table_kind.TableKind.TheVariants.{Meta, Moves}
+use Rattle.toll_sql.proofs.CreateLemmas.{adds, lists}
+use Rattle.toll_sql.proofs.CreateTexts.{unplaced, create_is, create_defines, create_uncounted, create_place, earlier_is, next_is, index_is, index_listed, index_defines}
+use Rattle.toll_sql.proofs.PutTexts.{number_of}
+use Rattle.toll_sql.proofs.StepLemmas.{one_step}
+
+pub table_step : (k : TableKind) (old new : State) (r : Result ℕ Error) → (old.in_transaction ≡ false → new ≡ old) → (HasCleanDisk new → IsTrue old.in_transaction → ExecutesInside 0 (create_text k) [] old new r) → Survives old new (λ _. ⊥)
+    → IsStep (IsMaking (made_before k)) (MakesTable k) old new r
+table_step k old new r outside runs survives = one_step (IsMaking (made_before k)) (MakesTable k) (create_text k) [] old new r (λ count limit before h.
+    let it = adds (create_text k) (made_before k) (create_is k).1 (create_is k).2 old new count before.schema h.0 (unplaced k) (create_is k).0 (create_defines k) (create_uncounted k) in
+    record {
+      making = record { schema = it.schema_is; unlimited = limit ∙ before.unlimited; inside = h.1.mode };
+      empty = subst (λ tree. new.now.trees tree ≡ []) (create_place k) it.empty;
+      others = it.others;
+    }) outside runs survives
+
+pub index_step : (old new : State) (r : Result ℕ Error) → (old.in_transaction ≡ false → new ≡ old) → (HasCleanDisk new → IsTrue old.in_transaction → ExecutesInside 0 index_text [] old new r) → Survives old new (λ _. ⊥)
+    → IsStep (IsMaking made_all) (Keeps made_all ours) old new r
+index_step old new r outside runs survives = one_step (IsMaking made_all) (Keeps made_all ours) index_text [] old new r (λ count limit before h.
+    let it = lists index_text made_all index_is.1 index_is.2 old new count before.schema h.0 (table_of Moves) by_batch (number_of Moves) index_listed index_is.0 index_defines in
+    record { making = record { schema = it.schema_is; unlimited = limit ∙ before.unlimited; inside = h.1.mode }; rows = it.others }) outside runs survives
+
+-- rows that stay have rowids still
+pub shaped_still : (ts : List Table) (old new : Trees) → KeepsRows ts old new → AllByRecursion (λ t. IsShaped shape.Table (old t.tree)) ts → AllByRecursion (λ t. IsShaped shape.Table (new t.tree)) ts
+shaped_still [] old new kept shaped = tt
+shaped_still (t ∷ ts) old new kept shaped = (subst (IsShaped shape.Table) (sym kept.0) shaped.0, shaped_still ts old new kept.1 shaped.1)
+
+pub ready_indexed : (old new : State) → IsShapedAs made_all old → Keeps made_all ours old new → IsReady new
+ready_indexed old new before h = record {
+  ours = record { schema = h.making.schema; shaped = shaped_still made_all.tables old.now.trees new.now.trees h.rows before.shaped };
+  unlimited = h.making.unlimited;
+  inside = h.making.inside;
+}
+
+pub finished : (old mid new : State) → Keeps made_all ours old mid → MakesRow Meta (meta_cells version) mid new → Finishes old new
+finished old mid new h put = record { mid = mid.now.trees; rows = h.rows; put = put.put; ours = put.ready.ours }
+
+-- ---- the tables, one after another
+
+-- the first so many are made, and none has a row
+pub record MakesFirst (n : ℕ) (old new : State) : Type 0 where
+  pub making : IsMaking (with_tables no_schema (take n every_table)) new
+  pub empty : AreEmpty (with_tables no_schema (take n every_table)) new.now.trees
+
+abbrev pub none_yet : Result (Unit {0}) Error
+none_yet = Ok tt
+
+all_kept : (ts : List Table) (old new : Trees) → KeepsRows ts old new → AllByRecursion (λ t. old t.tree ≡ []) ts → AllByRecursion (λ t. new t.tree ≡ []) ts
+all_kept [] old new h e = tt
+all_kept (t ∷ ts) old new h e = (h.0 ∙ e.0, all_kept ts old new h.1 e.1)
+
+pub all_more : (P : Table → Type 0) (ts : List Table) (t : Table) → AllByRecursion P ts → P t → AllByRecursion P (ts ++ t ∷ [])
+all_more P [] t h p = (p, tt)
+all_more P (u ∷ ts) t h p = (h.0, all_more P ts t h.1 p)
+
+-- before the table are the first ones
+before_is : (n : ℕ) (k : TableKind) → number_of k ≡ n → made_before k ≡ with_tables no_schema (take n every_table)
+before_is n k at = ap (with_tables no_schema) (earlier_is k) ∙ ap (λ m. with_tables no_schema (take m every_table)) at
+
+pub next_ready : (n : ℕ) (k : TableKind) → number_of k ≡ n → (first now : State) → MakesFirst n first now → IsMaking (made_before k) now
+next_ready n k at first now h = subst (λ s. IsMaking s now) (sym (before_is n k at)) h.making
+
+pub next_made : (n : ℕ) (k : TableKind) → number_of k ≡ n → (first now next : State) → MakesFirst n first now → MakesTable k now next → MakesFirst (n + 1) first next
+next_made n k at first now next h one =
+    let were : AreEmpty (made_before k) now.now.trees = subst (λ s. AreEmpty s now.now.trees) (sym (before_is n k at)) h.empty in
+    let are = all_more (λ t. next.now.trees t.tree ≡ []) (made_before k).tables (record (unplaced k) { tree = next_tree (made_before k) }) (all_kept (made_before k).tables _ _ one.others were)
+    (subst (λ tree. next.now.trees tree ≡ []) (sym (create_place k)) one.empty) in
+    let more : suc (number_of k) ≡ n + 1 = omega (arith, at) in
+    let all : with_tables (made_before k) (k ∷ []) ≡ with_tables no_schema (take (n + 1) every_table) = next_is k ∙ ap (λ m. with_tables no_schema (take m every_table)) more in
+    record { making = subst (λ s. IsMaking s next) all one.making; empty = subst (λ s. AreEmpty s next.now.trees) all are }
+
+pub begun : (s : State) → IsStep (IsMaking no_schema) (MakesFirst 0) s s none_yet
+begun s = record {
+  makes = λ _ before _. record { making = before; empty = tt };
+  inside = λ _ within. within;
+  fault = λ _ _. tt;
+  kept = λ _. record { was_open = λ live. live; committed = λ _. refl };
+  survives = record { clean = omega arith; shield = λ h. h; counts = omega arith; limit = refl; closes = λ _ live. inl live; crash = λ _ db h. inl h };
+}

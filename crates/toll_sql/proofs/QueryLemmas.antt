@@ -1,0 +1,64 @@
+-- What a query does to a connection, whatever its text and the schema are.
+use Rattle.std.proofs.Common.{◌≡◌, inl, inr, ℕ, List, Option, None, Some, Ok, Err, Result, IsTrue, IfOk, IfErr, OnOk, sym, ◌∙◌}
+use Rattle.sqlite.specs.declared.error.Error.{Error}
+use Rattle.sqlite.specs.Order.{Row}
+use Rattle.sqlite_schema.specs.declared.command.Returning.{Returning}
+use Rattle.sqlite_resolve.specs.declared.compiled.Compiled.{Compiled}
+use Rattle.sqlite.specs.State.{State, Fails, IsNotRun, RunsCommand, FailsToQuery, FailsToShow, IsUnchanged, Shown, ShowsRows}
+use Rattle.toll_sql.specs.Causes.{IsCaused}
+use Rattle.toll_sql.proofs.CauseLemmas.{not_run, command}
+
+module _ (old new : State) where
+  abbrev pub IsOpen : Type 0
+  IsOpen = IsTrue old.is_open × IsTrue new.is_open
+
+  shows_open : (sql : List ℕ) (c : Compiled) (params : Row) (rows : List Row) (r : Option Returning) → ShowsRows old new sql c params rows r → IsOpen
+  shows_open sql c params rows None h = (h.3.0.was_open, h.3.0.is_open)
+  shows_open sql c params rows (Some what) h = (h.1.shown.was_open, h.1.shown.is_open)
+
+  pub shown_open : (sql : List ℕ) (params : Row) (rows : List Row) → Shown sql params old new rows → IsOpen
+  unfolding Shown
+  shown_open sql params rows h = shows_open sql h.0 _ rows h.0.returning h.2
+
+  -- a call that failed leaves what was there, if the connection lies open still
+  pub record Stays : Type 0 where
+    pub was_open : IsTrue new.is_open → IsTrue old.is_open
+    pub same : IsTrue new.is_open → old.now ≡ old.committed → (new.now ≡ old.now) × (new.committed ≡ old.committed)
+
+  unchanged : IsUnchanged old new → Stays
+  unchanged h = record { was_open = λ _. h.0.was_open; same = λ _ _. (h.0.now_is, h.0.committed_is) }
+
+  failed : (U : Type 0) (e : Error) → Fails old new U e → Stays
+  failed U e h = record { was_open = h.3.was_open; same = λ live idle. ((h.3.undone live).0 ∙ sym idle, (h.3.undone live).1) }
+
+  stopped : (sql : List ℕ) (c : Compiled) (params : Row) (e : Error) → RunsCommand old new sql c params (Err e) → Stays
+  stopped sql c params e (inl h) = unchanged h.1
+  stopped sql c params e (inr h) = failed _ e h
+
+  unshown : (sql : List ℕ) (c : Compiled) (params : Row) (e : Error) (r : Option Returning) → FailsToShow old new sql c params e r → Stays × IsCaused old new e
+  unshown sql c params e None h = (unchanged h.3, λ d. inr (inr (e, d, inr (old.step_limit, c.command, h.0, params, h.2))))
+  unshown sql c params e (Some what) h = (stopped sql c params e h, command old new sql params e c h)
+
+  missed : (sql : List ℕ) (params : Row) (e : Error) → IsNotRun old new sql params e → Stays
+  unfolding IsNotRun
+  missed sql params e (inl h) = unchanged h.1
+  missed sql params e (inr h) = failed ⊥ e h
+
+  pub query_fails : (sql : List ℕ) (params : Row) (e : Error) → FailsToQuery sql params old new e → Stays × IsCaused old new e
+  unfolding FailsToQuery
+  query_fails sql params e (inl h) = (missed sql params e h, not_run old new sql params e h)
+  query_fails sql params e (inr h) = unshown sql h.0 _ e h.0.returning h.2
+
+  module _ (X : Type 0) (items : X → List Row) (sql : List ℕ) (params : Row) where
+    pub live_of : (r : Result X Error) → IfOk r (λ x. Shown sql params old new (items x)) → IfErr r (FailsToQuery sql params old new) → IsTrue new.is_open → IsTrue old.is_open
+    live_of (Ok x) h k live = (shown_open sql params (items x) h).0
+    live_of (Err e) h k live = (query_fails sql params e k).0.was_open live
+
+    pub open_of : (r : Result X Error) → IfOk r (λ x. Shown sql params old new (items x)) → OnOk r (IsTrue new.is_open)
+    open_of (Ok x) h = (shown_open sql params (items x) h).1
+    open_of (Err e) h = tt
+
+    pub same_of : (r : Result X Error) → ((rows : List Row) → Shown sql params old new rows → IsUnchanged old new) → IfOk r (λ x. Shown sql params old new (items x)) → IfErr r (FailsToQuery sql params old new)
+        → IsTrue new.is_open → old.now ≡ old.committed → (new.now ≡ old.now) × (new.committed ≡ old.committed)
+    same_of (Ok x) plain h k live idle = let u = plain (items x) h in (u.0.now_is, u.0.committed_is)
+    same_of (Err e) plain h k live idle = (query_fails sql params e k).0.same live idle

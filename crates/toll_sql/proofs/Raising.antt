@@ -1,0 +1,67 @@
+-- What is made of the tables of version 1.
+use Rattle.std.proofs.Common.{◌≡◌, Ordering, Less, Equal, Greater, [], ◌∷◌, ap, refl, sym, subst}
+use Rattle.std.specs.Ordering.{match_ordering, ordering_reverse}
+use Rattle.sqlite.specs.State.{State}
+use Rattle.sqlite_catalog.specs.Change.{next_tree}
+use Rattle.sqlite_trees.specs.View.{IsShaped}
+use Rattle.sqlite_trees.specs.declared.store.Shape.TheVariants as shape
+use Rattle.toll_sql.specs.Bag.{place}
+use Rattle.toll_sql.specs.Cells.{key_order}
+use Rattle.toll_sql.specs.Create.{Finishes, IsShapedAs, MakesTable}
+use Rattle.toll_sql.specs.Encode.{meta_cells}
+use Rattle.toll_sql.specs.First.{Raised, as_second, first_ours, first_version}
+use Rattle.toll_sql.specs.Holds.{HasRows, version}
+use Rattle.toll_sql.specs.Tables.{made_all, tree_of}
+use Rattle.toll_sql.specs.declared.table_kind.TableKind.{TableKind}
+use Rattle.toll_sql.specs.declared.table_kind.TableKind.TheVariants.{Meta, Owners, Units, Materials, Tests, Recipes, Requirements, Orders, Batches, Lots, Sublots, Moves, Results, Voids}
+use Rattle.toll_sql.proofs.CreateTexts.{unplaced}
+use Rattle.toll_sql.proofs.Fresh.{IsOther, finished_holds}
+use Rattle.toll_sql.proofs.MakeLemmas.{all_more, shaped_still}
+use Rattle.toll_sql.proofs.MetaLemmas.{put_told}
+use Rattle.toll_sql.proofs.Orders.{key_order_total}
+
+pub raised_shaped : (old new : State) → IsShapedAs first_ours old → MakesTable Voids old new → IsShapedAs made_all new
+raised_shaped old new before h = record {
+  making = h.making;
+  shaped = all_more (λ t. IsShaped shape.Table (new.now.trees t.tree)) first_ours.tables (record (unplaced Voids) { tree = next_tree first_ours }) (shaped_still first_ours.tables old.now.trees new.now.trees h.others before.shaped)
+      (subst (IsShaped shape.Table) (sym h.empty) (tt, tt));
+}
+
+-- the tables are as version 2 has them, but for the version
+module _ (old new : State) (h : MakesTable Voids old new) where
+  as_were : (k : TableKind) → IsOther k → new.now.trees (tree_of k) ≡ as_second old.now.trees (tree_of k)
+  as_were Meta other = absurd (other refl)
+  as_were Owners other = h.others.1.0
+  as_were Units other = h.others.1.1.0
+  as_were Materials other = h.others.1.1.1.0
+  as_were Tests other = h.others.1.1.1.1.0
+  as_were Recipes other = h.others.1.1.1.1.1.0
+  as_were Requirements other = h.others.1.1.1.1.1.1.0
+  as_were Orders other = h.others.1.1.1.1.1.1.1.0
+  as_were Batches other = h.others.1.1.1.1.1.1.1.1.0
+  as_were Lots other = h.others.1.1.1.1.1.1.1.1.1.0
+  as_were Sublots other = h.others.1.1.1.1.1.1.1.1.1.1.0
+  as_were Moves other = h.others.1.1.1.1.1.1.1.1.1.1.1.0
+  as_were Results other = h.others.1.1.1.1.1.1.1.1.1.1.1.1.0
+  as_were Voids other = h.empty
+
+  meta_was : new.now.trees (tree_of Meta) ≡ old.now.trees (tree_of Meta)
+  meta_was = h.others.0
+
+own : (r : Ordering) → r ≡ ordering_reverse r → r ≡ Equal
+own Less h = absurd cc
+own Equal h = refl
+own Greater h = absurd cc
+
+-- the new version takes the old one's place
+in_place : place (key_order Meta) (meta_cells version) (meta_cells first_version ∷ []) ≡ meta_cells version ∷ []
+in_place =
+    let same : key_order Meta (meta_cells first_version) (meta_cells version) ≡ Equal = own _ ((key_order_total Meta).antisymm (meta_cells version) (meta_cells version)) in
+    ap (λ r. match_ordering r (meta_cells first_version ∷ meta_cells version ∷ []) (meta_cells version ∷ []) (meta_cells version ∷ meta_cells first_version ∷ [])) same
+
+pub raised : (old mid new : State) → MakesTable Voids old mid → Finishes mid new → Raised old.now.trees new.now
+raised old mid new h f = record {
+  ours = f.ours;
+  told = put_told version f.mid new.now.trees f.put;
+  rows = λ c held. finished_holds c (as_second old.now.trees) (meta_cells first_version ∷ []) mid new f (subst (λ stored. HasRows Meta (meta_cells first_version ∷ []) stored) (sym (meta_was old mid h)) held.meta) in_place (as_were old mid h) held.others;
+}

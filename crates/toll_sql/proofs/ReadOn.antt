@@ -1,0 +1,144 @@
+-- Readings one after another.
+use Rattle.std.proofs.Common.{◌≡◌, List, [], ◌∷◌, take, length, inl, inr, Ok, Err, Result, OnOk, IsTrue, refl, sym, ap, subst, ◌∙◌, arith}
+use Rattle.sqlite.specs.Effect.{Database}
+use Rattle.sqlite.specs.State.{State, HasCleanDisk, Survives}
+use Rattle.sqlite.specs.Tree.{Trees}
+use Rattle.toll_base.specs.Bytes.{Bytes}
+use Rattle.toll_base.specs.Slice.{Slice}
+use Rattle.toll_keep.specs.declared.fault.KeepFault.{KeepFault}
+use Rattle.toll_keep.specs.declared.fault.KeepFault.TheVariants.{Disk, Damaged, Closed}
+use Rattle.toll_sql.specs.Asking.{Asks, IsLooking}
+use Rattle.toll_sql.specs.Fronts.{front}
+use Rattle.toll_sql.specs.Reading.{ReadsOn}
+use Rattle.toll_sql.specs.declared.table_kind.TableKind.TheVariants.{Materials, Tests, Recipes, Requirements, Orders, Batches, Lots, Sublots, Moves, Results, Voids}
+use Rattle.toll_sql.proofs.CauseLemmas.{reason_before}
+use Rattle.toll_sql.proofs.LookLemmas.{held_on}
+
+-- ---- two looks are one
+
+module _ (a b c : State) where
+  clean_before : {P : Trees → Type 0} → Survives b c P → HasCleanDisk c → HasCleanDisk b
+  clean_before s clean = omega (arith, clean, s.clean)
+
+  asks_then : {X Y E F : Type 0} (x : X) (r : Result Y F) → Asks {X = X} {E = E} a b (Ok x) → Asks b c r → Asks a c r
+  asks_then x r p q = record {
+    live = λ clean live. p.live (clean_before q.survives clean) (q.live clean live);
+    shown = q.shown;
+    same = λ clean has live idle.
+        let before = clean_before q.survives clean in
+        let middle = q.live clean live in
+        let one = p.same before has middle idle in
+        let two = q.same clean (ap (λ (db : Database). db.schema) one.0 ∙ has) live (one.0 ∙ idle ∙ sym one.1) in
+        (two.0 ∙ one.0, two.1 ∙ one.1);
+    mode = λ outside. q.mode (p.mode outside);
+    survives = record {
+      clean = omega (arith, p.survives.clean, q.survives.clean);
+      shield = λ h. q.survives.shield (p.survives.shield h);
+      counts = omega (arith, p.survives.counts, q.survives.counts);
+      limit = q.survives.limit ∙ p.survives.limit;
+      closes = λ clean live. elim (p.survives.closes (clean_before q.survives clean) live) [
+        | inl still ↦ elim (q.survives.closes clean still) [ inl now ↦ inl now | inr more ↦ inr (omega (arith, more, p.survives.counts)) ]
+        | inr more ↦ inr (omega (arith, more, q.survives.counts))
+      ];
+      crash = λ clean db may. elim (q.survives.crash clean db may) [
+        | inl before ↦ p.survives.crash (clean_before q.survives clean) db before
+        | inr committed ↦ inr (λ has quiet.
+            let before = clean_before q.survives clean in
+            let middle = p.shown before in
+            let idle = quiet (p.live before middle) in
+            let one = p.same before has middle idle in
+            committed (ap (λ (db : Database). db.schema) one.0 ∙ has) (λ _. one.0 ∙ idle ∙ sym one.1))
+      ];
+    };
+  }
+
+  pub looks_then : {X Y : Type 0} (x : X) (r : Result Y KeepFault) → IsLooking {X = X} a b (Ok x) → IsLooking b c r → IsLooking a c r
+  looks_then x r p q = record {
+    asks = asks_then x r p.asks q.asks;
+    cause = λ clean e. reason_before a b c _ _ p.asks.survives q.asks.survives clean (q.cause clean e);
+    unclosed = q.unclosed;
+    damaged = q.damaged;
+  }
+
+-- a look whose answer is turned into another one
+pub looks_as : {X Y : Type 0} (a b : State) (r : Result X KeepFault) (t : Result Y KeepFault) → IsLooking a b r → (OnOk r (IsTrue b.is_open) → OnOk t (IsTrue b.is_open)) → (t ≡ Err Disk → r ≡ Err Disk) → (t ≡ Err Closed → r ≡ Err Closed) → (t ≡ Err Damaged → r ≡ Err Damaged)
+    → IsLooking a b t
+looks_as a b r t p shown disk closed damaged = record {
+  asks = record { live = p.asks.live; shown = λ clean. shown (p.asks.shown clean); same = p.asks.same; mode = p.asks.mode; survives = p.asks.survives };
+  cause = λ clean is. p.cause clean (disk is);
+  unclosed = λ is. p.unclosed (closed is);
+  damaged = λ clean is. p.damaged clean (damaged is);
+}
+
+-- ---- tables one after another
+
+module _ (f g h : Slice → Slice) (o : Bytes) where
+  pub reads_then : {X Y : Type 0} (a b c : State) (s t u : Slice) (x : X) (r : Result Y KeepFault) → ReadsOn f g o {X = X} a b s t (Ok x) → ReadsOn g h o b c t u r → ReadsOn f h o a c s u r
+  reads_then a b c s t u x r p q = record {
+    looks = looks_then a b c x r p.looks q.looks;
+    reads = λ clean content held first.
+        let before = clean_before a b c q.looks.asks.survives clean in
+        q.reads clean content (held_on a b x content p.looks.asks before held) (p.reads before content held first);
+    whole = λ clean content held keeps first.
+        let before = clean_before a b c q.looks.asks.survives clean in
+        q.whole clean content (held_on a b x content p.looks.asks before held) keeps (p.reads before content held first);
+  }
+
+  -- one that failed read nothing
+  pub reads_not : {X Y : Type 0} (a b : State) (s t : Slice) (e : KeepFault) → ReadsOn f g o {X = X} a b s t (Err e) → ReadsOn f h o {X = Y} a b s t (Err e)
+  reads_not a b s t e p = record {
+    looks = record {
+      asks = record { live = p.looks.asks.live; shown = λ clean. tt; same = p.looks.asks.same; mode = p.looks.asks.mode; survives = p.looks.asks.survives };
+      cause = λ clean is. p.looks.cause clean (ap Err (same_error is));
+      unclosed = λ is. p.looks.unclosed (ap Err (same_error is));
+      damaged = λ clean is. p.looks.damaged clean (ap Err (same_error is));
+    };
+    reads = λ clean content held first. tt;
+    whole = λ clean content held keeps first is. p.whole clean content held keeps first (ap Err (same_error is));
+  }
+    where
+      same_error : {Z : Type 0} {d e : KeepFault} → ◌≡◌ {A = Result Z KeepFault} (Err d) (Err e) → d ≡ e
+      same_error is = cc
+
+-- ---- a table that is read whole is behind
+
+take_all : {X : Type 0} (xs : List X) → take (length xs) xs ≡ xs
+take_all [] = refl
+take_all (x ∷ xs) = ap (λ ys. x ∷ ys) (take_all xs)
+
+pub materials_behind : (s : Slice) → front Materials (length s.materials) s ≡ front Tests 0 s
+materials_behind s = ap (λ l. record s { materials = l; tests = []; recipes = []; requirements = []; orders = []; batches = []; lots = []; sublots = []; moves = []; results = []; voids = [] }) (take_all s.materials)
+
+pub tests_behind : (s : Slice) → front Tests (length s.tests) s ≡ front Recipes 0 s
+tests_behind s = ap (λ l. record s { tests = l; recipes = []; requirements = []; orders = []; batches = []; lots = []; sublots = []; moves = []; results = []; voids = [] }) (take_all s.tests)
+
+pub recipes_behind : (s : Slice) → front Recipes (length s.recipes) s ≡ front Requirements 0 s
+recipes_behind s = ap (λ l. record s { recipes = l; requirements = []; orders = []; batches = []; lots = []; sublots = []; moves = []; results = []; voids = [] }) (take_all s.recipes)
+
+pub requirements_behind : (s : Slice) → front Requirements (length s.requirements) s ≡ front Orders 0 s
+requirements_behind s = ap (λ l. record s { requirements = l; orders = []; batches = []; lots = []; sublots = []; moves = []; results = []; voids = [] }) (take_all s.requirements)
+
+pub orders_behind : (s : Slice) → front Orders (length s.orders) s ≡ front Batches 0 s
+orders_behind s = ap (λ l. record s { orders = l; batches = []; lots = []; sublots = []; moves = []; results = []; voids = [] }) (take_all s.orders)
+
+pub batches_behind : (s : Slice) → front Batches (length s.batches) s ≡ front Lots 0 s
+batches_behind s = ap (λ l. record s { batches = l; lots = []; sublots = []; moves = []; results = []; voids = [] }) (take_all s.batches)
+
+pub lots_behind : (s : Slice) → front Lots (length s.lots) s ≡ front Sublots 0 s
+lots_behind s = ap (λ l. record s { lots = l; sublots = []; moves = []; results = []; voids = [] }) (take_all s.lots)
+
+pub sublots_behind : (s : Slice) → front Sublots (length s.sublots) s ≡ front Moves 0 s
+sublots_behind s = ap (λ l. record s { sublots = l; moves = []; results = []; voids = [] }) (take_all s.sublots)
+
+pub moves_behind : (s : Slice) → front Moves (length s.moves) s ≡ front Results 0 s
+moves_behind s = ap (λ l. record s { moves = l; results = []; voids = [] }) (take_all s.moves)
+
+pub results_behind : (s : Slice) → front Results (length s.results) s ≡ front Voids 0 s
+results_behind s = ap (λ l. record s { results = l; voids = [] }) (take_all s.results)
+
+pub voids_behind : (s : Slice) → front Voids (length s.voids) s ≡ s
+voids_behind s = ap (λ l. record s { voids = l }) (take_all s.voids)
+
+-- so what was read this far was read up to there
+pub reads_up_to : {X : Type 0} (f g h : Slice → Slice) (o : Bytes) (a b : State) (s t : Slice) (r : Result X KeepFault) → ((s : Slice) → g s ≡ h s) → ReadsOn f g o a b s t r → ReadsOn f h o a b s t r
+reads_up_to f g h o a b s t r same p = subst (λ (g : Slice → Slice). ReadsOn f g o a b s t r) (λ i. λ s. same s i) p

@@ -1,0 +1,157 @@
+-- What a row that is put makes of a slice, table by table.
+use Rattle.std.proofs.Common.{◌≡◌, inl, inr, sym, subst, Bool, true, false, cond, List, [], ◌∷◌, refl, Ordering}
+use Rattle.std.specs.Cmp.Lexicographic.{nat_list_cmp_total}
+use Rattle.std.specs.List.{AllByRecursion}
+use Rattle.std.specs.Ordering.{is_eq, is_lt}
+use Rattle.sqlite.specs.Order.{column}
+use Rattle.sqlite.specs.declared.types.Value.TheVariants.{Text}
+use Rattle.toll_base.specs.Bytes.{Bytes, bytes_cmp}
+use Rattle.toll_base.specs.Keys.{pair_cmp, batch_cmp, result_cmp, requirement_cmp}
+use Rattle.toll_base.specs.Slice.{Slice, with_row}
+use Rattle.toll_base.specs.Table.{replace_row, insert_row, put_row}
+use Rattle.toll_base.specs.declared.movement.MoveRow.{MoveRow}
+use Rattle.toll_base.specs.declared.rows.BatchRow.{BatchRow}
+use Rattle.toll_base.specs.declared.rows.LotRow.{LotRow}
+use Rattle.toll_base.specs.declared.rows.MaterialRow.{MaterialRow}
+use Rattle.toll_base.specs.declared.rows.OrderRow.{OrderRow}
+use Rattle.toll_base.specs.declared.rows.RecipeRow.{RecipeRow}
+use Rattle.toll_base.specs.declared.rows.RequirementRow.{RequirementRow}
+use Rattle.toll_base.specs.declared.rows.ResultRow.{ResultRow}
+use Rattle.toll_base.specs.declared.rows.SublotRow.{SublotRow}
+use Rattle.toll_base.specs.declared.rows.TestRow.{TestRow}
+use Rattle.toll_base.specs.declared.rows.VoidRow.{VoidRow}
+use Rattle.toll_base.specs.declared.rows.Row.{Row as OfficeRow}
+use Rattle.toll_base.specs.declared.rows.Row.TheVariants as of
+use Rattle.toll_base.proofs.Texts.{pair_cmp_total, batch_cmp_total, result_cmp_total, requirement_cmp_total}
+use Rattle.toll_sql.specs.Bag.{place, Rises}
+use Rattle.toll_sql.specs.Cells.{key_order}
+use Rattle.toll_sql.specs.Encode.{table_for, cells_for, rows_for, material_cells, test_cells, recipe_cells, requirement_cells, order_cells, batch_cells, lot_cells, sublot_cells, move_cells, result_cells, void_cells}
+use Rattle.toll_sql.specs.Valid.{AreValidIn, IsRow}
+use Rattle.toll_sql.specs.declared.table_kind.TableKind.{TableKind}
+use Rattle.toll_sql.specs.declared.table_kind.TableKind.TheVariants.{Meta, Owners, Units, Materials, Tests, Recipes, Requirements, Orders, Batches, Lots, Sublots, Moves, Results, Voids}
+use Rattle.toll_sql.proofs.Orders.{materials_order, tests_order, recipes_order, requirements_order, orders_order, batches_order, lots_order, sublots_order, moves_order, results_order, voids_order}
+use Rattle.toll_sql.proofs.Placing.{put_placed}
+use Rattle.toll_sql.proofs.PutTexts.{number_of, same_table}
+
+-- the row is its owner's
+pub owner_first : (o : Bytes) (row : OfficeRow) → column (cells_for o row) 0 ≡ Text o
+owner_first o (of.Material row) = refl
+owner_first o (of.Test row) = refl
+owner_first o (of.Recipe row) = refl
+owner_first o (of.Requirement row) = refl
+owner_first o (of.Order row) = refl
+owner_first o (of.Batch row) = refl
+owner_first o (of.Lot row) = refl
+owner_first o (of.Sublot row) = refl
+owner_first o (of.Move row) = refl
+owner_first o (of.Result row) = refl
+owner_first o (of.Void row) = refl
+
+-- in its table it is placed among the others
+pub placed : (s : Slice) (row : OfficeRow) → Rises (key_order (table_for row)) (rows_for (table_for row) s)
+    → rows_for (table_for row) (with_row s row) ≡ place (key_order (table_for row)) (cells_for s.owner row) (rows_for (table_for row) s)
+placed s (of.Material x) rises = put_placed bytes_cmp nat_list_cmp_total (λ (row : MaterialRow). row.material) (material_cells s.owner) (key_order Materials) (materials_order s.owner) x s.materials rises
+placed s (of.Test x) rises = put_placed pair_cmp pair_cmp_total (λ (row : TestRow). (row.material, row.test)) (test_cells s.owner) (key_order Tests) (tests_order s.owner) x s.tests rises
+placed s (of.Recipe x) rises = put_placed bytes_cmp nat_list_cmp_total (λ (row : RecipeRow). row.recipe) (recipe_cells s.owner) (key_order Recipes) (recipes_order s.owner) x s.recipes rises
+placed s (of.Requirement x) rises = put_placed requirement_cmp requirement_cmp_total (λ (row : RequirementRow). (row.recipe, row.segment, row.role, row.source, row.material)) (requirement_cells s.owner) (key_order Requirements) (requirements_order s.owner) x s.requirements rises
+placed s (of.Order x) rises = put_placed bytes_cmp nat_list_cmp_total (λ (row : OrderRow). row.order) (order_cells s.owner) (key_order Orders) (orders_order s.owner) x s.orders rises
+placed s (of.Batch x) rises = put_placed batch_cmp batch_cmp_total (λ (row : BatchRow). (row.order, row.number)) (batch_cells s.owner) (key_order Batches) (batches_order s.owner) x s.batches rises
+placed s (of.Lot x) rises = put_placed bytes_cmp nat_list_cmp_total (λ (row : LotRow). row.lot) (lot_cells s.owner) (key_order Lots) (lots_order s.owner) x s.lots rises
+placed s (of.Sublot x) rises = put_placed pair_cmp pair_cmp_total (λ (row : SublotRow). (row.lot, row.sublot)) (sublot_cells s.owner) (key_order Sublots) (sublots_order s.owner) x s.sublots rises
+placed s (of.Move x) rises = put_placed bytes_cmp nat_list_cmp_total (λ (row : MoveRow). row.key) (move_cells s.owner) (key_order Moves) (moves_order s.owner) x s.moves rises
+placed s (of.Result x) rises = put_placed result_cmp result_cmp_total (λ (row : ResultRow). (row.lot, row.test, row.number)) (result_cells s.owner) (key_order Results) (results_order s.owner) x s.results rises
+placed s (of.Void x) rises = put_placed bytes_cmp nat_list_cmp_total (λ (row : VoidRow). row.key) (void_cells s.owner) (key_order Voids) (voids_order s.owner) x s.voids rises
+
+-- the other tables have the rows that they had
+pub untouched : (k : TableKind) (s : Slice) (row : OfficeRow) → (number_of k ≡ number_of (table_for row) → ⊥) → rows_for k (with_row s row) ≡ rows_for k s
+untouched Meta s row other = refl
+untouched Owners s row other = refl
+untouched Units s row other = refl
+untouched Materials s (of.Material x) other = absurd (other refl)
+untouched Materials s _ other = refl
+untouched Tests s (of.Test x) other = absurd (other refl)
+untouched Tests s _ other = refl
+untouched Recipes s (of.Recipe x) other = absurd (other refl)
+untouched Recipes s _ other = refl
+untouched Requirements s (of.Requirement x) other = absurd (other refl)
+untouched Requirements s _ other = refl
+untouched Orders s (of.Order x) other = absurd (other refl)
+untouched Orders s _ other = refl
+untouched Batches s (of.Batch x) other = absurd (other refl)
+untouched Batches s _ other = refl
+untouched Lots s (of.Lot x) other = absurd (other refl)
+untouched Lots s _ other = refl
+untouched Sublots s (of.Sublot x) other = absurd (other refl)
+untouched Sublots s _ other = refl
+untouched Moves s (of.Move x) other = absurd (other refl)
+untouched Moves s _ other = refl
+untouched Results s (of.Result x) other = absurd (other refl)
+untouched Results s _ other = refl
+untouched Voids s (of.Void x) other = absurd (other refl)
+untouched Voids s _ other = refl
+
+-- ---- values of their kinds
+
+module _ {K R : Type 0} (key : R → K) (P : R → Type 0) (x : R) (px : P x) where
+  one_or : (b : Bool) (xs ys : List R) → AllByRecursion P xs → AllByRecursion P ys → AllByRecursion P (cond b xs ys)
+  one_or true xs ys p q = p
+  one_or false xs ys p q = q
+
+  module _ (cmp : K → K → Ordering) where
+    all_replaced : (l : List R) → AllByRecursion P l → AllByRecursion P (replace_row cmp key l x)
+    all_replaced [] all = tt
+    all_replaced (y ∷ ys) all = one_or (is_eq (cmp (key x) (key y))) (x ∷ ys) (y ∷ replace_row cmp key ys x) (px, all.1) (all.0, all_replaced ys all.1)
+
+    all_inserted : (l : List R) → AllByRecursion P l → AllByRecursion P (insert_row cmp key l x)
+    all_inserted [] all = (px, tt)
+    all_inserted (y ∷ ys) all = one_or (is_lt (cmp (key x) (key y))) (x ∷ y ∷ ys) (y ∷ insert_row cmp key ys x) (px, all) (all.0, all_inserted ys all.1)
+
+    pub all_put : (l : List R) → AllByRecursion P l → AllByRecursion P (put_row cmp key l x)
+    unfolding put_row
+    all_put l all = one_or _ (replace_row cmp key l x) (insert_row cmp key l x) (all_replaced l all) (all_inserted l all)
+
+still_valid : (k : TableKind) (s : Slice) (row : OfficeRow) → (number_of k ≡ number_of (table_for row) → ⊥) → AreValidIn k s → AreValidIn k (with_row s row)
+still_valid Meta s row other h = tt
+still_valid Owners s row other h = tt
+still_valid Units s row other h = tt
+still_valid Materials s (of.Material x) other h = absurd (other refl)
+still_valid Materials s _ other h = h
+still_valid Tests s (of.Test x) other h = absurd (other refl)
+still_valid Tests s _ other h = h
+still_valid Recipes s (of.Recipe x) other h = absurd (other refl)
+still_valid Recipes s _ other h = h
+still_valid Requirements s (of.Requirement x) other h = absurd (other refl)
+still_valid Requirements s _ other h = h
+still_valid Orders s (of.Order x) other h = absurd (other refl)
+still_valid Orders s _ other h = h
+still_valid Batches s (of.Batch x) other h = absurd (other refl)
+still_valid Batches s _ other h = h
+still_valid Lots s (of.Lot x) other h = absurd (other refl)
+still_valid Lots s _ other h = h
+still_valid Sublots s (of.Sublot x) other h = absurd (other refl)
+still_valid Sublots s _ other h = h
+still_valid Moves s (of.Move x) other h = absurd (other refl)
+still_valid Moves s _ other h = h
+still_valid Results s (of.Result x) other h = absurd (other refl)
+still_valid Results s _ other h = h
+still_valid Voids s (of.Void x) other h = absurd (other refl)
+still_valid Voids s _ other h = h
+
+its_valid : (s : Slice) (row : OfficeRow) → IsRow row → AreValidIn (table_for row) s → AreValidIn (table_for row) (with_row s row)
+its_valid s (of.Material x) is h = all_put (λ (row : MaterialRow). row.material) _ x is bytes_cmp s.materials h
+its_valid s (of.Test x) is h = all_put (λ (row : TestRow). (row.material, row.test)) _ x is pair_cmp s.tests h
+its_valid s (of.Recipe x) is h = all_put (λ (row : RecipeRow). row.recipe) _ x is bytes_cmp s.recipes h
+its_valid s (of.Requirement x) is h = all_put (λ (row : RequirementRow). (row.recipe, row.segment, row.role, row.source, row.material)) _ x is requirement_cmp s.requirements h
+its_valid s (of.Order x) is h = all_put (λ (row : OrderRow). row.order) _ x is bytes_cmp s.orders h
+its_valid s (of.Batch x) is h = all_put (λ (row : BatchRow). (row.order, row.number)) _ x is batch_cmp s.batches h
+its_valid s (of.Lot x) is h = all_put (λ (row : LotRow). row.lot) _ x is bytes_cmp s.lots h
+its_valid s (of.Sublot x) is h = all_put (λ (row : SublotRow). (row.lot, row.sublot)) _ x is pair_cmp s.sublots h
+its_valid s (of.Move x) is h = all_put (λ (row : MoveRow). row.key) _ x is bytes_cmp s.moves h
+its_valid s (of.Result x) is h = all_put (λ (row : ResultRow). (row.lot, row.test, row.number)) _ x is result_cmp s.results h
+its_valid s (of.Void x) is h = all_put (λ (row : VoidRow). row.key) _ x is bytes_cmp s.voids h
+
+pub valid_with : (k : TableKind) (s : Slice) (row : OfficeRow) → IsRow row → ((k : TableKind) → AreValidIn k s) → AreValidIn k (with_row s row)
+valid_with k s row is all = elim (same_table k (table_for row)) [
+  | inl same ↦ subst (λ k. AreValidIn k (with_row s row)) (sym same) (its_valid s row is (all (table_for row)))
+  | inr other ↦ still_valid k s row other (all k)
+]

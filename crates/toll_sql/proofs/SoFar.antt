@@ -1,0 +1,76 @@
+-- Rows that are looked at one after another.
+use Rattle.std.proofs.Common.{◌≡◌, ◌<◌, ◌≤◌, ◌+◌, ◌∙◌, ℕ, zero, suc, cond, inl, inr, List, [], ◌∷◌, length, take, map, get_or, refl, sym, subst, arith, Ok, Err, Result, OnOk}
+use Rattle.std.proofs.lemmas.Bool.{cases_Bool}
+use Rattle.std.proofs.lemmas.List.Sorted.{IsPermutation-sym}
+use Rattle.std.specs.List.{AllByRecursion}
+use Rattle.std.specs.Ordering.{is_eq}
+use Rattle.sqlite.specs.Order.{Row, column, value_cmp}
+use Rattle.sqlite.specs.Tree.{Trees}
+use Rattle.sqlite.specs.declared.types.Value.TheVariants.{Text}
+use Rattle.sqlite_trees.proofs.ListLemmas.{all-permutation}
+use Rattle.toll_base.specs.Bytes.{Bytes}
+use Rattle.toll_sql.specs.Bag.{owned_by}
+use Rattle.toll_sql.specs.Cells.{columns_from}
+use Rattle.toll_sql.specs.Reading.{AreOwnedBy, AreRowsOf, IsRowOf}
+use Rattle.toll_sql.specs.Rows.{AreOfOwner}
+use Rattle.toll_sql.specs.Tables.{tree_of, width_of}
+use Rattle.toll_sql.specs.declared.table_kind.TableKind.{TableKind}
+use Rattle.toll_sql.specs.declared.table_kind.TableKind.TheVariants.{Meta, Owners, Units, Materials, Tests, Recipes, Requirements, Orders, Batches, Lots, Sublots, Moves, Results, Voids}
+use Rattle.toll_sql.proofs.PutCommon.{is_text}
+
+-- with the next one, one more
+next_too : {X : Type 0} (P : X → Type 0) (xs : List X) (i : ℕ) (x : X) → i < length xs → x ≡ get_or xs i x → AllByRecursion P (take i xs) → P x → AllByRecursion P (take (suc i) xs)
+next_too P [] i x lt is all it = tt
+next_too P (y ∷ ys) zero x lt is all it = (subst P is it, tt)
+next_too P (y ∷ ys) (suc i) x lt is all it = (all.0, next_too P ys i x (omega (arith, lt)) is all.1 it)
+
+pub one_more : {X : Type 0} (P : X → Type 0) (xs : List X) (i : ℕ) (x : X) → i < length xs → x ≡ get_or xs i x → AllByRecursion P (take i xs) → P x → AllByRecursion P (take (i + 1) xs)
+one_more P xs i x lt is all it =
+    let one : suc i ≡ i + 1 = omega arith in
+    subst (λ n. AllByRecursion P (take n xs)) one (next_too P xs i x lt is all it)
+
+pub value_there : {X : Type 0} (P : X → Type 0) (xs : List X) (i : ℕ) (x : X) → i < length xs → x ≡ get_or xs i x → AllByRecursion P xs → P x
+value_there P [] i x lt is all = absurd (omega (arith, lt))
+value_there P (y ∷ ys) zero x lt is all = subst P (sym is) all.0
+value_there P (y ∷ ys) (suc i) x lt is all = value_there P ys i x (omega (arith, lt)) is all.1
+
+pub all_behind : {X : Type 0} (P : X → Type 0) (xs : List X) (i : ℕ) → length xs ≤ i → AllByRecursion P (take i xs) → AllByRecursion P xs
+all_behind P [] i end all = tt
+all_behind P (y ∷ ys) zero end all = absurd (omega (arith, end))
+all_behind P (y ∷ ys) (suc i) end all = (all.0, all_behind P ys i (omega (arith, end)) all.1)
+
+-- ---- the cells of the owner's rows
+
+first_column : (k : TableKind) (row : Row) → column (columns_from 1 (width_of k) row) 0 ≡ column row 1
+first_column Meta row = refl
+first_column Owners row = refl
+first_column Units row = refl
+first_column Materials row = refl
+first_column Tests row = refl
+first_column Recipes row = refl
+first_column Requirements row = refl
+first_column Orders row = refl
+first_column Batches row = refl
+first_column Lots row = refl
+first_column Sublots row = refl
+first_column Moves row = refl
+first_column Results row = refl
+first_column Voids row = refl
+
+all_owned : (k : TableKind) (o : Bytes) (stored : List Row) → AreOwnedBy o (map (columns_from 1 (width_of k)) (owned_by o stored))
+all_owned k o [] = tt
+all_owned k o (row ∷ stored) = elim (cases_Bool (is_eq (value_cmp (column row 1) (Text o)))) [
+  | inl own ↦ subst (λ b. AreOwnedBy o (map (columns_from 1 (width_of k)) (cond b (row ∷ owned_by o stored) (owned_by o stored)))) (sym own) (first_column k row ∙ is_text (column row 1) o own, all_owned k o stored)
+  | inr other ↦ subst (λ b. AreOwnedBy o (map (columns_from 1 (width_of k)) (cond b (row ∷ owned_by o stored) (owned_by o stored)))) (sym other) (all_owned k o stored)
+]
+
+pub read_owned : (k : TableKind) (o : Bytes) (db : Trees) (rows : List Row) → AreOfOwner k o db rows → AreOwnedBy o rows
+read_owned k o db rows read = all-permutation (λ row. column row 0 ≡ Text o) (map (columns_from 1 (width_of k)) (owned_by o (db (tree_of k)))) rows read.same (all_owned k o (db (tree_of k)))
+
+-- what is so of the rows that were read is so of those that the table has
+pub stored_shown : {X : Type 0} (k : TableKind) (cells : Bytes → X → Row) (is_valid : X → Type 0) (o : Bytes) (db : Trees) (rows : List Row) → AreOfOwner k o db rows → AllByRecursion (IsRowOf k cells is_valid o) rows → AreRowsOf k cells is_valid o db
+stored_shown k cells is_valid o db rows read all = all-permutation (IsRowOf k cells is_valid o) rows (map (columns_from 1 (width_of k)) (owned_by o (db (tree_of k)))) (IsPermutation-sym (map (columns_from 1 (width_of k)) (owned_by o (db (tree_of k)))) rows read.same) all
+
+pub when_ok : {X E : Type 0} (A : Type 0) (r : Result X E) → A → OnOk r A
+when_ok A (Ok x) a = a
+when_ok A (Err e) a = tt

@@ -1,0 +1,244 @@
+-- What an INSERT of one row with ON CONFLICT DO UPDATE makes of a table, whichever table it is.
+use Rattle.std.proofs.Common.{◌≡◌, ◌≢◌, ◌⊎◌, inl, inr, ℕ, ℤ, pos, Bool, true, false, not, cond, ◌&&◌, List, [], ◌∷◌, ◌++◌, map, drop, length, slice_get, Option, Some, None, Ok, Err, Result, refl, sym, ap, subst, subst₂, ◌∙◌}
+use Rattle.std.specs.Prelude.{filter, IsPermutation, ◌/◌}
+use Rattle.std.specs.Ordering.{is_eq}
+use Rattle.std.specs.List.{AllByRecursion, list_all}
+use Rattle.std.proofs.lemmas.List.Elements.{filter_agree}
+use Rattle.std.proofs.lemmas.List.Sorted.{IsPermutation-map}
+use Rattle.sqlite.specs.declared.types.Value.{Value}
+use Rattle.sqlite.specs.declared.types.Value.TheVariants.{Null, Int, Text, Real, Blob}
+use Rattle.sqlite.specs.Order.{Row, column, value_cmp}
+use Rattle.sqlite.specs.Ops.{binary, is_true, from_truth}
+use Rattle.sqlite.specs.Term.{Term, col, op2, eval_all, holds}
+use Rattle.sqlite.specs.Query.{Query, IsAnswer}
+use Rattle.sqlite.specs.Program.{overlay}
+use Rattle.sqlite.specs.Tree.{Trees, rowid, has_rowid, put_row, without_rowid}
+use Rattle.sqlite_trees.specs.View.{IsShaped}
+use Rattle.sqlite_trees.specs.declared.store.Shape.TheVariants as shape
+use Rattle.sqlite_trees.proofs.TreeLemmas.{IsShaped-put_row, IsShaped-filter, not_true}
+use Rattle.sqlite.specs.Schema.{Schema}
+use Rattle.sqlite.specs.Table.{Table}
+use Rattle.sqlite.specs.Source.TheVariants.{Values}
+use Rattle.sqlite.specs.Collation.TheVariants.{Binary}
+use Rattle.sqlite_value.specs.Keys.{plain}
+use Rattle.sqlite_sql.specs.declared.ops.BinaryOp.TheVariants.{Compare}
+use Rattle.sqlite_sql.specs.declared.ops.CompareOp.TheVariants.{Eq}
+use Rattle.sqlite_schema.specs.declared.command.Conflict.TheVariants.{Abort}
+use Rattle.sqlite_schema.specs.declared.command.Upsert.{Upsert}
+use Rattle.sqlite_schema.specs.declared.schema.Keys.TheVariants.{Enforced}
+use Rattle.sqlite_schema.specs.Rules.{agree}
+use Rattle.sqlite_rules.specs.Lists.{Has}
+use Rattle.sqlite_rules.specs.Keys.{conflicts, AreConflicts}
+use Rattle.sqlite_rules.specs.Cast.{cast_row}
+use Rattle.sqlite_rules.specs.Action.{works, Writes}
+use Rattle.sqlite_rules.specs.Calls.{ids_of}
+use Rattle.sqlite_rules.specs.declared.error.Rowids.TheVariants.{Given, Chosen, Above}
+use Rattle.sqlite_rules.proofs.PlaceLemmas.{given as given_stay}
+use Rattle.sqlite_rules.specs.Edit.{edit_of, taken_by, is_taken, next_rowid, with_rowid, id_in, without_all, put_all, are_fresh}
+use Rattle.sqlite_rules.proofs.TableLemmas.{int_is}
+use Rattle.sqlite_rules.proofs.ListLemmas.{all_has}
+use Rattle.sqlite.specs.Rows.{Task, Written, Outcome, InsertsOr, Tries, TriesEach, Upserts, Puts as PutsRow, Resolves, Clears, Counts, Meets, Judged, nothing, stamped, count_of, rowids_for, shown as returned}
+use Rattle.sqlite.specs.Effect.{value_rows, edit_error}
+use Rattle.sqlite_rules.specs.declared.error.Refusal.{Refusal}
+use Rattle.sqlite.proofs.Callers.{one_step, one_permutation}
+use Rattle.sqlite.specs.Command.{Command}
+use Rattle.sqlite.specs.Command.TheVariants.{InsertOr}
+use Rattle.sqlite.specs.Effect.{Database}
+use Rattle.sqlite.specs.Does.{Tally, Does, OnTable, OnRows, AtPlace}
+use Rattle.sqlite.specs.Listing.{understood}
+use Rattle.sqlite.specs.State.{State, mode_of, Executes}
+use Rattle.sqlite.proofs.Callers.{IsPlain, command_of, statement_of, runs_as}
+use Rattle.toll_sql.specs.Put.{Puts}
+use Rattle.toll_sql.specs.Bag.{all_cells}
+use Rattle.toll_sql.specs.Select.{plain_query}
+use Rattle.toll_sql.proofs.SelectLemmas.{shown_by}
+use Rattle.toll_sql.proofs.TableLemmas.{one_hit, parted, put_perm}
+
+-- a part that gave a value did not stop on the way
+pub went : {B E R : Type 0} {b : B} {Stops : E → Type 0} → ((stop : E) × Stops stop × (Ok b ≡ Err stop)) ⊎ R → R
+went (inl stopped) = absurd (let e = stopped.2 in cc)
+went (inr on) = on
+
+pub same_value : {B E : Type 0} {a b : B} → ◌≡◌ {A = Result B E} (Ok a) (Ok b) → a ≡ b
+same_value e = cc
+
+told : (b : Bool) → is_true (from_truth (Some b)) ≡ b
+told true = refl
+told false = refl
+
+null_first : (n : ℤ) → is_eq (value_cmp Null (Int n)) ≡ false
+unfolding value_cmp
+null_first n = refl
+
+pub equals_int : (v : Value) (n : ℤ) → is_true (binary (Compare Eq Binary) v (Int n)) ≡ is_eq (value_cmp v (Int n))
+unfolding binary
+equals_int Null n = sym (null_first n)
+equals_int (Int m) n = told _
+equals_int (Real x) n = told _
+equals_int (Text s) n = told _
+equals_int (Blob s) n = told _
+
+not_not : (b : Bool) → not b && true ≡ true → b ≡ false
+not_not true e = absurd cc
+not_not false e = refl
+
+all_of : {X : Type 0} (P : X → Type 0) (xs : List X) → ((x : X) → Has xs x → P x) → AllByRecursion P xs
+all_of P [] f = tt
+all_of P (x ∷ xs) f = (f x (inl refl), all_of P xs (λ y has. f y (inr has)))
+
+abbrev by_rowid : ℕ → List Term
+by_rowid n = op2 (Compare Eq Binary) (col 1 0) (col 0 n) ∷ []
+
+and_true : (b : Bool) → (b && true) ≡ b
+and_true true = refl
+and_true false = refl
+
+module _ (schema : Schema) (table : Table) (still : (olds news : List Row) → works schema Enforced 0 table.tree olds news ≡ []) where
+  abbrev Other : Trees → Trees → Type 0
+  Other old new = AllByRecursion (λ t. t.tree ≢ table.tree → new t.tree ≡ old t.tree) schema.tables
+
+  -- one row is put in where its rowid is free
+  pub record Placed (left : List Row) (new : Row) (db next : Trees) : Type 0 where
+    pub rows : next table.tree ≡ put_row new left
+    pub free : is_taken left new ≡ false
+    pub other : Other db next
+
+  placed : (db next : Trees) (gone : List ℤ) (from : ℕ) (sources : List Row) (new : Row) → map (λ s. cast_row table (drop from s)) sources ≡ new ∷ []
+      → Writes schema Enforced db (edit_of db table gone Given from sources) (Ok next) → Placed (without_all (db table.tree) gone) new db next
+  placed db next gone from sources new is w =
+      let edit = edit_of db table gone Given from sources in
+      let left = without_all (db table.tree) gone in
+      let a = one_step schema Enforced db next edit (still (taken_by db edit) edit.news) w in
+      let news : edit.news ≡ new ∷ [] = given_stay left _ ∙ is in
+      record {
+        rows = subst (λ ns. next table.tree ≡ put_all left ns) news a.rows;
+        free = not_not (is_taken left new) (subst (λ ns. are_fresh left ns ≡ true) news a.fresh);
+        other = a.tables;
+      }
+
+  module _ (at : ℕ) (listed : slice_get schema.tables at ≡ Some table) (limit : Option ℕ) (params cols : Row) (terms : List Term) (width n : ℕ) (target : List ℕ) (project : List Term)
+      (uncounted : table.is_counted ≡ false)
+      (unstamped : stamped table params ≡ params)
+      (source : value_rows params width (length terms / width) terms ≡ (Null ∷ cols) ∷ [])
+      (cast_null : cast_row table (Null ∷ cols) ≡ Null ∷ cols)
+      (cast_int : (id : ℤ) → cast_row table (Int id ∷ cols) ≡ Int id ∷ cols)
+      (meets : (new r : Row) → conflicts (Some target) schema.indexes table new r ≡ agree plain target r target new)
+      (keyed : (r : Row) (a b : ℤ) → agree plain target r target (Int a ∷ cols) ≡ agree plain target r target (Int b ∷ cols))
+      (nth : (v : Value) (more : Row) → column (params ++ v ∷ more) n ≡ v)
+      (seen : (db : Trees) → overlay db [] table.tree ≡ db table.tree)
+      (shows : (given r : Row) → rowid (eval_all project (given ∷ r ∷ [])) ≡ rowid r)
+      (merges : (r : Row) (id a : ℤ) → rowid r ≡ Int id → agree plain target r target (Int a ∷ cols) ≡ true
+      → cast_row table (drop 1 (eval_all project ((params ++ rowid r ∷ returned table (Int a ∷ cols)) ∷ r ∷ []))) ≡ Int id ∷ cols) where
+    abbrev task : Task
+    task = record { limit = limit; keys = Enforced; schema = schema; table = table; params = params }
+
+    abbrev update : Query
+    update = plain_query table.tree (by_rowid n) project []
+
+    abbrev clause : Upsert
+    clause = record { target = Some target; update = Some (record { lets = []; body = update }) }
+
+    abbrev has_key : Row → Bool
+    has_key r = agree plain target r target (Int (pos 0) ∷ cols)
+
+    added : (db : Trees) (id : ℤ) (one : Written) → IsShaped shape.Table (db table.tree) → AllByRecursion (λ r. has_key r ≡ false) (db table.tree) → PutsRow task (Int id ∷ cols) db (Ok one) → Puts schema table.tree has_key cols db one.trees
+    added db id one shaped none h =
+        let at = went h in
+        let p = placed db at.0 [] 0 ((Int id ∷ cols) ∷ []) (Int id ∷ cols) (ap (λ r. r ∷ []) (cast_int id)) at.1 in
+        let now : one.trees ≡ at.0 = ap (λ (w : Written). w.trees) (same_value at.2) in
+        subst (Puts schema table.tree has_key cols db) (sym now) (record {
+          here = inr (none, subst (λ rows. IsPermutation (cols ∷ all_cells (db table.tree)) (all_cells rows)) (sym p.rows) (IsPermutation-map (drop 1) _ _ (put_perm (Int id ∷ cols) (db table.tree) p.free)));
+          others = p.other;
+          shaped = subst (IsShaped shape.Table) (sym p.rows) (IsShaped-put_row (Int id ∷ cols) (db table.tree) refl shaped);
+        })
+
+    hits_are : (given : Row) (id : ℤ) → column given n ≡ Int id → (rows : List Row) → filter (λ r. list_all (holds (given ∷ r ∷ [])) (by_rowid n)) rows ≡ filter (has_rowid id) rows
+    hits_are given id is rows = filter_agree _ _ (λ r. and_true _ ∙ ap (λ v. is_true (binary (Compare Eq Binary) (rowid r) v)) is ∙ equals_int (rowid r) id) rows
+
+    replaced : (db : Trees) (a : ℤ) (r : Row) (one : Written) → IsShaped shape.Table (db table.tree) → Has (db table.tree) r → agree plain target r target (Int a ∷ cols) ≡ true
+        → Resolves task (Int a ∷ cols) db (rowid r ∷ []) (Some (record { lets = []; body = update })) (Ok one) → Puts schema table.tree has_key cols db one.trees
+    replaced db a r one shaped has key h =
+        let rows = db table.tree in
+        let id = id_in (rowid r) in
+        let id_is : rowid r ≡ Int id = int_is (rowid r) (all_has _ rows r shaped.1 has) in
+        let given = params ++ rowid r ∷ returned table (Int a ∷ cols) in
+        let q = went h in
+        let answer : IsAnswer update (overlay db []) given q.0 = q.1.answer Null in
+        let shown = (shown_by table.tree (by_rowid n) project [] (λ _. []) (λ env. refl) (overlay db []) given q.0 answer).same in
+        let hits : filter (λ r. list_all (holds (given ∷ r ∷ [])) (by_rowid n)) (overlay db [] table.tree) ≡ r ∷ [] = hits_are given id (nth _ _ ∙ id_is) _ ∙ ap (filter (has_rowid id)) (seen db) ∙ one_hit id rows r shaped.0 has id_is in
+        let show = eval_all project (given ∷ r ∷ []) in
+        let only : q.0 ≡ show ∷ [] = one_permutation show q.0 (subst (λ hs. IsPermutation (map (λ r. eval_all project (given ∷ r ∷ [])) hs) q.0) hits shown) in
+        let at = went q.2 in
+        let p0 = placed db at.0 (ids_of q.0) 1 q.0 (Int id ∷ cols) (rw only (ap (λ x. x ∷ []) (merges r id a id_is key))) at.1 in
+        let gone : ids_of q.0 ≡ id ∷ [] = ap ids_of only ∙ ap (λ v. id_in v ∷ []) (shows given r) in
+        let p = subst (λ ids. Placed (without_all rows ids) (Int id ∷ cols) db at.0) gone p0 in
+        let left = without_rowid id rows in
+        let now : one.trees ≡ at.0 = ap (λ (w : Written). w.trees) (same_value at.2) in
+        subst (Puts schema table.tree has_key cols db) (sym now) (record {
+          here = inl (r, left, keyed r (pos 0) a ∙ key, parted id rows r shaped.0 has id_is, subst (λ rows. IsPermutation (cols ∷ all_cells left) (all_cells rows)) (sym p.rows) (IsPermutation-map (drop 1) _ _ (put_perm (Int id ∷ cols) left p.free)));
+          others = p.other;
+          shaped = subst (IsShaped shape.Table) (sym p.rows) (IsShaped-put_row (Int id ∷ cols) left refl (IsShaped-filter shape.Table _ rows shaped));
+        })
+
+    cleared : (db : Trees) (id : ℤ) (found : List Row) (one : Written) → Clears task Abort (Int id ∷ cols) db found (Ok one) → PutsRow task (Int id ∷ cols) db (Ok one)
+    cleared db id [] one h = h
+    cleared db id (x ∷ found) one h = h
+
+    met : (db : Trees) (a : ℤ) (one : Written) → IsShaped shape.Table (db table.tree) → (found : List Row) → AreConflicts (Some target) schema.indexes table (db table.tree) (Int a ∷ cols) found
+        → Meets task (Upserts task Abort (Int a ∷ cols) db []) (Int a ∷ cols) db clause found (Ok one) → Puts schema table.tree has_key cols db one.trees
+    met db a one shaped [] conf h =
+        let none = all_of (λ r. has_key r ≡ false) (db table.tree) (λ r has. not_true _ (λ hit. conf.complete r has (meets (Int a ∷ cols) r ∙ sym (keyed r (pos 0) a) ∙ hit))) in
+        added db a one shaped none (cleared db a h.0 one h.2)
+    met db a one shaped (there ∷ more) conf h =
+        let it = conf.sound there (inl refl) in
+        replaced db a it.0 one shaped it.1 (sym (meets (Int a ∷ cols) it.0) ∙ it.2) (subst (λ t. Resolves task (Int a ∷ cols) db t (Some (record { lets = []; body = update })) (Ok one)) it.3 h)
+
+    judged : (db : Trees) (a : ℤ) (one : Written) → IsShaped shape.Table (db table.tree) → (verdict : Option Refusal) → Judged task Abort (clause ∷ []) (Int a ∷ cols) db verdict (Ok one)
+        → Puts schema table.tree has_key cols db one.trees
+    judged db a one shaped None h = met db a one shaped h.0 h.1 h.2
+    judged db a one shaped (Some why) h = absurd (let e : ◌≡◌ {A = Outcome Written} (Ok one) (Err (Some (edit_error why))) = h in cc)
+
+    tried : (db : Trees) (a : ℤ) (one : Written) → IsShaped shape.Table (db table.tree) → Tries task Abort (clause ∷ []) (Int a ∷ cols) db (Ok one) → Puts schema table.tree has_key cols db one.trees
+    tried db a one shaped (inl h) = absurd (let e = h.1 in cc)
+    tried db a one shaped (inr h) = judged db a one shaped h.0 h.2
+
+    chosen : (db : Trees) (top : ℤ) → with_rowid (rowids_for table top) (db table.tree) (cast_row table (Null ∷ cols)) ≡ Int (next_rowid (db table.tree)) ∷ cols
+    chosen db top = ap (with_rowid (rowids_for table top) (db table.tree)) cast_null ∙ ap (λ (b : Bool). with_rowid (cond b (Above top) Chosen) (db table.tree) (Null ∷ cols)) uncounted
+
+    kept : (db next : Trees) (counter : Option Row) (top : ℤ) → Counts task db counter top (Ok next) → next ≡ db
+    kept db next counter top h = same_value (rw uncounted at h)
+
+    pub puts : (db : Trees) (w : Written) → IsShaped shape.Table (db table.tree) → InsertsOr task Abort (clause ∷ []) (Values terms width) db (Ok w) → Puts schema table.tree has_key cols db w.trees
+    puts db w shaped h =
+        let given = went h in
+        let rows : given.0 ≡ (Null ∷ cols) ∷ [] = given.1.1 ∙ ap (λ p. value_rows p width (length terms / width) terms) unstamped ∙ source in
+        let counter = went given.2 in
+        let done = went counter.2 in
+        let next = went done.2 in
+        let top = count_of counter.0 in
+        let each = subst (λ rs. TriesEach task Abort (clause ∷ []) rs top (nothing db) (Ok done.0)) rows done.1 in
+        let id = next_rowid (db table.tree) in
+        let new : with_rowid (rowids_for table top) (db table.tree) (cast_row table (Null ∷ cols)) ≡ Int id ∷ cols = chosen db top in
+        let one = went each in
+        let p = tried db id one.0 shaped (subst (λ r. Tries task Abort (clause ∷ []) r db (Ok one.0)) new one.1) in
+        let last : done.0.0.trees ≡ one.0.trees = ap (λ (d : Written × ℤ). d.0.trees) (same_value one.2) in
+        let counted : next.0 ≡ done.0.0.trees = kept done.0.0.trees next.0 counter.0 done.0.1 next.1 in
+        let now : w.trees ≡ one.0.trees = ap (λ (v : Written). v.trees) (same_value next.2) ∙ counted ∙ last in
+        subst (Puts schema table.tree has_key cols db) (sym now) p
+
+    abbrev pub command : Command
+    command = InsertOr at Abort (Values terms width) (clause ∷ [])
+
+    pub state_puts : (sql : List ℕ) (old new : State) (count : ℕ) → old.now.schema ≡ schema → old.step_limit ≡ limit → command_of (understood schema sql) ≡ command → IsPlain (understood schema sql)
+        → IsShaped shape.Table (old.now.trees table.tree) → Executes sql params old new (Ok count) → Puts schema table.tree has_key cols old.now.trees new.now.trees × (new.now.schema ≡ schema)
+    state_puts sql old new count has free is plain shaped h =
+        let w = runs_as sql params old new schema has command is plain count h in
+        let text = statement_of sql (understood schema sql) in
+        let all : OnTable limit (mode_of old) params (record { schema = schema; trees = old.now.trees }) at (λ task. OnRows task (mode_of old) None command old.now.trees) (Ok (w.tally, new.now)) =
+        subst₂ (λ s l. Does l (mode_of old) params (record { schema = s; trees = old.now.trees }) text None command (Ok (w.tally, new.now))) has free w.changed in
+        let rows : OnRows task (mode_of old) None command old.now.trees (Ok (w.tally, new.now)) =
+        subst (λ o. AtPlace (λ table. OnRows (record { limit = limit; keys = Enforced; schema = schema; table = table; params = params }) (mode_of old) None command old.now.trees) o (Ok (w.tally, new.now))) listed all in
+        let done = went rows in
+        let p = puts old.now.trees done.0 shaped done.1 in
+        let now : new.now ≡ record { schema = schema; trees = done.0.trees } = ap (λ (p : Tally × Database). p.1) (same_value (went (went done.2).2).2) in
+        (subst (λ (d : Database). Puts schema table.tree has_key cols old.now.trees d.trees) (sym now) p, ap (λ (d : Database). d.schema) now)

@@ -1,0 +1,89 @@
+-- One row put within a transaction.
+use Rattle.std.proofs.Common.{◌≡◌, ◌≢◌, ◌⊎◌, inl, inr, ℕ, zero, suc, true, false, List, [], ◌∷◌, slice_get, Some, Ok, Err, Result, OnOk, IsTrue, sym, ap, subst, ◌∙◌, nat_eq}
+use Rattle.std.specs.List.{AllByRecursion}
+use Rattle.std.proofs.lemmas.Bool.{cases_Bool, eqb-true, eq-eqb}
+use Rattle.sqlite.proofs.InsideLemmas.{inside_keeps}
+use Rattle.sqlite.specs.Order.{Row}
+use Rattle.sqlite.specs.State.{State, ExecutesInside, KeepsCommit, Survives, HasCleanDisk}
+use Rattle.sqlite.specs.Table.{Table}
+use Rattle.sqlite.specs.Tree.{Trees}
+use Rattle.sqlite.specs.declared.error.Error.{Error}
+use Rattle.sqlite_trees.specs.View.{IsShaped}
+use Rattle.sqlite_trees.specs.declared.store.Shape.TheVariants as shape
+use Rattle.toll_sql.specs.Cells.{columns_from, fill}
+use Rattle.toll_sql.specs.Stores.{IsReady, IsWriting, MakesRow, PutsRow}
+use Rattle.toll_sql.specs.Tables.{ours, table_of, tree_of, width_of, put_text}
+use Rattle.toll_sql.specs.declared.table_kind.TableKind.{TableKind}
+use Rattle.toll_sql.proofs.CauseLemmas.{exec_fault}
+use Rattle.toll_sql.proofs.CellLemmas.{all_columns, fit_length}
+use Rattle.toll_sql.proofs.PutRows.{puts_at}
+use Rattle.toll_sql.proofs.PutTexts.{listed, tree_is, columns_are, number_of}
+
+pub at_listed : {X : Type 0} (P : X → Type 0) (xs : List X) (i : ℕ) (x : X) → AllByRecursion P xs → slice_get xs i ≡ Some x → P x
+at_listed P [] i x all h = absurd cc
+at_listed P (y ∷ xs) zero x all h = let same : y ≡ x = cc in subst P same all.0
+at_listed P (y ∷ xs) (suc i) x all h = at_listed P xs i x all.1 h
+
+-- each of our tables
+pub at_table : (P : ℕ → Type 0) (k : TableKind) → AllByRecursion (λ (t : Table). P t.tree) ours.tables → P (tree_of k)
+at_table P k all = subst P (tree_is k) (at_listed (λ (t : Table). P t.tree) ours.tables (number_of k) (table_of k) all (listed k))
+
+-- ---- what is shaped stays so
+
+same_or_not : (a b : ℕ) → (a ≡ b) ⊎ (a ≢ b)
+same_or_not a b = elim (cases_Bool (nat_eq a b)) [
+  | inl equal ↦ inl (eqb-true a b equal)
+  | inr other ↦ inr (λ same. absurd (let e = sym other ∙ eq-eqb a b same in cc))
+]
+
+pub shaped_after : (tree : ℕ) (old new : Trees) (ts : List Table) → IsShaped shape.Table (new tree) → AllByRecursion (λ t. t.tree ≢ tree → new t.tree ≡ old t.tree) ts
+    → AllByRecursion (λ t. IsShaped shape.Table (old t.tree)) ts → AllByRecursion (λ t. IsShaped shape.Table (new t.tree)) ts
+shaped_after tree old new [] here others shaped = tt
+shaped_after tree old new (t ∷ ts) here others shaped =
+    let one : IsShaped shape.Table (new t.tree) = elim (same_or_not t.tree tree) [
+      | inl same ↦ subst (λ n. IsShaped shape.Table (new n)) (sym same) here
+      | inr not ↦ subst (IsShaped shape.Table) (sym (others.0 not)) shaped.0
+    ] in
+    (one, shaped_after tree old new ts here others.1 shaped.1)
+
+-- ---- the call
+
+pub whole_row : (k : TableKind) (cells : Row) → fill k cells ≡ true → columns_from 0 (width_of k) cells ≡ cells
+whole_row k cells fits = ap (λ n. columns_from 0 n cells) (sym (columns_are k) ∙ sym (fit_length (table_of k).columns cells fits)) ∙ all_columns cells
+
+module _ (k : TableKind) (cells : Row) (fits : fill k cells ≡ true) (old new : State) where
+  makes : (r : Result ℕ Error) → new.step_limit ≡ old.step_limit → IsReady old → ExecutesInside 0 (put_text k) cells old new r → OnOk r (MakesRow k cells old new)
+  makes (Err e) limit ready h = tt
+  makes (Ok count) limit ready h =
+      let is = whole_row k cells fits in
+      let shaped = at_table (λ tree. IsShaped shape.Table (old.now.trees tree)) k ready.ours.shaped in
+      let p0 = puts_at k cells (subst (λ c. fill k c ≡ true) (sym is) fits) old new count ready.ours.schema ready.unlimited shaped (subst (λ c. ExecutesInside 0 (put_text k) c old new (Ok count)) (sym is) h).0 in
+      let put : PutsRow k cells old.now.trees new.now.trees = subst (λ c. PutsRow k c old.now.trees new.now.trees) is p0.0 in
+      record {
+        put = put;
+        ready = record {
+          ours = record { schema = p0.1; shaped = shaped_after (tree_of k) old.now.trees new.now.trees ours.tables put.shaped put.others ready.ours.shaped };
+          unlimited = limit ∙ ready.unlimited;
+          inside = h.1.mode;
+        };
+        committed = h.1.committed_is;
+      }
+
+  inside : (r : Result ℕ Error) → ExecutesInside 0 (put_text k) cells old new r → OnOk r (IsTrue new.in_transaction)
+  inside (Err e) h = tt
+  inside (Ok count) h = h.1.mode
+
+  kept : (r : Result ℕ Error) → (old.in_transaction ≡ false → new ≡ old) → (IsTrue old.in_transaction → ExecutesInside 0 (put_text k) cells old new r) → KeepsCommit old new
+  kept r outside runs = elim (cases_Bool old.in_transaction) [
+    | inl within ↦ inside_keeps old new 0 false (put_text k) cells r (runs within)
+    | inr without ↦ (let same = outside without in record { was_open = λ live. subst (λ s. IsTrue s.is_open) same live; committed = λ live. ap (λ (s : State). s.committed) same })
+  ]
+
+  pub writes_row : (r : Result ℕ Error) → (old.in_transaction ≡ false → new ≡ old) → (HasCleanDisk new → IsTrue old.in_transaction → ExecutesInside 0 (put_text k) cells old new r) → Survives old new (λ _. ⊥) → IsWriting (MakesRow k cells) old new r
+  writes_row r outside runs survives = record {
+    makes = λ clean ready. makes r survives.limit ready (runs clean ready.inside);
+    inside = λ clean within. inside r (runs clean within);
+    fault = λ clean within. exec_fault old new (put_text k) cells r (runs clean within);
+    kept = λ clean. kept r outside (runs clean);
+    survives = survives;
+  }

@@ -1,0 +1,11 @@
+use Rattle.sqlite.specs.Held.{state}
+use Rattle.toll_sql.proofs.RaiseLemmas.{others_told}
+use Rattle.toll_sql.proofs.adopting.adopt_other.Goals as goal
+
+pub returns-in-Ok : goal.returns-in-Ok
+returns-in-Ok g c =
+    let old = state g.S.Store c.args.conn.now in
+    let new = state g.S.Store c.find_version.new.conn in
+    let v = c.find_version.ensures in
+    let f = c.fault_of_others.ensures in
+    record { adopts = others_told old new c.requires.unlimited c.requires.other.0 c.requires.other.1 c.in-Ok.told c.find_version.result c.in-Ok.is v.left v.found c.fault_of_others.result f.damaged f.foreign f.known }

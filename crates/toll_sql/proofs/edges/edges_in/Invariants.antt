@@ -1,0 +1,7 @@
+use Rattle.std.proofs.Common.{◌≡◌, take, map}
+use Rattle.toll_sql.specs.Cells.{columns_from}
+use Rattle.toll_sql.specs.EdgeRows.{edge_cells}
+use Rattle.toll_sql.proofs.edges.edges_in.Given as goal
+
+abbrev pub invariant-loop-row : goal.invariant-loop-row
+invariant-loop-row l = map edge_cells l.edges.items ≡ map (columns_from 0 4) (take l.row-index l.rows)

@@ -1,0 +1,22 @@
+use Rattle.std.proofs.Common.{[], ◌∷◌, IfOk, subst}
+use Rattle.std.proofs.lemmas.Result.{IfOk-weaker}
+use Rattle.sqlite.specs.Held.{state}
+use Rattle.sqlite.specs.State.{Shown}
+use Rattle.sqlite.specs.declared.types.Value.TheVariants.{Text}
+use Rattle.toll_sql.proofs.AskLemmas.{querying}
+use Rattle.toll_sql.proofs.AskedTexts.{unit_text}
+use Rattle.toll_sql.proofs.HolderShown.{unit_plain, unit_answered, holders_shown}
+use Rattle.toll_sql.proofs.holding.open_batches.Goals as goal
+
+pub returns-clause-asks : goal.returns-clause-asks
+returns-clause-asks g c =
+    let called = c.query_all.ensures in
+    querying unit_text (Text c.as_bytes.result.now ∷ []) (state g.S.Store c.args.conn.now) (state g.S.Store c.query_all.new.self) unit_plain (λ rows. rows.items) c.query_all.result called.mode called.ok called.err called.survives
+
+pub returns-clause-rows : goal.returns-clause-rows
+returns-clause-rows g c clean content held =
+    let unit = c.args.unit.now in
+    let old = state g.S.Store c.args.conn.now in
+    let new = state g.S.Store c.query_all.new.self in
+    let shown = subst (λ u. IfOk c.query_all.result (λ rows. Shown unit_text (Text u ∷ []) old new rows.items)) c.as_bytes.ensures.bytes (c.query_all.ensures.ok clean) in
+    IfOk-weaker c.query_all.result _ _ (λ rows h. holders_shown old.now.trees content held.rows unit rows.items (unit_answered old new held.ours.schema (Text unit ∷ []) rows.items h)) shown

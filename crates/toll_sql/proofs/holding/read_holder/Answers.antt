@@ -1,0 +1,18 @@
+use Rattle.std.proofs.Common.{IfOk, subst}
+use Rattle.sqlite.specs.Held.{state}
+use Rattle.toll_sql.specs.HolderRows.{HasNoHolder, IsShownIn}
+use Rattle.toll_sql.proofs.HolderShown.{each_named, read_from}
+use Rattle.toll_sql.proofs.LookLemmas.{looking}
+use Rattle.toll_sql.proofs.holding.read_holder.Goals as goal
+
+pub returns-in-Ok-clause-looks : goal.returns-in-Ok-clause-looks
+returns-in-Ok-clause-looks g c = looking (state g.S.Store c.args.conn.now) (state g.S.Store c.open_batches.new.conn) c.in-Ok.rows c.first_holder.result c.in-Ok.ensures.asks.asks c.first_holder.ensures.disk c.first_holder.ensures.closed
+
+pub returns-in-Ok-clause-reads : goal.returns-in-Ok-clause-reads
+returns-in-Ok-clause-reads g c clean content held =
+    let r = c.first_holder.result in
+    read_from content c.args.unit.now c.in-Ok.rows.items (c.in-Ok.ensures.rows clean content held) r (subst (λ rows. IfOk r (IsShownIn rows)) c.deref.ensures.value c.first_holder.ensures.read)
+
+pub returns-in-Ok-clause-whole : goal.returns-in-Ok-clause-whole
+returns-in-Ok-clause-whole g c clean content held is =
+    each_named content c.args.unit.now c.in-Ok.rows.items (c.in-Ok.ensures.rows clean content held) (subst HasNoHolder c.deref.ensures.value (c.first_holder.ensures.damaged is))

@@ -1,0 +1,41 @@
+use Rattle.std.proofs.Common.{◌≡◌, ◌∙◌, rules}
+use Rattle.sqlite.specs.Order.{column}
+use Rattle.sqlite.specs.declared.types.Value.TheVariants.{Text}
+use Rattle.toll_sql.specs.Reading.{IsRowOf}
+use Rattle.toll_sql.proofs.SoFar.{all_behind, one_more, value_there}
+use Rattle.toll_sql.proofs.RowsIn.{it, it_is, it_valid, with_it, with_it_keeps}
+use Rattle.toll_sql.proofs.reading.read_rows.Goals as goal
+
+pub loop-row-preserved : goal.loop-row-preserved
+loop-row-preserved g c =
+    let X = g.X.StoredRow in
+    let i = c.loop-row.row-index in
+    let lt = c.loop-row-test.true in
+    let rows = c.args.rows.now in
+    let row = c.row-item.result in
+    record {
+      reads = λ stand s stored first.
+          let x = it X.kind X.cells X.is_valid X.any_row X.listed stand s rows stored i lt in
+          let is = c.row-item.is ∙ it_is X.kind X.cells X.is_valid X.any_row X.listed stand s rows stored i lt row in
+          c.in_ok-read_row.ensures.reads stand s.owner x (it_valid X.kind X.cells X.is_valid X.any_row X.listed stand s rows stored i lt) is
+          ∙ with_it X.kind X.cells X.is_valid X.any_row X.listed stand s rows stored i lt c.loop-row.slice (c.loop-row.invariant.reads stand s stored first);
+      shown = λ o all. one_more (IsRowOf X.kind X.cells X.is_valid o) rows i row lt c.row-item.is (c.loop-row.invariant.shown o all) (c.in_ok-read_row.ensures.shown o (value_there (λ r. column r 0 ≡ Text o) rows i row lt c.row-item.is all));
+    }
+
+pub returns-in_err-read_row-clause-whole : goal.returns-in_err-read_row-clause-whole
+returns-in_err-read_row-clause-whole g c = λ stand s stored keeps first.
+    let X = g.X.StoredRow in
+    let i = c.loop-row.row-index in
+    let lt = c.loop-row-test.true in
+    let rows = c.args.rows.now in
+    let x = it X.kind X.cells X.is_valid X.any_row X.listed stand s rows stored i lt in
+    let is = c.row-item.is ∙ it_is X.kind X.cells X.is_valid X.any_row X.listed stand s rows stored i lt c.row-item.result in
+    let fits = with_it_keeps X.kind X.cells X.is_valid X.any_row X.listed stand s rows stored i lt c.loop-row.slice (c.loop-row.invariant.reads stand s stored first) keeps in
+    let whole = c.in_err-read_row.ensures.whole stand s.owner x (it_valid X.kind X.cells X.is_valid X.any_row X.listed stand s rows stored i lt) is fits in
+    let f = c.from_residual.ensures in
+    search rules
+
+pub returns-clause-shown : goal.returns-clause-shown
+returns-clause-shown g c = λ o all.
+    let X = g.X.StoredRow in
+    all_behind (IsRowOf X.kind X.cells X.is_valid o) c.args.rows.now c.loop-row.row-index c.loop-row-test.false (c.loop-row.invariant.shown o all)

@@ -1,0 +1,25 @@
+use Rattle.std.proofs.Common.{rules, Option, Ok, Err}
+use Rattle.sqlite.specs.Held.{state}
+use Rattle.toll_base.specs.Slice.{Slice}
+use Rattle.toll_sql.specs.Asking.{IsLooking}
+use Rattle.toll_sql.proofs.ReadOn.{looks_then, looks_as}
+use Rattle.toll_sql.proofs.slice_reading.read_slice.Goals as goal
+
+pub returns-in_err-slice-clause-looks : goal.returns-in_err-slice-clause-looks
+returns-in_err-slice-clause-looks g c =
+    let old = state g.S.Store c.args.conn.now in
+    let one = state g.S.Store c.read_owners.new.conn in
+    let two = state g.S.Store c.read_rows_of.new.conn in
+    let e = c.in_err-slice.field-0.0 in
+    let q : IsLooking {X = Slice} old two (Err e) = looks_then old one two _ _ c.in_ok-owners.ensures.looks c.in_err-slice.ensures.looks in
+    let r : IsLooking {X = Option Slice} old two (Err e) = looks_as old two (Err e) (Err e) q (λ live. tt) (λ is. cc) (λ is. cc) (λ is. cc) in
+    let f = c.from_residual-in_err-slice.ensures in
+    search rules
+
+pub returns-clause-looks : goal.returns-clause-looks
+returns-clause-looks g c =
+    let old = state g.S.Store c.args.conn.now in
+    let one = state g.S.Store c.read_owners.new.conn in
+    let two = state g.S.Store c.read_rows_of.new.conn in
+    let q = looks_then old one two _ _ c.in_ok-owners.ensures.looks c.in_ok-slice.ensures.looks in
+    looks_as old two (Ok _) (Ok _) q (λ live. live) (λ is. absurd (cc)) (λ is. absurd (cc)) (λ is. absurd (cc))

@@ -1,0 +1,30 @@
+-- What a store whose tables may be any is told of its version, by sqlite's own account.
+use Rattle.std.specs.Prelude.{◌≡◌, ◌≤◌, ℕ, List, [], length, Option, None, Ok}
+use Rattle.sqlite.specs.Clock.{timed}
+use Rattle.sqlite.specs.Effect.{Database, Reads, RefusesToRead}
+use Rattle.sqlite.specs.Listing.{IsSourceOf, reads_listing, understood}
+use Rattle.sqlite.specs.Order.{Row}
+use Rattle.sqlite.specs.declared.error.Error.{Error}
+use Rattle.sqlite_resolve.specs.declared.compiled.Compiled.{Compiled}
+use Rattle.toll_sql.specs.Tables.{select_text}
+use Rattle.toll_sql.specs.declared.table_kind.TableKind.TheVariants.{Meta}
+
+-- the text, without parameters, reads these rows of the database; RETURNING, which no SELECT has, is left out
+abbrev pub AreReadBy : Database → List ℕ → List Row → Type 0
+AreReadBy db sql rows =
+    (c : Compiled) × (understood db.schema sql ≡ Ok c) × (c.returning ≡ None → (source : Database) × IsSourceOf (reads_listing db.schema sql) db source × ((now : ℕ) × Reads c.command source (timed [] c.formats now) rows))
+
+-- the text is one statement that has no parameters and reads no time
+pub record IsWholeText (sql : List ℕ) (c : Compiled) : Type 0 where
+  pub whole : length sql ≤ c.tail
+  pub given : length c.names ≡ 0
+  pub untimed : c.formats ≡ []
+
+-- the text reads nothing of the database: it is not understood, or no such statement, or what it asks is refused
+abbrev pub IsUnreadBy : Database → List ℕ → Type 0
+IsUnreadBy db sql =
+    (c : Compiled) → understood db.schema sql ≡ Ok c → c.returning ≡ None → IsWholeText sql c → (source : Database) × IsSourceOf (reads_listing db.schema sql) db source × ((limit : Option ℕ) × (params : Row) × (e : Error) × RefusesToRead limit c.command source params e)
+
+-- what `meta` shows of a store is such
+abbrev pub ShowsMeta : (List Row → Type 0) → Database → Type 0
+ShowsMeta P db = (rows : List Row) × AreReadBy db (select_text Meta) rows × P rows

@@ -1,0 +1,29 @@
+-- What each call does that asks the store and writes nothing.
+use Rattle.std.specs.Prelude.{◌≡◌, ◌≢◌, false, IsTrue, Result, Err, IfErr, OnOk}
+use Rattle.sqlite.specs.State.{State, HasCleanDisk, Survives}
+use Rattle.sqlite.specs.declared.error.Error.{Error}
+use Rattle.toll_keep.specs.declared.fault.KeepFault.{KeepFault}
+use Rattle.toll_keep.specs.declared.fault.KeepFault.TheVariants.{Disk, Damaged, Closed}
+use Rattle.toll_sql.specs.Causes.{IsCaused, Reason}
+use Rattle.toll_sql.specs.Tables.{ours}
+
+-- whatever it asked and was told: what was there is there, and a stop leaves what it left before
+pub record Asks {X E : Type 0} (old new : State) (result : Result X E) : Type 0 where
+  -- a store that lies open now has always done so, and a call that succeeds shows it
+  pub live : HasCleanDisk new → IsTrue new.is_open → IsTrue old.is_open
+  pub shown : HasCleanDisk new → OnOk result (IsTrue new.is_open)
+  pub same : HasCleanDisk new → old.now.schema ≡ ours → IsTrue new.is_open → old.now ≡ old.committed → (new.now ≡ old.now) × (new.committed ≡ old.committed)
+  pub mode : old.in_transaction ≡ false → new.in_transaction ≡ false
+  pub survives : Survives old new (λ db. old.now.schema ≡ ours → (IsTrue old.is_open → old.now ≡ old.committed) → ⊥)
+
+-- one statement: an error of the disk has a cause
+pub record IsQuerying {X : Type 0} (old new : State) (result : Result X Error) : Type 0 where
+  pub asks : Asks old new result
+  pub cause : HasCleanDisk new → IfErr result (IsCaused old new)
+
+-- a reading of rows: so has a fault of the disk, nothing is told as closed, and damage is found in a store that lies open
+pub record IsLooking {X : Type 0} (old new : State) (result : Result X KeepFault) : Type 0 where
+  pub asks : Asks old new result
+  pub cause : HasCleanDisk new → result ≡ Err Disk → Reason old new
+  pub unclosed : result ≢ Err Closed
+  pub damaged : HasCleanDisk new → result ≡ Err Damaged → IsTrue new.is_open

@@ -1,0 +1,88 @@
+-- Tables that are being made, within a transaction.
+use Rattle.std.specs.Prelude.{◌≡◌, None, [], ◌∷◌, IsTrue, Result, IfErr, OnOk, OnErr, false, true}
+use Rattle.std.specs.List.{AllByRecursion}
+use Rattle.sqlite.specs.Effect.{Database}
+use Rattle.sqlite.specs.Schema.{Schema}
+use Rattle.sqlite.specs.State.{State, HasCleanDisk, KeepsCommit, Survives}
+use Rattle.sqlite.specs.Tree.{Trees}
+use Rattle.sqlite.specs.declared.error.Error.{Error}
+use Rattle.sqlite_catalog.specs.Change.{KeepsRows}
+use Rattle.sqlite_trees.specs.View.{IsShaped}
+use Rattle.sqlite_trees.specs.declared.store.Shape.TheVariants as shape
+use Rattle.toll_sql.specs.Causes.{IsCaused}
+use Rattle.toll_sql.specs.Encode.{meta_cells}
+use Rattle.toll_keep.specs.Content.{nothing}
+use Rattle.toll_sql.specs.Holds.{Holds, version}
+use Rattle.toll_sql.specs.Stores.{IsOurs, PutsRow}
+use Rattle.toll_sql.specs.Tables.{made_all, made_before, with_tables, tree_of}
+use Rattle.toll_sql.specs.declared.table_kind.TableKind.{TableKind}
+use Rattle.toll_sql.specs.declared.table_kind.TableKind.TheVariants.{Meta}
+
+-- no table of the schema has a row
+abbrev pub AreEmpty : Schema → Trees → Type 0
+AreEmpty schema trees = AllByRecursion (λ t. trees t.tree ≡ []) schema.tables
+
+-- within a transaction and without a limit of steps, these are the tables
+pub record IsMaking (made : Schema) (s : State) : Type 0 where
+  pub schema : s.now.schema ≡ made
+  pub unlimited : s.step_limit ≡ None
+  pub inside : IsTrue s.in_transaction
+
+-- the table is made, it is empty, and those before it have the rows that they had
+pub record MakesTable (k : TableKind) (old new : State) : Type 0 where
+  pub making : IsMaking (with_tables (made_before k) (k ∷ [])) new
+  pub empty : new.now.trees (tree_of k) ≡ []
+  pub others : KeepsRows (made_before k).tables old.now.trees new.now.trees
+
+-- the schema is this one now, and the tables have the rows that they had
+pub record Keeps (made after : Schema) (old new : State) : Type 0 where
+  pub making : IsMaking after new
+  pub rows : KeepsRows made.tables old.now.trees new.now.trees
+
+-- the index is made, and the version written
+pub record Finishes (old new : State) : Type 0 where
+  pub mid : Trees
+  pub rows : KeepsRows made_all.tables old.now.trees mid
+  pub put : PutsRow Meta (meta_cells version) mid new.now.trees
+  pub ours : IsOurs new.now
+
+-- all tables are there, and their rows have rowids
+pub record IsShapedAs (made : Schema) (s : State) : Type 0 where
+  pub making : IsMaking made s
+  pub shaped : AllByRecursion (λ t. IsShaped shape.Table (s.now.trees t.tree)) made.tables
+
+-- all tables are made, and none has a row
+pub record MakesAllTables (old new : State) : Type 0 where
+  pub making : IsMaking made_all new
+  pub empty : AreEmpty made_all new.now.trees
+
+-- these are all tables and the index, and they hold the empty content
+pub record IsNew (db : Database) : Type 0 where
+  pub ours : IsOurs db
+  pub rows : Holds db.trees nothing
+
+-- what is so of each call within a transaction that writes: what it makes, where that is so first that it starts from
+pub record IsStep (Before : State → Type 0) (Makes : State → State → Type 0) {X : Type 0} (old new : State) (result : Result X Error) : Type 0 where
+  pub makes : HasCleanDisk new → Before old → IsTrue old.in_transaction → OnOk result (Makes old new)
+  pub inside : HasCleanDisk new → IsTrue old.in_transaction → OnOk result (IsTrue new.in_transaction)
+  pub fault : HasCleanDisk new → IsTrue old.in_transaction → IfErr result (IsCaused old new)
+  pub kept : HasCleanDisk new → KeepsCommit old new
+  pub survives : Survives old new (λ _. ⊥)
+
+-- a transaction begins
+abbrev pub begin : State → State
+begin s = record s { in_transaction = true }
+
+-- the rows of such a database, where that is so first
+abbrev pub LeavesMade : Type 0 → (Database → Type 0) → Trees → Type 0
+LeavesMade Before Made db = Before → (after : Database) × Made after × (db ≡ after.trees)
+
+-- what is so of a call that makes all of that in one transaction, or nothing
+pub record IsWhole (Before : State → Type 0) (Made : Database → Type 0) {X : Type 0} (old new : State) (result : Result X Error) : Type 0 where
+  pub ended : new.in_transaction ≡ false
+  pub all : HasCleanDisk new → Before (begin old) → OnOk result (Made new.now)
+  pub shown : HasCleanDisk new → OnOk result (IsTrue new.is_open × (new.now ≡ new.committed))
+  pub none : HasCleanDisk new → IsTrue new.is_open → OnErr result ((new.now ≡ old.now) × (new.committed ≡ old.committed))
+  pub fault : HasCleanDisk new → IfErr result (IsCaused old new)
+  pub live : HasCleanDisk new → IsTrue new.is_open → IsTrue old.is_open
+  pub survives : Survives old new (LeavesMade (Before (begin old)) Made)

@@ -1,0 +1,36 @@
+-- Rows that show edges of genealogy.
+use Rattle.std.specs.Prelude.{◌≡◌, ◌≢◌, List, [], ◌∷◌, map, Contains}
+use Rattle.sqlite.specs.Order.{Row}
+use Rattle.sqlite.specs.declared.types.Value.TheVariants.{Text}
+use Rattle.toll_base.specs.Lots.{edge_cmp}
+use Rattle.toll_base.specs.declared.lot.Edge.{Edge}
+use Rattle.toll_sql.specs.Cells.{columns_from}
+use Rattle.toll_sql.specs.Valid.{IsLotId}
+use Rattle.toll_trace.specs.InOrder.{IsInOrder}
+
+-- the lot that the edge leads from, and the one that it leads to
+abbrev pub edge_cells : Edge → Row
+edge_cells e = Text e.from.owner ∷ Text e.from.lot ∷ Text e.to.owner ∷ Text e.to.lot ∷ []
+
+-- the rows are those of the edges, in any order and perhaps more than once
+pub record ShowEdges (is_edge : Edge → Type 0) (rows : List Row) : Type 0 where
+  pub only : (row : Row) → Contains rows row → (e : Edge) × is_edge e × (row ≡ edge_cells e)
+  pub every : (e : Edge) → is_edge e → Contains rows (edge_cells e)
+
+-- the edge leads between lots with names
+abbrev pub IsNamedEdge : Edge → Type 0
+IsNamedEdge e = IsLotId e.from × IsLotId e.to
+
+-- the row's cells are not those of an edge between lots with names
+abbrev pub ShowsNoEdge : Row → Type 0
+ShowsNoEdge row = (e : Edge) → IsNamedEdge e → columns_from 0 4 row ≢ edge_cells e
+
+-- one of the rows is such
+abbrev pub HasNoEdge : List Row → Type 0
+HasNoEdge rows = (row : Row) × Contains rows row × ShowsNoEdge row
+
+-- the edges are those that the rows show, in order, each once
+pub record AreReadFrom (rows : List Row) (edges : List Edge) : Type 0 where
+  pub read : List Edge
+  pub cells : map edge_cells read ≡ map (columns_from 0 4) rows
+  pub in_order : IsInOrder edge_cmp read edges

@@ -1,0 +1,210 @@
+-- Rows as the tables have them: the cells behind the rowid.
+use Rattle.std.specs.Prelude.{ℕ, pos, Bool, true, false, List, [], ◌∷◌, map, codes}
+use Rattle.sqlite.specs.Order.{Row}
+use Rattle.sqlite.specs.declared.types.Value.TheVariants.{Int, Text}
+use Rattle.toll_base.specs.Bytes.{Bytes}
+use Rattle.toll_base.specs.Roles.{role_rank}
+use Rattle.toll_base.specs.Slice.{Slice}
+use Rattle.toll_base.specs.declared.lot.Disposition.{Disposition}
+use Rattle.toll_base.specs.declared.lot.Disposition.TheVariants.{Quarantined, Released, Rejected}
+use Rattle.toll_base.specs.declared.lot.LotId.{LotId}
+use Rattle.toll_base.specs.declared.lot.Origin.{Origin}
+use Rattle.toll_base.specs.declared.lot.Origin.TheVariants.{Receipts, Batch as OfBatch}
+use Rattle.toll_base.specs.declared.movement.Move.{Move}
+use Rattle.toll_base.specs.declared.movement.Move.TheVariants.{Receive, Split, Ship, Scrap, Actual}
+use Rattle.toll_base.specs.declared.movement.MoveRow.{MoveRow}
+use Rattle.toll_base.specs.declared.role.Role.{Role}
+use Rattle.toll_base.specs.declared.role.Role.TheVariants.{Consumed, Produced}
+use Rattle.toll_base.specs.declared.rows.BatchRow.{BatchRow}
+use Rattle.toll_base.specs.declared.rows.LotRow.{LotRow}
+use Rattle.toll_base.specs.declared.rows.MaterialRow.{MaterialRow}
+use Rattle.toll_base.specs.declared.rows.OrderRow.{OrderRow}
+use Rattle.toll_base.specs.declared.rows.OwnerRow.{OwnerRow}
+use Rattle.toll_base.specs.declared.rows.RecipeRow.{RecipeRow}
+use Rattle.toll_base.specs.declared.rows.RequirementRow.{RequirementRow}
+use Rattle.toll_base.specs.declared.rows.ResultRow.{ResultRow}
+use Rattle.toll_base.specs.declared.rows.Row.{Row as OfficeRow}
+use Rattle.toll_base.specs.declared.rows.Row.TheVariants as of
+use Rattle.toll_base.specs.declared.rows.SublotRow.{SublotRow}
+use Rattle.toll_base.specs.declared.rows.TestRow.{TestRow}
+use Rattle.toll_base.specs.declared.rows.UnitRow.{UnitRow}
+use Rattle.toll_base.specs.declared.rows.VoidRow.{VoidRow}
+use Rattle.toll_base.specs.declared.state.State.{State}
+use Rattle.toll_base.specs.declared.state.State.TheVariants.{Idle, Running, Pausing, Paused, Holding, Held, Restarting, Stopping, Stopped, Aborting, Aborted, Complete}
+use Rattle.toll_sql.specs.declared.table_kind.TableKind.{TableKind}
+use Rattle.toll_sql.specs.declared.table_kind.TableKind.TheVariants.{Meta, Owners, Units, Materials, Tests, Recipes, Requirements, Orders, Batches, Lots, Sublots, Moves, Results, Voids}
+
+-- ---- values that are numbers in the tables
+
+abbrev pub flag : Bool → ℕ
+flag false = 0
+flag true = 1
+
+abbrev pub disposition_number : Disposition → ℕ
+disposition_number Quarantined = 0
+disposition_number Released = 1
+disposition_number Rejected = 2
+
+abbrev pub state_number : State → ℕ
+state_number Idle = 0
+state_number Running = 1
+state_number Pausing = 2
+state_number Paused = 3
+state_number Holding = 4
+state_number Held = 5
+state_number Restarting = 6
+state_number Stopping = 7
+state_number Stopped = 8
+state_number Aborting = 9
+state_number Aborted = 10
+state_number Complete = 11
+
+-- ---- parts that some rows have not: `''` and 0 there
+
+abbrev pub origin_order : Origin → Bytes
+origin_order Receipts = []
+origin_order (OfBatch order number) = order
+
+abbrev pub origin_number : Origin → ℕ
+origin_number Receipts = 0
+origin_number (OfBatch order number) = number
+
+abbrev pub actual_kind : Role → ℕ
+actual_kind Consumed = 4
+actual_kind Produced = 5
+
+abbrev pub kind_number : Move → ℕ
+kind_number (Receive material lot sublot) = 0
+kind_number (Split lot sublot target) = 1
+kind_number (Ship lot sublot) = 2
+kind_number (Scrap lot sublot) = 3
+kind_number (Actual order number segment role material lot sublot) = actual_kind role
+
+-- the lot, which is the owner's but for an actual
+abbrev pub lot_of : Bytes → Move → LotId
+lot_of o (Receive material lot sublot) = record { owner = o; lot = lot }
+lot_of o (Split lot sublot target) = record { owner = o; lot = lot }
+lot_of o (Ship lot sublot) = record { owner = o; lot = lot }
+lot_of o (Scrap lot sublot) = record { owner = o; lot = lot }
+lot_of o (Actual order number segment role material lot sublot) = lot
+
+abbrev pub sublot_of : Move → Bytes
+sublot_of (Receive material lot sublot) = sublot
+sublot_of (Split lot sublot target) = sublot
+sublot_of (Ship lot sublot) = sublot
+sublot_of (Scrap lot sublot) = sublot
+sublot_of (Actual order number segment role material lot sublot) = sublot
+
+abbrev pub target_of : Move → Bytes
+target_of (Split lot sublot target) = target
+target_of _ = []
+
+abbrev pub material_of : Move → Bytes
+material_of (Receive material lot sublot) = material
+material_of (Actual order number segment role material lot sublot) = material
+material_of _ = []
+
+abbrev pub order_of : Move → Bytes
+order_of (Actual order number segment role material lot sublot) = order
+order_of _ = []
+
+abbrev pub number_of : Move → ℕ
+number_of (Actual order number segment role material lot sublot) = number
+number_of _ = 0
+
+abbrev pub segment_of : Move → ℕ
+segment_of (Actual order number segment role material lot sublot) = segment
+segment_of _ = 0
+
+-- ---- rows
+
+abbrev pub meta_cells : ℕ → Row
+meta_cells version = Text (codes "toll") ∷ Int (pos version) ∷ []
+
+abbrev pub owner_cells : OwnerRow → Row
+owner_cells row = Text row.owner ∷ Text row.key ∷ []
+
+abbrev pub unit_cells : UnitRow → Row
+unit_cells row = Text row.unit ∷ []
+
+abbrev pub material_cells : Bytes → MaterialRow → Row
+material_cells o row = Text o ∷ Text row.material ∷ Text row.measure ∷ []
+
+abbrev pub test_cells : Bytes → TestRow → Row
+test_cells o row = Text o ∷ Text row.material ∷ Text row.test ∷ Int row.limits.low ∷ Int row.limits.high ∷ []
+
+abbrev pub recipe_cells : Bytes → RecipeRow → Row
+recipe_cells o row = Text o ∷ Text row.recipe ∷ Int (pos row.segments) ∷ []
+
+abbrev pub requirement_cells : Bytes → RequirementRow → Row
+requirement_cells o row = Text o ∷ Text row.recipe ∷ Int (pos row.segment) ∷ Int (pos (role_rank row.role)) ∷ Text row.source ∷ Text row.material ∷ Int (pos row.amount) ∷ []
+
+abbrev pub order_cells : Bytes → OrderRow → Row
+order_cells o row = Text o ∷ Text row.order ∷ Text row.recipe ∷ Int (pos row.batches) ∷ Int (pos (flag row.cancelled)) ∷ []
+
+abbrev pub batch_cells : Bytes → BatchRow → Row
+batch_cells o row = Text o ∷ Text row.order ∷ Int (pos row.number) ∷ Text row.unit ∷ Int (pos (state_number row.state)) ∷ Int (pos (flag row.closed)) ∷ []
+
+abbrev pub lot_cells : Bytes → LotRow → Row
+lot_cells o row = Text o ∷ Text row.lot ∷ Text row.material ∷ Text (origin_order row.origin) ∷ Int (pos (origin_number row.origin)) ∷ Int (pos (disposition_number row.disposition)) ∷ []
+
+abbrev pub sublot_cells : Bytes → SublotRow → Row
+sublot_cells o row = Text o ∷ Text row.lot ∷ Text row.sublot ∷ Int (pos row.amount) ∷ []
+
+abbrev pub move_cells : Bytes → MoveRow → Row
+move_cells o row =
+    Text o ∷ Text row.key ∷ Int (pos (kind_number row.what)) ∷ Text (lot_of o row.what).owner ∷ Text (lot_of o row.what).lot ∷ Text (sublot_of row.what) ∷ Text (target_of row.what) ∷ Text (material_of row.what) ∷ Text (order_of row.what)
+    ∷ Int (pos (number_of row.what)) ∷ Int (pos (segment_of row.what)) ∷ Int (pos row.amount) ∷ Int (pos row.day) ∷ []
+
+abbrev pub result_cells : Bytes → ResultRow → Row
+result_cells o row = Text o ∷ Text row.lot ∷ Text row.test ∷ Int (pos row.number) ∷ Int row.value ∷ Int (pos row.day) ∷ []
+
+abbrev pub void_cells : Bytes → VoidRow → Row
+void_cells o row = Text o ∷ Text row.key ∷ []
+
+-- ---- rows of an owner, whatever their kind
+
+-- the table that has the row
+abbrev pub table_for : OfficeRow → TableKind
+table_for (of.Material row) = Materials
+table_for (of.Test row) = Tests
+table_for (of.Recipe row) = Recipes
+table_for (of.Requirement row) = Requirements
+table_for (of.Order row) = Orders
+table_for (of.Batch row) = Batches
+table_for (of.Lot row) = Lots
+table_for (of.Sublot row) = Sublots
+table_for (of.Move row) = Moves
+table_for (of.Result row) = Results
+table_for (of.Void row) = Voids
+
+-- its cells there
+abbrev pub cells_for : Bytes → OfficeRow → Row
+cells_for o (of.Material row) = material_cells o row
+cells_for o (of.Test row) = test_cells o row
+cells_for o (of.Recipe row) = recipe_cells o row
+cells_for o (of.Requirement row) = requirement_cells o row
+cells_for o (of.Order row) = order_cells o row
+cells_for o (of.Batch row) = batch_cells o row
+cells_for o (of.Lot row) = lot_cells o row
+cells_for o (of.Sublot row) = sublot_cells o row
+cells_for o (of.Move row) = move_cells o row
+cells_for o (of.Result row) = result_cells o row
+cells_for o (of.Void row) = void_cells o row
+
+-- the rows of a slice that stand in the table, in order
+abbrev pub rows_for : TableKind → Slice → List Row
+rows_for Meta s = []
+rows_for Owners s = []
+rows_for Units s = []
+rows_for Materials s = map (material_cells s.owner) s.materials
+rows_for Tests s = map (test_cells s.owner) s.tests
+rows_for Recipes s = map (recipe_cells s.owner) s.recipes
+rows_for Requirements s = map (requirement_cells s.owner) s.requirements
+rows_for Orders s = map (order_cells s.owner) s.orders
+rows_for Batches s = map (batch_cells s.owner) s.batches
+rows_for Lots s = map (lot_cells s.owner) s.lots
+rows_for Sublots s = map (sublot_cells s.owner) s.sublots
+rows_for Moves s = map (move_cells s.owner) s.moves
+rows_for Results s = map (result_cells s.owner) s.results
+rows_for Voids s = map (void_cells s.owner) s.voids

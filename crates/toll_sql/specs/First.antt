@@ -1,0 +1,76 @@
+-- The tables of version 1: no voids, and no index.
+use Rattle.std.specs.Prelude.{◌≡◌, ◌⊎◌, ℕ, nat_eq, pos, List, [], ◌∷◌, Option, Some, IfSome, codes, if◌then◌else◌}
+use Rattle.std.specs.List.{AllByRecursion}
+use Rattle.sqlite.specs.Effect.{Database}
+use Rattle.sqlite.specs.Order.{Row, column}
+use Rattle.sqlite.specs.Schema.{Schema}
+use Rattle.sqlite.specs.State.{State}
+use Rattle.sqlite.specs.Tree.{Trees}
+use Rattle.sqlite.specs.declared.types.Value.TheVariants.{Int, Text}
+use Rattle.sqlite_trees.specs.View.{IsShaped}
+use Rattle.sqlite_trees.specs.declared.store.Shape.TheVariants as shape
+use Rattle.toll_keep.specs.Content.{Content}
+use Rattle.toll_sql.specs.Bag.{all_cells}
+use Rattle.toll_sql.specs.Encode.{meta_cells}
+use Rattle.toll_sql.specs.Holds.{HasRows, Holds, version}
+use Rattle.toll_sql.specs.Stores.{IsOurs}
+use Rattle.toll_sql.specs.Tables.{made_before, tree_of}
+use Rattle.toll_sql.specs.declared.table_kind.TableKind.TheVariants.{Meta, Voids}
+
+abbrev pub first_version : ℕ
+first_version = 1
+
+abbrev pub first_ours : Schema
+first_ours = made_before Voids
+
+-- the store has this version
+abbrev pub HasVersion : ℕ → Trees → Type 0
+HasVersion n db = HasRows Meta (meta_cells n ∷ []) (db (tree_of Meta))
+
+-- the tables as version 2 has them: the version is 2, and no movement is voided
+abbrev pub as_second : Trees → Trees
+as_second db tree = if nat_eq tree (tree_of Meta) then (Int (pos 1) ∷ meta_cells version) ∷ [] else if nat_eq tree (tree_of Voids) then [] else db tree
+
+-- the tables of version 1 have the rows of the content, and no others
+pub record HoldsFirst (db : Trees) (c : Content) : Type 0 where
+  pub meta : HasVersion first_version db
+  pub others : Holds (as_second db) c
+
+-- the tables are those of version 1, and each has its rows by rowids
+pub record IsFirst (db : Database) : Type 0 where
+  pub schema : db.schema ≡ first_ours
+  pub shaped : AllByRecursion (λ t. IsShaped shape.Table (db.trees t.tree)) first_ours.tables
+
+-- they are, nothing is pending, and they have these rows
+pub record HoldsFirstIn (s : State) (c : Content) : Type 0 where
+  pub first : IsFirst s.now
+  pub idle : s.now ≡ s.committed
+  pub rows : HoldsFirst s.now.trees c
+
+-- one of the rows tells this version
+abbrev pub Tells : ℕ → List Row → Type 0
+Tells n [] = ⊥
+Tells n (row ∷ rows) = ((column row 0 ≡ Text (codes "toll")) × (column row 1 ≡ Int (pos n))) ⊎ Tells n rows
+
+-- each row of the office tells it
+abbrev pub EachTells : ℕ → List Row → Type 0
+EachTells n rows = AllByRecursion (λ row. column row 0 ≡ Text (codes "toll") → column row 1 ≡ Int (pos n)) rows
+
+-- the version that the rows tell, where they do
+pub record IsVersionIn (rows : List Row) (told : Option ℕ) : Type 0 where
+  pub some : IfSome told (λ n. Tells n rows)
+  pub every : (n : ℕ) → Tells n rows → EachTells n rows → told ≡ Some n
+
+-- they tell no version, or one that is neither this one nor version 1
+abbrev pub TellNeither : List Row → Type 0
+TellNeither rows = (n : ℕ) → Tells n rows → EachTells n rows → ¬ ((n ≡ first_version) ⊎ (n ≡ version))
+
+-- the cells of the rows of `meta`
+abbrev pub meta_rows : Trees → List Row
+meta_rows db = all_cells (db (tree_of Meta))
+
+-- tables of version 1 are brought to this one
+pub record Raised (db : Trees) (after : Database) : Type 0 where
+  pub ours : IsOurs after
+  pub told : Tells version (meta_rows after.trees)
+  pub rows : (c : Content) → HoldsFirst db c → Holds after.trees c

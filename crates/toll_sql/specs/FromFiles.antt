@@ -1,0 +1,59 @@
+-- A keep over the files that a path names.
+use Rattle.std.specs.Prelude.{◌≡◌, ◌≢◌, ◌⊎◌, Bool, true, false, None, Option, Result, IfSome, IsTrue}
+use Rattle.sqlite.specs.Closing.{IsCopied}
+use Rattle.sqlite.specs.Files.{FailsToOpenFiles, IsCleanLeft, IsClosed, IsOpened, LeavesFiles, file_state}
+use Rattle.sqlite.specs.Held.{Held, IsNew}
+use Rattle.sqlite.specs.Opening.{is_open_error}
+use Rattle.sqlite.specs.Start.{FindsIn}
+use Rattle.sqlite.specs.State.{State, HasCleanDisk}
+use Rattle.sqlite.specs.declared.error.Error.{Error}
+use Rattle.sqlite.specs.declared.error.Error.TheVariants.{SqliteFailure}
+use Rattle.sqlite.specs.declared.error.ErrorCode.TheVariants as code
+use Rattle.sqlite.specs.declared.file.Leftover.{Leftover}
+use Rattle.sqlite_disk.specs.Disk.{MoreFaults}
+use Rattle.sqlite_disk.specs.declared.Files.{Files}
+use Rattle.sqlite_store.specs.FileStore.{faults, view}
+use Rattle.toll_keep.specs.declared.fault.KeepFault.{KeepFault}
+use Rattle.toll_keep.specs.declared.fault.KeepFault.TheVariants as keep
+use Rattle.sqlite_disk.specs.declared.Disk.{Ghosts}
+use Rattle.sqlite_store.specs.declared.store.FileStore.{FileStore}
+use Rattle.sqlite_trees.specs.View.{IsClean}
+use Rattle.sqlite_wal.specs.Reads.{AreClean}
+use Rattle.sqlite_wal.specs.Recovery.{Image}
+use Rattle.toll_sql.specs.Opening.{Adopts, Creates, refuses, succeeds}
+use Rattle.toll_sql.specs.declared.open_fault.OpenFault.{OpenFault}
+use Rattle.toll_sql.specs.declared.open_fault.OpenFault.TheVariants.{Memory, Damaged, NotOurs}
+
+-- the tables are to be made, or to be found
+abbrev pub Takes : Bool → State → State → Result (Unit {0}) OpenFault → Type 0
+Takes true old new answer = Creates old new answer
+Takes false old new answer = Adopts old new answer
+
+-- a connection was opened that finds what the files hold, and its tables were made or found
+abbrev pub IsKeptFrom : {D : Type 0} {g : Ghosts D} → Bool → Image → Held (FileStore D g) → Type 0
+IsKeptFrom {D} {g} fresh image new = (opened : Held (FileStore D g)) × IsNew opened × (HasCleanDisk (file_state opened) → IsOpened opened × FindsIn image (file_state opened)) × Takes fresh (file_state opened) (file_state new) succeeds
+
+-- the file could not be opened: by sqlite's own account of its error, and of what is left of the files where they were opened
+pub record IsUnopened {D : Type 0} {g : Ghosts D} (e : Error) (left : Option (Leftover D g)) (fault : OpenFault) : Type 0 where
+  pub named : IsTrue (is_open_error e)
+  pub memory : fault ≡ Memory → e ≡ SqliteFailure code.OutOfMemory
+  pub foreign : fault ≡ NotOurs → e ≡ SqliteFailure code.NotADatabase
+  pub undamaged : fault ≢ Damaged
+  pub none : left ≡ None → (e ≡ SqliteFailure code.CannotOpen) ⊎ ((e ≡ SqliteFailure code.OutOfMemory) ⊎ (e ≡ SqliteFailure code.DatabaseBusy))
+  pub some : IfSome left (λ rest. (files : Files D) × (IsCleanLeft rest → FailsToOpenFiles files rest e × LeavesFiles files rest))
+
+-- no keep came of the files: they could not be opened, or the connection's tables could not be made or found
+abbrev pub IsRefusedFrom : {D : Type 0} (g : Ghosts D) → Bool → Image → OpenFault → Type 0
+IsRefusedFrom {D} g fresh image fault =
+    ((e : Error) × (left : Option (Leftover D g)) × IsUnopened {D = D} {g = g} e left fault)
+    ⊎ ((opened : Held (FileStore D g)) × IsNew opened × (HasCleanDisk (file_state opened) → IsOpened opened × FindsIn image (file_state opened)) × ((left : Held (FileStore D g)) × Takes fresh (file_state opened) (file_state left) (refuses fault)))
+
+-- the files are closed, and what was committed stands in the database file
+abbrev pub IsLeftIn : {D : Type 0} {g : Ghosts D} → Held (FileStore D g) → Type 0
+IsLeftIn {D} {g} conn = (files : Files D) × (AreClean g files.log files.db → IsCopied conn files)
+
+-- they are not: a crash now has no outcome that it had not before, and a fault of the disk has a cause
+pub record IsUnclosed {D : Type 0} {g : Ghosts D} (conn : Held (FileStore D g)) (last : FileStore D g) (fault : KeepFault) : Type 0 where
+  pub closed : IsClosed conn last
+  pub known : (fault ≡ keep.Memory) ⊎ (fault ≡ keep.Disk)
+  pub cause : fault ≡ keep.Disk → IsClean (view last) → ((view conn.store).is_open ≡ false) ⊎ MoreFaults (faults conn.store) (faults last)

@@ -1,0 +1,38 @@
+-- Rows that show the batch that holds a unit.
+use Rattle.std.specs.Prelude.{◌≡◌, ◌≢◌, pos, Option, Some, None, IsTrue, List, [], ◌∷◌, Contains}
+use Rattle.sqlite.specs.Order.{Row}
+use Rattle.sqlite.specs.declared.types.Value.TheVariants.{Int, Text}
+use Rattle.toll_base.specs.Bytes.{Bytes}
+use Rattle.toll_base.specs.Values.{is_name, IsBatchNo}
+use Rattle.toll_keep.specs.Content.{Content}
+use Rattle.toll_keep.specs.Holding.{IsHolder}
+use Rattle.toll_keep.specs.declared.holder.Holder.{Holder}
+use Rattle.toll_sql.specs.Cells.{columns_from}
+
+-- the batch's owner, its order and its number
+abbrev pub holder_cells : Holder → Row
+holder_cells h = Text h.owner ∷ Text h.order ∷ Int (pos h.number) ∷ []
+
+-- they are values of their kinds
+pub record IsNamedHolder (h : Holder) : Type 0 where
+  pub owner : IsTrue (is_name h.owner)
+  pub order : IsTrue (is_name h.order)
+  pub number : IsBatchNo h.number
+
+-- each row is that of a batch that holds the unit; where there is none, no batch does
+pub record ShowHolders (c : Content) (unit : Bytes) (rows : List Row) : Type 0 where
+  pub only : (row : Row) → Contains rows row → (h : Holder) × IsHolder c unit (Some h) × IsNamedHolder h × (row ≡ holder_cells h)
+  pub none : rows ≡ [] → IsHolder c unit None
+
+-- one of the rows shows this batch; where none is named, there are no rows
+abbrev pub IsShownIn : List Row → Option Holder → Type 0
+IsShownIn rows (Some h) = (row : Row) × Contains rows row × (columns_from 0 3 row ≡ holder_cells h)
+IsShownIn rows None = rows ≡ []
+
+-- the row's cells are not those of a batch
+abbrev pub ShowsNoHolder : Row → Type 0
+ShowsNoHolder row = (h : Holder) → IsNamedHolder h → columns_from 0 3 row ≢ holder_cells h
+
+-- one of the rows is such
+abbrev pub HasNoHolder : List Row → Type 0
+HasNoHolder rows = (row : Row) × Contains rows row × ShowsNoHolder row

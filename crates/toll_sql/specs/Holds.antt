@@ -1,0 +1,46 @@
+-- Tables that hold the rows of a content.
+use Rattle.std.specs.Prelude.{◌≡◌, ℕ, true, IsTrue, List, [], ◌∷◌, map}
+use Rattle.std.specs.List.{AllByRecursion}
+use Rattle.sqlite.specs.Order.{Row, column}
+use Rattle.sqlite.specs.Tree.{Trees}
+use Rattle.sqlite.specs.declared.types.Value.TheVariants.{Text}
+use Rattle.toll_base.specs.Bytes.{Bytes}
+use Rattle.toll_base.specs.Slice.{Slice}
+use Rattle.toll_base.specs.Values.{is_name}
+use Rattle.toll_keep.specs.Content.{Content}
+use Rattle.toll_sql.specs.Bag.{Rises, SameBag, all_cells, owned_by}
+use Rattle.toll_sql.specs.Cells.{key_order}
+use Rattle.toll_sql.specs.Encode.{meta_cells, owner_cells, unit_cells, rows_for}
+use Rattle.toll_sql.specs.Tables.{tree_of, is_owned}
+use Rattle.toll_sql.specs.Valid.{IsOwner, IsUnit, AreValidIn}
+use Rattle.toll_sql.specs.declared.table_kind.TableKind.{TableKind}
+use Rattle.toll_sql.specs.declared.table_kind.TableKind.TheVariants.{Meta, Owners, Units}
+
+-- the version of these tables
+abbrev pub version : ℕ
+version = 2
+
+-- the table has these rows, in any order, and no others; in this order they rise by its key
+pub record HasRows (k : TableKind) (rows stored : List Row) : Type 0 where
+  pub same : SameBag rows (all_cells stored)
+  pub rising : Rises (key_order k) rows
+
+-- the tables have the rows of this slice under its owner, and no others; all their values are values of their kinds
+pub record HoldsSlice (db : Trees) (o : Bytes) (s : Slice) : Type 0 where
+  pub named : s.owner ≡ o
+  pub stored : (k : TableKind) → is_owned k ≡ true → HasRows k (rows_for k s) (owned_by o (db (tree_of k)))
+  pub valid : (k : TableKind) → AreValidIn k s
+
+-- the first cell is a name
+abbrev pub NamesOwner : Row → Type 0
+NamesOwner cells = (o : Bytes) × IsTrue (is_name o) × (column cells 0 ≡ Text o)
+
+-- the tables have the rows of the content, and no others
+pub record Holds (db : Trees) (c : Content) : Type 0 where
+  pub meta : HasRows Meta (meta_cells version ∷ []) (db (tree_of Meta))
+  pub owners : HasRows Owners (map owner_cells c.owners) (db (tree_of Owners))
+  pub are_owners : AllByRecursion IsOwner c.owners
+  pub units : HasRows Units (map unit_cells c.units) (db (tree_of Units))
+  pub are_units : AllByRecursion IsUnit c.units
+  pub slices : (o : Bytes) → HoldsSlice db o (c.rows o)
+  pub owned : (k : TableKind) → is_owned k ≡ true → AllByRecursion NamesOwner (all_cells (db (tree_of k)))

@@ -1,0 +1,30 @@
+-- What a stored movement moves.
+use Rattle.std.specs.Prelude.{◌≡◌, pos, []}
+use Rattle.sqlite.specs.Order.{Row, column}
+use Rattle.sqlite.specs.declared.types.Value.TheVariants.{Int, Text}
+use Rattle.toll_base.specs.Bytes.{Bytes}
+use Rattle.toll_base.specs.declared.movement.Move.{Move}
+use Rattle.toll_sql.specs.Encode.{kind_number, lot_of, sublot_of, target_of, material_of, order_of, number_of, segment_of}
+
+-- the cells are those of a movement of this owner that moves this
+pub record ShowsMove (o : Bytes) (row : Row) (m : Move) : Type 0 where
+  pub kind : column row 2 ≡ Int (pos (kind_number m))
+  pub lot_owner : column row 3 ≡ Text (lot_of o m).owner
+  pub lot : column row 4 ≡ Text (lot_of o m).lot
+  pub sublot : column row 5 ≡ Text (sublot_of m)
+  pub target : column row 6 ≡ Text (target_of m)
+  pub material : column row 7 ≡ Text (material_of m)
+  pub order : column row 8 ≡ Text (order_of m)
+  pub number : column row 9 ≡ Int (pos (number_of m))
+  pub segment : column row 10 ≡ Int (pos (segment_of m))
+
+-- they are those of one that takes from this own lot, out of this sublot
+pub record ShowsTaking (o : Bytes) (row : Row) (from of : Bytes) : Type 0 where
+  pub lot_owner : column row 3 ≡ Text o
+  pub lot : column row 4 ≡ Text from
+  pub sublot : column row 5 ≡ Text of
+  pub target : column row 6 ≡ Text []
+  pub material : column row 7 ≡ Text []
+  pub order : column row 8 ≡ Text []
+  pub number : column row 9 ≡ Int (pos 0)
+  pub segment : column row 10 ≡ Int (pos 0)

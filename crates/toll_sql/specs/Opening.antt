@@ -1,0 +1,129 @@
+-- Whether tables are made or found.
+use Rattle.std.specs.Prelude.{◌≡◌, ◌≢◌, ◌⊎◌, false, None, List, ℕ, Option, codes, IsTrue, Result, Ok, Err, IfErr, OnOk, OnErr}
+use Rattle.sqlite.specs.Effect.{Database}
+use Rattle.sqlite.specs.State.{State, HasCleanDisk, KeepsCommit, Survives}
+use Rattle.sqlite.specs.Schema.{Schema}
+use Rattle.sqlite.specs.Tree.{Trees}
+use Rattle.sqlite.specs.declared.error.Error.{Error}
+use Rattle.sqlite.specs.declared.error.Error.TheVariants.{SqliteFailure}
+use Rattle.sqlite.specs.declared.error.ErrorCode.TheVariants as code
+use Rattle.toll_keep.specs.Content.{Content, nothing}
+use Rattle.toll_sql.specs.Asked.{IsUnreadBy, ShowsMeta}
+use Rattle.toll_sql.specs.Causes.{IsCaused, Reason, is_disk_fault}
+use Rattle.toll_sql.specs.First.{HoldsFirst, HoldsFirstIn, IsFirst, IsVersionIn, Raised, TellNeither, Tells, first_ours, first_version, meta_rows}
+use Rattle.toll_sql.specs.Holds.{Holds, version}
+use Rattle.toll_sql.specs.Plain.{no_schema}
+use Rattle.toll_sql.specs.Stores.{HoldsIn, IsOurs}
+use Rattle.toll_sql.specs.Tables.{ours, select_text}
+use Rattle.toll_sql.specs.declared.table_kind.TableKind.TheVariants.{Meta}
+use Rattle.toll_sql.specs.declared.open_fault.OpenFault.{OpenFault}
+use Rattle.toll_sql.specs.declared.open_fault.OpenFault.TheVariants.{Memory, Disk, Damaged, NotOurs}
+
+abbrev pub name_of : OpenFault → List ℕ
+name_of Memory = codes "Memory"
+name_of Disk = codes "Disk"
+name_of Damaged = codes "Damaged"
+name_of NotOurs = codes "NotOurs"
+
+-- a store that is handed over: from now on its statements have no limit of steps
+abbrev pub without_limit : State → State
+without_limit s = record s { step_limit = None }
+
+-- it is to have no tables, and no transaction open
+pub record IsBlank (s : State) : Type 0 where
+  pub schema : s.now.schema ≡ no_schema
+  pub autocommit : s.in_transaction ≡ false
+
+-- what is so of a call that takes a store over, whatever it answers
+pub record TakesOver {X : Type 0} (Leaves : Trees → Type 0) (old new : State) (result : Result X OpenFault) : Type 0 where
+  pub unlimited : new.step_limit ≡ None
+  pub autocommit : old.in_transaction ≡ false → new.in_transaction ≡ false
+  pub ended : OnOk result (new.in_transaction ≡ false)
+  pub live : HasCleanDisk new → IsTrue new.is_open → IsTrue old.is_open
+  -- a call that succeeds shows that the store lies open, with nothing pending
+  pub shown : HasCleanDisk new → OnOk result (IsTrue new.is_open × (new.now ≡ new.committed))
+  -- a refusal leaves what was there
+  pub refused : HasCleanDisk new → IsTrue new.is_open → OnErr result ((new.now ≡ old.now) × (new.committed ≡ old.committed))
+  pub cause : HasCleanDisk new → result ≡ Err Disk → Reason (without_limit old) new
+  pub survives : Survives (without_limit old) new Leaves
+
+-- a call that makes the tables: after it the store holds the empty content, and only a blank one comes to that
+pub record Creates {X : Type 0} (old new : State) (result : Result X OpenFault) : Type 0 where
+  pub over : TakesOver (λ db. Holds db nothing) old new result
+  pub made : HasCleanDisk new → OnOk result (IsBlank old × HoldsIn new nothing)
+  pub known : result ≡ Err NotOurs → ¬ IsBlank old
+  pub undamaged : result ≢ Err Damaged
+
+-- the rows of a store of version 1 as version 2 has them: whatever the content is
+pub record LeavesRaised (old : State) (db : Trees) : Type 0 where
+  pub schema : old.now.schema ≡ first_ours
+  pub rows : (c : Content) → HoldsFirstIn old c → Holds db c
+
+-- the store holds the content, as this version or as version 1
+abbrev pub HoldsEither : State → Content → Type 0
+HoldsEither s c = HoldsIn s c ⊎ HoldsFirstIn s c
+
+-- these are the tables, and `meta` tells this version
+pub record IsOfVersion (n : ℕ) (tables : Schema) (db : Database) : Type 0 where
+  pub schema : db.schema ≡ tables
+  pub told : Tells n (meta_rows db.trees)
+
+-- `meta` tells this version, and these are not the tables
+pub record IsUnlike (n : ℕ) (tables : Schema) (db : Database) : Type 0 where
+  pub schema : db.schema ≢ tables
+  pub told : ShowsMeta (Tells n) db
+
+-- `meta` tells neither version, or can't be asked
+abbrev pub IsForeign : Database → Type 0
+IsForeign db = ShowsMeta TellNeither db ⊎ IsUnreadBy db (select_text Meta)
+
+-- the version that was told is the one that `meta` tells
+abbrev pub FindsVersion : Database → Option ℕ → Type 0
+FindsVersion db told = ShowsMeta (λ rows. IsVersionIn rows told) db
+
+-- an error of neither memory nor the disk is one of what was asked
+abbrev pub IsUnreadFor : Database → Error → Type 0
+IsUnreadFor db e = e ≢ SqliteFailure code.OutOfMemory → is_disk_fault e ≡ false → IsUnreadBy db (select_text Meta)
+
+-- a call that finds the tables: after it they are ours, and hold the content that they held
+pub record Adopts {X : Type 0} (old new : State) (result : Result X OpenFault) : Type 0 where
+  pub over : TakesOver (LeavesRaised old) old new result
+  pub known_as : HasCleanDisk new → OnOk result (IsOfVersion version ours old.now ⊎ IsOfVersion first_version first_ours old.now)
+  -- a version of ours is told, and the tables are not those of it; or none is told
+  pub damaged : HasCleanDisk new → result ≡ Err Damaged → IsUnlike version ours old.now ⊎ IsUnlike first_version first_ours old.now
+  pub foreign : HasCleanDisk new → result ≡ Err NotOurs → IsTrue old.in_transaction ⊎ IsForeign old.now
+  pub ours : HasCleanDisk new → IsOurs old.now ⊎ IsFirst old.now → OnOk result (IsOurs new.now × Tells version (meta_rows new.now.trees))
+  pub holds : HasCleanDisk new → (c : Content) → HoldsEither old c → OnOk result (HoldsIn new c)
+  pub known : HasCleanDisk new → old.in_transaction ≡ false → (c : Content) → HoldsEither old c → (result ≢ Err NotOurs) × (result ≢ Err Damaged)
+
+-- what is so of a call that leaves everything as it was, whatever it answers
+pub record IsLeft {X : Type 0} (old new : State) (result : Result X Error) : Type 0 where
+  pub ended : new.in_transaction ≡ false
+  pub same : HasCleanDisk new → IsTrue new.is_open → (new.now ≡ old.now) × (new.committed ≡ old.committed)
+  pub live : HasCleanDisk new → IsTrue new.is_open → IsTrue old.is_open
+  pub fault : HasCleanDisk new → IfErr result (IsCaused old new)
+  pub survives : Survives old new (λ _. ⊥)
+
+-- what is so of a query within a transaction that has written nothing
+pub record IsAskedInside {X : Type 0} (old new : State) (result : Result X Error) : Type 0 where
+  pub kept : HasCleanDisk new → IsTrue old.in_transaction → (IsTrue old.is_open → old.now ≡ old.committed) → KeepsCommit old new
+  pub fault : HasCleanDisk new → IfErr result (IsCaused old new)
+  pub survives : Survives old new (λ _. ⊥)
+
+-- a call that brings tables of version 1 to this one
+pub record Raises {X : Type 0} (old new : State) (result : Result X OpenFault) : Type 0 where
+  pub ended : new.in_transaction ≡ false
+  pub live : HasCleanDisk new → IsTrue new.is_open → IsTrue old.is_open
+  pub all : HasCleanDisk new → IsFirst old.now → old.step_limit ≡ None → OnOk result (Raised old.now.trees new.now)
+  pub shown : HasCleanDisk new → OnOk result (IsTrue new.is_open × (new.now ≡ new.committed))
+  pub none : HasCleanDisk new → IsTrue new.is_open → OnErr result ((new.now ≡ old.now) × (new.committed ≡ old.committed))
+  pub cause : HasCleanDisk new → result ≡ Err Disk → Reason old new
+  pub known : (result ≢ Err NotOurs) × (result ≢ Err Damaged)
+  pub survives : Survives old new (λ db. IsFirst old.now → old.step_limit ≡ None → (c : Content) → HoldsFirst old.now.trees c → Holds db c)
+
+-- the answers of a call that makes a keep
+abbrev pub succeeds : Result (Unit {0}) OpenFault
+succeeds = Ok tt
+
+abbrev pub refuses : OpenFault → Result (Unit {0}) OpenFault
+refuses fault = Err fault

@@ -1,0 +1,29 @@
+-- Schemas of plain tables: what tells two of them apart are names, kinds, keys and numbers of trees.
+use Rattle.std.specs.Prelude.{◌≡◌, [], true}
+use Rattle.std.specs.List.{AllByRecursion}
+use Rattle.sqlite.specs.Collation.TheVariants.{Binary}
+use Rattle.sqlite.specs.Schema.{Schema}
+use Rattle.sqlite.specs.Table.{Table}
+use Rattle.sqlite.specs.declared.types.Value.TheVariants.{Null}
+use Rattle.sqlite_schema.specs.declared.schema.Column.{Column}
+use Rattle.sqlite_schema.specs.declared.schema.Index.{Index}
+use Rattle.sqlite_value.specs.Keys.{plain}
+use Rattle.toll_sql.specs.Plain.{table_with}
+
+-- never NULL, of its kind alone, compared byte by byte
+abbrev pub IsPlainColumn : Column → Type 0
+IsPlainColumn c = c ≡ record { name = c.name; kind = c.kind; is_strict = true; not_null = true; default = Null; collation = Binary }
+
+-- columns, a key, and nothing else
+abbrev pub IsPlainTable : Table → Type 0
+IsPlainTable t = (t ≡ table_with t.tree t.name t.columns t.primary) × AllByRecursion IsPlainColumn t.columns
+
+-- in the plain order of its columns
+abbrev pub IsPlainIndex : Index → Type 0
+IsPlainIndex i = i.order ≡ plain
+
+-- and no views
+pub record IsPlainSchema (schema : Schema) : Type 0 where
+  pub tables : AllByRecursion IsPlainTable schema.tables
+  pub indexes : AllByRecursion IsPlainIndex schema.indexes
+  pub views : schema.views ≡ []

@@ -1,0 +1,124 @@
+-- The store behind a keep: what its tables have to be, and what is made of them.
+use Rattle.std.specs.Prelude.{◌≡◌, pos, None, Bool, List, [], ◌∷◌, IsTrue, Result, IfErr, OnOk}
+use Rattle.std.specs.List.{AllByRecursion}
+use Rattle.sqlite.specs.Effect.{Database}
+use Rattle.sqlite.specs.Order.{Row}
+use Rattle.sqlite.specs.State.{State, HasCleanDisk, KeepsCommit, Survives}
+use Rattle.sqlite.specs.Tree.{Trees}
+use Rattle.sqlite.specs.declared.error.Error.{Error}
+use Rattle.sqlite.specs.declared.types.Value.TheVariants.{Int}
+use Rattle.sqlite_schema.specs.Rules.{agree}
+use Rattle.sqlite_trees.specs.View.{IsShaped}
+use Rattle.sqlite_trees.specs.declared.store.Shape.TheVariants as shape
+use Rattle.sqlite_value.specs.Keys.{plain}
+use Rattle.toll_base.specs.Values.{is_name}
+use Rattle.toll_base.specs.declared.decision.Change.{Change}
+use Rattle.toll_base.specs.declared.decision.Change.TheVariants.{Owner, Unit as UnitAdded, Put}
+use Rattle.toll_keep.specs.Content.{Content}
+use Rattle.toll_keep.specs.Goes.{IsAmong}
+use Rattle.toll_sql.specs.Causes.{IsCaused}
+use Rattle.toll_sql.specs.Encode.{owner_cells, unit_cells, table_for, cells_for}
+use Rattle.toll_sql.specs.Holds.{Holds}
+use Rattle.toll_sql.specs.Put.{Puts}
+use Rattle.toll_sql.specs.Tables.{ours, tree_of, keys_of}
+use Rattle.toll_sql.specs.Valid.{IsOwner, IsUnit, IsRow}
+use Rattle.toll_sql.specs.declared.table_kind.TableKind.{TableKind}
+use Rattle.toll_sql.specs.declared.table_kind.TableKind.TheVariants.{Owners, Units}
+
+-- the tables are ours, and each has its rows by rowids
+pub record IsOurs (db : Database) : Type 0 where
+  pub schema : db.schema ≡ ours
+  pub shaped : AllByRecursion (λ t. IsShaped shape.Table (db.trees t.tree)) ours.tables
+
+-- rows can be put: within a transaction, without a limit of steps
+pub record IsReady (s : State) : Type 0 where
+  pub ours : IsOurs s.now
+  pub unlimited : s.step_limit ≡ None
+  pub inside : IsTrue s.in_transaction
+
+-- ---- one row
+
+-- the stored row has the key of these cells
+abbrev pub has_key : TableKind → Row → Row → Bool
+has_key k cells row = agree plain (keys_of k) row (keys_of k) (Int (pos 0) ∷ cells)
+
+-- the row is put into its table
+abbrev pub PutsRow : TableKind → Row → Trees → Trees → Type 0
+PutsRow k cells = Puts ours (tree_of k) (has_key k cells) cells
+
+-- the row is put, nothing is committed, and more can be put
+pub record MakesRow (k : TableKind) (cells : Row) (old new : State) : Type 0 where
+  pub put : PutsRow k cells old.now.trees new.now.trees
+  pub ready : IsReady new
+  pub committed : new.committed ≡ old.committed
+
+-- ---- changes
+
+-- the table and the cells of what a change puts
+abbrev pub table_of_change : Change → TableKind
+table_of_change (Owner row) = Owners
+table_of_change (UnitAdded row) = Units
+table_of_change (Put o row) = table_for row
+
+abbrev pub cells_of_change : Change → Row
+cells_of_change (Owner row) = owner_cells row
+cells_of_change (UnitAdded row) = unit_cells row
+cells_of_change (Put o row) = cells_for o row
+
+-- its values, and its owner, are values of their kinds
+abbrev pub IsValid : Change → Type 0
+IsValid (Owner row) = IsOwner row
+IsValid (UnitAdded row) = IsUnit row
+IsValid (Put o row) = IsTrue (is_name o) × IsRow row
+
+-- a change is put in; and several, the first of them first
+pub record PutsChange (change : Change) (old new : Trees) : Type 0 where
+  pub valid : IsValid change
+  pub put : PutsRow (table_of_change change) (cells_of_change change) old new
+
+abbrev pub PutsAll : List Change → Trees → Trees → Type 0
+PutsAll [] old new = new ≡ old
+PutsAll (change ∷ more) old new = (mid : Trees) × PutsChange change old mid × PutsAll more mid new
+
+-- the change is put, nothing is committed, and more can be put
+pub record MakesPut (change : Change) (old new : State) : Type 0 where
+  pub put : PutsChange change old.now.trees new.now.trees
+  pub ready : IsReady new
+  pub committed : new.committed ≡ old.committed
+
+-- so are all of these
+pub record MakesAll (changes : List Change) (old new : State) : Type 0 where
+  pub put : PutsAll changes old.now.trees new.now.trees
+  pub ready : IsReady new
+  pub committed : new.committed ≡ old.committed
+
+-- the changes were put in, and that is committed
+pub record HasApplied (changes : List Change) (old new : State) : Type 0 where
+  pub put : PutsAll changes old.now.trees new.now.trees
+  pub ours : IsOurs new.now
+  pub settled : new.committed ≡ new.now
+  pub is_open : IsTrue new.is_open
+
+-- what is so of each call within a transaction that writes, whatever it writes
+pub record IsWriting (Makes : State → State → Type 0) {X : Type 0} (old new : State) (result : Result X Error) : Type 0 where
+  pub makes : HasCleanDisk new → IsReady old → OnOk result (Makes old new)
+  pub inside : HasCleanDisk new → IsTrue old.in_transaction → OnOk result (IsTrue new.in_transaction)
+  pub fault : HasCleanDisk new → IsTrue old.in_transaction → IfErr result (IsCaused old new)
+  pub kept : HasCleanDisk new → KeepsCommit old new
+  pub survives : Survives old new (λ _. ⊥)
+
+-- ---- a store that holds a content
+
+-- the store has not shut itself
+pub record LiesOpen (s : State) : Type 0 where
+  pub is_open : IsTrue s.is_open
+
+-- the tables are ours, nothing is pending, and they have these rows
+pub record HoldsIn (s : State) (c : Content) : Type 0 where
+  pub ours : IsOurs s.now
+  pub idle : s.now ≡ s.committed
+  pub rows : Holds s.now.trees c
+
+-- what a stop leaves are tables with one of these contents
+abbrev pub LeavesIn : State → List Content → Type 0
+LeavesIn s cs = (db : Trees) → s.may_leave db → IsAmong (Holds db) cs

@@ -1,0 +1,140 @@
+-- Rows whose values are values of their kinds.
+use Rattle.std.specs.Prelude.{IsTrue, ℕ, ◌<◌, ◌^◌}
+use Rattle.std.specs.List.{AllByRecursion}
+use Rattle.toll_base.specs.Slice.{Slice}
+use Rattle.toll_base.specs.Values.{is_name, is_owner_key, is_measure, IsAmount, IsDay, IsSegment, IsBatchNo, IsValue}
+use Rattle.toll_base.specs.declared.lot.LotId.{LotId}
+use Rattle.toll_base.specs.declared.lot.Origin.{Origin}
+use Rattle.toll_base.specs.declared.lot.Origin.TheVariants.{Receipts, Batch as OfBatch}
+use Rattle.toll_base.specs.declared.movement.Move.{Move}
+use Rattle.toll_base.specs.declared.movement.Move.TheVariants.{Receive, Split, Ship, Scrap, Actual}
+use Rattle.toll_base.specs.declared.movement.MoveRow.{MoveRow}
+use Rattle.toll_base.specs.declared.rows.BatchRow.{BatchRow}
+use Rattle.toll_base.specs.declared.rows.LotRow.{LotRow}
+use Rattle.toll_base.specs.declared.rows.MaterialRow.{MaterialRow}
+use Rattle.toll_base.specs.declared.rows.OrderRow.{OrderRow}
+use Rattle.toll_base.specs.declared.rows.OwnerRow.{OwnerRow}
+use Rattle.toll_base.specs.declared.rows.RecipeRow.{RecipeRow}
+use Rattle.toll_base.specs.declared.rows.RequirementRow.{RequirementRow}
+use Rattle.toll_base.specs.declared.rows.ResultRow.{ResultRow}
+use Rattle.toll_base.specs.declared.rows.Row.{Row as OfficeRow}
+use Rattle.toll_base.specs.declared.rows.Row.TheVariants as of
+use Rattle.toll_base.specs.declared.rows.SublotRow.{SublotRow}
+use Rattle.toll_base.specs.declared.rows.TestRow.{TestRow}
+use Rattle.toll_base.specs.declared.rows.UnitRow.{UnitRow}
+use Rattle.toll_base.specs.declared.rows.VoidRow.{VoidRow}
+use Rattle.toll_sql.specs.declared.table_kind.TableKind.{TableKind}
+use Rattle.toll_sql.specs.declared.table_kind.TableKind.TheVariants.{Meta, Owners, Units, Materials, Tests, Recipes, Requirements, Orders, Batches, Lots, Sublots, Moves, Results, Voids}
+
+-- a whole number that a column can have
+abbrev pub IsStorable : ℕ → Type 0
+IsStorable n = n < 2 ^ 63
+
+pub record IsOwner (row : OwnerRow) : Type 0 where
+  pub owner : IsTrue (is_name row.owner)
+  pub key : IsTrue (is_owner_key row.key)
+
+abbrev pub IsUnit : UnitRow → Type 0
+IsUnit row = IsTrue (is_name row.unit)
+
+pub record IsMaterial (row : MaterialRow) : Type 0 where
+  pub material : IsTrue (is_name row.material)
+  pub measure : IsTrue (is_measure row.measure)
+
+pub record IsTest (row : TestRow) : Type 0 where
+  pub material : IsTrue (is_name row.material)
+  pub test : IsTrue (is_name row.test)
+  pub low : IsValue row.limits.low
+  pub high : IsValue row.limits.high
+
+pub record IsRecipe (row : RecipeRow) : Type 0 where
+  pub recipe : IsTrue (is_name row.recipe)
+  pub segments : IsSegment row.segments
+
+pub record IsRequirement (row : RequirementRow) : Type 0 where
+  pub recipe : IsTrue (is_name row.recipe)
+  pub segment : IsSegment row.segment
+  pub source : IsTrue (is_name row.source)
+  pub material : IsTrue (is_name row.material)
+  pub amount : IsAmount row.amount
+
+pub record IsOrder (row : OrderRow) : Type 0 where
+  pub order : IsTrue (is_name row.order)
+  pub recipe : IsTrue (is_name row.recipe)
+  pub batches : IsBatchNo row.batches
+
+pub record IsBatch (row : BatchRow) : Type 0 where
+  pub order : IsTrue (is_name row.order)
+  pub number : IsBatchNo row.number
+  pub unit : IsTrue (is_name row.unit)
+
+abbrev pub IsOrigin : Origin → Type 0
+IsOrigin Receipts = Unit {0}
+IsOrigin (OfBatch order number) = IsTrue (is_name order) × IsBatchNo number
+
+pub record IsLot (row : LotRow) : Type 0 where
+  pub lot : IsTrue (is_name row.lot)
+  pub material : IsTrue (is_name row.material)
+  pub origin : IsOrigin row.origin
+
+pub record IsSublot (row : SublotRow) : Type 0 where
+  pub lot : IsTrue (is_name row.lot)
+  pub sublot : IsTrue (is_name row.sublot)
+  pub amount : IsStorable row.amount
+
+abbrev pub IsLotId : LotId → Type 0
+IsLotId lot = IsTrue (is_name lot.owner) × IsTrue (is_name lot.lot)
+
+abbrev pub IsMove : Move → Type 0
+IsMove (Receive material lot sublot) = IsTrue (is_name material) × IsTrue (is_name lot) × IsTrue (is_name sublot)
+IsMove (Split lot sublot target) = IsTrue (is_name lot) × IsTrue (is_name sublot) × IsTrue (is_name target)
+IsMove (Ship lot sublot) = IsTrue (is_name lot) × IsTrue (is_name sublot)
+IsMove (Scrap lot sublot) = IsTrue (is_name lot) × IsTrue (is_name sublot)
+IsMove (Actual order number segment role material lot sublot) = IsTrue (is_name order) × IsBatchNo number × IsSegment segment × IsTrue (is_name material) × IsLotId lot × IsTrue (is_name sublot)
+
+pub record IsMovement (row : MoveRow) : Type 0 where
+  pub key : IsTrue (is_name row.key)
+  pub what : IsMove row.what
+  pub amount : IsAmount row.amount
+  pub day : IsDay row.day
+
+pub record IsResult (row : ResultRow) : Type 0 where
+  pub lot : IsTrue (is_name row.lot)
+  pub test : IsTrue (is_name row.test)
+  pub number : IsStorable row.number
+  pub value : IsValue row.value
+  pub day : IsDay row.day
+
+abbrev pub IsVoid : VoidRow → Type 0
+IsVoid row = IsTrue (is_name row.key)
+
+-- the row of an owner, whatever its kind
+abbrev pub IsRow : OfficeRow → Type 0
+IsRow (of.Material row) = IsMaterial row
+IsRow (of.Test row) = IsTest row
+IsRow (of.Recipe row) = IsRecipe row
+IsRow (of.Requirement row) = IsRequirement row
+IsRow (of.Order row) = IsOrder row
+IsRow (of.Batch row) = IsBatch row
+IsRow (of.Lot row) = IsLot row
+IsRow (of.Sublot row) = IsSublot row
+IsRow (of.Move row) = IsMovement row
+IsRow (of.Result row) = IsResult row
+IsRow (of.Void row) = IsVoid row
+
+-- the rows of the slice that stand in the table
+abbrev pub AreValidIn : TableKind → Slice → Type 0
+AreValidIn Meta s = Unit {0}
+AreValidIn Owners s = Unit {0}
+AreValidIn Units s = Unit {0}
+AreValidIn Materials s = AllByRecursion IsMaterial s.materials
+AreValidIn Tests s = AllByRecursion IsTest s.tests
+AreValidIn Recipes s = AllByRecursion IsRecipe s.recipes
+AreValidIn Requirements s = AllByRecursion IsRequirement s.requirements
+AreValidIn Orders s = AllByRecursion IsOrder s.orders
+AreValidIn Batches s = AllByRecursion IsBatch s.batches
+AreValidIn Lots s = AllByRecursion IsLot s.lots
+AreValidIn Sublots s = AllByRecursion IsSublot s.sublots
+AreValidIn Moves s = AllByRecursion IsMovement s.moves
+AreValidIn Results s = AllByRecursion IsResult s.results
+AreValidIn Voids s = AllByRecursion IsVoid s.voids

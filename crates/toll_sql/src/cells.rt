@@ -1,0 +1,215 @@
+//! Cells of stored rows read as values.
+ghost use Rattle.std.specs.Prelude.{◌≡◌, ◌≢◌, ◌≤◌, ◌↔◌, ℕ, ℤ, pos, List, [], Bool, None, IsTrue, IfSome};
+ghost use Rattle.sqlite.specs.Order.{column};
+ghost use Rattle.sqlite.specs.declared.types.Value.TheVariants.{Int, Text};
+ghost use Rattle.toll_base.specs.Roles.{role_rank};
+ghost use Rattle.toll_base.specs.Values.{is_name, is_measure, is_owner_key, IsValue};
+ghost use Rattle.toll_base.specs.declared.lot.Disposition.{Disposition as Dispositions};
+ghost use Rattle.toll_base.specs.declared.limits.Limits.{Limits as Bounds};
+ghost use Rattle.toll_base.specs.declared.lot.Origin.{Origin as Origins};
+ghost use Rattle.toll_base.specs.declared.role.Role.{Role as Roles};
+ghost use Rattle.toll_base.specs.declared.state.State.{State as States};
+ghost use Rattle.toll_sql.specs.Encode as stored;
+ghost use Rattle.toll_sql.specs.Valid.{IsOrigin, IsStorable};
+
+use sqlite::Row;
+use sqlite::types::ValueRef;
+use toll_base::{
+    Bounded, Disposition, Limits, Measure, Name, Origin, OwnerKey, Role, State, Value,
+};
+
+/// The name in this column, where it is one.
+pub fn name_at(row: &Row, at: usize) -> Option<Name>
+    ensures some { IfSome result (λ n. column row.now at ≡ Text n) }
+    ensures valid { IfSome result (λ n. IsTrue (is_name n)) }
+    ensures none { result ≡ None → (n : List ℕ) → IsTrue (is_name n) → column row.now at ≢ Text n }
+{
+    match row.get_ref(at) {
+        Ok(ValueRef::Text(bytes)) => match Name::parse(bytes) {
+            Ok(name) => Some(name),
+            Err(_) => None,
+        },
+        _ => None,
+    }
+}
+
+/// The measure in this column, where it is one.
+pub fn measure_at(row: &Row, at: usize) -> Option<Measure>
+    ensures some { IfSome result (λ n. column row.now at ≡ Text n) }
+    ensures valid { IfSome result (λ n. IsTrue (is_measure n)) }
+    ensures none { result ≡ None → (n : List ℕ) → IsTrue (is_measure n) → column row.now at ≢ Text n }
+{
+    match row.get_ref(at) {
+        Ok(ValueRef::Text(bytes)) => match Measure::parse(bytes) {
+            Ok(measure) => Some(measure),
+            Err(_) => None,
+        },
+        _ => None,
+    }
+}
+
+/// The owner's key in this column, where it is one.
+pub fn key_at(row: &Row, at: usize) -> Option<OwnerKey>
+    ensures some { IfSome result (λ n. column row.now at ≡ Text n) }
+    ensures valid { IfSome result (λ n. IsTrue (is_owner_key n)) }
+    ensures none { result ≡ None → (n : List ℕ) → IsTrue (is_owner_key n) → column row.now at ≢ Text n }
+{
+    match row.get_ref(at) {
+        Ok(ValueRef::Text(bytes)) => match OwnerKey::parse(bytes) {
+            Ok(key) => Some(key),
+            Err(_) => None,
+        },
+        _ => None,
+    }
+}
+
+/// The whole number in this column, where it is one and not negative.
+pub fn number_at(row: &Row, at: usize) -> Option<u64>
+    ensures some { IfSome result (λ n. column row.now at ≡ Int (pos n)) }
+    ensures valid { IfSome result IsStorable }
+    ensures none { result ≡ None → (n : ℕ) → column row.now at ≢ Int (pos n) }
+{
+    match row.get_ref(at) {
+        Ok(ValueRef::Int(n)) if 0 <= n => Some(n as u64),
+        _ => None,
+    }
+}
+
+/// The number in this column, where it is within the bounds.
+pub fn bounded_at<const LEAST: u64, const MOST: u64>(
+    row: &Row,
+    at: usize,
+) -> Option<Bounded<LEAST, MOST>>
+    ensures some { IfSome result (λ n. column row.now at ≡ Int (pos n)) }
+    ensures valid { IfSome result (λ n. (LEAST ≤ n) × (n ≤ MOST)) }
+    ensures none { result ≡ None → (n : ℕ) → LEAST ≤ n → n ≤ MOST → column row.now at ≢ Int (pos n) }
+{
+    match number_at(row, at) {
+        Some(n) => match Bounded::new(n) {
+            Ok(number) => Some(number),
+            Err(_) => None,
+        },
+        None => None,
+    }
+}
+
+/// The value of a test in this column, where it is one.
+pub fn value_at(row: &Row, at: usize) -> Option<Value>
+    ensures some { IfSome result (λ n. column row.now at ≡ Int n) }
+    ensures valid { IfSome result IsValue }
+    ensures none { result ≡ None → (n : ℤ) → IsValue n → column row.now at ≢ Int n }
+{
+    match row.get_ref(at) {
+        Ok(ValueRef::Int(n)) => match Value::new(n) {
+            Ok(value) => Some(value),
+            Err(_) => None,
+        },
+        _ => None,
+    }
+}
+
+/// Whether the column has 1 rather than 0.
+pub fn flag_at(row: &Row, at: usize) -> Option<bool>
+    ensures some { IfSome result (λ b. column row.now at ≡ Int (pos (stored.flag b))) }
+    ensures none { result ≡ None → (b : Bool) → column row.now at ≢ Int (pos (stored.flag b)) }
+{
+    match number_at(row, at) {
+        Some(0) => Some(false),
+        Some(1) => Some(true),
+        _ => None,
+    }
+}
+
+/// The role in this column.
+pub fn role_at(row: &Row, at: usize) -> Option<Role>
+    ensures some { IfSome result (λ r. column row.now at ≡ Int (pos (role_rank r))) }
+    ensures none { result ≡ None → (r : Roles) → column row.now at ≢ Int (pos (role_rank r)) }
+{
+    match number_at(row, at) {
+        Some(0) => Some(Role::Consumed),
+        Some(1) => Some(Role::Produced),
+        _ => None,
+    }
+}
+
+/// The disposition in this column.
+pub fn disposition_at(row: &Row, at: usize) -> Option<Disposition>
+    ensures some { IfSome result (λ d. column row.now at ≡ Int (pos (stored.disposition_number d))) }
+    ensures none { result ≡ None → (d : Dispositions) → column row.now at ≢ Int (pos (stored.disposition_number d)) }
+{
+    match number_at(row, at) {
+        Some(0) => Some(Disposition::Quarantined),
+        Some(1) => Some(Disposition::Released),
+        Some(2) => Some(Disposition::Rejected),
+        _ => None,
+    }
+}
+
+/// The state in this column.
+pub fn state_at(row: &Row, at: usize) -> Option<State>
+    ensures some { IfSome result (λ s. column row.now at ≡ Int (pos (stored.state_number s))) }
+    ensures none { result ≡ None → (s : States) → column row.now at ≢ Int (pos (stored.state_number s)) }
+{
+    match number_at(row, at) {
+        Some(0) => Some(State::Idle),
+        Some(1) => Some(State::Running),
+        Some(2) => Some(State::Pausing),
+        Some(3) => Some(State::Paused),
+        Some(4) => Some(State::Holding),
+        Some(5) => Some(State::Held),
+        Some(6) => Some(State::Restarting),
+        Some(7) => Some(State::Stopping),
+        Some(8) => Some(State::Stopped),
+        Some(9) => Some(State::Aborting),
+        Some(10) => Some(State::Aborted),
+        Some(11) => Some(State::Complete),
+        _ => None,
+    }
+}
+
+/// The limits of a test in these columns.
+pub fn limits_at(row: &Row, low: usize, high: usize) -> Option<Limits>
+    ensures some { IfSome result (λ l. (column row.now low ≡ Int l.low) × (column row.now high ≡ Int l.high)) }
+    ensures valid { IfSome result (λ l. IsValue l.low × IsValue l.high) }
+    ensures none { result ≡ None → (l : Bounds) → IsValue l.low → IsValue l.high → column row.now low ≡ Int l.low → column row.now high ≢ Int l.high }
+{
+    match Limits::new(value_at(row, low)?, value_at(row, high)?) {
+        Ok(limits) => Some(limits),
+        Err(_) => None,
+    }
+}
+
+/// Where a lot comes from, by these columns: of an order and of the number of a batch.
+pub fn origin_at(row: &Row, order: usize, number: usize) -> Option<Origin>
+    ensures some { IfSome result (λ o. (column row.now order ≡ Text (stored.origin_order o)) × (column row.now number ≡ Int (pos (stored.origin_number o)))) }
+    ensures valid { IfSome result IsOrigin }
+    ensures none { result ≡ None → (o : Origins) → IsOrigin o → column row.now order ≡ Text (stored.origin_order o) → column row.now number ≢ Int (pos (stored.origin_number o)) }
+{
+    if is_empty_at(row, order) && is_zero_at(row, number) {
+        return Some(Origin::Receipts);
+    }
+    Some(Origin::Batch {
+        order: name_at(row, order)?,
+        number: bounded_at(row, number)?,
+    })
+}
+
+/// Whether the column has the empty text.
+pub fn is_empty_at(row: &Row, at: usize) -> bool
+    ensures { IsTrue result ↔ (column row.now at ≡ Text []) }
+{
+    match row.get_ref(at) {
+        Ok(ValueRef::Text(bytes)) => bytes.is_empty(),
+        _ => false,
+    }
+}
+
+/// Whether the column has 0.
+pub fn is_zero_at(row: &Row, at: usize) -> bool
+    ensures { IsTrue result ↔ (column row.now at ≡ Int (pos 0)) }
+{
+    match row.get_ref(at) {
+        Ok(ValueRef::Int(n)) => n == 0,
+        _ => false,
+    }
+}

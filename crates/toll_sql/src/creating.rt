@@ -1,0 +1,140 @@
+//! The tables made.
+ghost use Rattle.std.specs.Prelude.{◌≡◌, false, IsTrue};
+ghost use Rattle.sqlite.specs.Held.{state};
+ghost use Rattle.sqlite.specs.State.{HasCleanDisk};
+ghost use Rattle.toll_sql.specs.Create.{Finishes, IsMaking, IsNew, IsShapedAs, IsStep, IsWhole, Keeps, MakesAllTables, MakesTable};
+ghost use Rattle.toll_sql.specs.First.{Raised, first_ours};
+ghost use Rattle.toll_sql.specs.Opening.{Creates};
+ghost use Rattle.toll_sql.specs.Plain.{no_schema};
+ghost use Rattle.toll_sql.specs.Tables.{every_table, made_all, made_before, ours};
+
+use crate::encode::meta_values;
+use crate::open_fault::{OpenFault, open_fault_of};
+use crate::ours::is_blank;
+use crate::table_kind::TableKind;
+use crate::writing::put;
+use sqlite::{Alter, Connection, Error, Transaction};
+
+/// The version of these tables.
+const VERSION: u64 = 2;
+
+// All tables, in the order in which they are made.
+fn every_table() -> [TableKind; 14]
+    ensures { result ≡ every_table }
+{
+    [
+        TableKind::Meta,
+        TableKind::Owners,
+        TableKind::Units,
+        TableKind::Materials,
+        TableKind::Tests,
+        TableKind::Recipes,
+        TableKind::Requirements,
+        TableKind::Orders,
+        TableKind::Batches,
+        TableKind::Lots,
+        TableKind::Sublots,
+        TableKind::Moves,
+        TableKind::Results,
+        TableKind::Voids,
+    ]
+}
+
+/// Makes the table; those before it are there.
+pub(crate) fn make_table<S: Alter>(
+    tx: &mut Transaction<'_, S>,
+    table: TableKind,
+) -> Result<usize, Error>
+    ensures same_reference { tx.new.conn.ghost_name ≡ tx.old.conn.ghost_name }
+    ensures steps { IsStep (IsMaking (made_before table)) (MakesTable table) (state S.Store tx.old.conn.now) (state S.Store tx.new.conn.now) result }
+{
+    tx.execute(table.create_text(), &[])
+}
+
+// Makes the index; all tables are there.
+fn make_index<S: Alter>(tx: &mut Transaction<'_, S>) -> Result<usize, Error>
+    ensures same_reference { tx.new.conn.ghost_name ≡ tx.old.conn.ghost_name }
+    ensures steps { IsStep (IsMaking made_all) (Keeps made_all ours) (state S.Store tx.old.conn.now) (state S.Store tx.new.conn.now) result }
+{
+    tx.execute(
+        "CREATE INDEX moves_by_batch ON moves (owner, ord, number, kind)",
+        &[],
+    )
+}
+
+/// Makes the index and writes the version; all tables are there.
+pub(crate) fn finish<S: Alter>(tx: &mut Transaction<'_, S>) -> Result<usize, Error>
+    ensures same_reference { tx.new.conn.ghost_name ≡ tx.old.conn.ghost_name }
+    ensures steps { IsStep (IsShapedAs made_all) Finishes (state S.Store tx.old.conn.now) (state S.Store tx.new.conn.now) result }
+{
+    make_index(tx)?;
+    put(tx, TableKind::Meta, &meta_values(VERSION))
+}
+
+// Makes all tables, none of which is there.
+fn make_tables<S: Alter>(tx: &mut Transaction<'_, S>) -> Result<(), Error>
+    ensures same_reference { tx.new.conn.ghost_name ≡ tx.old.conn.ghost_name }
+    ensures steps { IsStep (IsMaking no_schema) MakesAllTables (state S.Store tx.old.conn.now) (state S.Store tx.new.conn.now) result }
+{
+    for table in every_table() {
+        make_table(tx, table)?;
+    }
+    Ok(())
+}
+
+// Makes all tables and the index, and writes the version.
+fn make_all<S: Alter>(tx: &mut Transaction<'_, S>) -> Result<usize, Error>
+    ensures same_reference { tx.new.conn.ghost_name ≡ tx.old.conn.ghost_name }
+    ensures steps { IsStep (IsMaking no_schema) (λ _ new. IsNew new.now) (state S.Store tx.old.conn.now) (state S.Store tx.new.conn.now) result }
+{
+    make_tables(tx)?;
+    finish(tx)
+}
+
+// Makes all of it in one transaction, or nothing.
+fn create_or_none<S: Alter>(conn: &mut Connection<S>) -> Result<(), Error>
+    requires autocommit { conn.old.in_transaction ≡ false }
+    requires settled { HasCleanDisk (state S.Store conn.old) → IsTrue (state S.Store conn.old).is_open → (state S.Store conn.old).now ≡ (state S.Store conn.old).committed }
+    ensures whole { IsWhole (IsMaking no_schema) IsNew (state S.Store conn.old) (state S.Store conn.new) result }
+{
+    let mut tx = conn.transaction();
+    make_all(&mut tx)?;
+    tx.commit()
+}
+
+/// Makes the tables of the office, in one transaction, on a store that has none. NotOurs, and nothing
+/// is written, where the store has tables, or a transaction is open. Memory where there is none, and
+/// Disk where the disk fails or refuses: then none of the tables is there, or, after Disk, perhaps
+/// all.
+pub fn create_tables<S: Alter>(conn: &mut Connection<S>) -> Result<(), OpenFault>
+    ensures creates { Creates (state S.Store conn.old) (state S.Store conn.new) result }
+{
+    conn.set_step_limit(None);
+    if !conn.is_autocommit() || !is_blank(conn.schema()) {
+        return Err(OpenFault::NotOurs);
+    }
+    match create_or_none(conn) {
+        Ok(()) => Ok(()),
+        Err(error) => Err(open_fault_of(error)),
+    }
+}
+
+// Makes of the tables of version 1 those of this version.
+fn raise<S: Alter>(tx: &mut Transaction<'_, S>) -> Result<usize, Error>
+    ensures same_reference { tx.new.conn.ghost_name ≡ tx.old.conn.ghost_name }
+    ensures steps { IsStep (IsShapedAs first_ours) (λ old new. Raised old.now.trees new.now) (state S.Store tx.old.conn.now) (state S.Store tx.new.conn.now) result }
+{
+    make_table(tx, TableKind::Voids)?;
+    finish(tx)
+}
+
+/// Makes of the tables of version 1 those of this version, in one transaction, or nothing.
+pub(crate) fn raise_or_none<S: Alter>(conn: &mut Connection<S>) -> Result<(), Error>
+    requires autocommit { conn.old.in_transaction ≡ false }
+    requires settled { HasCleanDisk (state S.Store conn.old) → IsTrue (state S.Store conn.old).is_open → (state S.Store conn.old).now ≡ (state S.Store conn.old).committed }
+    ensures whole { IsWhole (IsShapedAs first_ours) (Raised (state S.Store conn.old).now.trees) (state S.Store conn.old) (state S.Store conn.new) result }
+{
+    let mut tx = conn.transaction();
+    raise(&mut tx)?;
+    tx.commit()
+}

@@ -1,0 +1,109 @@
+//! The genealogy of batches, asked of the tables.
+ghost use Rattle.std.specs.Prelude.{◌≡◌, ◌≢◌, Err, map, IfOk};
+ghost use Rattle.sqlite.specs.Held.{state};
+ghost use Rattle.sqlite.specs.State.{HasCleanDisk};
+ghost use Rattle.toll_keep.specs.Content.{Content};
+ghost use Rattle.toll_keep.specs.Holding.{IsEdgeOfSome};
+ghost use Rattle.toll_sql.specs.Asking.{IsLooking, IsQuerying};
+ghost use Rattle.toll_sql.specs.Cells.{columns_from};
+ghost use Rattle.toll_sql.specs.EdgeRows.{AreReadFrom, HasNoEdge, ShowEdges, edge_cells};
+ghost use Rattle.toll_sql.specs.Stores.{HoldsIn};
+ghost use Rattle.toll_trace.specs.Edges.{AreEdges, IsEdge};
+
+use crate::edge_cells::edge_at;
+use crate::fault::fault_of;
+use sqlite::types::ValueRef;
+use sqlite::{Alter, Connection, Error, Row};
+use std::alloc::Global;
+use toll_base::{Edge, Name};
+use toll_keep::KeepFault;
+use toll_trace::put_in_order;
+
+/// The genealogy of an owner's own batches, in order, each edge once: empty for an unknown owner.
+///
+/// Memory and Disk are faults of the store; Damaged is a row that shows no two lots with names.
+pub fn read_edges<S: Alter>(
+    conn: &mut Connection<S>,
+    alloc: Global,
+    owner: &Name,
+) -> Result<Vec<Edge>, KeepFault>
+    ensures looks { IsLooking (state S.Store conn.old) (state S.Store conn.new) result }
+    ensures reads { HasCleanDisk (state S.Store conn.new) → (c : Content) → HoldsIn (state S.Store conn.old) c → IfOk result (λ edges. AreEdges (IsEdge (c.rows owner.now)) edges.items) }
+    ensures whole { HasCleanDisk (state S.Store conn.new) → (c : Content) → HoldsIn (state S.Store conn.old) c → result ≢ Err KeepFault.Damaged }
+{
+    match owners_pairs(conn, owner) {
+        Ok(rows) => edges_shown(alloc, &rows),
+        Err(error) => Err(fault_of(error)),
+    }
+}
+
+/// The genealogy of all batches, in order, each edge once.
+///
+/// Memory and Disk are faults of the store; Damaged is a row that shows no two lots with names.
+pub fn read_all_edges<S: Alter>(
+    conn: &mut Connection<S>,
+    alloc: Global,
+) -> Result<Vec<Edge>, KeepFault>
+    ensures looks { IsLooking (state S.Store conn.old) (state S.Store conn.new) result }
+    ensures reads { HasCleanDisk (state S.Store conn.new) → (c : Content) → HoldsIn (state S.Store conn.old) c → IfOk result (λ edges. AreEdges (IsEdgeOfSome c) edges.items) }
+    ensures whole { HasCleanDisk (state S.Store conn.new) → (c : Content) → HoldsIn (state S.Store conn.old) c → result ≢ Err KeepFault.Damaged }
+{
+    match all_pairs(conn) {
+        Ok(rows) => edges_shown(alloc, &rows),
+        Err(error) => Err(fault_of(error)),
+    }
+}
+
+// The lots of each consumption and each production of one batch of the owner, neither of them voided, the
+// consumption's segment not above the production's.
+fn owners_pairs<S: Alter>(conn: &mut Connection<S>, owner: &Name) -> Result<Vec<Row>, Error>
+    ensures asks { IsQuerying (state S.Store conn.old) (state S.Store conn.new) result }
+    ensures rows { HasCleanDisk (state S.Store conn.new) → (c : Content) → HoldsIn (state S.Store conn.old) c → IfOk result (λ rows. ShowEdges (IsEdge (c.rows owner.now)) rows.items) }
+{
+    conn.query_all(
+        "SELECT c.lot_owner, c.lot, p.lot_owner, p.lot FROM moves AS c JOIN moves AS p ON p.owner = c.owner AND p.ord = c.ord AND p.number = c.number LEFT JOIN voids AS v ON v.owner = c.owner AND v.mkey = c.mkey LEFT JOIN voids AS w ON w.owner = p.owner AND w.mkey = p.mkey WHERE c.owner = ?1 AND c.kind = 4 AND p.kind = 5 AND c.segment <= p.segment AND v.mkey IS NULL AND w.mkey IS NULL",
+        &[ValueRef::Text(owner.as_bytes())],
+    )
+}
+
+// The same of the batches of all owners.
+fn all_pairs<S: Alter>(conn: &mut Connection<S>) -> Result<Vec<Row>, Error>
+    ensures asks { IsQuerying (state S.Store conn.old) (state S.Store conn.new) result }
+    ensures rows { HasCleanDisk (state S.Store conn.new) → (c : Content) → HoldsIn (state S.Store conn.old) c → IfOk result (λ rows. ShowEdges (IsEdgeOfSome c) rows.items) }
+{
+    conn.query_all(
+        "SELECT c.lot_owner, c.lot, p.lot_owner, p.lot FROM moves AS c JOIN moves AS p ON p.owner = c.owner AND p.ord = c.ord AND p.number = c.number LEFT JOIN voids AS v ON v.owner = c.owner AND v.mkey = c.mkey LEFT JOIN voids AS w ON w.owner = p.owner AND w.mkey = p.mkey WHERE c.kind = 4 AND p.kind = 5 AND c.segment <= p.segment AND v.mkey IS NULL AND w.mkey IS NULL",
+        &[],
+    )
+}
+
+// The edges that the rows show, in order, each once.
+fn edges_shown(alloc: Global, rows: &[Row]) -> Result<Vec<Edge>, KeepFault>
+    ensures read { IfOk result (λ edges. AreReadFrom rows.now edges.items) }
+    ensures damaged { result ≡ Err KeepFault.Damaged → HasNoEdge rows.now }
+    ensures disk { result ≢ Err KeepFault.Disk }
+    ensures closed { result ≢ Err KeepFault.Closed }
+{
+    let mut edges = edges_in(alloc, rows)?;
+    put_in_order(&mut edges);
+    Ok(edges)
+}
+
+// The edge of each row.
+fn edges_in(alloc: Global, rows: &[Row]) -> Result<Vec<Edge>, KeepFault>
+    ensures read { IfOk result (λ edges. map edge_cells edges.items ≡ map (columns_from 0 4) rows.now) }
+    ensures damaged { result ≡ Err KeepFault.Damaged → HasNoEdge rows.now }
+    ensures disk { result ≢ Err KeepFault.Disk }
+    ensures closed { result ≢ Err KeepFault.Closed }
+{
+    let mut edges = Vec::new(alloc);
+    for row in rows {
+        let Some(edge) = edge_at(row) else {
+            return Err(KeepFault::Damaged);
+        };
+        if edges.push(edge).is_err() {
+            return Err(KeepFault::Memory);
+        }
+    }
+    Ok(edges)
+}

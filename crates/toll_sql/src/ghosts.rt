@@ -1,0 +1,28 @@
+//! What the keep over SQLite chooses for the ghosts of [`Keep`].
+ghost use Rattle.std.specs.Prelude.{◌≡◌, ◌↔◌, List};
+ghost use Rattle.sqlite.specs.Held.{state};
+ghost use Rattle.sqlite.specs.State.{HasCleanDisk};
+ghost use Rattle.toll_keep.specs.Content.{Content};
+ghost use Rattle.toll_sql.specs.Causes.{HasCause};
+ghost use Rattle.toll_sql.specs.Stores.{HoldsIn, LeavesIn, LiesOpen};
+ghost use Rattle.toll_sql.specs.declared.sql_keep.SqlKeep.{SqlKeep};
+
+use crate::sql_keep::SqlKeep;
+use sqlite::Alter;
+use toll_keep::Keep;
+
+/// A keep over SQLite is honest while the disk has returned what was written to it, lives while its
+/// connection lies open, and meets the causes of Disk that `sqlite` names.
+pub fn a_keep_over_sqlite_is_as_honest_as_its_disk<S: Alter>()
+    ensures honest { (k : SqlKeep S S.Store) → ⟦<SqlKeep<S> as Keep>⟧.is_honest k ↔ HasCleanDisk (state S.Store k.conn) }
+    ensures live { (k : SqlKeep S S.Store) → ⟦<SqlKeep<S> as Keep>⟧.is_live k ↔ LiesOpen (state S.Store k.conn) }
+    ensures closed { (k : SqlKeep S S.Store) → ⟦<SqlKeep<S> as Keep>⟧.is_closed k ≡ k.closed }
+    ensures cause { (old new : SqlKeep S S.Store) → ⟦<SqlKeep<S> as Keep>⟧.has_cause old new ↔ HasCause (state S.Store old.conn) (state S.Store new.conn) }
+{}
+
+/// A keep over SQLite holds what its tables hold, where its connection lies open, and a stop leaves
+/// what it leaves of its store.
+pub fn a_keep_over_sqlite_has_the_content_of_its_tables<S: Alter>()
+    ensures holds { (k : SqlKeep S S.Store) (c : Content) → ⟦<SqlKeep<S> as Keep>⟧.holds k c ↔ (LiesOpen (state S.Store k.conn) → HoldsIn (state S.Store k.conn) c) }
+    ensures leaves { (k : SqlKeep S S.Store) (cs : List Content) → ⟦<SqlKeep<S> as Keep>⟧.leaves k cs ↔ LeavesIn (state S.Store k.conn) cs }
+{}

@@ -1,0 +1,73 @@
+//! The batch that holds a unit, asked of the tables.
+ghost use Rattle.std.specs.Prelude.{◌≡◌, ◌≢◌, Err, None, IfOk, IfSome};
+ghost use Rattle.sqlite.specs.Held.{state};
+ghost use Rattle.sqlite.specs.State.{HasCleanDisk};
+ghost use Rattle.toll_keep.specs.Content.{Content};
+ghost use Rattle.toll_keep.specs.Holding.{IsHolder};
+ghost use Rattle.toll_sql.specs.Asking.{IsLooking, IsQuerying};
+ghost use Rattle.toll_sql.specs.Cells.{columns_from};
+ghost use Rattle.toll_sql.specs.HolderRows.{HasNoHolder, IsShownIn, ShowHolders, ShowsNoHolder, holder_cells};
+ghost use Rattle.toll_sql.specs.Stores.{HoldsIn};
+
+use crate::cells::{bounded_at, name_at};
+use crate::fault::fault_of;
+use sqlite::types::ValueRef;
+use sqlite::{Alter, Connection, Error, Row};
+use toll_base::Name;
+use toll_keep::{Holder, KeepFault};
+
+/// The batch that holds the unit, of any owner: `None` where none does.
+///
+/// Memory and Disk are faults of the store; Damaged is a row that names no batch.
+pub fn read_holder<S: Alter>(
+    conn: &mut Connection<S>,
+    unit: &Name,
+) -> Result<Option<Holder>, KeepFault>
+    ensures looks { IsLooking (state S.Store conn.old) (state S.Store conn.new) result }
+    ensures reads { HasCleanDisk (state S.Store conn.new) → (c : Content) → HoldsIn (state S.Store conn.old) c → IfOk result (IsHolder c unit.now) }
+    ensures whole { HasCleanDisk (state S.Store conn.new) → (c : Content) → HoldsIn (state S.Store conn.old) c → result ≢ Err KeepFault.Damaged }
+{
+    match open_batches(conn, unit) {
+        Ok(rows) => first_holder(&rows),
+        Err(error) => Err(fault_of(error)),
+    }
+}
+
+// The batches on the unit that are not closed, of all owners.
+fn open_batches<S: Alter>(conn: &mut Connection<S>, unit: &Name) -> Result<Vec<Row>, Error>
+    ensures asks { IsQuerying (state S.Store conn.old) (state S.Store conn.new) result }
+    ensures rows { HasCleanDisk (state S.Store conn.new) → (c : Content) → HoldsIn (state S.Store conn.old) c → IfOk result (λ rows. ShowHolders c unit.now rows.items) }
+{
+    conn.query_all(
+        "SELECT owner, ord, number FROM batches WHERE unit = ?1 AND closed = 0",
+        &[ValueRef::Text(unit.as_bytes())],
+    )
+}
+
+// The batch that the first row shows.
+fn first_holder(rows: &[Row]) -> Result<Option<Holder>, KeepFault>
+    ensures read { IfOk result (IsShownIn rows.now) }
+    ensures damaged { result ≡ Err KeepFault.Damaged → HasNoHolder rows.now }
+    ensures disk { result ≢ Err KeepFault.Disk }
+    ensures closed { result ≢ Err KeepFault.Closed }
+{
+    match rows.first() {
+        Some(row) => match holder_at(row) {
+            Some(holder) => Ok(Some(holder)),
+            None => Err(KeepFault::Damaged),
+        },
+        None => Ok(None),
+    }
+}
+
+// The batch that the row shows.
+fn holder_at(row: &Row) -> Option<Holder>
+    ensures some { IfSome result (λ h. columns_from 0 3 row.now ≡ holder_cells h) }
+    ensures none { result ≡ None → ShowsNoHolder row.now }
+{
+    Some(Holder {
+        owner: name_at(row, 0)?,
+        order: name_at(row, 1)?,
+        number: bounded_at(row, 2)?,
+    })
+}

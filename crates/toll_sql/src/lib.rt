@@ -1,0 +1,39 @@
+//! The office's rows in SQLite.
+#![tactic(auto)]
+
+mod adopting;
+mod asking;
+mod cells;
+mod creating;
+mod edge_cells;
+mod edges;
+mod encode;
+mod fault;
+mod ghosts;
+mod holding;
+mod listing;
+mod move_cells;
+mod move_parts;
+mod open_fault;
+mod opening;
+mod ours;
+mod plant_row;
+mod reading;
+mod rows_of_definitions;
+mod rows_of_lots;
+mod rows_of_moves;
+mod rows_of_work;
+mod slice_reading;
+mod sql_keep;
+mod stored;
+mod table_kind;
+mod version;
+mod writing;
+
+pub use adopting::adopt_tables;
+pub use creating::create_tables;
+pub use ghosts::{
+    a_keep_over_sqlite_has_the_content_of_its_tables, a_keep_over_sqlite_is_as_honest_as_its_disk,
+};
+pub use open_fault::OpenFault;
+pub use sql_keep::SqlKeep;

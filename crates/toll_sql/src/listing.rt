@@ -1,0 +1,77 @@
+//! Owners and units, read from the tables.
+ghost use Rattle.std.specs.Prelude.{◌≡◌, ◌≢◌, Err, List, map, IfOk};
+ghost use Rattle.std.specs.List.{AllByRecursion};
+ghost use Rattle.sqlite.specs.Held.{state};
+ghost use Rattle.sqlite.specs.State.{HasCleanDisk};
+ghost use Rattle.toll_keep.specs.Content.{Content};
+ghost use Rattle.toll_sql.specs.Asking.{IsLooking};
+ghost use Rattle.toll_sql.specs.Holds.{HasRows};
+ghost use Rattle.toll_sql.specs.StoredLaws.{StandAlone};
+ghost use Rattle.toll_sql.specs.Stores.{HoldsIn};
+ghost use Rattle.toll_sql.specs.Tables.{ours, tree_of};
+
+use crate::asking::all_rows;
+use crate::fault::fault_of;
+use crate::plant_row::PlantRow;
+use sqlite::{Alter, Connection, Row as Stored};
+use std::alloc::Global;
+use toll_base::{OwnerRow, UnitRow};
+use toll_keep::KeepFault;
+
+/// The owners besides HOUSE, in the order of their names.
+pub fn read_owners<S: Alter>(
+    conn: &mut Connection<S>,
+    alloc: Global,
+) -> Result<Vec<OwnerRow>, KeepFault>
+    ensures looks { IsLooking (state S.Store conn.old) (state S.Store conn.new) result }
+    ensures reads { HasCleanDisk (state S.Store conn.new) → (c : Content) → HoldsIn (state S.Store conn.old) c → IfOk result (λ rows. rows.items ≡ c.owners) }
+    ensures whole { HasCleanDisk (state S.Store conn.new) → (c : Content) → HoldsIn (state S.Store conn.old) c → result ≢ Err KeepFault.Damaged }
+{
+    read_all::<S, OwnerRow>(conn, alloc)
+}
+
+/// The units, in the order of their names.
+pub fn read_units<S: Alter>(
+    conn: &mut Connection<S>,
+    alloc: Global,
+) -> Result<Vec<UnitRow>, KeepFault>
+    ensures looks { IsLooking (state S.Store conn.old) (state S.Store conn.new) result }
+    ensures reads { HasCleanDisk (state S.Store conn.new) → (c : Content) → HoldsIn (state S.Store conn.old) c → IfOk result (λ rows. rows.items ≡ c.units) }
+    ensures whole { HasCleanDisk (state S.Store conn.new) → (c : Content) → HoldsIn (state S.Store conn.old) c → result ≢ Err KeepFault.Damaged }
+{
+    read_all::<S, UnitRow>(conn, alloc)
+}
+
+// All rows of the table.
+fn read_all<S: Alter, X: PlantRow>(
+    conn: &mut Connection<S>,
+    alloc: Global,
+) -> Result<Vec<X>, KeepFault>
+    ensures looks { StandAlone X.kind X.cells X.is_valid → IsLooking (state S.Store conn.old) (state S.Store conn.new) result }
+    ensures reads { StandAlone X.kind X.cells X.is_valid → HasCleanDisk (state S.Store conn.new) → (state S.Store conn.old).now.schema ≡ ours → (l : List X) → HasRows X.kind (map X.cells l) ((state S.Store conn.old).now.trees (tree_of X.kind)) → AllByRecursion X.is_valid l → IfOk result (λ rows. rows.items ≡ l) }
+    ensures whole { StandAlone X.kind X.cells X.is_valid → HasCleanDisk (state S.Store conn.new) → (state S.Store conn.old).now.schema ≡ ours → (l : List X) → HasRows X.kind (map X.cells l) ((state S.Store conn.old).now.trees (tree_of X.kind)) → AllByRecursion X.is_valid l → result ≢ Err KeepFault.Damaged }
+{
+    match all_rows(conn, X::table()) {
+        Ok(rows) => list_rows::<X>(alloc, &rows),
+        Err(error) => Err(fault_of(error)),
+    }
+}
+
+// The rows that these stored ones are.
+fn list_rows<X: PlantRow>(alloc: Global, rows: &[Stored]) -> Result<Vec<X>, KeepFault>
+    ensures reads { StandAlone X.kind X.cells X.is_valid → (l : List X) → rows.now ≡ map X.cells l → AllByRecursion X.is_valid l → IfOk result (λ listed. listed.items ≡ l) }
+    ensures whole { StandAlone X.kind X.cells X.is_valid → (l : List X) → rows.now ≡ map X.cells l → AllByRecursion X.is_valid l → result ≢ Err KeepFault.Damaged }
+    ensures disk { result ≢ Err KeepFault.Disk }
+    ensures closed { result ≢ Err KeepFault.Closed }
+{
+    let mut listed = Vec::new(alloc);
+    for row in rows {
+        let Some(it) = X::read(row) else {
+            return Err(KeepFault::Damaged);
+        };
+        if listed.push(it).is_err() {
+            return Err(KeepFault::Memory);
+        }
+    }
+    Ok(listed)
+}

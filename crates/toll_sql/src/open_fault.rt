@@ -1,0 +1,52 @@
+//! Why a store did not become a keep.
+ghost use Rattle.std.specs.Prelude.{◌≡◌, ◌⊎◌, false, IsTrue};
+ghost use Rattle.toll_sql.specs.Causes.{is_disk_fault};
+ghost use Rattle.toll_sql.specs.Opening.{name_of};
+
+use crate::fault::fault_of;
+use sqlite::Error as StoreError;
+use thiserror::Error;
+use toll_keep::KeepFault;
+
+/// Why a store did not become a keep.
+#[derive(Clone, Copy, Debug, PartialEq, Eq, Error)]
+pub enum OpenFault {
+    /// There was no memory. The store is as it was.
+    #[error("Memory")]
+    Memory,
+    /// The disk failed, or refused. Opened again, the store is as it was, or has all of what was to be made.
+    #[error("Disk")]
+    Disk,
+    /// The store has the office's version, but a table or column of it is missing or differs.
+    #[error("Damaged")]
+    Damaged,
+    /// The store has tables already where new ones are to be made, or it has not the office's version.
+    /// Nothing was written.
+    #[error("NotOurs")]
+    NotOurs,
+}
+
+impl OpenFault {
+    /// The word.
+    pub fn name(&self) -> &'static str
+        ensures { result.now ≡ name_of self.now }
+    {
+        match self {
+            OpenFault::Memory => "Memory",
+            OpenFault::Disk => "Disk",
+            OpenFault::Damaged => "Damaged",
+            OpenFault::NotOurs => "NotOurs",
+        }
+    }
+}
+
+/// The fault that the error is: Disk where the disk failed or refused, or the store shut itself, and
+/// else Memory.
+pub(crate) fn open_fault_of(error: StoreError) -> OpenFault
+    ensures { ((result ≡ OpenFault.Memory) × (is_disk_fault error ≡ false)) ⊎ ((result ≡ OpenFault.Disk) × IsTrue (is_disk_fault error)) }
+{
+    match fault_of(error) {
+        KeepFault::Disk => OpenFault::Disk,
+        _ => OpenFault::Memory,
+    }
+}

@@ -1,0 +1,148 @@
+//! A keep made over a store, and given back.
+ghost use Rattle.std.specs.Prelude.{◌≡◌, ◌≢◌, false, IfOk, IfErr, OnOk};
+ghost use Rattle.sqlite.specs.Held.{state};
+ghost use Rattle.sqlite.specs.Steps.{over_memory};
+ghost use Rattle.sqlite_wal.specs.Files.{image_at};
+ghost use Rattle.toll_keep.specs.Content.{nothing};
+ghost use Rattle.toll_sql.specs.FromFiles.{IsKeptFrom, IsLeftIn, IsRefusedFrom, IsUnclosed, Takes};
+ghost use Rattle.toll_sql.specs.Opening.{Adopts, Creates, refuses, succeeds};
+ghost use Rattle.toll_sql.specs.Stores.{HoldsIn};
+
+use crate::adopting::{adopt_tables, new_office};
+use crate::creating::create_tables;
+use crate::fault::fault_of;
+use crate::open_fault::OpenFault;
+use crate::sql_keep::SqlKeep;
+use sqlite::{Alter, Connection, Error, ErrorCode, FileFrom, FileStore, MemStore, Start};
+use sqlite_disk::Disk;
+use std::alloc::Global;
+use std::rt::HostRuntime;
+use toll_keep::KeepFault;
+
+impl<S: Alter> SqlKeep<S> {
+    /// A keep of a store that has no tables: they are made, in one transaction, and it holds nothing. A
+    /// refusal hands the connection back; its faults are those of [`create_tables`].
+    pub fn create(mut conn: Connection<S>) -> Result<SqlKeep<S>, (OpenFault, Connection<S>)>
+        ensures made { IfOk result (λ keep. Creates (state S.Store conn) (state S.Store keep.conn) succeeds × (keep.closed ≡ false)) }
+        ensures refused { IfErr result (λ left. Creates (state S.Store conn) (state S.Store left.1) (refuses left.0)) }
+    {
+        match create_tables(&mut conn) {
+            Ok(()) => Ok(SqlKeep {
+                conn,
+                closed: false,
+            }),
+            Err(fault) => Err((fault, conn)),
+        }
+    }
+
+    /// A keep of the office's tables as they are; those of version 1 are brought to this one. A refusal
+    /// hands the connection back; its faults are those of [`adopt_tables`].
+    pub fn adopt(
+        alloc: Global,
+        mut conn: Connection<S>,
+    ) -> Result<SqlKeep<S>, (OpenFault, Connection<S>)>
+        ensures found { IfOk result (λ keep. Adopts (state S.Store conn) (state S.Store keep.conn) succeeds × (keep.closed ≡ false)) }
+        ensures refused { IfErr result (λ left. Adopts (state S.Store conn) (state S.Store left.1) (refuses left.0)) }
+    {
+        match adopt_tables(alloc, &mut conn) {
+            Ok(()) => Ok(SqlKeep {
+                conn,
+                closed: false,
+            }),
+            Err(fault) => Err((fault, conn)),
+        }
+    }
+
+    /// The connection, also of a keep that answers Closed.
+    pub fn into_connection(self) -> Connection<S>
+        ensures { result ≡ self.conn }
+    {
+        let SqlKeep { conn, closed: _ } = self;
+        conn
+    }
+}
+
+impl SqlKeep<MemStore> {
+    /// A keep in memory that holds nothing. Memory where there is none.
+    pub fn in_memory(alloc: Global) -> Result<SqlKeep<MemStore>, OpenFault>
+        ensures holds { IfOk result (λ keep. HoldsIn (state over_memory keep.conn) nothing × (keep.closed ≡ false)) }
+        ensures fault { IfErr result (λ fault. fault ≡ OpenFault.Memory) }
+    {
+        let conn = new_office(alloc)?;
+        Ok(SqlKeep {
+            conn,
+            closed: false,
+        })
+    }
+}
+
+impl<D: Disk + Drop> SqlKeep<FileStore<D>> {
+    /// Copies what was committed into the database file and closes both files. Memory where there is
+    /// none, Disk where the disk fails or refuses; what was committed stands in the two files.
+    pub fn close(self) -> Result<(), KeepFault>
+        ensures copied { OnOk result (IsLeftIn self.conn) }
+        ensures unclosed { IfErr result (λ fault. (last : _) × IsUnclosed self.conn last fault) }
+    {
+        match self.into_connection().close_files() {
+            Ok(_) => Ok(()),
+            Err((error, store)) => {
+                drop(store.close());
+                Err(fault_of(error))
+            },
+        }
+    }
+}
+
+impl<S: Start> SqlKeep<FileStore<FileFrom<S>>> {
+    /// A keep of the file: a `fresh` one has no tables yet, and they are made; else they are adopted.
+    /// `start` stands for what the file holds. Memory where there is none, Disk where the file can't be
+    /// opened, NotOurs where it is no database; the other faults are those of [`SqlKeep::create`] and
+    /// [`SqlKeep::adopt`].
+    pub fn open_from(
+        rt: &HostRuntime,
+        path: &str,
+        fresh: bool,
+        start: S,
+    ) -> Result<SqlKeep<FileStore<FileFrom<S>>>, OpenFault>
+        ensures made { IfOk result (λ keep. IsKeptFrom fresh (image_at S.Start) keep.conn × (keep.closed ≡ false)) }
+        ensures refused { IfErr result (IsRefusedFrom ⟦<FileFrom<S> as Disk>⟧ fresh (image_at S.Start)) }
+    {
+        let conn = match Connection::open_from(rt, path, false, start) {
+            Ok(conn) => conn,
+            Err((error, _)) => return Err(file_fault_of(error)),
+        };
+        match take_over(rt.alloc(), conn, fresh) {
+            Ok(keep) => Ok(keep),
+            Err((fault, _)) => Err(fault),
+        }
+    }
+}
+
+// Makes the tables, or adopts them.
+fn take_over<S: Alter>(
+    alloc: Global,
+    conn: Connection<S>,
+    fresh: bool,
+) -> Result<SqlKeep<S>, (OpenFault, Connection<S>)>
+    ensures made { IfOk result (λ keep. Takes fresh (state S.Store conn) (state S.Store keep.conn) succeeds × (keep.closed ≡ false)) }
+    ensures refused { IfErr result (λ left. Takes fresh (state S.Store conn) (state S.Store left.1) (refuses left.0)) }
+{
+    if fresh {
+        SqlKeep::create(conn)
+    } else {
+        SqlKeep::adopt(alloc, conn)
+    }
+}
+
+// The fault that an error of opening a file is.
+fn file_fault_of(error: Error) -> OpenFault
+    ensures memory { result ≡ OpenFault.Memory → error ≡ Error.SqliteFailure ErrorCode.OutOfMemory }
+    ensures other { result ≡ OpenFault.NotOurs → error ≡ Error.SqliteFailure ErrorCode.NotADatabase }
+    ensures undamaged { result ≢ OpenFault.Damaged }
+{
+    match error {
+        Error::SqliteFailure(ErrorCode::OutOfMemory) => OpenFault::Memory,
+        Error::SqliteFailure(ErrorCode::NotADatabase) => OpenFault::NotOurs,
+        _ => OpenFault::Disk,
+    }
+}

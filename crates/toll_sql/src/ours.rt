@@ -1,0 +1,194 @@
+//! Whether a schema is ours.
+ghost use Rattle.std.specs.Prelude.{◌≡◌, ◌≢◌, ◌↔◌, [], ◌∷◌, false, IsTrue};
+ghost use Rattle.std.specs.List.{AllByRecursion};
+ghost use Rattle.sqlite_value.specs.Keys.{plain};
+ghost use Rattle.toll_sql.specs.First.{first_ours};
+ghost use Rattle.toll_sql.specs.Plain.{no_schema, no_stamps, table_with};
+ghost use Rattle.toll_sql.specs.Plainly.{IsPlainColumn, IsPlainIndex, IsPlainTable};
+ghost use Rattle.toll_sql.specs.Tables.{ours};
+
+use sqlite_items::Items;
+use sqlite_schema::code::Terms;
+use sqlite_schema::schema::{Column, Index, Schema, Stamps, Table};
+use sqlite_value::keys::{Collation, Order};
+use sqlite_value::value::{Bytes, Value};
+
+/// How many tables version 1 has, and so many indexes.
+const FIRST: usize = 13;
+
+/// Whether there is nothing.
+pub(crate) fn is_blank(schema: &Schema) -> bool
+    ensures same { IsTrue result → schema.now ≡ no_schema }
+    ensures other { result ≡ false → schema.now ≢ no_schema }
+{
+    schema.tables.is_empty() && schema.indexes.is_empty() && schema.views.is_empty()
+}
+
+fn same_bytes(a: &Bytes, b: &Bytes) -> bool
+    ensures { IsTrue result ↔ a.now ≡ b.now }
+{
+    a.as_slice() == b.as_slice()
+}
+
+fn same_places(a: &Items<usize>, b: &Items<usize>) -> bool
+    ensures { IsTrue result ↔ a.now ≡ b.now }
+{
+    a.as_slice() == b.as_slice()
+}
+
+// Whether the column is the plain one.
+fn is_column(column: &Column, wanted: &Column) -> bool
+    ensures { IsPlainColumn wanted.now → (IsTrue result ↔ column.now ≡ wanted.now) }
+{
+    same_bytes(&column.name, &wanted.name)
+        && column.kind == wanted.kind
+        && column.is_strict
+        && column.not_null
+        && matches!(column.default, Value::Null)
+        && matches!(column.collation, Collation::Binary)
+}
+
+// Whether the columns are the plain ones.
+fn are_columns(columns: &[Column], wanted: &[Column]) -> bool
+    ensures { AllByRecursion IsPlainColumn wanted.now → (IsTrue result ↔ columns.now ≡ wanted.now) }
+{
+    match (columns, wanted) {
+        ([], []) => true,
+        ([first, columns @ ..], [one, wanted @ ..]) => is_column(first, one)
+            && are_columns(columns, wanted),
+        _ => false,
+    }
+}
+
+fn has_no_terms(terms: &Terms) -> bool
+    ensures { IsTrue result ↔ terms.now ≡ [] }
+{
+    terms.roots.is_empty()
+}
+
+fn has_no_stamps(stamps: &Stamps) -> bool
+    ensures { IsTrue result ↔ stamps.now ≡ no_stamps }
+{
+    stamps.places.is_empty() && has_no_terms(&stamps.terms) && stamps.formats.is_empty()
+}
+
+// Whether these places are the only key.
+fn is_one_key(uniques: &[Items<usize>], primary: &Items<usize>) -> bool
+    ensures { IsTrue result ↔ uniques.now ≡ primary.now ∷ [] }
+{
+    match uniques {
+        [key] => same_places(key, primary),
+        _ => false,
+    }
+}
+
+// Whether it is the one order, the plain one.
+fn is_one_order(orders: &[Order]) -> bool
+    ensures { IsTrue result ↔ orders.now ≡ plain ∷ [] }
+{
+    match orders {
+        [order] => order.digits == 0,
+        _ => false,
+    }
+}
+
+// Whether the table has columns and its key, and nothing else.
+fn is_plain(table: &Table) -> bool
+    ensures { IsTrue result ↔ table.now ≡ table_with table.now.tree table.now.name table.now.columns table.now.primary }
+{
+    table.key.is_none()
+        && is_one_key(table.uniques.as_slice(), &table.primary)
+        && is_one_order(table.orders.as_slice())
+        && has_no_terms(&table.checks)
+        && table.references.is_empty()
+        && table.computed.is_empty()
+        && has_no_stamps(&table.stamps)
+        && !table.is_counted
+}
+
+// Whether the table is the plain one.
+fn is_table(table: &Table, wanted: &Table) -> bool
+    ensures { IsPlainTable wanted.now → (IsTrue result ↔ table.now ≡ wanted.now) }
+{
+    same_bytes(&table.name, &wanted.name)
+        && table.tree == wanted.tree
+        && same_places(&table.primary, &wanted.primary)
+        && are_columns(table.columns.as_slice(), wanted.columns.as_slice())
+        && is_plain(table)
+}
+
+// Whether the tables are the plain ones.
+fn are_tables(tables: &[Table], wanted: &[Table]) -> bool
+    ensures { AllByRecursion IsPlainTable wanted.now → (IsTrue result ↔ tables.now ≡ wanted.now) }
+{
+    match (tables, wanted) {
+        ([], []) => true,
+        ([first, tables @ ..], [one, wanted @ ..]) => is_table(first, one)
+            && are_tables(tables, wanted),
+        _ => false,
+    }
+}
+
+// Whether the index is the plain one.
+fn is_index(index: &Index, wanted: &Index) -> bool
+    ensures { IsPlainIndex wanted.now → (IsTrue result ↔ index.now ≡ wanted.now) }
+{
+    same_bytes(&index.name, &wanted.name)
+        && index.tree == wanted.tree
+        && index.table == wanted.table
+        && same_places(&index.columns, &wanted.columns)
+        && index.order.digits == 0
+        && index.is_unique == wanted.is_unique
+}
+
+// Whether the indexes are the plain ones.
+fn are_indexes(indexes: &[Index], wanted: &[Index]) -> bool
+    ensures { AllByRecursion IsPlainIndex wanted.now → (IsTrue result ↔ indexes.now ≡ wanted.now) }
+{
+    match (indexes, wanted) {
+        ([], []) => true,
+        ([first, indexes @ ..], [one, wanted @ ..]) => is_index(first, one)
+            && are_indexes(indexes, wanted),
+        _ => false,
+    }
+}
+
+/// The tables that a schema has.
+#[derive(Clone, Copy)]
+pub(crate) enum Layout {
+    /// Those of the office, of this version.
+    Ours,
+    /// Those of the office, of version 1.
+    First,
+    /// Others, or not all.
+    Other,
+}
+
+/// Which tables these are; `made` is the schema that is made for the office.
+pub(crate) fn layout_of(schema: &Schema, made: &Schema) -> Layout
+    requires { made.now ≡ ours }
+    ensures ours { result ≡ Layout.Ours → schema.now ≡ ours }
+    ensures first { result ≡ Layout.First → schema.now ≡ first_ours }
+    ensures other { result ≡ Layout.Other → (schema.now ≢ ours) × (schema.now ≢ first_ours) }
+{
+    if has_tables(schema, made.tables.as_slice(), made.indexes.as_slice()) {
+        return Layout::Ours;
+    }
+    if has_tables(
+        schema,
+        &made.tables.as_slice()[..FIRST],
+        &made.indexes.as_slice()[..FIRST],
+    ) {
+        return Layout::First;
+    }
+    Layout::Other
+}
+
+// Whether the schema has the plain tables and indexes, and nothing else.
+fn has_tables(schema: &Schema, tables: &[Table], indexes: &[Index]) -> bool
+    ensures { AllByRecursion IsPlainTable tables.now → AllByRecursion IsPlainIndex indexes.now → (IsTrue result ↔ schema.now ≡ record { tables = tables.now; indexes = indexes.now; views = [] }) }
+{
+    are_tables(schema.tables.as_slice(), tables)
+        && are_indexes(schema.indexes.as_slice(), indexes)
+        && schema.views.is_empty()
+}

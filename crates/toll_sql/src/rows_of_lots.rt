@@ -1,0 +1,98 @@
+//! Lots, sublots and results as the tables have them.
+ghost use Rattle.toll_base.specs.declared.rows.Row.TheVariants.{Lot, Sublot, Result as ResultOf};
+ghost use Rattle.toll_sql.specs.Encode.{lot_cells, sublot_cells, result_cells};
+ghost use Rattle.toll_sql.specs.Valid.{IsLot, IsSublot, IsResult};
+ghost use Rattle.toll_sql.specs.declared.table_kind.TableKind.TheVariants.{Lots, Sublots, Results};
+
+use crate::cells::{bounded_at, disposition_at, name_at, number_at, origin_at, value_at};
+use crate::stored::StoredRow;
+use crate::table_kind::TableKind;
+use sqlite::Row as Stored;
+use toll_base::{LotRow, ResultRow, Row, SublotRow};
+
+impl StoredRow for LotRow {
+    ghost kind = { Lots };
+
+    ghost cells = { lot_cells };
+
+    ghost is_valid = { IsLot };
+
+    ghost any_row = { Lot };
+
+    ghost listed = { λ s. s.lots };
+
+    fn table() -> TableKind {
+        TableKind::Lots
+    }
+
+    fn into_row(self) -> Row {
+        Row::Lot(self)
+    }
+
+    fn read(from: &Stored) -> Option<Self> {
+        Some(LotRow {
+            lot: name_at(from, 1)?,
+            material: name_at(from, 2)?,
+            origin: origin_at(from, 3, 4)?,
+            disposition: disposition_at(from, 5)?,
+        })
+    }
+}
+
+impl StoredRow for SublotRow {
+    ghost kind = { Sublots };
+
+    ghost cells = { sublot_cells };
+
+    ghost is_valid = { IsSublot };
+
+    ghost any_row = { Sublot };
+
+    ghost listed = { λ s. s.sublots };
+
+    fn table() -> TableKind {
+        TableKind::Sublots
+    }
+
+    fn into_row(self) -> Row {
+        Row::Sublot(self)
+    }
+
+    fn read(from: &Stored) -> Option<Self> {
+        Some(SublotRow {
+            lot: name_at(from, 1)?,
+            sublot: name_at(from, 2)?,
+            amount: number_at(from, 3)?,
+        })
+    }
+}
+
+impl StoredRow for ResultRow {
+    ghost kind = { Results };
+
+    ghost cells = { result_cells };
+
+    ghost is_valid = { IsResult };
+
+    ghost any_row = { ResultOf };
+
+    ghost listed = { λ s. s.results };
+
+    fn table() -> TableKind {
+        TableKind::Results
+    }
+
+    fn into_row(self) -> Row {
+        Row::Result(self)
+    }
+
+    fn read(from: &Stored) -> Option<Self> {
+        Some(ResultRow {
+            lot: name_at(from, 1)?,
+            test: name_at(from, 2)?,
+            number: number_at(from, 3)?,
+            value: value_at(from, 4)?,
+            day: bounded_at(from, 5)?,
+        })
+    }
+}

@@ -1,0 +1,152 @@
+//! Rows put into the tables.
+ghost use Rattle.std.specs.Prelude.{◌≡◌, ◌≢◌, true, false, None, Err, IsTrue, OnOk, OnErr, IfErr};
+ghost use Rattle.sqlite.specs.Held.{state};
+ghost use Rattle.sqlite.specs.State.{HasCleanDisk, Survives};
+ghost use Rattle.sqlite.specs.Values.{bound};
+ghost use Rattle.toll_base.specs.declared.decision.Change.TheVariants.{Put};
+ghost use Rattle.toll_base.specs.declared.rows.Row.TheVariants.{Sublot, Result as ResultOf};
+ghost use Rattle.toll_sql.specs.Causes.{IsCaused, Reason};
+ghost use Rattle.toll_sql.specs.Cells.{fill};
+ghost use Rattle.toll_sql.specs.Stores.{HasApplied, IsOurs, IsWriting, MakesAll, MakesPut, MakesRow, PutsAll};
+
+use crate::encode::{
+    batch_values, lot_values, material_values, move_values, order_values, owner_values,
+    recipe_values, requirement_values, result_values, sublot_values, test_values, unit_values,
+    void_values,
+};
+use crate::fault::fault_of;
+use crate::table_kind::TableKind;
+use sqlite::types::ValueRef;
+use sqlite::{Alter, Connection, Error, ErrorCode, Transaction};
+use toll_base::{Change, Name, ResultRow, Row, SublotRow};
+use toll_keep::KeepFault;
+
+/// The greatest whole number that a column can have.
+const MOST: u64 = 9_223_372_036_854_775_807;
+
+/// Makes all of these changes, in order, or none, in one transaction.
+pub fn make_changes<S: Alter>(conn: &mut Connection<S>, changes: &[Change]) -> Result<(), KeepFault>
+    requires { conn.old.in_transaction ≡ false }
+    ensures ended { conn.new.in_transaction ≡ false }
+    ensures limit { conn.new.step_limit ≡ conn.old.step_limit }
+    ensures all { HasCleanDisk (state S.Store conn.new) → IsOurs (state S.Store conn.old).now → conn.old.step_limit ≡ None → OnOk result (HasApplied changes.now (state S.Store conn.old) (state S.Store conn.new)) }
+    ensures none { HasCleanDisk (state S.Store conn.new) → IsTrue (state S.Store conn.new).is_open → OnErr result (((state S.Store conn.new).now ≡ (state S.Store conn.old).now) × ((state S.Store conn.new).committed ≡ (state S.Store conn.old).committed)) }
+    ensures cause { HasCleanDisk (state S.Store conn.new) → result ≡ Err KeepFault.Disk → Reason (state S.Store conn.old) (state S.Store conn.new) }
+    ensures unclosed { result ≢ Err KeepFault.Closed }
+    ensures whole { result ≢ Err KeepFault.Damaged }
+    ensures live { HasCleanDisk (state S.Store conn.new) → IsTrue (state S.Store conn.new).is_open → IsTrue (state S.Store conn.old).is_open }
+    ensures shown { HasCleanDisk (state S.Store conn.new) → OnOk result (IsTrue (state S.Store conn.new).is_open) }
+    ensures crash { Survives (state S.Store conn.old) (state S.Store conn.new) (λ db. IsOurs (state S.Store conn.old).now → conn.old.step_limit ≡ None → PutsAll changes.now (state S.Store conn.old).now.trees db) }
+{
+    match put_or_none(conn, changes) {
+        Ok(()) => Ok(()),
+        Err(error) => Err(fault_of(error)),
+    }
+}
+
+// Puts the rows of all changes, in order, or none.
+fn put_or_none<S: Alter>(conn: &mut Connection<S>, changes: &[Change]) -> Result<(), Error>
+    requires { conn.old.in_transaction ≡ false }
+    ensures ended { conn.new.in_transaction ≡ false }
+    ensures limit { conn.new.step_limit ≡ conn.old.step_limit }
+    ensures all { HasCleanDisk (state S.Store conn.new) → IsOurs (state S.Store conn.old).now → conn.old.step_limit ≡ None → OnOk result (HasApplied changes.now (state S.Store conn.old) (state S.Store conn.new)) }
+    ensures none { HasCleanDisk (state S.Store conn.new) → IsTrue (state S.Store conn.new).is_open → OnErr result (((state S.Store conn.new).now ≡ (state S.Store conn.old).now) × ((state S.Store conn.new).committed ≡ (state S.Store conn.old).committed)) }
+    ensures fault { HasCleanDisk (state S.Store conn.new) → IfErr result (IsCaused (state S.Store conn.old) (state S.Store conn.new)) }
+    ensures live { HasCleanDisk (state S.Store conn.new) → IsTrue (state S.Store conn.new).is_open → IsTrue (state S.Store conn.old).is_open }
+    ensures shown { HasCleanDisk (state S.Store conn.new) → OnOk result (IsTrue (state S.Store conn.new).is_open) }
+    ensures crash { Survives (state S.Store conn.old) (state S.Store conn.new) (λ db. IsOurs (state S.Store conn.old).now → conn.old.step_limit ≡ None → PutsAll changes.now (state S.Store conn.old).now.trees db) }
+{
+    if !conn.is_autocommit() {
+        return Err(Error::QueryReturnedNoRows);
+    }
+    let mut tx = conn.transaction();
+    put_all(&mut tx, changes)?;
+    tx.commit()
+}
+
+// Makes each change, the first of them first.
+fn put_all<S: Alter>(tx: &mut Transaction<'_, S>, changes: &[Change]) -> Result<(), Error>
+    ensures same_reference { tx.new.conn.ghost_name ≡ tx.old.conn.ghost_name }
+    ensures writes { IsWriting (MakesAll changes.now) (state S.Store tx.old.conn.now) (state S.Store tx.new.conn.now) result }
+{
+    for change in changes {
+        put_change(tx, change)?;
+    }
+    Ok(())
+}
+
+// Makes the change.
+fn put_change<S: Alter>(tx: &mut Transaction<'_, S>, change: &Change) -> Result<usize, Error>
+    ensures same_reference { tx.new.conn.ghost_name ≡ tx.old.conn.ghost_name }
+    ensures writes { IsWriting (MakesPut change.now) (state S.Store tx.old.conn.now) (state S.Store tx.new.conn.now) result }
+{
+    // Named for the proof: a change may have a row.
+    let _row: Option<Row> = None;
+    match change {
+        Change::Owner(row) => put(tx, TableKind::Owners, &owner_values(row)),
+        Change::Unit(row) => put(tx, TableKind::Units, &unit_values(row)),
+        Change::Put(owner, row) => put_row(tx, owner, row),
+    }
+}
+
+// Puts the owner's row.
+fn put_row<S: Alter>(tx: &mut Transaction<'_, S>, owner: &Name, row: &Row) -> Result<usize, Error>
+    ensures same_reference { tx.new.conn.ghost_name ≡ tx.old.conn.ghost_name }
+    ensures writes { IsWriting (MakesPut (Put owner.now row.now)) (state S.Store tx.old.conn.now) (state S.Store tx.new.conn.now) result }
+{
+    match row {
+        Row::Material(row) => put(tx, TableKind::Materials, &material_values(owner, row)),
+        Row::Test(row) => put(tx, TableKind::Tests, &test_values(owner, row)),
+        Row::Recipe(row) => put(tx, TableKind::Recipes, &recipe_values(owner, row)),
+        Row::Requirement(row) => put(tx, TableKind::Requirements, &requirement_values(owner, row)),
+        Row::Order(row) => put(tx, TableKind::Orders, &order_values(owner, row)),
+        Row::Batch(row) => put(tx, TableKind::Batches, &batch_values(owner, row)),
+        Row::Lot(row) => put(tx, TableKind::Lots, &lot_values(owner, row)),
+        Row::Sublot(row) => put_sublot(tx, owner, row),
+        Row::Move(row) => put(tx, TableKind::Moves, &move_values(owner, row)),
+        Row::Result(row) => put_result(tx, owner, row),
+        Row::Void(row) => put(tx, TableKind::Voids, &void_values(owner, row)),
+    }
+}
+
+// Puts the sublot; one with more than a column can have, which no rules allow, finds no room.
+fn put_sublot<S: Alter>(
+    tx: &mut Transaction<'_, S>,
+    owner: &Name,
+    row: &SublotRow,
+) -> Result<usize, Error>
+    ensures same_reference { tx.new.conn.ghost_name ≡ tx.old.conn.ghost_name }
+    ensures writes { IsWriting (MakesPut (Put owner.now (Sublot row.now))) (state S.Store tx.old.conn.now) (state S.Store tx.new.conn.now) result }
+{
+    if row.amount > MOST {
+        return Err(Error::SqliteFailure(ErrorCode::OutOfMemory));
+    }
+    put(tx, TableKind::Sublots, &sublot_values(owner, row))
+}
+
+// Puts the result; one with a number that no column can have, which no rules allow, finds no room.
+fn put_result<S: Alter>(
+    tx: &mut Transaction<'_, S>,
+    owner: &Name,
+    row: &ResultRow,
+) -> Result<usize, Error>
+    ensures same_reference { tx.new.conn.ghost_name ≡ tx.old.conn.ghost_name }
+    ensures writes { IsWriting (MakesPut (Put owner.now (ResultOf row.now))) (state S.Store tx.old.conn.now) (state S.Store tx.new.conn.now) result }
+{
+    if row.number > MOST {
+        return Err(Error::SqliteFailure(ErrorCode::OutOfMemory));
+    }
+    put(tx, TableKind::Results, &result_values(owner, row))
+}
+
+/// Puts a row of these cells into the table, in place of the one with its key.
+pub fn put<S: Alter>(
+    tx: &mut Transaction<'_, S>,
+    table: TableKind,
+    cells: &[ValueRef<'_>],
+) -> Result<usize, Error>
+    ensures same_reference { tx.new.conn.ghost_name ≡ tx.old.conn.ghost_name }
+    ensures writes { fill table (bound cells.now) ≡ true → IsWriting (MakesRow table (bound cells.now)) (state S.Store tx.old.conn.now) (state S.Store tx.new.conn.now) result }
+{
+    tx.execute(table.put_text(), cells)
+}
