@@ -43,6 +43,19 @@ AllShow [] [] [] [] = Unit {0}
 AllShow (e ∷ events) (a ∷ answers) (h ∷ happenings) (t ∷ told) = Shows e a h t × AllShow events answers happenings told
 AllShow _ _ _ _ = ⊥
 
+-- ---- what an answer tells
+
+-- the plant is told it, or that there was a fault
+abbrev pub plant_answered : Result PlantTold KeepFault → Answered
+plant_answered (Ok told) = PlantTells told
+plant_answered (Err fault) = PlantFault
+
+-- the bytes of a reply, or what the plant is told; or that there was no reply, or a fault
+abbrev pub tells : Answer → Answered
+tells (Reply (Text text)) = Told text.items
+tells (Reply NoText) = Unavailable
+tells (CommandReply reply) = plant_answered (plant_told reply)
+
 -- ---- one event
 
 -- the event and its answer are a step from this history, whose rows were held, and what the step leaves is held; a stop on the way leaves the rows from before, or those that the event makes of them

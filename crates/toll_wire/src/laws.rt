@@ -1,5 +1,5 @@
 //! Laws of runs: whom a run tells what.
-ghost use Rattle.std.specs.Prelude.{◌≡◌, true, false, Some, is_some, List};
+ghost use Rattle.std.specs.Prelude.{◌≡◌, true, false, Some, is_some, List, map};
 ghost use Rattle.toll_base.specs.Bytes.{Bytes, same_bytes};
 ghost use Rattle.toll_base.specs.Values.{house_name};
 ghost use Rattle.toll_base.specs.Lots.{lot_id};
@@ -15,7 +15,7 @@ ghost use Rattle.toll_print.specs.Texts.{trace_text};
 ghost use Rattle.toll_answers.specs.PlantAnswers.{AsksRecall, AsksTrace, IsPlantAnswer, Shows};
 ghost use Rattle.toll_answers.specs.Replies.{has_key};
 ghost use Rattle.toll_answers.specs.Told.{TellTrace};
-ghost use Rattle.toll_wire.specs.OfficeRuns.{IsRunOf};
+ghost use Rattle.toll_wire.specs.OfficeRuns.{IsRunOf, tells};
 ghost use Rattle.toll_wire.specs.Parts.{AreAlone, IsPart, OwnEvent};
 ghost use Rattle.toll_wire.specs.Printed.{PrintsLine, asks_trace};
 ghost use Rattle.toll_wire.specs.ReplyTexts.{text_of_told};
@@ -73,6 +73,13 @@ pub fn runs_are_private()
 pub fn answers_are_determined()
     ensures { (wire : Wire) (start end end' : History) (events : List Happening) (answers answers' : List Answered) →
         NoFaults wire answers → NoFaults wire answers' → IsRun wire start events answers end → IsRun wire start events answers' end' → (answers ≡ answers') × (end ≡ end') }
+{}
+
+/// The same events, over whatever two keeps whose rows stand for one history, are told the same, byte for
+/// byte, where no answer says that there was no memory, or a fault.
+pub fn any_two_keeps_answer_alike<J: Keep, K: Keep>()
+    ensures { (j : J) (k : K) (H : History) (events : List Event) (answers others : List Answer) → IsRunOf (J.holds j) H events answers → IsRunOf (K.holds k) H events others →
+        NoFaults http (map tells answers) → NoFaults http (map tells others) → map tells answers ≡ map tells others }
 {}
 
 /// Two lawful histories in which the commands of HOUSE and of an owner are the same print the recall of
