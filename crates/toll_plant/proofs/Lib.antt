@@ -6,3 +6,11 @@ pub mod WordLemmas
 pub mod ReadLemmas
 pub mod TableLemmas
 pub mod LimitLemmas
+pub mod FieldLemmas
+pub mod ImportRuns
+pub mod ActualLemmas
+pub mod FileLemmas
+pub mod LineLemmas
+pub mod ColumnLemmas
+pub mod KeyLemmas
+pub mod StandingLemmas

@@ -15,7 +15,7 @@ use Rattle.toll_base.specs.declared.refusal.Refusal.TheVariants.{BadName, BadAmo
 use Rattle.toll_plant.specs.Commands.{command_from}
 use Rattle.toll_plant.specs.Lines.{Argument, Line, line_named, line_of}
 use Rattle.toll_plant.specs.Readings.{number_within, or_refused, read_as, role_of, value_of, way_of}
-use Rattle.toll_plant.specs.Table.{plant_lines}
+use Rattle.toll_plant.specs.Table.{actual_line, plant_lines}
 use Rattle.toll_plant.specs.Words.{command_read, command_with, in_front, values_read}
 use Rattle.toll_plant.proofs.OfficeLemmas.{line_taken, same_number}
 use Rattle.toll_plant.proofs.RuleLemmas.{both}
@@ -25,7 +25,7 @@ use Rattle.toll_plant.specs.declared.argument.Reading.{Reading}
 use Rattle.toll_plant.specs.declared.argument.Reading.TheVariants as by
 
 -- the fact holds of each value that is read so
-abbrev HoldsOfAll : Reading → (Given → Type 0) → Type 0
+abbrev pub HoldsOfAll : Reading → (Given → Type 0) → Type 0
 HoldsOfAll by.Name P = (name : Bytes) → P (given.Name name)
 HoldsOfAll by.OwnerKey P = (key : Bytes) → P (given.OwnerKey key)
 HoldsOfAll by.Measure P = (measure : Bytes) → P (given.Measure measure)
@@ -39,7 +39,7 @@ HoldsOfAll by.BatchNo P = (number : ℕ) → P (given.BatchNo number)
 HoldsOfAll by.Value P = (value : ℤ) → P (given.Value value)
 
 -- the fact holds of all lists of values that are read so
-abbrev HoldsOfEach : List Argument → (List Given → Type 0) → Type 0
+abbrev pub HoldsOfEach : List Argument → (List Given → Type 0) → Type 0
 HoldsOfEach [] P = P []
 HoldsOfEach (a ∷ rest) P = HoldsOfAll a.reading (λ value. HoldsOfEach rest (λ values. P (value ∷ values)))
 
@@ -73,7 +73,7 @@ parts (Err why) behind values e = absurd (cc e)
 parts (Ok value) (Err why) values e = absurd (cc e)
 parts (Ok value) (Ok others) values e = record { value = value; others = others; read = refl; all_read = refl; whole = cc }
 
-values_have : (arguments : List Argument) (P : List Given → Type 0) (words : List Bytes) (values : List Given) → length words ≡ length arguments
+pub values_have : (arguments : List Argument) (P : List Given → Type 0) (words : List Bytes) (values : List Given) → length words ≡ length arguments
     → HoldsOfEach arguments P → values_read arguments words ≡ Ok values → P values
 values_have [] P words values same all e = let whole : [] ≡ values = cc in subst P whole all
 values_have (a ∷ rest) P [] values same all e = absurd (omega arith)
@@ -84,13 +84,16 @@ values_have (a ∷ rest) P (w ∷ words) values same all e =
     (value_has a.reading (λ v. HoldsOfEach rest (λ vs. P (v ∷ vs))) w p.value all p.read) p.all_read)
 
 -- the values of the line make its command
-abbrev Makes : Line → Type 0
+abbrev pub Makes : Line → Type 0
 Makes l = HoldsOfEach l.values (λ values. IsSome (command_from l.command values))
 
 -- a fact of a line, and of those behind it
 infixr 30 ◌and◌
 ◌and◌ : {A B : Type 0} → A → B → A × B
 first and others = (first, others)
+
+pub actual_makes : Makes actual_line
+actual_makes = λ key owner order number segment role material lot_owner lot sublot amount day. refl
 
 every_line : AllByRecursion Makes plant_lines
 every_line =
@@ -112,7 +115,7 @@ every_line =
     and (λ owner lot test value day. refl)
     and (λ lot. refl)
     and (λ lot. refl)
-    and (λ key owner order number segment role material lot_owner lot sublot amount day. refl)
+    and actual_makes
     and (λ owner key. refl)
     and (λ owner. refl)
     and (λ owner. refl)
@@ -129,7 +132,7 @@ found_has P p (y ∷ ys) x all e = on (p y) (found_has P p ys x all.1) e
     on true later e = let same : y ≡ x = cc in subst P same all.0
     on false later e = later e
 
-made : (l : Line) (words : List Bytes) (read : Result (List Given) Refusal) → Makes l → length words ≡ length l.values → values_read l.values words ≡ read
+pub made : (l : Line) (words : List Bytes) (read : Result (List Given) Refusal) → Makes l → length words ≡ length l.values → values_read l.values words ≡ read
     → IsSome (command_read l.command read)
 made l words (Err why) makes same e = refl
 made l words (Ok values) makes same e = values_have l.values (λ vs. IsSome (command_from l.command vs)) words values same makes e

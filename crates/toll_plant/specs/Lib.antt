@@ -6,3 +6,9 @@ pub mod Shown
 pub mod Words
 pub mod ClapWords
 pub mod Unread
+pub mod Outcomes
+pub mod Files
+pub mod ImportFaults
+pub mod Imports
+pub mod ImportTexts
+pub mod ImportLaws

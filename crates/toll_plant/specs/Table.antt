@@ -94,6 +94,10 @@ lot_owner = value (codes "LOT-OWNER") Name
 abbrev way : Argument
 way = value (codes "WAY") Way
 
+-- an actual of a batch
+abbrev pub actual_line : Line
+actual_line = line (codes "actual") to.Actual (key ∷ owner ∷ order ∷ batch ∷ segment ∷ role ∷ material ∷ lot_owner ∷ lot ∷ sublot ∷ amount ∷ day ∷ [])
+
 -- the commands, each with its values in order
 abbrev pub plant_lines : List Line
 plant_lines =
@@ -115,7 +119,7 @@ plant_lines =
     ∷ line (codes "result") to.Result (owner ∷ lot ∷ test ∷ found ∷ day ∷ [])
     ∷ line (codes "release") to.Release (lot ∷ [])
     ∷ line (codes "reject") to.Reject (lot ∷ [])
-    ∷ line (codes "actual") to.Actual (key ∷ owner ∷ order ∷ batch ∷ segment ∷ role ∷ material ∷ lot_owner ∷ lot ∷ sublot ∷ amount ∷ day ∷ [])
+    ∷ actual_line
     ∷ line (codes "void") to.Void (owner ∷ key ∷ [])
     ∷ line (codes "orders") to.Orders (owner ∷ [])
     ∷ line (codes "stock") to.Stock (owner ∷ [])

@@ -140,6 +140,15 @@ const WAY: Argument<'static> = Argument {
     reading: Reading::Way,
 };
 
+/// An actual of a batch.
+pub const ACTUAL: Line<'static> = Line {
+    name: "actual",
+    command: CommandName::Actual,
+    values: &[
+        KEY, OWNER, ORDER, BATCH, SEGMENT, USE, MATERIAL, LOT_OWNER, LOT, SUBLOT, AMOUNT, DAY,
+    ],
+};
+
 /// Every command of the plant.
 pub static LINES: [Line<'static>; 25] = [
     Line {
@@ -232,13 +241,7 @@ pub static LINES: [Line<'static>; 25] = [
         command: CommandName::Reject,
         values: &[LOT],
     },
-    Line {
-        name: "actual",
-        command: CommandName::Actual,
-        values: &[
-            KEY, OWNER, ORDER, BATCH, SEGMENT, USE, MATERIAL, LOT_OWNER, LOT, SUBLOT, AMOUNT, DAY,
-        ],
-    },
+    ACTUAL,
     Line {
         name: "void",
         command: CommandName::Void,

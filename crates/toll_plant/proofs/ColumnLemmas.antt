@@ -1,0 +1,30 @@
+-- A number at the right of a column, as a format writes it.
+use Rattle.std.proofs.Common.{◌≡◌, ◌-◌, ℕ, zero, suc, cond, [], ◌∷◌, ◌++◌, length, refl, ap, ◌∙◌, arith}
+use Rattle.std.specs.Prelude.{decimal, replicate, Result, Ok, Err, OnOk}
+use Rattle.std.specs.Result.{is_ok}
+use Rattle.std.specs.List.{repeat}
+use Rattle.std.specs.Fmt.{format_spec, styled_decimal, padded_integral, char_count}
+use Rattle.std.proofs.lemmas.List.{append-nil}
+use Rattle.std.proofs.lemmas.Str.{encode_ascii}
+use Rattle.toll_base.specs.Bytes.{Bytes}
+use Rattle.toll_print.specs.Columns.{right}
+
+blanks_are : (n : ℕ) → repeat {A = ℕ} n (32 ∷ []) ≡ replicate n 32
+blanks_are zero = refl
+blanks_are (suc n) = ap (λ bs. 32 ∷ bs) (blanks_are n)
+
+laid_out : (before behind width : ℕ) (fill digits : Bytes) → fill ≡ 32 ∷ [] → before ≡ width → behind ≡ 0 → (((repeat before fill ++ []) ++ []) ++ []) ++ (digits ++ repeat behind fill) ≡ replicate width 32 ++ digits
+laid_out before behind width fill digits blank in_front none = rw (blank, in_front, none) (simp append-nil (ap (λ bs. bs ++ digits) (blanks_are width)))
+
+-- at the right of six places
+pub column_6 : (n : ℕ) → styled_decimal (format_spec 32 3 0 6 18446744073709551615) n ≡ right 6 (decimal n)
+unfolding padded_integral char_count right
+column_6 n =
+    let blank = encode_ascii 32 (omega arith) in
+    let size = length (decimal n) in
+    laid_out (6 - size - 0 - 0) (6 - size - 0 - 0 - (6 - size - 0 - 0)) (6 - size) _ (decimal n) blank (omega arith) (omega arith)
+
+-- what was added where there was the memory
+pub ok_added : {T E : Type 0} (r : Result T E) (grown more wanted old : Bytes) → grown ≡ cond (is_ok r) more old → more ≡ wanted → OnOk r (grown ≡ wanted)
+ok_added (Ok x) grown more wanted old is same = is ∙ same
+ok_added (Err e) grown more wanted old is same = tt

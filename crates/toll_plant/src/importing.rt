@@ -1,0 +1,85 @@
+//! Files of actuals are imported.
+ghost use Rattle.std.specs.Prelude.{◌≡◌, ◌≢◌, ◌↔◌, ◌<◌, ◌≤◌, false, Err, IfOk, OnErr, List, Option, length};
+ghost use Rattle.std.specs.List.{AllByRecursion};
+ghost use Rattle.toll_desk.specs.Reads.{Over};
+ghost use Rattle.toll_plant.specs.Files.{Fields, HasActuals, HasHeader};
+ghost use Rattle.toll_plant.specs.Imports.{AreNumbered, AreRecordSteps, AreRecordsServed, IsImportOf, IsOpenOutcome, IsRecordServed, IsWholeOutcome, commands_in, outcomes_in};
+
+use crate::actuals::actuals;
+use crate::import_fault::ImportFault;
+use crate::outcome::Outcome;
+use crate::report::{ImportLine, ImportReport};
+use std::alloc::{AllocError, Global};
+use toll_desk::{PlantCmd, plant_do};
+use toll_keep::Keep;
+
+/// How many bytes a file of actuals has at most.
+pub const MOST_FILE_BYTES: usize = 1_048_576;
+
+/// Imports a file of actuals, as `csv` reads it: the header, and under it a record for each actual.
+///
+/// All records are read before the first acts. Then each does the plant's command for an actual with its
+/// fields as values, one after another; a record that hasn't twelve fields gives no command, and asks
+/// nothing of the keep. After the first fault, whose line is the last one, no record acts.
+///
+/// A key that is known acts no more: a file whose records were all accepted or repeated changes nothing
+/// when it is imported again.
+///
+/// A file of more than 1,048,576 bytes is [`ImportFault::TooLong`]. Any other whose first record isn't
+/// the header, or that has no record, is [`ImportFault::BadHeader`], if there is the memory to read it.
+/// After an `Err` nothing acted.
+pub fn import_actuals<K: Keep>(
+    alloc: Global,
+    keep: &mut K,
+    file: &[u8],
+) -> Result<ImportReport, ImportFault>
+    ensures too_long { (result ≡ Err ImportFault.TooLong) ↔ (MOST_FILE_BYTES < length file.now) }
+    ensures bad_header { length file.now ≤ MOST_FILE_BYTES → result ≢ Err ImportFault.Memory → ((result ≡ Err ImportFault.BadHeader) ↔ ¬ (HasHeader file.now)) }
+    ensures err { OnErr result (keep.new ≡ keep.old) }
+    ensures honest { K.is_honest keep.new → K.is_honest keep.old }
+    ensures numbered { IfOk result (λ report. AreNumbered 1 report.lines.items) }
+    ensures served { IfOk result (λ report. (records : List Fields) × HasActuals file.now records × AreRecordsServed K.is_honest K.is_live K.is_closed K.has_cause K.leaves K.holds keep.old (commands_in records) (outcomes_in report.lines.items) keep.new) }
+    ensures run { Over K.is_honest K.holds keep.old keep.new (λ c H. IfOk result (λ report. (records : List Fields) × HasActuals file.now records × IsImportOf (K.holds keep.new) H (commands_in records) (outcomes_in report.lines.items))) }
+    ensures steps { Over K.is_honest K.holds keep.old keep.new (λ c H. IfOk result (λ report. (records : List Fields) × HasActuals file.now records × AreRecordSteps K.is_honest K.is_live K.is_closed K.has_cause K.leaves K.holds keep.old c H (commands_in records) (outcomes_in report.lines.items) keep.new)) }
+    ensures whole { Over K.is_honest K.holds keep.old keep.new (λ c H. IfOk result (λ report. AllByRecursion IsWholeOutcome (outcomes_in report.lines.items))) }
+    ensures open { ((k : K) → K.is_closed k ≡ false) → Over K.is_honest K.holds keep.old keep.new (λ c H. IfOk result (λ report. AllByRecursion IsOpenOutcome (outcomes_in report.lines.items))) }
+{
+    if file.len() > MOST_FILE_BYTES {
+        return Err(ImportFault::TooLong);
+    }
+    let commands = actuals(alloc, file)?;
+    let lines = run(alloc, keep, &commands)?;
+    Ok(ImportReport { lines })
+}
+
+// Does the commands one after another, up to the first fault. An `Err` means that none acted.
+fn run<K: Keep>(
+    alloc: Global,
+    keep: &mut K,
+    commands: &[Option<PlantCmd>],
+) -> Result<Vec<ImportLine>, AllocError>
+    ensures err { OnErr result (keep.new ≡ keep.old) }
+    ensures numbered { IfOk result (λ lines. AreNumbered 1 lines.items) }
+    ensures served { IfOk result (λ lines. AreRecordsServed K.is_honest K.is_live K.is_closed K.has_cause K.leaves K.holds keep.old commands.now (outcomes_in lines.items) keep.new) }
+{
+    let mut lines = Vec::with_capacity(alloc, commands.len())?;
+    for command in commands {
+        let outcome = act(alloc, keep, command);
+        let number = lines.len() as u64 + 1;
+        lines.push_reserved(ImportLine { number, outcome });
+        if outcome.is_fault() {
+            return Ok(lines);
+        }
+    }
+    Ok(lines)
+}
+
+// What comes of a record with this command.
+fn act<K: Keep>(alloc: Global, keep: &mut K, command: &Option<PlantCmd>) -> Outcome
+    ensures { IsRecordServed K.is_honest K.is_live K.is_closed K.has_cause K.leaves K.holds keep.old keep.new command.now result }
+{
+    match command {
+        None => Outcome::BadRecord,
+        Some(command) => Outcome::of(plant_do(alloc, keep, command)),
+    }
+}

@@ -1,0 +1,67 @@
+//! What comes of a record.
+ghost use Rattle.std.specs.Prelude.{◌≡◌};
+ghost use Rattle.toll_desk.specs.Plans.{plant_told};
+ghost use Rattle.toll_plant.specs.Outcomes.{is_fault, outcome_of};
+
+use std::fmt;
+use toll_base::Refusal;
+use toll_desk::PlantReply;
+use toll_keep::KeepFault;
+
+/// What comes of a record of a file of actuals.
+#[derive(Clone, Copy, Debug, PartialEq, Eq)]
+pub enum Outcome {
+    Accepted,
+    Repeated,
+    Refused(Refusal),
+    /// The record hasn't the fields of an actual.
+    BadRecord,
+    /// The keep met a fault. No later record acts.
+    Fault(KeepFault),
+}
+
+impl Outcome {
+    /// What comes of an actual that is answered so. None is answered with a text: were one, the rows
+    /// could not be trusted.
+    pub(crate) fn of(reply: PlantReply) -> Self
+        ensures { result ≡ outcome_of (plant_told reply) }
+    {
+        match reply {
+            PlantReply::Accepted => Outcome::Accepted,
+            PlantReply::Repeated => Outcome::Repeated,
+            PlantReply::Refused(why) => Outcome::Refused(why),
+            PlantReply::Text(_) => Outcome::Fault(KeepFault::Damaged),
+            PlantReply::Fault(fault) => Outcome::Fault(fault),
+        }
+    }
+
+    /// Whether no later record acts.
+    pub(crate) fn is_fault(&self) -> bool
+        ensures { result ≡ is_fault self.now }
+    {
+        matches!(self, Outcome::Fault(_))
+    }
+}
+
+impl fmt::Display for Outcome {
+    ghost use Rattle.std.specs.Prelude.{Some};
+    ghost use Rattle.toll_plant.specs.ImportTexts.{outcome_text};
+
+    ghost output = { λ outcome. Some (outcome_text outcome) };
+
+    fn fmt<W: fmt::Write>(&self, f: &mut fmt::Formatter<W>) -> fmt::Result {
+        match self {
+            Outcome::Accepted => f.write_str("accepted"),
+            Outcome::Repeated => f.write_str("repeated"),
+            Outcome::Refused(why) => {
+                let code = why.code();
+                write!(f, "refused {code} {why}")
+            }
+            Outcome::BadRecord => f.write_str("bad-record"),
+            Outcome::Fault(fault) => {
+                let name = fault.name();
+                write!(f, "fault {name}")
+            }
+        }
+    }
+}

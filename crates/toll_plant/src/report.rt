@@ -1,0 +1,16 @@
+//! What came of a file of actuals.
+use crate::outcome::Outcome;
+
+/// What came of each record of a file, in order, up to the first fault.
+#[derive(Debug, Drop)]
+pub struct ImportReport {
+    pub lines: Vec<ImportLine>,
+}
+
+/// What came of a record.
+#[derive(Clone, Copy, Debug, PartialEq, Eq)]
+pub struct ImportLine {
+    /// The record's number: from 1 for the first one under the header.
+    pub number: u64,
+    pub outcome: Outcome,
+}

@@ -1,0 +1,102 @@
+//! How many records came to what.
+ghost use Rattle.std.specs.Prelude.{◌≡◌, count_by};
+ghost use Rattle.toll_plant.specs.Outcomes.{is_fault};
+ghost use Rattle.toll_plant.specs.ImportTexts.{is_accepted, is_bad, is_refused, is_repeated};
+
+use crate::outcome::Outcome;
+use crate::report::ImportLine;
+use std::fmt;
+
+/// How many of some lines tell each outcome.
+#[derive(Clone, Copy, Debug, PartialEq, Eq)]
+pub struct Sums {
+    pub accepted: usize,
+    pub repeated: usize,
+    pub refused: usize,
+    pub bad: usize,
+    pub faults: usize,
+}
+
+impl Sums {
+    /// The sums over these lines.
+    pub fn of(lines: &[ImportLine]) -> Self
+        ensures accepted { result.accepted ≡ count_by (λ l. is_accepted l.outcome) lines.now }
+        ensures repeated { result.repeated ≡ count_by (λ l. is_repeated l.outcome) lines.now }
+        ensures refused { result.refused ≡ count_by (λ l. is_refused l.outcome) lines.now }
+        ensures bad { result.bad ≡ count_by (λ l. is_bad l.outcome) lines.now }
+        ensures faults { result.faults ≡ count_by (λ l. is_fault l.outcome) lines.now }
+    {
+        Sums {
+            accepted: accepted(lines),
+            repeated: repeated(lines),
+            refused: refused(lines),
+            bad: bad(lines),
+            faults: faults(lines),
+        }
+    }
+}
+
+impl fmt::Display for Sums {
+    ghost use Rattle.std.specs.Prelude.{Some, ◌++◌, codes, decimal};
+
+    ghost output = { λ s. Some (codes "accepted " ++ (decimal s.accepted ++ (codes " repeated " ++ (decimal s.repeated ++ (codes " refused " ++ (decimal s.refused ++ (codes " bad " ++ (decimal s.bad ++ (codes " fault " ++ decimal s.faults))))))))) };
+
+    fn fmt<W: fmt::Write>(&self, f: &mut fmt::Formatter<W>) -> fmt::Result {
+        let Sums {
+            accepted,
+            repeated,
+            refused,
+            bad,
+            faults,
+        } = *self;
+        write!(
+            f,
+            "accepted {accepted} repeated {repeated} refused {refused} bad {bad} fault {faults}"
+        )
+    }
+}
+
+fn accepted(lines: &[ImportLine]) -> usize
+    ensures { result ≡ count_by (λ l. is_accepted l.outcome) lines.now }
+{
+    lines
+        .iter()
+        .filter(|l| matches!(l.outcome, Outcome::Accepted))
+        .count()
+}
+
+fn repeated(lines: &[ImportLine]) -> usize
+    ensures { result ≡ count_by (λ l. is_repeated l.outcome) lines.now }
+{
+    lines
+        .iter()
+        .filter(|l| matches!(l.outcome, Outcome::Repeated))
+        .count()
+}
+
+fn refused(lines: &[ImportLine]) -> usize
+    ensures { result ≡ count_by (λ l. is_refused l.outcome) lines.now }
+{
+    lines
+        .iter()
+        .filter(|l| matches!(l.outcome, Outcome::Refused(_)))
+        .count()
+}
+
+fn bad(lines: &[ImportLine]) -> usize
+    ensures { result ≡ count_by (λ l. is_bad l.outcome) lines.now }
+{
+    lines
+        .iter()
+        .filter(|l| matches!(l.outcome, Outcome::BadRecord))
+        .count()
+}
+
+fn faults(lines: &[ImportLine]) -> usize
+    ensures { result ≡ count_by (λ l. is_fault l.outcome) lines.now }
+{
+    lines
+        .iter()
+        .filter(|l| matches!(l.outcome, Outcome::Fault(_)))
+        .count()
+}
