@@ -1,7 +1,8 @@
 //! Stories of orders, batches and units.
-use crate::lines::{Line, assert_said};
+use crate::lines::Asked;
 use crate::setups::{WITH_BATCH, WITH_RECIPE};
 use std::test::Fail;
+use toll_stories::{Line, assert_said};
 
 const UNIT_IS_HELD: &[Line] = &[
     ("recipe-add BOLT R 1", "accepted"),
@@ -13,7 +14,7 @@ const UNIT_IS_HELD: &[Line] = &[
 
 #[test]
 fn a_unit_is_held_whoever_holds_it(rt: HostRuntime) -> Result<(), Fail> {
-    assert_said(&rt, &[WITH_RECIPE, WITH_BATCH, UNIT_IS_HELD])
+    assert_said::<Asked>(&rt, &[WITH_RECIPE, WITH_BATCH, UNIT_IS_HELD])
 }
 
 const HELD_AND_STOPPED: &[Line] = &[
@@ -41,7 +42,7 @@ const HELD_AND_STOPPED: &[Line] = &[
 
 #[test]
 fn a_batch_goes_through_its_states(rt: HostRuntime) -> Result<(), Fail> {
-    assert_said(&rt, &[WITH_RECIPE, WITH_BATCH, HELD_AND_STOPPED])
+    assert_said::<Asked>(&rt, &[WITH_RECIPE, WITH_BATCH, HELD_AND_STOPPED])
 }
 
 const CANCELLED: &[Line] = &[
@@ -60,7 +61,7 @@ const CANCELLED: &[Line] = &[
 
 #[test]
 fn an_order_is_cancelled_before_its_first_batch(rt: HostRuntime) -> Result<(), Fail> {
-    assert_said(&rt, &[WITH_RECIPE, WITH_BATCH, CANCELLED])
+    assert_said::<Asked>(&rt, &[WITH_RECIPE, WITH_BATCH, CANCELLED])
 }
 
 const ORDERS_OF_HOUSE: &[Line] = &[
@@ -85,7 +86,7 @@ const REQUIREMENTS: &[Line] = &[
 
 #[test]
 fn house_orders_as_owners_do(rt: HostRuntime) -> Result<(), Fail> {
-    assert_said(
+    assert_said::<Asked>(
         &rt,
         &[WITH_RECIPE, WITH_BATCH, ORDERS_OF_HOUSE, REQUIREMENTS],
     )

@@ -1,7 +1,8 @@
 //! Stories of traces and recalls.
-use crate::lines::{Line, assert_said};
+use crate::lines::Asked;
 use crate::setups::{WITH_HOUSE, WITH_PRODUCT};
 use std::test::Fail;
+use toll_stories::{Line, assert_said};
 
 const TRACED: &[Line] = &[
     (
@@ -25,7 +26,7 @@ const TRACED: &[Line] = &[
 
 #[test]
 fn traces_go_by_segments(rt: HostRuntime) -> Result<(), Fail> {
-    assert_said(&rt, &[WITH_HOUSE, WITH_PRODUCT, TRACED])
+    assert_said::<Asked>(&rt, &[WITH_HOUSE, WITH_PRODUCT, TRACED])
 }
 
 // Recipe R1 makes `P` of `Q`, and R2 makes `Q` of `P`.
@@ -74,7 +75,7 @@ const IN_A_CIRCLE: &[Line] = &[
 
 #[test]
 fn a_trace_round_a_circle_ends(rt: HostRuntime) -> Result<(), Fail> {
-    assert_said(&rt, &[WITH_TWO_RECIPES, IN_A_CIRCLE])
+    assert_said::<Asked>(&rt, &[WITH_TWO_RECIPES, IN_A_CIRCLE])
 }
 
 // Materials `W` and `V` of HOUSE's, a recipe of HOUSE's, and one of ACME's that makes `P` of `V` and
@@ -152,7 +153,7 @@ const RECALLED_THROUGH_H2: &[Line] = &[
 
 #[test]
 fn a_recall_goes_on_from_house_to_owners(rt: HostRuntime) -> Result<(), Fail> {
-    assert_said(
+    assert_said::<Asked>(
         &rt,
         &[
             WITH_HOUSE_RECIPE,
@@ -179,7 +180,7 @@ const NOT_RECALLED: &[Line] = &[
 
 #[test]
 fn what_is_consumed_later_is_not_recalled(rt: HostRuntime) -> Result<(), Fail> {
-    assert_said(
+    assert_said::<Asked>(
         &rt,
         &[
             WITH_HOUSE_RECIPE,
@@ -205,7 +206,7 @@ const RECALLED_BOTH_WAYS: &[Line] = &[
 
 #[test]
 fn a_recall_goes_the_shortest_way(rt: HostRuntime) -> Result<(), Fail> {
-    assert_said(
+    assert_said::<Asked>(
         &rt,
         &[
             WITH_HOUSE_RECIPE,

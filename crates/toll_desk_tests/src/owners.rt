@@ -1,8 +1,9 @@
 //! Stories of owners and the plant, over a list keep and over one that once has no memory.
-use crate::lines::{Line, assert_said, assert_said_over, say};
+use crate::lines::Asked;
 use std::alloc::{AllocError, Global};
 use std::test::Fail;
 use toll_keep::{MemKeep, Refusing};
+use toll_stories::{Line, Teller, assert_said, assert_said_over};
 
 const WITH_ACME: &[Line] = &[
     ("owner-add ACME ACMEKEY1", "accepted"),
@@ -23,7 +24,7 @@ const PLACED_ONCE: &[Line] = &[
 
 #[test]
 fn an_order_is_placed_once(rt: HostRuntime) -> Result<(), Fail> {
-    assert_said(&rt, &[WITH_ACME, PLACED_ONCE])
+    assert_said::<Asked>(&rt, &[WITH_ACME, PLACED_ONCE])
 }
 
 const OF_ONE_NAME: &[Line] = &[
@@ -37,7 +38,7 @@ const OF_ONE_NAME: &[Line] = &[
 
 #[test]
 fn owners_have_orders_of_one_name(rt: HostRuntime) -> Result<(), Fail> {
-    assert_said(&rt, &[WITH_ACME, OF_ONE_NAME])
+    assert_said::<Asked>(&rt, &[WITH_ACME, OF_ONE_NAME])
 }
 
 const FORBIDDEN: &[Line] = &[
@@ -50,7 +51,7 @@ const FORBIDDEN: &[Line] = &[
 
 #[test]
 fn a_wrong_key_is_forbidden(rt: HostRuntime) -> Result<(), Fail> {
-    assert_said(&rt, &[WITH_ACME, FORBIDDEN])
+    assert_said::<Asked>(&rt, &[WITH_ACME, FORBIDDEN])
 }
 
 const ADDED_ONCE: &[Line] = &[
@@ -65,7 +66,7 @@ const ADDED_ONCE: &[Line] = &[
 
 #[test]
 fn an_owner_is_added_once(rt: HostRuntime) -> Result<(), Fail> {
-    assert_said(&rt, &[WITH_ACME, ADDED_ONCE])
+    assert_said::<Asked>(&rt, &[WITH_ACME, ADDED_ONCE])
 }
 
 const NOT_PLACED_WITHOUT_MEMORY: &[Line] = &[
@@ -78,8 +79,8 @@ const NOT_PLACED_WITHOUT_MEMORY: &[Line] = &[
 #[test]
 fn an_order_without_memory_is_not_placed(rt: HostRuntime) -> Result<(), Fail> {
     let mut keep = MemKeep::new(rt.alloc());
-    assert_said_over(&rt, &mut keep, &[WITH_ACME])?;
-    assert_said_over(&rt, &mut Refusing::new(keep), &[NOT_PLACED_WITHOUT_MEMORY])
+    assert_said_over::<Asked, _>(&rt, &mut keep, &[WITH_ACME])?;
+    assert_said_over::<Asked, _>(&rt, &mut Refusing::new(keep), &[NOT_PLACED_WITHOUT_MEMORY])
 }
 
 const NOT_ADDED_WITHOUT_MEMORY: &[Line] = &[
@@ -92,7 +93,7 @@ const NOT_ADDED_WITHOUT_MEMORY: &[Line] = &[
 #[test]
 fn an_owner_without_memory_is_not_added(rt: HostRuntime) -> Result<(), Fail> {
     let mut keep = Refusing::new(MemKeep::new(rt.alloc()));
-    assert_said_over(&rt, &mut keep, &[NOT_ADDED_WITHOUT_MEMORY])
+    assert_said_over::<Asked, _>(&rt, &mut keep, &[NOT_ADDED_WITHOUT_MEMORY])
 }
 
 // How many of the numbers from 0 are accepted between these words, over an empty keep, and what is
@@ -101,7 +102,7 @@ fn fill(alloc: Global, before: &str, behind: &str) -> Result<String, AllocError>
     let mut keep = MemKeep::new(alloc);
     for number in 0..1_000 {
         let line = format!(in alloc; "{before}{number}{behind}")?;
-        let said = say(alloc, &mut keep, &line)?;
+        let said = Asked::say(alloc, &mut keep, &line)?;
         if said.as_str() != "accepted" {
             return format!(in alloc; "{number}, {said}");
         }

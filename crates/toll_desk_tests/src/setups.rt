@@ -1,5 +1,5 @@
 //! How stories begin.
-use crate::lines::Line;
+use toll_stories::Line;
 
 /// ACME and BOLT, a unit, and a recipe of ACME's that consumes `M` and produces `P`.
 pub(crate) const WITH_RECIPE: &[Line] = &[

@@ -1,7 +1,8 @@
 //! Stories of actuals that are taken back.
-use crate::lines::{Line, assert_said};
+use crate::lines::Asked;
 use crate::setups::{WITH_BATCH, WITH_HOUSE, WITH_PRODUCT, WITH_RECIPE};
 use std::test::Fail;
+use toll_stories::{Line, assert_said};
 
 const CONSUMPTION_VOIDED: &[Line] = &[
     (
@@ -51,7 +52,7 @@ const KEYS_STAY_TAKEN: &[Line] = &[
 
 #[test]
 fn a_voided_consumption_gives_back(rt: HostRuntime) -> Result<(), Fail> {
-    assert_said(
+    assert_said::<Asked>(
         &rt,
         &[
             WITH_RECIPE,
@@ -78,5 +79,5 @@ const GIVEN_BACK_TO_HOUSE: &[Line] = &[
 
 #[test]
 fn a_void_gives_back_to_house(rt: HostRuntime) -> Result<(), Fail> {
-    assert_said(&rt, &[WITH_HOUSE, WITH_PRODUCT, GIVEN_BACK_TO_HOUSE])
+    assert_said::<Asked>(&rt, &[WITH_HOUSE, WITH_PRODUCT, GIVEN_BACK_TO_HOUSE])
 }

@@ -1,8 +1,15 @@
-//! What stories of the office share: the plant's lines as commands, and its replies said as text.
+//! What stories of the office share: lines of what is asked and what is said to each, over lists and over
+//! tables; the plant's lines as commands, and its replies said as text.
 #![tactic(auto)]
 
 mod commands;
+mod keeps;
+mod lines;
 mod said;
 
 pub use commands::plant_cmd;
+pub use keeps::{TableKeep, empty_tables, taken_over};
+pub use lines::{
+    Line, Teller, assert_said, assert_said_over, assert_said_over_lists, say_to_plant,
+};
 pub use said::{plant_said, said_fault, said_refusal, said_text, text_of};

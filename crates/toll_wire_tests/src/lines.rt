@@ -2,17 +2,15 @@
 use crate::fakes::read_pieces;
 use crate::requests::asked;
 use std::alloc::{AllocError, Global};
-use std::process::Abort;
-use std::test::Fail;
 use toll_desk::plant_do;
-use toll_keep::{Keep, MemKeep};
-use toll_stories::{plant_cmd, plant_said, text_of};
+use toll_keep::Keep;
+use toll_stories::{Teller, plant_cmd, plant_said, text_of};
 use toll_wire::{Event, answer};
 
-/// What is asked, and what is said to it. The plant asks in its words. An owner's line begins with `>`,
-/// its name and its key, and then has the method, the target and, where there is one, the body; what is
-/// said to it is the status and, where there is one, the body.
-pub type Line = (&'static str, &'static str);
+/// The plant asks in its words. An owner's line begins with `>`, its name and its key, and then has the
+/// method, the target and, where there is one, the body; what is said to it is the status and, where there
+/// is one, the body.
+pub struct Asked;
 
 /// What comes to the office with this line: nothing with words that are no command's.
 pub fn event_of(alloc: Global, line: &str) -> Result<Option<Event>, AllocError> {
@@ -30,12 +28,13 @@ pub fn event_of(alloc: Global, line: &str) -> Result<Option<Event>, AllocError> 
     }
 }
 
-/// What is said to this line.
-fn say<K: Keep>(alloc: Global, keep: &mut K, line: &str) -> Result<String, AllocError> {
-    match event_of(alloc, line)? {
-        Some(Event::Owner(bytes)) => say_to_owner(alloc, keep, &bytes),
-        Some(Event::Plant(command)) => plant_said(alloc, &plant_do(alloc, keep, &command)),
-        None => String::from_str(alloc, "unread"),
+impl Teller for Asked {
+    fn say<K: Keep>(alloc: Global, keep: &mut K, line: &str) -> Result<String, AllocError> {
+        match event_of(alloc, line)? {
+            Some(Event::Owner(bytes)) => say_to_owner(alloc, keep, &bytes),
+            Some(Event::Plant(command)) => plant_said(alloc, &plant_do(alloc, keep, &command)),
+            None => String::from_str(alloc, "unread"),
+        }
     }
 }
 
@@ -58,36 +57,4 @@ fn said_by(alloc: Global, reply: &[u8]) -> Result<String, AllocError> {
         Some((_, body)) => format!(in alloc; "{status} {body}"),
         None => String::from_str(alloc, "?"),
     }
-}
-
-// Asserts that this is said to the line.
-fn assert_line<K: Keep>(
-    rt: &(impl Abort + AllocGlobal),
-    keep: &mut K,
-    line: &Line,
-) -> Result<(), Fail> {
-    let (asked, wanted) = *line;
-    let said = say(rt.alloc(), keep, asked)?;
-    assert!(rt; said.as_str() == wanted, "{asked}: {said}");
-    Ok(())
-}
-
-fn assert_lines<K: Keep>(
-    rt: &(impl Abort + AllocGlobal),
-    keep: &mut K,
-    lines: &[Line],
-) -> Result<(), Fail> {
-    for line in lines {
-        assert_line(rt, keep, line)?;
-    }
-    Ok(())
-}
-
-/// Asserts that this is said along the chapters, over an empty keep.
-pub fn assert_said(rt: &(impl Abort + AllocGlobal), chapters: &[&[Line]]) -> Result<(), Fail> {
-    let mut keep = MemKeep::new(rt.alloc());
-    for lines in chapters {
-        assert_lines(rt, &mut keep, lines)?;
-    }
-    Ok(())
 }

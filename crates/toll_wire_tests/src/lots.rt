@@ -1,6 +1,7 @@
 //! Stories of lots, their tests and their dispositions.
-use crate::lines::{Line, assert_said};
+use crate::lines::Asked;
 use std::test::Fail;
+use toll_stories::{Line, assert_said_over_lists};
 
 const TESTED: &[Line] = &[
     ("owner-add ACME ACMEKEY1", "accepted"),
@@ -42,7 +43,7 @@ const OUT_OF_LIMITS: &[Line] = &[
 
 #[test]
 fn a_lot_is_released_while_its_tests_pass(rt: HostRuntime) -> Result<(), Fail> {
-    assert_said(&rt, &[TESTED, OUT_OF_LIMITS])
+    assert_said_over_lists::<Asked>(&rt, &[TESTED, OUT_OF_LIMITS])
 }
 
 const BELOW_ZERO: &[Line] = &[
@@ -59,5 +60,5 @@ const BELOW_ZERO: &[Line] = &[
 
 #[test]
 fn a_value_below_zero_has_a_sign(rt: HostRuntime) -> Result<(), Fail> {
-    assert_said(&rt, &[BELOW_ZERO])
+    assert_said_over_lists::<Asked>(&rt, &[BELOW_ZERO])
 }

@@ -1,7 +1,8 @@
 //! Stories of movements.
-use crate::lines::{Line, assert_said};
+use crate::lines::Asked;
 use crate::setups::{WITH_BATCH, WITH_RECIPE};
 use std::test::Fail;
+use toll_stories::{Line, assert_said_over_lists};
 
 const CONSUMED_WHOLE: &[Line] = &[
     (
@@ -32,7 +33,7 @@ const CONSUMED_WHOLE: &[Line] = &[
 
 #[test]
 fn a_batch_consumes_what_there_is(rt: HostRuntime) -> Result<(), Fail> {
-    assert_said(&rt, &[WITH_RECIPE, WITH_BATCH, CONSUMED_WHOLE])
+    assert_said_over_lists::<Asked>(&rt, &[WITH_RECIPE, WITH_BATCH, CONSUMED_WHOLE])
 }
 
 const IN_STOCK: &[Line] = &[
@@ -61,5 +62,5 @@ const IN_STOCK: &[Line] = &[
 
 #[test]
 fn what_is_in_stock_is_listed(rt: HostRuntime) -> Result<(), Fail> {
-    assert_said(&rt, &[WITH_RECIPE, WITH_BATCH, IN_STOCK])
+    assert_said_over_lists::<Asked>(&rt, &[WITH_RECIPE, WITH_BATCH, IN_STOCK])
 }

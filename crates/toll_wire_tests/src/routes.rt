@@ -1,12 +1,13 @@
 //! What leads nowhere, and methods that are not served.
 use crate::answers::office;
-use crate::lines::{Line, assert_said};
+use crate::lines::Asked;
 use crate::requests::request;
 use crate::setups::{WITH_ACME, WITH_ORDER};
 use std::alloc::{AllocError, Global};
 use std::process::Abort;
 use std::test::Fail;
 use toll_keep::MemKeep;
+use toll_stories::{Line, assert_said_over_lists};
 use toll_wire::answer;
 
 const NOWHERE: &[Line] = &[
@@ -88,7 +89,7 @@ const WITHOUT_THE_KEY: &[Line] = &[
 
 #[test]
 fn a_path_of_no_route_leads_nowhere(rt: HostRuntime) -> Result<(), Fail> {
-    assert_said(
+    assert_said_over_lists::<Asked>(
         &rt,
         &[WITH_ACME, WITH_ORDER, NOWHERE, SOMEWHERE, WITHOUT_THE_KEY],
     )

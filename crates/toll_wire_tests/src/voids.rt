@@ -1,7 +1,8 @@
 //! Stories of actuals that are taken back.
-use crate::lines::{Line, assert_said};
+use crate::lines::Asked;
 use crate::setups::{WITH_BATCH, WITH_RECIPE};
 use std::test::Fail;
+use toll_stories::{Line, assert_said_over_lists};
 
 const CONSUMPTION_VOIDED: &[Line] = &[
     (
@@ -32,5 +33,5 @@ const CONSUMPTION_VOIDED: &[Line] = &[
 
 #[test]
 fn a_voided_consumption_gives_back(rt: HostRuntime) -> Result<(), Fail> {
-    assert_said(&rt, &[WITH_RECIPE, WITH_BATCH, CONSUMPTION_VOIDED])
+    assert_said_over_lists::<Asked>(&rt, &[WITH_RECIPE, WITH_BATCH, CONSUMPTION_VOIDED])
 }

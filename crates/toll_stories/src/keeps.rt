@@ -1,0 +1,24 @@
+//! Keeps over tables.
+use sqlite::MemStore;
+use std::alloc::Global;
+use toll_keep::Remembering;
+use toll_sql::{OpenFault, SqlKeep};
+
+/// An office over tables in memory, as the program keeps one.
+pub type TableKeep = Remembering<SqlKeep<MemStore>>;
+
+/// An office without rows. Memory where there is none.
+pub fn empty_tables(alloc: Global) -> Result<TableKeep, OpenFault> {
+    match SqlKeep::in_memory(alloc) {
+        Ok(keep) => Ok(Remembering::new(alloc, keep)),
+        Err(fault) => Err(fault),
+    }
+}
+
+/// The same office, once its connection was given back and its tables adopted.
+pub fn taken_over(alloc: Global, keep: TableKeep) -> Result<TableKeep, OpenFault> {
+    match SqlKeep::adopt(alloc, keep.inside().into_connection()) {
+        Ok(keep) => Ok(Remembering::new(alloc, keep)),
+        Err((fault, _)) => Err(fault),
+    }
+}
