@@ -1,3 +1,4 @@
 pub mod PieceLemmas
 pub mod LineLemmas
 pub mod RequestLemmas
+pub mod TellLemmas

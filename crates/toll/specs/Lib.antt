@@ -6,3 +6,6 @@ pub mod ShownRequest
 pub mod Printing
 pub mod Inputs
 pub mod Running
+pub mod Statuses
+pub mod Told
+pub mod Imported

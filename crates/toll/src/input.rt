@@ -1,10 +1,10 @@
 //! Reading a script whole.
-ghost use Rattle.std.specs.Prelude.{◌≡◌, ◌≢◌, ◌+◌, ◌<◌, ◌≤◌, length, take, IfOk, OnErr, OnOk, Err};
+ghost use Rattle.std.specs.Prelude.{◌≡◌, ◌≢◌, ◌+◌, ◌^◌, ◌<◌, ◌≤◌, length, take, IfOk, OnErr, OnOk, Err};
 ghost use Rattle.std.specs.Io.KnownBytes.{Consumes, IsAtEnd};
 ghost use Rattle.toll_http.specs.Streams.{HasFailed, NoneFailed};
-ghost use Rattle.toll.specs.Inputs.{IsTooLong, IsWhole, script_limit};
+ghost use Rattle.toll.specs.Inputs.{IsTooLong, IsWhole};
 
-use std::alloc::{AllocError, Global};
+use std::alloc::Global;
 use std::io;
 use thiserror::Error;
 use toll_wire::{Source, read_behind};
@@ -26,6 +26,17 @@ pub enum InputFault {
     Read,
 }
 
+/// Why nothing was read of a stream.
+#[derive(Clone, Copy, Debug, PartialEq, Eq, Drop, Error)]
+pub enum FrontFault {
+    /// There was no memory.
+    #[error("Memory")]
+    Memory,
+    /// A read failed.
+    #[error("Read")]
+    Read,
+}
+
 /// All that the reader gives up to its end.
 pub fn read_input<R: Source>(alloc: Global, reader: &mut R) -> Result<Vec<u8>, InputFault>
     ensures whole { IfOk result (λ text. IsWhole (R.unread reader.old) (R.unread reader.new) text.items) }
@@ -33,24 +44,37 @@ pub fn read_input<R: Source>(alloc: Global, reader: &mut R) -> Result<Vec<u8>, I
     ensures failed { result ≡ Err InputFault.Read → HasFailed (R.has_failed reader.old) (R.has_failed reader.new) }
     ensures sound { result ≢ Err InputFault.Read → NoneFailed (R.has_failed reader.old) (R.has_failed reader.new) }
 {
-    let Ok(mut text) = room(alloc) else {
-        return Err(InputFault::Memory);
+    match read_front(alloc, reader, TEXT_LIMIT) {
+        Ok(text) if text.len() > TEXT_LIMIT => Err(InputFault::TooLong),
+        Ok(text) => Ok(text),
+        Err(FrontFault::Memory) => Err(InputFault::Memory),
+        Err(FrontFault::Read) => Err(InputFault::Read),
+    }
+}
+
+/// What the reader gives up to its end, or one byte more than `most` where it gives more than that.
+pub fn read_front<R: Source>(
+    alloc: Global,
+    reader: &mut R,
+    most: usize,
+) -> Result<Vec<u8>, FrontFault>
+    requires { most + 1 < 2 ^ 64 }
+    ensures given { IfOk result (λ text. Consumes (R.unread reader.old) (R.unread reader.new) text.items) }
+    ensures bound { IfOk result (λ text. length text.items ≤ most + 1) }
+    ensures whole { IfOk result (λ text. length text.items ≤ most → IsAtEnd (R.unread reader.new)) }
+    ensures failed { result ≡ Err FrontFault.Read → HasFailed (R.has_failed reader.old) (R.has_failed reader.new) }
+    ensures sound { result ≢ Err FrontFault.Read → NoneFailed (R.has_failed reader.old) (R.has_failed reader.new) }
+{
+    let Ok(mut text) = vec![in alloc; 0u8; most + 1] else {
+        return Err(FrontFault::Memory);
     };
     match fill(reader, text.as_mut_slice()) {
-        Ok(filled) if filled > TEXT_LIMIT => Err(InputFault::TooLong),
         Ok(filled) => {
             text.truncate(filled);
             Ok(text)
         }
-        Err(_) => Err(InputFault::Read),
+        Err(_) => Err(FrontFault::Read),
     }
-}
-
-// Room for one byte more than a script may have.
-fn room(alloc: Global) -> Result<Vec<u8>, AllocError>
-    ensures { IfOk result (λ room. length room.items ≡ script_limit + 1) }
-{
-    vec![in alloc; 0u8; TEXT_LIMIT + 1]
 }
 
 // Reads until the buffer is full or the reader ends, and tells how many bytes were filled.

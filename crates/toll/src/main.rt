@@ -1,54 +1,33 @@
 //! The programs of the office.
 //!
-//! `toll script` runs a script from standard input.
+//! `toll script` runs a script from standard input, over an office that is empty at first and kept in
+//! memory. `toll --db FILE` does a command of the plant, imports a file of actuals, or serves owners, over
+//! the office in a file.
 #![tactic(auto)]
 
+mod arguments;
 mod cutting;
 mod events;
 mod input;
+mod lending;
+mod office;
+mod plant_import;
+mod plant_line;
 mod printing;
+mod programs;
 mod request_line;
 mod script;
+mod serving;
+mod session;
+mod status;
+mod telling;
 #[cfg(test)]
 mod tests;
+mod timed;
 
-use crate::script::{ScriptEnd, script};
+use crate::programs::run;
 use std::process::ExitCode;
-use std::{env, io};
-use toll_keep::MemKeep;
 
 fn main(rt: HostRuntime) -> ExitCode {
-    if !asks_for_script(&rt) {
-        return fail(&rt, 2, "usage: toll script");
-    }
-    let mut keep = MemKeep::new(rt.alloc());
-    let mut input = rt.reader();
-    let mut output = io::writer(&rt);
-    match script(rt.alloc(), &mut input, &mut output, &mut keep) {
-        ScriptEnd::Done => ExitCode::SUCCESS,
-        ScriptEnd::BadLine(number) => fail(&rt, 2, format_args!("bad line {number}")),
-        ScriptEnd::TooLong => fail(&rt, 2, "too long"),
-        ScriptEnd::Memory => fail(&rt, 3, "fault Memory"),
-        ScriptEnd::ReadFault => fail(&rt, 3, "fault Read"),
-        ScriptEnd::WriteFault => fail(&rt, 3, "fault Write"),
-    }
-}
-
-// Whether the words of the program are `script` alone.
-fn asks_for_script(rt: &HostRuntime) -> bool {
-    let Ok(mut words) = env::args(rt) else {
-        return false;
-    };
-    let _program = words.next();
-    let is_script = match words.next() {
-        Some(word) => word.as_str() == "script",
-        None => false,
-    };
-    is_script && words.next().is_none()
-}
-
-// Prints why the program failed. A standard error that can't be written to changes nothing.
-fn fail(rt: &impl Eprint, status: u8, why: impl std::fmt::Display + Drop) -> ExitCode {
-    let _ = rt.eprintln(why);
-    ExitCode::from(status)
+    ExitCode::from(u8::try_from(run(&rt)).unwrap_or(u8::MAX))
 }

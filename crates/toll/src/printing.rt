@@ -87,23 +87,34 @@ fn print_plant_reply(
         PlantReply::Repeated => text.extend_from_slice(b"repeated\n"),
         PlantReply::Refused(refusal) => print_refusal(alloc, text, refusal),
         PlantReply::Text(lines) => text.extend_from_slice(lines),
-        PlantReply::Fault(fault) => print_fault(alloc, text, fault),
+        PlantReply::Fault(fault) => text.extend_from_slice(fault_line(*fault)),
     }
 }
 
 fn print_refusal(alloc: Global, text: &mut Vec<u8>, refusal: &Refusal) -> Result<(), AllocError>
     ensures { OnOk result (text.new.items ≡ text.old.items ++ spec.refusal_line refusal.now) }
 {
-    let code = refusal.code();
-    let title = refusal.title();
-    let line = format!(in alloc; "refused {code} {title}\n")?;
+    let line = refusal_text(alloc, refusal)?;
     text.extend_from_slice(line.as_bytes())
 }
 
-fn print_fault(alloc: Global, text: &mut Vec<u8>, fault: &KeepFault) -> Result<(), AllocError>
-    ensures { OnOk result (text.new.items ≡ text.old.items ++ spec.fault_line fault.now) }
+/// The line of a refusal.
+pub fn refusal_text(alloc: Global, refusal: &Refusal) -> Result<String, AllocError>
+    ensures { IfOk result (λ line. line.bytes.items ≡ spec.refusal_line refusal.now) }
 {
-    let name = fault.name();
-    let line = format!(in alloc; "fault {name}\n")?;
-    text.extend_from_slice(line.as_bytes())
+    let code = refusal.code();
+    let title = refusal.title();
+    format!(in alloc; "refused {code} {title}\n")
+}
+
+/// The line of a fault of the keep. It takes no memory.
+pub fn fault_line(fault: KeepFault) -> &'static [u8]
+    ensures { result.now ≡ spec.fault_line fault }
+{
+    match fault {
+        KeepFault::Memory => b"fault Memory\n",
+        KeepFault::Disk => b"fault Disk\n",
+        KeepFault::Damaged => b"fault Damaged\n",
+        KeepFault::Closed => b"fault Closed\n",
+    }
 }

@@ -3,7 +3,7 @@ use crate::script::{ScriptEnd, script};
 use std::alloc::Global;
 use std::io;
 use std::io::ErrorKind;
-use toll_keep::MemKeep;
+use toll_keep::Keep;
 use toll_wire::{Sink, Source};
 
 /// Gives its text, so many bytes at most with each read, and fails after so many reads.
@@ -86,7 +86,7 @@ impl Sink for Page {
 }
 
 /// How a script ends over this keep, and what it writes.
-pub fn run(alloc: Global, keep: &mut MemKeep, text: &[u8]) -> (ScriptEnd, Vec<u8>) {
+pub fn run<K: Keep>(alloc: Global, keep: &mut K, text: &[u8]) -> (ScriptEnd, Vec<u8>) {
     let mut feed = Feed::new(text, usize::MAX, usize::MAX);
     let mut page = Page::new(alloc, usize::MAX, usize::MAX);
     let end = script(alloc, &mut feed, &mut page, keep);

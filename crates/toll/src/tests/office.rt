@@ -1,8 +1,8 @@
 //! Scripts of the whole office, and what they print.
 use crate::tests::prints::assert_prints;
 
-// ACME with a recipe, a released lot and a batch that runs.
-const BEGUN: (&str, &str) = (
+/// ACME with a recipe, a released lot and a batch that runs.
+pub const BEGUN: (&str, &str) = (
     "owner-add ACME ACMEKEY1
 owner-add BOLT BOLTKEY1
 unit-add U1

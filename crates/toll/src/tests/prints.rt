@@ -2,13 +2,27 @@
 use crate::script::ScriptEnd;
 use crate::tests::fakes::run;
 use std::process::Abort;
-use toll_keep::MemKeep;
+use toll_keep::{Keep, MemKeep, Remembering};
+use toll_sql::SqlKeep;
 
-/// Asserts that each script, one after another over one keep, runs and prints this.
+/// Asserts that each script, one after another over an empty keep, runs and prints this: over lists, and
+/// over the tables as the program has them.
 pub fn assert_prints(rt: &(impl Abort + AllocGlobal), rows: &[(&str, &str)]) {
-    let mut keep = MemKeep::new(rt.alloc());
+    assert_prints_over(rt, &mut MemKeep::new(rt.alloc()), rows);
+    match SqlKeep::in_memory(rt.alloc()) {
+        Ok(keep) => assert_prints_over(rt, &mut Remembering::new(rt.alloc(), keep), rows),
+        Err(fault) => panic!(rt; "{fault}"),
+    }
+}
+
+/// The same over this keep.
+pub fn assert_prints_over<K: Keep>(
+    rt: &(impl Abort + AllocGlobal),
+    keep: &mut K,
+    rows: &[(&str, &str)],
+) {
     for (text, wanted) in rows {
-        let (end, printed) = run(rt.alloc(), &mut keep, text.as_bytes());
+        let (end, printed) = run(rt.alloc(), keep, text.as_bytes());
         assert!(rt; end == ScriptEnd::Done, "{end:?} at {text}");
         assert_eq!(rt; printed.as_slice(), wanted.as_bytes(), "at {text}");
     }

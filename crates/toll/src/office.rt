@@ -1,0 +1,98 @@
+//! The office on a file.
+use sqlite::{File as StoreFile, FileStore, Unknown};
+use std::fs;
+use std::fs::{File, OpenOptions};
+use std::io::ErrorKind;
+use thiserror::Error;
+use toll_keep::Remembering;
+use toll_sql::{OpenFault, SqlKeep};
+
+/// The keep of an office on a file.
+pub type FileKeep = Remembering<SqlKeep<FileStore<StoreFile>>>;
+
+/// Why an office on a file was not opened. Nothing changed, but that the file may have been made.
+#[derive(Clone, Copy, Debug, PartialEq, Eq, Drop, Error)]
+pub enum OfficeFault {
+    /// Somebody else has the lock, or the file of the lock can't be opened.
+    #[error("Locked")]
+    Locked,
+    /// There was no memory.
+    #[error("Memory")]
+    Memory,
+    /// The file's own fault.
+    #[error("{0}")]
+    File(OpenFault),
+}
+
+/// The office on a file that nobody else uses meanwhile.
+pub struct Office {
+    pub keep: FileKeep,
+    lock: File,
+}
+
+/// By hand, since what is derived is written out at every exit of every function that owns an office.
+impl Drop for Office {
+    fn drop(self) {
+        let Office { keep: _, lock: _ } = self;
+    }
+}
+
+impl Office {
+    /// Takes the lock of the file, `FILE.lock`, without waiting, and opens the office in it. An absent or
+    /// empty file becomes an office without rows.
+    pub fn open(rt: &HostRuntime, path: &str) -> Result<Self, OfficeFault> {
+        let lock = take_lock(rt, path)?;
+        match open_keep(rt, path) {
+            Ok(keep) => Ok(Office {
+                keep: Remembering::new(rt.alloc(), keep),
+                lock,
+            }),
+            Err(fault) => Err(OfficeFault::File(fault)),
+        }
+    }
+
+    /// Closes the file, and then gives back the lock. What was answered stands in the file whether or not
+    /// the closing meets a fault.
+    pub fn close(self) {
+        let Office { keep, lock } = self;
+        let _ = keep.inside().close();
+        let _ = lock.unlock();
+    }
+}
+
+/// The lock of the file, asked for once.
+pub fn take_lock(rt: &HostRuntime, path: &str) -> Result<File, OfficeFault> {
+    let Ok(name) = format!(in rt.alloc(); "{path}.lock") else {
+        return Err(OfficeFault::Memory);
+    };
+    let Ok(lock) = OpenOptions::new()
+        .read(true)
+        .write(true)
+        .create(true)
+        .open(rt, name.as_str())
+    else {
+        return Err(OfficeFault::Locked);
+    };
+    match lock.try_lock() {
+        Ok(()) => Ok(lock),
+        Err(_) => Err(OfficeFault::Locked),
+    }
+}
+
+/// The keep in the file. An office whose making was stopped may have its tables in the log alone, or no
+/// tables in a file that is not empty: so where the file is not as its length says, it is looked at the
+/// other way.
+pub fn open_keep(rt: &HostRuntime, path: &str) -> Result<SqlKeep<FileStore<StoreFile>>, OpenFault> {
+    let is_fresh = is_absent_or_empty(rt, path);
+    match SqlKeep::open_from(rt, path, is_fresh, Unknown) {
+        Err(OpenFault::NotOurs) => SqlKeep::open_from(rt, path, !is_fresh, Unknown),
+        opened => opened,
+    }
+}
+
+fn is_absent_or_empty(rt: &HostRuntime, path: &str) -> bool {
+    match fs::metadata(rt, path) {
+        Ok(found) => found.len() == 0,
+        Err(fault) => fault.kind() == ErrorKind::NotFound,
+    }
+}

@@ -1,0 +1,140 @@
+//! The programs.
+use crate::arguments::{Task, task_of};
+use crate::input::{FrontFault, read_front};
+use crate::office::Office;
+use crate::plant_import::plant_import;
+use crate::plant_line::plant_line;
+use crate::script::{ScriptEnd, script};
+use crate::serving::{Served, serve_all};
+use crate::status::Status;
+use crate::telling::tell;
+use std::alloc::{AllocError, Global};
+use std::fmt::Display;
+use std::fs::File;
+use std::net::{Ipv4Addr, SocketAddrV4, TcpListener};
+use std::{env, io};
+use toll_keep::Remembering;
+use toll_plant::{MOST_FILE_BYTES, WordsFault, command_of};
+use toll_sql::SqlKeep;
+
+const USAGE: &str =
+    "usage: toll script | toll --db FILE COMMAND.. | toll --db FILE import CSV | toll --db FILE serve PORT COUNT";
+
+/// Does what the program's words ask for, and gives the exit status.
+pub fn run(rt: &HostRuntime) -> u64 {
+    let Ok(words) = read_words(rt) else {
+        return fail(rt, Status::Failed, "fault Memory");
+    };
+    let Ok(words) = texts_of(rt.alloc(), &words) else {
+        return fail(rt, Status::Failed, "fault Memory");
+    };
+    match task_of(&words) {
+        Some(Task::Script) => run_script(rt),
+        Some(Task::Words { file, words }) => run_words(rt, file, words),
+        Some(Task::Import { file, actuals }) => run_import(rt, file, actuals),
+        Some(Task::Serve { file, port, count }) => run_serve(rt, file, port, count),
+        None => fail(rt, Status::Unread, USAGE),
+    }
+}
+
+// The words behind the program's name.
+fn read_words(rt: &HostRuntime) -> io::Result<Vec<String>> {
+    let mut words = Vec::new(rt.alloc());
+    for word in env::args(rt)?.skip(1) {
+        words.push(word)?;
+    }
+    Ok(words)
+}
+
+fn texts_of(alloc: Global, words: &[String]) -> Result<Vec<&str>, AllocError> {
+    words.iter().map(|word| word.as_str()).collect(alloc)
+}
+
+fn run_script(rt: &HostRuntime) -> u64 {
+    let Ok(keep) = SqlKeep::in_memory(rt.alloc()) else {
+        return fail(rt, Status::Failed, "fault Memory");
+    };
+    let mut keep = Remembering::new(rt.alloc(), keep);
+    match script(rt.alloc(), &mut rt.reader(), &mut io::writer(rt), &mut keep) {
+        ScriptEnd::Done => u64::from(Status::Done.code()),
+        ScriptEnd::BadLine(number) => {
+            fail(rt, Status::Unread, format_args!("bad line {number}"))
+        }
+        ScriptEnd::TooLong => fail(rt, Status::Unread, "too long"),
+        ScriptEnd::Memory => fail(rt, Status::Failed, "fault Memory"),
+        ScriptEnd::ReadFault => fail(rt, Status::Failed, "fault Read"),
+        ScriptEnd::WriteFault => fail(rt, Status::Failed, "fault Write"),
+    }
+}
+
+fn run_words(rt: &HostRuntime, file: &str, words: &[&str]) -> u64 {
+    let command = match command_of(rt.alloc(), words) {
+        Ok(command) => command,
+        Err(WordsFault::Memory) => return fail(rt, Status::Failed, "fault Memory"),
+        Err(WordsFault::Usage(text)) => return tell(&mut rt.stderr(), &text, Status::Unread),
+    };
+    let mut office = match Office::open(rt, file) {
+        Ok(office) => office,
+        Err(fault) => return fail(rt, Status::Failed, format_args!("fault {fault}")),
+    };
+    let status = plant_line(
+        rt.alloc(),
+        &mut office.keep,
+        &command,
+        &mut io::writer(rt),
+        &mut rt.stderr(),
+    );
+    office.close();
+    status
+}
+
+fn run_import(rt: &HostRuntime, file: &str, actuals: &str) -> u64 {
+    let text = match read_file(rt, actuals) {
+        Ok(text) => text,
+        Err(fault) => return fail(rt, Status::Failed, format_args!("fault {fault}")),
+    };
+    let mut office = match Office::open(rt, file) {
+        Ok(office) => office,
+        Err(fault) => return fail(rt, Status::Failed, format_args!("fault {fault}")),
+    };
+    let status = plant_import(
+        rt.alloc(),
+        &mut office.keep,
+        &text,
+        &mut io::writer(rt),
+        &mut rt.stderr(),
+    );
+    office.close();
+    status
+}
+
+// A file of actuals, of which no more is read than shows that it is too long.
+fn read_file(rt: &HostRuntime, path: &str) -> Result<Vec<u8>, FrontFault> {
+    match File::open(rt, path) {
+        Ok(mut file) => read_front(rt.alloc(), &mut file, MOST_FILE_BYTES),
+        Err(_) => Err(FrontFault::Read),
+    }
+}
+
+fn run_serve(rt: &HostRuntime, file: &str, port: u16, count: u64) -> u64 {
+    let Ok(listener) = TcpListener::bind(rt, SocketAddrV4::new(Ipv4Addr::LOCALHOST, port)) else {
+        return fail(rt, Status::Failed, "fault Net");
+    };
+    let Ok(address) = listener.local_addr() else {
+        return fail(rt, Status::Failed, "fault Net");
+    };
+    let port = address.port();
+    if println!(rt; "listening {port}").is_err() {
+        return fail(rt, Status::Failed, "fault Write");
+    }
+    match serve_all(rt, &listener, file, count) {
+        Served::AcceptFault => fail(rt, Status::Failed, "fault Net"),
+        _ => u64::from(Status::Done.code()),
+    }
+}
+
+// Prints why the program failed. A standard error that can't be written to changes nothing.
+fn fail(rt: &impl Eprint, status: Status, why: impl Display + Drop) -> u64 {
+    let _ = rt.eprintln(why);
+    u64::from(status.code())
+}
