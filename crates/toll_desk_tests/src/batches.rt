@@ -2,7 +2,7 @@
 use crate::lines::Asked;
 use crate::setups::{WITH_BATCH, WITH_RECIPE};
 use std::test::Fail;
-use toll_stories::{Line, assert_said};
+use toll_stories::{Line, check_said};
 
 const UNIT_IS_HELD: &[Line] = &[
     ("recipe-add BOLT R 1", "accepted"),
@@ -14,7 +14,7 @@ const UNIT_IS_HELD: &[Line] = &[
 
 #[test]
 fn a_unit_is_held_whoever_holds_it(rt: HostRuntime) -> Result<(), Fail> {
-    assert_said::<Asked>(&rt, &[WITH_RECIPE, WITH_BATCH, UNIT_IS_HELD])
+    check_said::<Asked>(rt.alloc(), &[WITH_RECIPE, WITH_BATCH, UNIT_IS_HELD])
 }
 
 const HELD_AND_STOPPED: &[Line] = &[
@@ -42,7 +42,7 @@ const HELD_AND_STOPPED: &[Line] = &[
 
 #[test]
 fn a_batch_goes_through_its_states(rt: HostRuntime) -> Result<(), Fail> {
-    assert_said::<Asked>(&rt, &[WITH_RECIPE, WITH_BATCH, HELD_AND_STOPPED])
+    check_said::<Asked>(rt.alloc(), &[WITH_RECIPE, WITH_BATCH, HELD_AND_STOPPED])
 }
 
 const CANCELLED: &[Line] = &[
@@ -61,7 +61,7 @@ const CANCELLED: &[Line] = &[
 
 #[test]
 fn an_order_is_cancelled_before_its_first_batch(rt: HostRuntime) -> Result<(), Fail> {
-    assert_said::<Asked>(&rt, &[WITH_RECIPE, WITH_BATCH, CANCELLED])
+    check_said::<Asked>(rt.alloc(), &[WITH_RECIPE, WITH_BATCH, CANCELLED])
 }
 
 const ORDERS_OF_HOUSE: &[Line] = &[
@@ -86,8 +86,8 @@ const REQUIREMENTS: &[Line] = &[
 
 #[test]
 fn house_orders_as_owners_do(rt: HostRuntime) -> Result<(), Fail> {
-    assert_said::<Asked>(
-        &rt,
+    check_said::<Asked>(
+        rt.alloc(),
         &[WITH_RECIPE, WITH_BATCH, ORDERS_OF_HOUSE, REQUIREMENTS],
     )
 }

@@ -2,7 +2,7 @@
 use crate::lines::Asked;
 use crate::setups::{WITH_HOUSE, WITH_PRODUCT};
 use std::test::Fail;
-use toll_stories::{Line, assert_said};
+use toll_stories::{Line, check_said};
 
 const TRACED: &[Line] = &[
     (
@@ -26,7 +26,7 @@ const TRACED: &[Line] = &[
 
 #[test]
 fn traces_go_by_segments(rt: HostRuntime) -> Result<(), Fail> {
-    assert_said::<Asked>(&rt, &[WITH_HOUSE, WITH_PRODUCT, TRACED])
+    check_said::<Asked>(rt.alloc(), &[WITH_HOUSE, WITH_PRODUCT, TRACED])
 }
 
 // Recipe R1 makes `P` of `Q`, and R2 makes `Q` of `P`.
@@ -75,7 +75,7 @@ const IN_A_CIRCLE: &[Line] = &[
 
 #[test]
 fn a_trace_round_a_circle_ends(rt: HostRuntime) -> Result<(), Fail> {
-    assert_said::<Asked>(&rt, &[WITH_TWO_RECIPES, IN_A_CIRCLE])
+    check_said::<Asked>(rt.alloc(), &[WITH_TWO_RECIPES, IN_A_CIRCLE])
 }
 
 // Materials `W` and `V` of HOUSE's, a recipe of HOUSE's, and one of ACME's that makes `P` of `V` and
@@ -153,8 +153,8 @@ const RECALLED_THROUGH_H2: &[Line] = &[
 
 #[test]
 fn a_recall_goes_on_from_house_to_owners(rt: HostRuntime) -> Result<(), Fail> {
-    assert_said::<Asked>(
-        &rt,
+    check_said::<Asked>(
+        rt.alloc(),
         &[
             WITH_HOUSE_RECIPE,
             WITH_BOTH_BATCHES,
@@ -180,8 +180,8 @@ const NOT_RECALLED: &[Line] = &[
 
 #[test]
 fn what_is_consumed_later_is_not_recalled(rt: HostRuntime) -> Result<(), Fail> {
-    assert_said::<Asked>(
-        &rt,
+    check_said::<Asked>(
+        rt.alloc(),
         &[
             WITH_HOUSE_RECIPE,
             WITH_BOTH_BATCHES,
@@ -206,8 +206,8 @@ const RECALLED_BOTH_WAYS: &[Line] = &[
 
 #[test]
 fn a_recall_goes_the_shortest_way(rt: HostRuntime) -> Result<(), Fail> {
-    assert_said::<Asked>(
-        &rt,
+    check_said::<Asked>(
+        rt.alloc(),
         &[
             WITH_HOUSE_RECIPE,
             WITH_BOTH_BATCHES,

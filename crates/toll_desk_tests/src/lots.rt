@@ -1,7 +1,7 @@
 //! Stories of lots, their tests and their dispositions.
 use crate::lines::Asked;
 use std::test::Fail;
-use toll_stories::{Line, assert_said};
+use toll_stories::{Line, check_said};
 
 const TESTED: &[Line] = &[
     ("owner-add ACME ACMEKEY1", "accepted"),
@@ -37,5 +37,5 @@ const OUT_OF_LIMITS: &[Line] = &[
 
 #[test]
 fn a_lot_is_released_while_its_tests_pass(rt: HostRuntime) -> Result<(), Fail> {
-    assert_said::<Asked>(&rt, &[TESTED, OUT_OF_LIMITS])
+    check_said::<Asked>(rt.alloc(), &[TESTED, OUT_OF_LIMITS])
 }

@@ -2,7 +2,7 @@
 use crate::lines::Asked;
 use crate::setups::{WITH_BATCH, WITH_RECIPE};
 use std::test::Fail;
-use toll_stories::{Line, assert_said};
+use toll_stories::{Line, check_said};
 
 const CONSUMED_WHOLE: &[Line] = &[
     (
@@ -33,7 +33,7 @@ const CONSUMED_WHOLE: &[Line] = &[
 
 #[test]
 fn a_batch_consumes_what_there_is(rt: HostRuntime) -> Result<(), Fail> {
-    assert_said::<Asked>(&rt, &[WITH_RECIPE, WITH_BATCH, CONSUMED_WHOLE])
+    check_said::<Asked>(rt.alloc(), &[WITH_RECIPE, WITH_BATCH, CONSUMED_WHOLE])
 }
 
 // The product may be consumed in segment 2.
@@ -76,8 +76,8 @@ const PRODUCT_CONSUMED: &[Line] = &[
 
 #[test]
 fn a_product_is_consumed_once_it_is_released(rt: HostRuntime) -> Result<(), Fail> {
-    assert_said::<Asked>(
-        &rt,
+    check_said::<Asked>(
+        rt.alloc(),
         &[WITH_RECIPE, CONSUMED_AGAIN, WITH_BATCH, PRODUCT_CONSUMED],
     )
 }
@@ -108,5 +108,5 @@ const SPLIT_AND_SHIPPED: &[Line] = &[
 
 #[test]
 fn material_is_split_scrapped_and_shipped(rt: HostRuntime) -> Result<(), Fail> {
-    assert_said::<Asked>(&rt, &[WITH_RECIPE, WITH_BATCH, SPLIT_AND_SHIPPED])
+    check_said::<Asked>(rt.alloc(), &[WITH_RECIPE, WITH_BATCH, SPLIT_AND_SHIPPED])
 }

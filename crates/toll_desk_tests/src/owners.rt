@@ -3,7 +3,7 @@ use crate::lines::Asked;
 use std::alloc::{AllocError, Global};
 use std::test::Fail;
 use toll_keep::{MemKeep, Refusing};
-use toll_stories::{Line, Teller, assert_said, assert_said_over};
+use toll_stories::{Line, Teller, check_said, check_said_over};
 
 const WITH_ACME: &[Line] = &[
     ("owner-add ACME ACMEKEY1", "accepted"),
@@ -24,7 +24,7 @@ const PLACED_ONCE: &[Line] = &[
 
 #[test]
 fn an_order_is_placed_once(rt: HostRuntime) -> Result<(), Fail> {
-    assert_said::<Asked>(&rt, &[WITH_ACME, PLACED_ONCE])
+    check_said::<Asked>(rt.alloc(), &[WITH_ACME, PLACED_ONCE])
 }
 
 const OF_ONE_NAME: &[Line] = &[
@@ -38,7 +38,7 @@ const OF_ONE_NAME: &[Line] = &[
 
 #[test]
 fn owners_have_orders_of_one_name(rt: HostRuntime) -> Result<(), Fail> {
-    assert_said::<Asked>(&rt, &[WITH_ACME, OF_ONE_NAME])
+    check_said::<Asked>(rt.alloc(), &[WITH_ACME, OF_ONE_NAME])
 }
 
 const FORBIDDEN: &[Line] = &[
@@ -51,7 +51,7 @@ const FORBIDDEN: &[Line] = &[
 
 #[test]
 fn a_wrong_key_is_forbidden(rt: HostRuntime) -> Result<(), Fail> {
-    assert_said::<Asked>(&rt, &[WITH_ACME, FORBIDDEN])
+    check_said::<Asked>(rt.alloc(), &[WITH_ACME, FORBIDDEN])
 }
 
 const ADDED_ONCE: &[Line] = &[
@@ -66,7 +66,7 @@ const ADDED_ONCE: &[Line] = &[
 
 #[test]
 fn an_owner_is_added_once(rt: HostRuntime) -> Result<(), Fail> {
-    assert_said::<Asked>(&rt, &[WITH_ACME, ADDED_ONCE])
+    check_said::<Asked>(rt.alloc(), &[WITH_ACME, ADDED_ONCE])
 }
 
 const NOT_PLACED_WITHOUT_MEMORY: &[Line] = &[
@@ -79,8 +79,12 @@ const NOT_PLACED_WITHOUT_MEMORY: &[Line] = &[
 #[test]
 fn an_order_without_memory_is_not_placed(rt: HostRuntime) -> Result<(), Fail> {
     let mut keep = MemKeep::new(rt.alloc());
-    assert_said_over::<Asked, _>(&rt, &mut keep, &[WITH_ACME])?;
-    assert_said_over::<Asked, _>(&rt, &mut Refusing::new(keep), &[NOT_PLACED_WITHOUT_MEMORY])
+    check_said_over::<Asked, _>(rt.alloc(), &mut keep, &[WITH_ACME])?;
+    check_said_over::<Asked, _>(
+        rt.alloc(),
+        &mut Refusing::new(keep),
+        &[NOT_PLACED_WITHOUT_MEMORY],
+    )
 }
 
 const NOT_ADDED_WITHOUT_MEMORY: &[Line] = &[
@@ -93,7 +97,7 @@ const NOT_ADDED_WITHOUT_MEMORY: &[Line] = &[
 #[test]
 fn an_owner_without_memory_is_not_added(rt: HostRuntime) -> Result<(), Fail> {
     let mut keep = Refusing::new(MemKeep::new(rt.alloc()));
-    assert_said_over::<Asked, _>(&rt, &mut keep, &[NOT_ADDED_WITHOUT_MEMORY])
+    check_said_over::<Asked, _>(rt.alloc(), &mut keep, &[NOT_ADDED_WITHOUT_MEMORY])
 }
 
 // How many of the numbers from 0 are accepted between these words, over an empty keep, and what is

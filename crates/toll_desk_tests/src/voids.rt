@@ -2,7 +2,7 @@
 use crate::lines::Asked;
 use crate::setups::{WITH_BATCH, WITH_HOUSE, WITH_PRODUCT, WITH_RECIPE};
 use std::test::Fail;
-use toll_stories::{Line, assert_said};
+use toll_stories::{Line, check_said};
 
 const CONSUMPTION_VOIDED: &[Line] = &[
     (
@@ -52,8 +52,8 @@ const KEYS_STAY_TAKEN: &[Line] = &[
 
 #[test]
 fn a_voided_consumption_gives_back(rt: HostRuntime) -> Result<(), Fail> {
-    assert_said::<Asked>(
-        &rt,
+    check_said::<Asked>(
+        rt.alloc(),
         &[
             WITH_RECIPE,
             WITH_BATCH,
@@ -79,5 +79,5 @@ const GIVEN_BACK_TO_HOUSE: &[Line] = &[
 
 #[test]
 fn a_void_gives_back_to_house(rt: HostRuntime) -> Result<(), Fail> {
-    assert_said::<Asked>(&rt, &[WITH_HOUSE, WITH_PRODUCT, GIVEN_BACK_TO_HOUSE])
+    check_said::<Asked>(rt.alloc(), &[WITH_HOUSE, WITH_PRODUCT, GIVEN_BACK_TO_HOUSE])
 }

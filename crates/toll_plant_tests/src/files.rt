@@ -5,7 +5,7 @@ use std::alloc::{AllocError, Global};
 use std::test::Fail;
 use toll_keep::MemKeep;
 use toll_plant::MOST_FILE_BYTES;
-use toll_stories::{Line, assert_said_over_lists};
+use toll_stories::{Line, check_said_over_lists};
 
 // One file: with a byte order mark, with CR LF, with no last line end, with quotes, and with empty lines.
 const WRITTEN: [&str; 5] = [
@@ -22,7 +22,10 @@ const READ_ALIKE: &str =
 #[test]
 fn a_file_is_read_alike_however_it_is_written(rt: HostRuntime) -> Result<(), Fail> {
     for file in WRITTEN {
-        assert_said_over_lists::<Asked>(&rt, &[WITH_RECIPE, WITH_BATCH, &[(file, READ_ALIKE)]])?;
+        check_said_over_lists::<Asked>(
+            rt.alloc(),
+            &[WITH_RECIPE, WITH_BATCH, &[(file, READ_ALIKE)]],
+        )?;
     }
     Ok(())
 }
@@ -62,7 +65,7 @@ const HEADERS: &[Line] = &[
 
 #[test]
 fn a_file_needs_its_header(rt: HostRuntime) -> Result<(), Fail> {
-    assert_said_over_lists::<Asked>(&rt, &[HEADERS])
+    check_said_over_lists::<Asked>(rt.alloc(), &[HEADERS])
 }
 
 // Eleven fields, thirteen, and none but an empty quoted one; and all else as it is without them.
@@ -80,7 +83,7 @@ const UNREAD: &[Line] = &[(
 
 #[test]
 fn records_that_are_no_actuals_change_nothing(rt: HostRuntime) -> Result<(), Fail> {
-    assert_said_over_lists::<Asked>(&rt, &[WITH_RECIPE, WITH_BATCH, UNREAD, BAD_RECORDS])
+    check_said_over_lists::<Asked>(rt.alloc(), &[WITH_RECIPE, WITH_BATCH, UNREAD, BAD_RECORDS])
 }
 
 #[test]

@@ -3,7 +3,7 @@ use crate::lines::Asked;
 use crate::setups::{WITH_BATCH, WITH_RECIPE};
 use std::test::Fail;
 use toll_keep::{MemKeep, Refusing};
-use toll_stories::{Line, assert_said_over, assert_said_over_lists};
+use toll_stories::{Line, check_said_over, check_said_over_lists};
 
 const IMPORTED: &[Line] = &[
     (
@@ -29,7 +29,10 @@ const IMPORTED_AGAIN: &[Line] = &[
 
 #[test]
 fn a_file_that_was_imported_changes_nothing_again(rt: HostRuntime) -> Result<(), Fail> {
-    assert_said_over_lists::<Asked>(&rt, &[WITH_RECIPE, WITH_BATCH, IMPORTED, IMPORTED_AGAIN])
+    check_said_over_lists::<Asked>(
+        rt.alloc(),
+        &[WITH_RECIPE, WITH_BATCH, IMPORTED, IMPORTED_AGAIN],
+    )
 }
 
 const VOIDED_BETWEEN: &[Line] = &[
@@ -42,7 +45,10 @@ const VOIDED_BETWEEN: &[Line] = &[
 
 #[test]
 fn a_voided_actual_is_refused_when_it_is_imported_again(rt: HostRuntime) -> Result<(), Fail> {
-    assert_said_over_lists::<Asked>(&rt, &[WITH_RECIPE, WITH_BATCH, IMPORTED, VOIDED_BETWEEN])
+    check_said_over_lists::<Asked>(
+        rt.alloc(),
+        &[WITH_RECIPE, WITH_BATCH, IMPORTED, VOIDED_BETWEEN],
+    )
 }
 
 // The product may be consumed in segment 2.
@@ -66,8 +72,8 @@ const REFUSED_AND_LATER_ACCEPTED: &[Line] = &[
 
 #[test]
 fn a_refused_record_may_be_imported_later(rt: HostRuntime) -> Result<(), Fail> {
-    assert_said_over_lists::<Asked>(
-        &rt,
+    check_said_over_lists::<Asked>(
+        rt.alloc(),
         &[
             WITH_RECIPE,
             CONSUMED_AGAIN,
@@ -85,6 +91,6 @@ const FAULTY: &[Line] = &[(
 #[test]
 fn a_fault_ends_an_import(rt: HostRuntime) -> Result<(), Fail> {
     let mut keep = MemKeep::new(rt.alloc());
-    assert_said_over::<Asked, _>(&rt, &mut keep, &[WITH_RECIPE, WITH_BATCH])?;
-    assert_said_over::<Asked, _>(&rt, &mut Refusing::new(keep), &[FAULTY, IMPORTED])
+    check_said_over::<Asked, _>(rt.alloc(), &mut keep, &[WITH_RECIPE, WITH_BATCH])?;
+    check_said_over::<Asked, _>(rt.alloc(), &mut Refusing::new(keep), &[FAULTY, IMPORTED])
 }

@@ -10,6 +10,6 @@ mod said;
 pub use commands::plant_cmd;
 pub use keeps::{TableKeep, empty_tables, taken_over};
 pub use lines::{
-    Line, Teller, assert_said, assert_said_over, assert_said_over_lists, say_to_plant,
+    Line, Teller, check_lines, check_said, check_said_over, check_said_over_lists, say_to_plant,
 };
 pub use said::{plant_said, said_fault, said_refusal, said_text, text_of};

@@ -3,7 +3,6 @@ use crate::commands::plant_cmd;
 use crate::keeps::{TableKeep, empty_tables, taken_over};
 use crate::said::plant_said;
 use std::alloc::{AllocError, Global};
-use std::process::Abort;
 use std::test::Fail;
 use toll_desk::plant_do;
 use toll_keep::{Keep, MemKeep};
@@ -29,67 +28,57 @@ pub fn say_to_plant<K: Keep>(
     }
 }
 
-// Asserts that this is said to the line.
-fn assert_line<T: Teller, K: Keep>(
-    rt: &(impl Abort + AllocGlobal),
-    keep: &mut K,
-    line: &Line,
-) -> Result<(), Fail> {
+// Fails with what is said to the line, where that is another thing.
+fn check_line<T: Teller, K: Keep>(alloc: Global, keep: &mut K, line: &Line) -> Result<(), Fail> {
     let (asked, wanted) = *line;
-    let said = T::say(rt.alloc(), keep, asked)?;
-    assert!(rt; said.as_str() == wanted, "{asked}: {said}");
-    Ok(())
+    let said = T::say(alloc, keep, asked)?;
+    if said.as_str() == wanted {
+        return Ok(());
+    }
+    Err(format!(in alloc; "{asked}: {said}")?.into())
 }
 
-fn assert_lines<T: Teller, K: Keep>(
-    rt: &(impl Abort + AllocGlobal),
+/// Fails where anything else is said to one of these lines, over this keep.
+pub fn check_lines<T: Teller, K: Keep>(
+    alloc: Global,
     keep: &mut K,
     lines: &[Line],
 ) -> Result<(), Fail> {
     for line in lines {
-        assert_line::<T, K>(rt, keep, line)?;
+        check_line::<T, K>(alloc, keep, line)?;
     }
     Ok(())
 }
 
-/// Asserts that this is said along the chapters, over this keep.
-pub fn assert_said_over<T: Teller, K: Keep>(
-    rt: &(impl Abort + AllocGlobal),
+/// The same along chapters.
+pub fn check_said_over<T: Teller, K: Keep>(
+    alloc: Global,
     keep: &mut K,
     chapters: &[&[Line]],
 ) -> Result<(), Fail> {
     for lines in chapters {
-        assert_lines::<T, K>(rt, keep, lines)?;
+        check_lines::<T, K>(alloc, keep, lines)?;
     }
     Ok(())
 }
 
 /// The same over an empty office: kept in lists, and kept in tables that are given back and taken over
 /// again behind each chapter.
-pub fn assert_said<T: Teller>(
-    rt: &(impl Abort + AllocGlobal),
-    chapters: &[&[Line]],
-) -> Result<(), Fail> {
-    assert_said_over_lists::<T>(rt, chapters)?;
-    assert_said_over_tables::<T>(rt, chapters)
+pub fn check_said<T: Teller>(alloc: Global, chapters: &[&[Line]]) -> Result<(), Fail> {
+    check_said_over_lists::<T>(alloc, chapters)?;
+    check_said_over_tables::<T>(alloc, chapters)
 }
 
 /// The same over an empty office that is kept in lists.
-pub fn assert_said_over_lists<T: Teller>(
-    rt: &(impl Abort + AllocGlobal),
-    chapters: &[&[Line]],
-) -> Result<(), Fail> {
-    assert_said_over::<T, MemKeep>(rt, &mut MemKeep::new(rt.alloc()), chapters)
+pub fn check_said_over_lists<T: Teller>(alloc: Global, chapters: &[&[Line]]) -> Result<(), Fail> {
+    check_said_over::<T, MemKeep>(alloc, &mut MemKeep::new(alloc), chapters)
 }
 
-fn assert_said_over_tables<T: Teller>(
-    rt: &(impl Abort + AllocGlobal),
-    chapters: &[&[Line]],
-) -> Result<(), Fail> {
-    let mut keep = empty_tables(rt.alloc()).expect(rt, "no tables");
+fn check_said_over_tables<T: Teller>(alloc: Global, chapters: &[&[Line]]) -> Result<(), Fail> {
+    let mut keep = empty_tables(alloc)?;
     for lines in chapters {
-        assert_lines::<T, TableKeep>(rt, &mut keep, lines)?;
-        keep = taken_over(rt.alloc(), keep).expect(rt, "not taken over");
+        check_lines::<T, TableKeep>(alloc, &mut keep, lines)?;
+        keep = taken_over(alloc, keep)?;
     }
     Ok(())
 }

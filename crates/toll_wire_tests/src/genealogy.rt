@@ -1,7 +1,7 @@
 //! Stories of traces.
 use crate::lines::Asked;
 use std::test::Fail;
-use toll_stories::{Line, assert_said_over_lists};
+use toll_stories::{Line, check_said_over_lists};
 
 // ACME with two released lots of `M`, HOUSE with one of `W`, and a recipe of two segments that
 // consumes of each.
@@ -89,7 +89,7 @@ const VOIDED: &[Line] = &[
 
 #[test]
 fn traces_go_by_segments(rt: HostRuntime) -> Result<(), Fail> {
-    assert_said_over_lists::<Asked>(&rt, &[WITH_HOUSE, WITH_PRODUCT, TRACED, VOIDED])
+    check_said_over_lists::<Asked>(rt.alloc(), &[WITH_HOUSE, WITH_PRODUCT, TRACED, VOIDED])
 }
 
 // Recipe R1 makes `P` of `Q`, and R2 makes `Q` of `P`.
@@ -144,7 +144,7 @@ const IN_A_CIRCLE: &[Line] = &[
 
 #[test]
 fn a_trace_round_a_circle_ends(rt: HostRuntime) -> Result<(), Fail> {
-    assert_said_over_lists::<Asked>(&rt, &[WITH_TWO_RECIPES, IN_A_CIRCLE])
+    check_said_over_lists::<Asked>(rt.alloc(), &[WITH_TWO_RECIPES, IN_A_CIRCLE])
 }
 
 // HOUSE makes `V` of `W`, and ACME makes `P` of `V`.
@@ -208,5 +208,8 @@ const TRACED_TO_HOUSE: &[Line] = &[
 
 #[test]
 fn an_owner_sees_no_batch_of_house(rt: HostRuntime) -> Result<(), Fail> {
-    assert_said_over_lists::<Asked>(&rt, &[WITH_HOUSE_RECIPE, THROUGH_HOUSE, TRACED_TO_HOUSE])
+    check_said_over_lists::<Asked>(
+        rt.alloc(),
+        &[WITH_HOUSE_RECIPE, THROUGH_HOUSE, TRACED_TO_HOUSE],
+    )
 }

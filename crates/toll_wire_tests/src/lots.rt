@@ -1,7 +1,7 @@
 //! Stories of lots, their tests and their dispositions.
 use crate::lines::Asked;
 use std::test::Fail;
-use toll_stories::{Line, assert_said_over_lists};
+use toll_stories::{Line, check_said_over_lists};
 
 const TESTED: &[Line] = &[
     ("owner-add ACME ACMEKEY1", "accepted"),
@@ -43,7 +43,7 @@ const OUT_OF_LIMITS: &[Line] = &[
 
 #[test]
 fn a_lot_is_released_while_its_tests_pass(rt: HostRuntime) -> Result<(), Fail> {
-    assert_said_over_lists::<Asked>(&rt, &[TESTED, OUT_OF_LIMITS])
+    check_said_over_lists::<Asked>(rt.alloc(), &[TESTED, OUT_OF_LIMITS])
 }
 
 const BELOW_ZERO: &[Line] = &[
@@ -60,5 +60,5 @@ const BELOW_ZERO: &[Line] = &[
 
 #[test]
 fn a_value_below_zero_has_a_sign(rt: HostRuntime) -> Result<(), Fail> {
-    assert_said_over_lists::<Asked>(&rt, &[BELOW_ZERO])
+    check_said_over_lists::<Asked>(rt.alloc(), &[BELOW_ZERO])
 }

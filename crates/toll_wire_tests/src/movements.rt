@@ -2,7 +2,7 @@
 use crate::lines::Asked;
 use crate::setups::{WITH_BATCH, WITH_RECIPE};
 use std::test::Fail;
-use toll_stories::{Line, assert_said_over_lists};
+use toll_stories::{Line, check_said_over_lists};
 
 const CONSUMED_WHOLE: &[Line] = &[
     (
@@ -33,7 +33,7 @@ const CONSUMED_WHOLE: &[Line] = &[
 
 #[test]
 fn a_batch_consumes_what_there_is(rt: HostRuntime) -> Result<(), Fail> {
-    assert_said_over_lists::<Asked>(&rt, &[WITH_RECIPE, WITH_BATCH, CONSUMED_WHOLE])
+    check_said_over_lists::<Asked>(rt.alloc(), &[WITH_RECIPE, WITH_BATCH, CONSUMED_WHOLE])
 }
 
 const IN_STOCK: &[Line] = &[
@@ -62,5 +62,5 @@ const IN_STOCK: &[Line] = &[
 
 #[test]
 fn what_is_in_stock_is_listed(rt: HostRuntime) -> Result<(), Fail> {
-    assert_said_over_lists::<Asked>(&rt, &[WITH_RECIPE, WITH_BATCH, IN_STOCK])
+    check_said_over_lists::<Asked>(rt.alloc(), &[WITH_RECIPE, WITH_BATCH, IN_STOCK])
 }

@@ -7,7 +7,7 @@ use std::alloc::{AllocError, Global};
 use std::process::Abort;
 use std::test::Fail;
 use toll_keep::MemKeep;
-use toll_stories::{Line, assert_said_over_lists};
+use toll_stories::{Line, check_said_over_lists};
 use toll_wire::answer;
 
 const NOWHERE: &[Line] = &[
@@ -89,8 +89,8 @@ const WITHOUT_THE_KEY: &[Line] = &[
 
 #[test]
 fn a_path_of_no_route_leads_nowhere(rt: HostRuntime) -> Result<(), Fail> {
-    assert_said_over_lists::<Asked>(
-        &rt,
+    check_said_over_lists::<Asked>(
+        rt.alloc(),
         &[WITH_ACME, WITH_ORDER, NOWHERE, SOMEWHERE, WITHOUT_THE_KEY],
     )
 }

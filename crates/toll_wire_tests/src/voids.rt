@@ -2,7 +2,7 @@
 use crate::lines::Asked;
 use crate::setups::{WITH_BATCH, WITH_RECIPE};
 use std::test::Fail;
-use toll_stories::{Line, assert_said_over_lists};
+use toll_stories::{Line, check_said_over_lists};
 
 const CONSUMPTION_VOIDED: &[Line] = &[
     (
@@ -33,5 +33,5 @@ const CONSUMPTION_VOIDED: &[Line] = &[
 
 #[test]
 fn a_voided_consumption_gives_back(rt: HostRuntime) -> Result<(), Fail> {
-    assert_said_over_lists::<Asked>(&rt, &[WITH_RECIPE, WITH_BATCH, CONSUMPTION_VOIDED])
+    check_said_over_lists::<Asked>(rt.alloc(), &[WITH_RECIPE, WITH_BATCH, CONSUMPTION_VOIDED])
 }
