@@ -10,15 +10,7 @@ use Rattle.toll_sql.specs.Cells.{columns_from}
 use Rattle.toll_sql.specs.Tables.{width_of}
 use Rattle.toll_sql.specs.declared.table_kind.TableKind.{TableKind}
 use Rattle.toll_sql.proofs.WriteLemmas.{whole_row}
-
-value_at : {X : Type 0} (P : X → Type 0) (xs : List X) (i : ℕ) (d : X) → AllByRecursion P xs → i < length xs → P (get_or xs i d)
-value_at P [] i d all lt = absurd (omega (arith, lt))
-value_at P (x ∷ xs) zero d all lt = all.0
-value_at P (x ∷ xs) (suc i) d all lt = value_at P xs i d all.1 (omega (arith, lt))
-
-first_of : {X : Type 0} (xs : List X) (i : ℕ) → i < length xs → X
-first_of [] i lt = absurd (omega (arith, lt))
-first_of (x ∷ xs) i lt = x
+use Rattle.toll_sql.proofs.SoFar.{value_at, first_of}
 
 module _ {X : Type 0} (k : TableKind) (cells : X → Row) (is_valid : X → Type 0) (alone : StandAlone k cells is_valid) (l : List X) (rows : List Row) (are : rows ≡ map cells l) (valid : AllByRecursion is_valid l) where
   as_many : length rows ≡ length l

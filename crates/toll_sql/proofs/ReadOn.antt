@@ -1,5 +1,7 @@
 -- Readings one after another.
-use Rattle.std.proofs.Common.{◌≡◌, List, [], ◌∷◌, take, length, inl, inr, Ok, Err, Result, OnOk, IsTrue, refl, sym, ap, subst, ◌∙◌, arith}
+use Rattle.std.proofs.Common.{◌≡◌, List, [], ◌∷◌, ◌++◌, take, length, inl, inr, Ok, Err, Result, OnOk, IsTrue, refl, sym, ap, subst, ◌∙◌, arith}
+use Rattle.std.proofs.lemmas.Result.{on_ok_weaker}
+use Rattle.std.specs.List.{AllByRecursion}
 use Rattle.sqlite.specs.Effect.{Database}
 use Rattle.sqlite.specs.State.{State, HasCleanDisk, Survives}
 use Rattle.sqlite.specs.Tree.{Trees}
@@ -10,6 +12,8 @@ use Rattle.toll_keep.specs.declared.fault.KeepFault.TheVariants.{Disk, Damaged, 
 use Rattle.toll_sql.specs.Asking.{Asks, IsLooking}
 use Rattle.toll_sql.specs.Fronts.{front}
 use Rattle.toll_sql.specs.Reading.{ReadsOn}
+use Rattle.toll_sql.specs.Shown.{AreRowsIn, Shows}
+use Rattle.toll_sql.specs.declared.table_kind.TableKind.{TableKind}
 use Rattle.toll_sql.specs.declared.table_kind.TableKind.TheVariants.{Materials, Tests, Recipes, Requirements, Orders, Batches, Lots, Sublots, Moves, Results, Voids}
 use Rattle.toll_sql.proofs.CauseLemmas.{reason_before}
 use Rattle.toll_sql.proofs.LookLemmas.{held_on}
@@ -72,10 +76,22 @@ looks_as a b r t p shown disk closed damaged = record {
 
 -- ---- tables one after another
 
-module _ (f g h : Slice → Slice) (o : Bytes) where
-  pub reads_then : {X Y : Type 0} (a b c : State) (s t u : Slice) (x : X) (r : Result Y KeepFault) → ReadsOn f g o {X = X} a b s t (Ok x) → ReadsOn g h o b c t u r → ReadsOn f h o a c s u r
+all_append : {X : Type 0} (P : X → Type 0) (xs ys : List X) → AllByRecursion P xs → AllByRecursion P ys → AllByRecursion P (xs ++ ys)
+all_append P [] ys all more = more
+all_append P (x ∷ xs) ys all more = (all.0, all_append P xs ys all.1 more)
+
+pub shows_then : {X Y : Type 0} (kinds others : List TableKind) (o : Bytes) (a b c : State) (x : X) (r : Result Y KeepFault) → IsLooking {X = X} a b (Ok x) → Shows {X = X} kinds o a b (Ok x) → IsLooking b c r → Shows others o b c r → Shows (kinds ++ others) o a c r
+shows_then kinds others o a b c x r p shown q more = λ clean has idle.
+    let before = clean_before a b c q.asks.survives clean in
+    let same = p.asks.same before has (p.asks.shown before) idle in
+    let behind = more clean (ap (λ (db : Database). db.schema) same.0 ∙ has) (same.0 ∙ idle ∙ sym same.1) in
+    on_ok_weaker r (λ all. all_append (AreRowsIn o a.now.trees) kinds others (shown before has idle) (subst (λ (db : Database). AllByRecursion (AreRowsIn o db.trees) others) same.0 all)) behind
+
+module _ (f g h : Slice → Slice) {kinds others : List TableKind} (o : Bytes) where
+  pub reads_then : {X Y : Type 0} (a b c : State) (s t u : Slice) (x : X) (r : Result Y KeepFault) → ReadsOn f g kinds o {X = X} a b s t (Ok x) → ReadsOn g h others o b c t u r → ReadsOn f h (kinds ++ others) o a c s u r
   reads_then a b c s t u x r p q = record {
     looks = looks_then a b c x r p.looks q.looks;
+    shows = shows_then kinds others o a b c x r p.looks p.shows q.looks q.shows;
     reads = λ clean content held first.
         let before = clean_before a b c q.looks.asks.survives clean in
         q.reads clean content (held_on a b x content p.looks.asks before held) (p.reads before content held first);
@@ -85,7 +101,7 @@ module _ (f g h : Slice → Slice) (o : Bytes) where
   }
 
   -- one that failed read nothing
-  pub reads_not : {X Y : Type 0} (a b : State) (s t : Slice) (e : KeepFault) → ReadsOn f g o {X = X} a b s t (Err e) → ReadsOn f h o {X = Y} a b s t (Err e)
+  pub reads_not : {X Y : Type 0} (a b : State) (s t : Slice) (e : KeepFault) → ReadsOn f g kinds o {X = X} a b s t (Err e) → ReadsOn f h others o {X = Y} a b s t (Err e)
   reads_not a b s t e p = record {
     looks = record {
       asks = record { live = p.looks.asks.live; shown = λ clean. tt; same = p.looks.asks.same; mode = p.looks.asks.mode; survives = p.looks.asks.survives };
@@ -93,6 +109,7 @@ module _ (f g h : Slice → Slice) (o : Bytes) where
       unclosed = λ is. p.looks.unclosed (ap Err (same_error is));
       damaged = λ clean is. p.looks.damaged clean (ap Err (same_error is));
     };
+    shows = λ clean has idle. tt;
     reads = λ clean content held first. tt;
     whole = λ clean content held keeps first is. p.whole clean content held keeps first (ap Err (same_error is));
   }
@@ -140,5 +157,5 @@ pub voids_behind : (s : Slice) → front Voids (length s.voids) s ≡ s
 voids_behind s = ap (λ l. record s { voids = l }) (take_all s.voids)
 
 -- so what was read this far was read up to there
-pub reads_up_to : {X : Type 0} (f g h : Slice → Slice) (o : Bytes) (a b : State) (s t : Slice) (r : Result X KeepFault) → ((s : Slice) → g s ≡ h s) → ReadsOn f g o a b s t r → ReadsOn f h o a b s t r
-reads_up_to f g h o a b s t r same p = subst (λ (g : Slice → Slice). ReadsOn f g o a b s t r) (λ i. λ s. same s i) p
+pub reads_up_to : {X : Type 0} (f g h : Slice → Slice) {kinds : List TableKind} (o : Bytes) (a b : State) (s t : Slice) (r : Result X KeepFault) → ((s : Slice) → g s ≡ h s) → ReadsOn f g kinds o a b s t r → ReadsOn f h kinds o a b s t r
+reads_up_to f g h {kinds} o a b s t r same p = subst (λ (g : Slice → Slice). ReadsOn f g kinds o a b s t r) (λ i. λ s. same s i) p

@@ -11,15 +11,7 @@ use Rattle.toll_sql.specs.Fronts.{front, IsStoredAs}
 use Rattle.toll_sql.specs.StoredLaws.{StandIn}
 use Rattle.toll_sql.specs.declared.table_kind.TableKind.{TableKind}
 use Rattle.toll_sql.proofs.FrontRules.{front_keeps}
-
-value_at : {X : Type 0} (P : X → Type 0) (xs : List X) (i : ℕ) (d : X) → AllByRecursion P xs → i < length xs → P (get_or xs i d)
-value_at P [] i d all lt = absurd (omega (arith, lt))
-value_at P (x ∷ xs) zero d all lt = all.0
-value_at P (x ∷ xs) (suc i) d all lt = value_at P xs i d all.1 (omega (arith, lt))
-
-first_of : {X : Type 0} (xs : List X) (i : ℕ) → i < length xs → X
-first_of [] i lt = absurd (omega (arith, lt))
-first_of (x ∷ xs) i lt = x
+use Rattle.toll_sql.proofs.SoFar.{value_at, first_of}
 
 module _ {X : Type 0} (k : TableKind) (cells : Bytes → X → Row) (is_valid : X → Type 0) (any_row : X → OfficeRow) (listed : Slice → List X) (stand : StandIn k cells is_valid any_row listed)
     (s : Slice) (rows : List Row) (stored : IsStoredAs k s rows) where

@@ -11,7 +11,7 @@ use Rattle.sqlite_trees.proofs.ListLemmas.{all-permutation}
 use Rattle.toll_base.specs.Bytes.{Bytes}
 use Rattle.toll_sql.specs.Bag.{owned_by}
 use Rattle.toll_sql.specs.Cells.{columns_from}
-use Rattle.toll_sql.specs.Reading.{AreOwnedBy, AreRowsOf, IsRowOf}
+use Rattle.toll_sql.specs.Shown.{AreOwnedBy, AreRowsOf, IsRowOf}
 use Rattle.toll_sql.specs.Rows.{AreOfOwner}
 use Rattle.toll_sql.specs.Tables.{tree_of, width_of}
 use Rattle.toll_sql.specs.declared.table_kind.TableKind.{TableKind}
@@ -28,6 +28,15 @@ pub one_more : {X : Type 0} (P : X → Type 0) (xs : List X) (i : ℕ) (x : X) �
 one_more P xs i x lt is all it =
     let one : suc i ≡ i + 1 = omega arith in
     subst (λ n. AllByRecursion P (take n xs)) one (next_too P xs i x lt is all it)
+
+pub value_at : {X : Type 0} (P : X → Type 0) (xs : List X) (i : ℕ) (d : X) → AllByRecursion P xs → i < length xs → P (get_or xs i d)
+value_at P [] i d all lt = absurd (omega (arith, lt))
+value_at P (x ∷ xs) zero d all lt = all.0
+value_at P (x ∷ xs) (suc i) d all lt = value_at P xs i d all.1 (omega (arith, lt))
+
+pub first_of : {X : Type 0} (xs : List X) (i : ℕ) → i < length xs → X
+first_of [] i lt = absurd (omega (arith, lt))
+first_of (x ∷ xs) i lt = x
 
 pub value_there : {X : Type 0} (P : X → Type 0) (xs : List X) (i : ℕ) (x : X) → i < length xs → x ≡ get_or xs i x → AllByRecursion P xs → P x
 value_there P [] i x lt is all = absurd (omega (arith, lt))

@@ -334,37 +334,37 @@ module _ (o : Bytes) where
 -- ---- so they stand in their tables
 
 pub materials_stand : StandIn Materials material_cells IsMaterial (λ (x : MaterialRow). of.Material x) (λ s. s.materials)
-materials_stand = record { owned = refl; its_table = λ x. refl; its_cells = λ o x. refl; its_rows = λ s. refl; are_valid = λ s valid. valid; told = materials_told; next = materials_next }
+materials_stand = record { owned = refl; its_table = λ x. refl; its_cells = λ o x. refl; its_rows = λ s. refl; are_valid = λ s valid. valid; told = materials_told; shown = λ o db all. all; next = materials_next }
 
 pub tests_stand : StandIn Tests test_cells IsTest (λ (x : TestRow). of.Test x) (λ s. s.tests)
-tests_stand = record { owned = refl; its_table = λ x. refl; its_cells = λ o x. refl; its_rows = λ s. refl; are_valid = λ s valid. valid; told = tests_told; next = tests_next }
+tests_stand = record { owned = refl; its_table = λ x. refl; its_cells = λ o x. refl; its_rows = λ s. refl; are_valid = λ s valid. valid; told = tests_told; shown = λ o db all. all; next = tests_next }
 
 pub recipes_stand : StandIn Recipes recipe_cells IsRecipe (λ (x : RecipeRow). of.Recipe x) (λ s. s.recipes)
-recipes_stand = record { owned = refl; its_table = λ x. refl; its_cells = λ o x. refl; its_rows = λ s. refl; are_valid = λ s valid. valid; told = recipes_told; next = recipes_next }
+recipes_stand = record { owned = refl; its_table = λ x. refl; its_cells = λ o x. refl; its_rows = λ s. refl; are_valid = λ s valid. valid; told = recipes_told; shown = λ o db all. all; next = recipes_next }
 
 pub requirements_stand : StandIn Requirements requirement_cells IsRequirement (λ (x : RequirementRow). of.Requirement x) (λ s. s.requirements)
-requirements_stand = record { owned = refl; its_table = λ x. refl; its_cells = λ o x. refl; its_rows = λ s. refl; are_valid = λ s valid. valid; told = requirements_told; next = requirements_next }
+requirements_stand = record { owned = refl; its_table = λ x. refl; its_cells = λ o x. refl; its_rows = λ s. refl; are_valid = λ s valid. valid; told = requirements_told; shown = λ o db all. all; next = requirements_next }
 
 pub orders_stand : StandIn Orders order_cells IsOrder (λ (x : OrderRow). of.Order x) (λ s. s.orders)
-orders_stand = record { owned = refl; its_table = λ x. refl; its_cells = λ o x. refl; its_rows = λ s. refl; are_valid = λ s valid. valid; told = orders_told; next = orders_next }
+orders_stand = record { owned = refl; its_table = λ x. refl; its_cells = λ o x. refl; its_rows = λ s. refl; are_valid = λ s valid. valid; told = orders_told; shown = λ o db all. all; next = orders_next }
 
 pub batches_stand : StandIn Batches batch_cells IsBatch (λ (x : BatchRow). of.Batch x) (λ s. s.batches)
-batches_stand = record { owned = refl; its_table = λ x. refl; its_cells = λ o x. refl; its_rows = λ s. refl; are_valid = λ s valid. valid; told = batches_told; next = batches_next }
+batches_stand = record { owned = refl; its_table = λ x. refl; its_cells = λ o x. refl; its_rows = λ s. refl; are_valid = λ s valid. valid; told = batches_told; shown = λ o db all. all; next = batches_next }
 
 pub lots_stand : StandIn Lots lot_cells IsLot (λ (x : LotRow). of.Lot x) (λ s. s.lots)
-lots_stand = record { owned = refl; its_table = λ x. refl; its_cells = λ o x. refl; its_rows = λ s. refl; are_valid = λ s valid. valid; told = lots_told; next = lots_next }
+lots_stand = record { owned = refl; its_table = λ x. refl; its_cells = λ o x. refl; its_rows = λ s. refl; are_valid = λ s valid. valid; told = lots_told; shown = λ o db all. all; next = lots_next }
 
 pub sublots_stand : StandIn Sublots sublot_cells IsSublot (λ (x : SublotRow). of.Sublot x) (λ s. s.sublots)
-sublots_stand = record { owned = refl; its_table = λ x. refl; its_cells = λ o x. refl; its_rows = λ s. refl; are_valid = λ s valid. valid; told = sublots_told; next = sublots_next }
+sublots_stand = record { owned = refl; its_table = λ x. refl; its_cells = λ o x. refl; its_rows = λ s. refl; are_valid = λ s valid. valid; told = sublots_told; shown = λ o db all. all; next = sublots_next }
 
 pub moves_stand : StandIn Moves move_cells IsMovement (λ (x : MoveRow). of.Move x) (λ s. s.moves)
-moves_stand = record { owned = refl; its_table = λ x. refl; its_cells = λ o x. refl; its_rows = λ s. refl; are_valid = λ s valid. valid; told = moves_told; next = moves_next }
+moves_stand = record { owned = refl; its_table = λ x. refl; its_cells = λ o x. refl; its_rows = λ s. refl; are_valid = λ s valid. valid; told = moves_told; shown = λ o db all. all; next = moves_next }
 
 pub results_stand : StandIn Results result_cells IsResult (λ (x : ResultRow). of.Result x) (λ s. s.results)
-results_stand = record { owned = refl; its_table = λ x. refl; its_cells = λ o x. refl; its_rows = λ s. refl; are_valid = λ s valid. valid; told = results_told; next = results_next }
+results_stand = record { owned = refl; its_table = λ x. refl; its_cells = λ o x. refl; its_rows = λ s. refl; are_valid = λ s valid. valid; told = results_told; shown = λ o db all. all; next = results_next }
 
 pub voids_stand : StandIn Voids void_cells IsVoid (λ (x : VoidRow). of.Void x) (λ s. s.voids)
-voids_stand = record { owned = refl; its_table = λ x. refl; its_cells = λ o x. refl; its_rows = λ s. refl; are_valid = λ s valid. valid; told = voids_told; next = voids_next }
+voids_stand = record { owned = refl; its_table = λ x. refl; its_cells = λ o x. refl; its_rows = λ s. refl; are_valid = λ s valid. valid; told = voids_told; shown = λ o db all. all; next = voids_next }
 
 -- ---- owners and units
 

@@ -6,6 +6,7 @@ pub mod Bag
 pub mod Valid
 pub mod Holds
 pub mod Fronts
+pub mod Shown
 pub mod StoredLaws
 pub mod Select
 pub mod Given

@@ -3,6 +3,7 @@ use Rattle.std.specs.Prelude.{◌≡◌, ℕ, ◌+◌, ◌<◌, true, false, Lis
 use Rattle.std.proofs.Common.{get_or}
 use Rattle.std.specs.List.{AllByRecursion}
 use Rattle.sqlite.specs.Order.{Row}
+use Rattle.sqlite.specs.Tree.{Trees}
 use Rattle.toll_base.specs.Bytes.{Bytes}
 use Rattle.toll_base.specs.Slice.{Slice, with_row}
 use Rattle.toll_base.specs.declared.rows.Row.{Row as OfficeRow}
@@ -10,6 +11,7 @@ use Rattle.toll_sql.specs.Bag.{Rises}
 use Rattle.toll_sql.specs.Cells.{fill, key_order}
 use Rattle.toll_sql.specs.Encode.{table_for, cells_for, rows_for}
 use Rattle.toll_sql.specs.Fronts.{front}
+use Rattle.toll_sql.specs.Shown.{AreRowsIn, AreRowsOf}
 use Rattle.toll_sql.specs.Tables.{is_owned}
 use Rattle.toll_sql.specs.Valid.{AreValidIn}
 use Rattle.toll_sql.specs.declared.table_kind.TableKind.{TableKind}
@@ -26,6 +28,8 @@ pub record StandIn {X : Type 0} (k : TableKind) (cells : Bytes → X → Row) (i
   pub are_valid : (s : Slice) → AreValidIn k s → AllByRecursion is_valid (rows s)
   -- rows with the same cells are one
   pub told : (o : Bytes) (x y : X) → is_valid x → is_valid y → cells o x ≡ cells o y → x ≡ y
+  -- stored rows of this kind are rows of the table
+  pub shown : (o : Bytes) (db : Trees) → AreRowsOf k cells is_valid o db → AreRowsIn o db k
   -- the next row is added at the end
   pub next : (s : Slice) (i : ℕ) (d : X) → Rises (key_order k) (rows_for k s) → i < length (rows s) → with_row (front k i s) (row (get_or (rows s) i d)) ≡ front k (i + 1) s
 

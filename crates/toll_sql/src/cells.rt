@@ -6,16 +6,17 @@ ghost use Rattle.toll_base.specs.Roles.{role_rank};
 ghost use Rattle.toll_base.specs.Values.{is_name, is_measure, is_owner_key, IsValue};
 ghost use Rattle.toll_base.specs.declared.lot.Disposition.{Disposition as Dispositions};
 ghost use Rattle.toll_base.specs.declared.limits.Limits.{Limits as Bounds};
+ghost use Rattle.toll_base.specs.declared.lot.LotId.{LotId as Lots};
 ghost use Rattle.toll_base.specs.declared.lot.Origin.{Origin as Origins};
 ghost use Rattle.toll_base.specs.declared.role.Role.{Role as Roles};
 ghost use Rattle.toll_base.specs.declared.state.State.{State as States};
 ghost use Rattle.toll_sql.specs.Encode as stored;
-ghost use Rattle.toll_sql.specs.Valid.{IsOrigin, IsStorable};
+ghost use Rattle.toll_sql.specs.Valid.{IsLotId, IsOrigin, IsStorable};
 
 use sqlite::Row;
 use sqlite::types::ValueRef;
 use toll_base::{
-    Bounded, Disposition, Limits, Measure, Name, Origin, OwnerKey, Role, State, Value,
+    Bounded, Disposition, Limits, LotId, Measure, Name, Origin, OwnerKey, Role, State, Value,
 };
 
 /// The name in this column, where it is one.
@@ -31,6 +32,18 @@ pub fn name_at(row: &Row, at: usize) -> Option<Name>
         },
         _ => None,
     }
+}
+
+/// The lot that these columns name, its owner's and its own, where it is one.
+pub fn lot_at(row: &Row, owner: usize, lot: usize) -> Option<LotId>
+    ensures some { IfSome result (λ l. (column row.now owner ≡ Text l.owner) × (column row.now lot ≡ Text l.lot)) }
+    ensures valid { IfSome result IsLotId }
+    ensures none { result ≡ None → (l : Lots) → IsLotId l → column row.now owner ≡ Text l.owner → column row.now lot ≢ Text l.lot }
+{
+    Some(LotId {
+        owner: name_at(row, owner)?,
+        lot: name_at(row, lot)?,
+    })
 }
 
 /// The measure in this column, where it is one.

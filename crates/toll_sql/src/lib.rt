@@ -36,4 +36,5 @@ pub use ghosts::{
     a_keep_over_sqlite_has_the_content_of_its_tables, a_keep_over_sqlite_is_as_honest_as_its_disk,
 };
 pub use open_fault::OpenFault;
+pub use slice_reading::read_slice;
 pub use sql_keep::SqlKeep;

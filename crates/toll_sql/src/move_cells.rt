@@ -11,10 +11,10 @@ ghost use Rattle.toll_sql.specs.Encode.{actual_kind};
 ghost use Rattle.toll_sql.specs.Moves.{ShowsMove, ShowsTaking};
 ghost use Rattle.toll_sql.specs.Valid.{IsMove};
 
-use crate::cells::{bounded_at, is_empty_at, is_zero_at, name_at, number_at};
+use crate::cells::{bounded_at, is_empty_at, is_zero_at, lot_at, name_at, number_at};
 use sqlite::Row;
 use sqlite::types::ValueRef;
-use toll_base::{LotId, Move, Name, Role};
+use toll_base::{Move, Name, Role};
 
 /// What the movement of these cells moves: `None` where they are those of none.
 pub fn move_at(row: &Row) -> Option<Move>
@@ -95,19 +95,8 @@ fn actual_at(row: &Row, role: Role) -> Option<Move>
         segment: bounded_at(row, 10)?,
         role,
         material: name_at(row, 7)?,
-        lot: lot_at(row)?,
+        lot: lot_at(row, 3, 4)?,
         sublot: name_at(row, 5)?,
-    })
-}
-
-fn lot_at(row: &Row) -> Option<LotId>
-    ensures some { IfSome result (λ l. (column row.now 3 ≡ Text l.owner) × (column row.now 4 ≡ Text l.lot)) }
-    ensures valid { IfSome result (λ l. IsTrue (is_name l.owner) × IsTrue (is_name l.lot)) }
-    ensures none { result ≡ None → (l : Lots) → IsTrue (is_name l.owner) → IsTrue (is_name l.lot) → column row.now 3 ≡ Text l.owner → column row.now 4 ≢ Text l.lot }
-{
-    Some(LotId {
-        owner: name_at(row, 3)?,
-        lot: name_at(row, 4)?,
     })
 }
 

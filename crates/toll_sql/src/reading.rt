@@ -1,17 +1,16 @@
 //! An owner's rows, read from the tables into a slice.
-ghost use Rattle.std.specs.Prelude.{◌≡◌, ◌≢◌, true, Err, length, OnOk};
+ghost use Rattle.std.specs.Prelude.{◌≡◌, ◌≢◌, [], ◌∷◌, Err, length, OnOk};
 ghost use Rattle.std.specs.List.{AllByRecursion};
 ghost use Rattle.sqlite.specs.Held.{state};
 ghost use Rattle.sqlite.specs.Order.{column};
-ghost use Rattle.sqlite.specs.State.{HasCleanDisk};
 ghost use Rattle.sqlite.specs.declared.types.Value.TheVariants.{Text};
 ghost use Rattle.toll_base.specs.Bytes.{Bytes};
 ghost use Rattle.toll_base.specs.Slice as slices;
 ghost use Rattle.toll_base.specs.SliceRules.{KeepsRules};
 ghost use Rattle.toll_sql.specs.Fronts.{front, IsStoredAs};
-ghost use Rattle.toll_sql.specs.Reading.{AreOwnedBy, AreRowsOf, IsRowOf, ReadsOn};
+ghost use Rattle.toll_sql.specs.Reading.{ReadsOn};
+ghost use Rattle.toll_sql.specs.Shown.{AreOwnedBy, IsRowOf};
 ghost use Rattle.toll_sql.specs.StoredLaws.{StandIn};
-ghost use Rattle.toll_sql.specs.Tables.{is_owned, ours};
 
 use crate::asking::owners_rows;
 use crate::fault::fault_of;
@@ -26,8 +25,7 @@ pub fn read_table<S: Alter, X: StoredRow>(
     slice: &mut Slice,
     owner: &Name,
 ) -> Result<(), KeepFault>
-    ensures reads { StandIn X.kind X.cells X.is_valid X.any_row X.listed → ReadsOn (front X.kind 0) (λ s. front X.kind (length (X.listed s)) s) owner.now (state S.Store conn.old) (state S.Store conn.new) slice.old slice.new result }
-    ensures shown { is_owned X.kind ≡ true → HasCleanDisk (state S.Store conn.new) → (state S.Store conn.old).now.schema ≡ ours → OnOk result (AreRowsOf X.kind X.cells X.is_valid owner.now (state S.Store conn.old).now.trees) }
+    ensures { StandIn X.kind X.cells X.is_valid X.any_row X.listed → ReadsOn (front X.kind 0) (λ s. front X.kind (length (X.listed s)) s) (X.kind ∷ []) owner.now (state S.Store conn.old) (state S.Store conn.new) slice.old slice.new result }
 {
     match owners_rows(conn, X::table(), owner) {
         Ok(rows) => read_rows::<X>(slice, &rows),

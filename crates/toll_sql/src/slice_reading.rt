@@ -1,6 +1,6 @@
 //! All rows of an owner, read from the tables.
-ghost use Rattle.std.specs.Prelude.{◌≡◌, ◌≢◌, ◌||◌, Err, IfOk, is_some};
-ghost use Rattle.std.specs.List.{list_any};
+ghost use Rattle.std.specs.Prelude.{◌≡◌, ◌≢◌, ◌||◌, [], ◌∷◌, Err, IfOk, IfSome, is_some};
+ghost use Rattle.std.specs.List.{AllByRecursion, list_any};
 ghost use Rattle.sqlite.specs.Held.{state};
 ghost use Rattle.sqlite.specs.State.{HasCleanDisk};
 ghost use Rattle.toll_base.specs.Bytes.{bytes_cmp, same_bytes};
@@ -10,8 +10,10 @@ ghost use Rattle.toll_keep.specs.Content.{Content, ContentKeepsRules, slice_of};
 ghost use Rattle.toll_sql.specs.Asking.{IsLooking};
 ghost use Rattle.toll_sql.specs.Fronts.{front};
 ghost use Rattle.toll_sql.specs.Reading.{ReadsOn};
+ghost use Rattle.toll_sql.specs.Shown.{AreRowsIn, Shows, tables_of_owners};
 ghost use Rattle.toll_sql.specs.Stores.{HoldsIn};
-ghost use Rattle.toll_sql.specs.declared.table_kind.TableKind.TheVariants.{Materials, Orders, Lots, Moves};
+ghost use Rattle.toll_sql.specs.Tables.{ours};
+ghost use Rattle.toll_sql.specs.declared.table_kind.TableKind.TheVariants.{Materials, Tests, Recipes, Requirements, Orders, Batches, Lots, Sublots, Moves, Results, Voids};
 
 use crate::listing::read_owners;
 use crate::reading::read_table;
@@ -23,7 +25,9 @@ use toll_base::{
 };
 use toll_keep::KeepFault;
 
-/// All rows of an owner: `None` for an unknown one. HOUSE is always known.
+/// All rows of an owner: `None` for an unknown one. HOUSE is always known. Where rows are given, each that
+/// the tables have of the owner is a row of the office, its values values of their kinds: one that is none
+/// is Damaged.
 pub fn read_slice<S: Alter>(
     conn: &mut Connection<S>,
     alloc: Global,
@@ -31,6 +35,7 @@ pub fn read_slice<S: Alter>(
 ) -> Result<Option<Slice>, KeepFault>
     ensures looks { IsLooking (state S.Store conn.old) (state S.Store conn.new) result }
     ensures reads { HasCleanDisk (state S.Store conn.new) → (c : Content) → HoldsIn (state S.Store conn.old) c → IfOk result (λ slice. slice ≡ slice_of c owner.now) }
+    ensures shown { HasCleanDisk (state S.Store conn.new) → (state S.Store conn.old).now.schema ≡ ours → (state S.Store conn.old).now ≡ (state S.Store conn.old).committed → IfOk result (λ slice. IfSome slice (λ _. AllByRecursion (AreRowsIn owner.now (state S.Store conn.old).now.trees) tables_of_owners)) }
     ensures whole { HasCleanDisk (state S.Store conn.new) → (c : Content) → HoldsIn (state S.Store conn.old) c → ContentKeepsRules c → result ≢ Err KeepFault.Damaged }
 {
     let owners = read_owners(conn, alloc)?;
@@ -62,6 +67,7 @@ fn read_rows_of<S: Alter>(
 ) -> Result<Slice, KeepFault>
     ensures looks { IsLooking (state S.Store conn.old) (state S.Store conn.new) result }
     ensures reads { HasCleanDisk (state S.Store conn.new) → (c : Content) → HoldsIn (state S.Store conn.old) c → IfOk result (λ slice. slice ≡ c.rows owner.now) }
+    ensures shown { Shows tables_of_owners owner.now (state S.Store conn.old) (state S.Store conn.new) result }
     ensures whole { HasCleanDisk (state S.Store conn.new) → (c : Content) → HoldsIn (state S.Store conn.old) c → ContentKeepsRules c → result ≢ Err KeepFault.Damaged }
 {
     let mut slice = Slice::new(alloc, *owner);
@@ -76,7 +82,7 @@ fn read_definitions<S: Alter>(
     slice: &mut Slice,
     owner: &Name,
 ) -> Result<(), KeepFault>
-    ensures { ReadsOn (front Materials 0) (front Moves 0) owner.now (state S.Store conn.old) (state S.Store conn.new) slice.old slice.new result }
+    ensures { ReadsOn (front Materials 0) (front Moves 0) (Materials ∷ Tests ∷ Recipes ∷ Requirements ∷ Orders ∷ Batches ∷ Lots ∷ Sublots ∷ []) owner.now (state S.Store conn.old) (state S.Store conn.new) slice.old slice.new result }
 {
     read_materials(conn, slice, owner)?;
     read_work(conn, slice, owner)?;
@@ -89,7 +95,7 @@ fn read_materials<S: Alter>(
     slice: &mut Slice,
     owner: &Name,
 ) -> Result<(), KeepFault>
-    ensures { ReadsOn (front Materials 0) (front Orders 0) owner.now (state S.Store conn.old) (state S.Store conn.new) slice.old slice.new result }
+    ensures { ReadsOn (front Materials 0) (front Orders 0) (Materials ∷ Tests ∷ Recipes ∷ Requirements ∷ []) owner.now (state S.Store conn.old) (state S.Store conn.new) slice.old slice.new result }
 {
     read_table::<S, MaterialRow>(conn, slice, owner)?;
     read_table::<S, TestRow>(conn, slice, owner)?;
@@ -103,7 +109,7 @@ fn read_work<S: Alter>(
     slice: &mut Slice,
     owner: &Name,
 ) -> Result<(), KeepFault>
-    ensures { ReadsOn (front Orders 0) (front Lots 0) owner.now (state S.Store conn.old) (state S.Store conn.new) slice.old slice.new result }
+    ensures { ReadsOn (front Orders 0) (front Lots 0) (Orders ∷ Batches ∷ []) owner.now (state S.Store conn.old) (state S.Store conn.new) slice.old slice.new result }
 {
     read_table::<S, OrderRow>(conn, slice, owner)?;
     read_table::<S, BatchRow>(conn, slice, owner)
@@ -115,7 +121,7 @@ fn read_lots<S: Alter>(
     slice: &mut Slice,
     owner: &Name,
 ) -> Result<(), KeepFault>
-    ensures { ReadsOn (front Lots 0) (front Moves 0) owner.now (state S.Store conn.old) (state S.Store conn.new) slice.old slice.new result }
+    ensures { ReadsOn (front Lots 0) (front Moves 0) (Lots ∷ Sublots ∷ []) owner.now (state S.Store conn.old) (state S.Store conn.new) slice.old slice.new result }
 {
     read_table::<S, LotRow>(conn, slice, owner)?;
     read_table::<S, SublotRow>(conn, slice, owner)
@@ -127,7 +133,7 @@ fn read_movements<S: Alter>(
     slice: &mut Slice,
     owner: &Name,
 ) -> Result<(), KeepFault>
-    ensures { ReadsOn (front Moves 0) (λ s. s) owner.now (state S.Store conn.old) (state S.Store conn.new) slice.old slice.new result }
+    ensures { ReadsOn (front Moves 0) (λ s. s) (Moves ∷ Results ∷ Voids ∷ []) owner.now (state S.Store conn.old) (state S.Store conn.new) slice.old slice.new result }
 {
     read_table::<S, MoveRow>(conn, slice, owner)?;
     read_table::<S, ResultRow>(conn, slice, owner)?;

@@ -1,4 +1,4 @@
-use Rattle.toll_sql.specs.Reading.{IsRowOf}
+use Rattle.toll_sql.specs.Shown.{IsRowOf}
 use Rattle.toll_sql.proofs.SoFar.{when_ok}
 use Rattle.toll_sql.proofs.reading.read_row.Goals as goal
 

@@ -3,7 +3,7 @@ use Rattle.std.specs.List.{AllByRecursion}
 use Rattle.toll_base.specs.Bytes.{Bytes}
 use Rattle.toll_base.specs.Slice.{Slice}
 use Rattle.toll_sql.specs.Fronts.{front, IsStoredAs}
-use Rattle.toll_sql.specs.Reading.{AreOwnedBy, IsRowOf}
+use Rattle.toll_sql.specs.Shown.{AreOwnedBy, IsRowOf}
 use Rattle.toll_sql.specs.StoredLaws.{StandIn}
 use Rattle.toll_sql.proofs.reading.read_rows.Given as goal
 

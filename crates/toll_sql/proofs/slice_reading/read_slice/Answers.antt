@@ -1,8 +1,9 @@
-use Rattle.std.proofs.Common.{rules, Option, Ok, Err}
+use Rattle.std.proofs.Common.{[], rules, Option, Ok, Err}
 use Rattle.sqlite.specs.Held.{state}
 use Rattle.toll_base.specs.Slice.{Slice}
 use Rattle.toll_sql.specs.Asking.{IsLooking}
-use Rattle.toll_sql.proofs.ReadOn.{looks_then, looks_as}
+use Rattle.toll_sql.specs.Shown.{tables_of_owners}
+use Rattle.toll_sql.proofs.ReadOn.{looks_then, looks_as, shows_then}
 use Rattle.toll_sql.proofs.slice_reading.read_slice.Goals as goal
 
 pub returns-in_err-slice-clause-looks : goal.returns-in_err-slice-clause-looks
@@ -23,3 +24,10 @@ returns-clause-looks g c =
     let two = state g.S.Store c.read_rows_of.new.conn in
     let q = looks_then old one two _ _ c.in_ok-owners.ensures.looks c.in_ok-slice.ensures.looks in
     looks_as old two (Ok _) (Ok _) q (λ live. live) (λ is. absurd (cc)) (λ is. absurd (cc)) (λ is. absurd (cc))
+
+pub returns-clause-shown : goal.returns-clause-shown
+returns-clause-shown g c =
+    let old = state g.S.Store c.args.conn.now in
+    let one = state g.S.Store c.read_owners.new.conn in
+    let two = state g.S.Store c.read_rows_of.new.conn in
+    shows_then {Y = Slice} [] tables_of_owners c.args.owner.now old one two _ (Ok _) c.in_ok-owners.ensures.looks (λ clean has idle. tt) c.in_ok-slice.ensures.looks c.in_ok-slice.ensures.shown

@@ -1,0 +1,53 @@
+-- Stored rows that are rows of the office.
+use Rattle.std.specs.Prelude.{◌≡◌, List, [], ◌∷◌, map, Result, OnOk}
+use Rattle.std.specs.List.{AllByRecursion}
+use Rattle.sqlite.specs.Order.{Row, column}
+use Rattle.sqlite.specs.State.{State, HasCleanDisk}
+use Rattle.sqlite.specs.Tree.{Trees}
+use Rattle.sqlite.specs.declared.types.Value.TheVariants.{Text}
+use Rattle.toll_base.specs.Bytes.{Bytes}
+use Rattle.toll_keep.specs.declared.fault.KeepFault.{KeepFault}
+use Rattle.toll_sql.specs.Bag.{owned_by}
+use Rattle.toll_sql.specs.Cells.{columns_from}
+use Rattle.toll_sql.specs.Encode.{material_cells, test_cells, recipe_cells, requirement_cells, order_cells, batch_cells, lot_cells, sublot_cells, move_cells, result_cells, void_cells}
+use Rattle.toll_sql.specs.Tables.{ours, tree_of, width_of}
+use Rattle.toll_sql.specs.Valid.{IsMaterial, IsTest, IsRecipe, IsRequirement, IsOrder, IsBatch, IsLot, IsSublot, IsMovement, IsResult, IsVoid}
+use Rattle.toll_sql.specs.declared.table_kind.TableKind.{TableKind}
+use Rattle.toll_sql.specs.declared.table_kind.TableKind.TheVariants.{Meta, Owners, Units, Materials, Tests, Recipes, Requirements, Orders, Batches, Lots, Sublots, Moves, Results, Voids}
+
+-- the cells are those of a row of this kind that the owner has, with values of their kinds
+abbrev pub IsRowOf : {X : Type 0} → TableKind → (Bytes → X → Row) → (X → Type 0) → Bytes → Row → Type 0
+IsRowOf {X} k cells is_valid o row = (x : X) × is_valid x × (columns_from 0 (width_of k) row ≡ cells o x)
+
+-- so are those of each row of the owner that the table has
+abbrev pub AreRowsOf : {X : Type 0} → TableKind → (Bytes → X → Row) → (X → Type 0) → Bytes → Trees → Type 0
+AreRowsOf k cells is_valid o db = AllByRecursion (IsRowOf k cells is_valid o) (map (columns_from 1 (width_of k)) (owned_by o (db (tree_of k))))
+
+-- so they are in the table, whatever its kind
+abbrev pub AreRowsIn : Bytes → Trees → TableKind → Type 0
+AreRowsIn o db Meta = Unit {0}
+AreRowsIn o db Owners = Unit {0}
+AreRowsIn o db Units = Unit {0}
+AreRowsIn o db Materials = AreRowsOf Materials material_cells IsMaterial o db
+AreRowsIn o db Tests = AreRowsOf Tests test_cells IsTest o db
+AreRowsIn o db Recipes = AreRowsOf Recipes recipe_cells IsRecipe o db
+AreRowsIn o db Requirements = AreRowsOf Requirements requirement_cells IsRequirement o db
+AreRowsIn o db Orders = AreRowsOf Orders order_cells IsOrder o db
+AreRowsIn o db Batches = AreRowsOf Batches batch_cells IsBatch o db
+AreRowsIn o db Lots = AreRowsOf Lots lot_cells IsLot o db
+AreRowsIn o db Sublots = AreRowsOf Sublots sublot_cells IsSublot o db
+AreRowsIn o db Moves = AreRowsOf Moves move_cells IsMovement o db
+AreRowsIn o db Results = AreRowsOf Results result_cells IsResult o db
+AreRowsIn o db Voids = AreRowsOf Voids void_cells IsVoid o db
+
+-- the tables that owners part
+abbrev pub tables_of_owners : List TableKind
+tables_of_owners = Materials ∷ Tests ∷ Recipes ∷ Requirements ∷ Orders ∷ Batches ∷ Lots ∷ Sublots ∷ Moves ∷ Results ∷ Voids ∷ []
+
+-- tables that are ours, with nothing pending: where an answer was given, each stored row of the owner in these is a row of the office
+abbrev pub Shows : {X : Type 0} → List TableKind → Bytes → State → State → Result X KeepFault → Type 0
+Shows kinds o old new result = HasCleanDisk new → old.now.schema ≡ ours → old.now ≡ old.committed → OnOk result (AllByRecursion (AreRowsIn o old.now.trees) kinds)
+
+-- the rows are this owner's
+abbrev pub AreOwnedBy : Bytes → List Row → Type 0
+AreOwnedBy o rows = AllByRecursion (λ row. column row 0 ≡ Text o) rows
