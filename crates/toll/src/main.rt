@@ -6,21 +6,11 @@
 #![tactic(auto)]
 
 mod arguments;
-mod cutting;
-mod events;
-mod input;
 mod lending;
 mod office;
-mod plant_import;
-mod plant_line;
-mod printing;
 mod programs;
-mod request_line;
-mod script;
 mod serving;
 mod session;
-mod status;
-mod telling;
 #[cfg(test)]
 mod tests;
 mod timed;

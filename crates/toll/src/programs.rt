@@ -1,13 +1,7 @@
 //! The programs.
 use crate::arguments::{Task, task_of};
-use crate::input::{FrontFault, read_front};
 use crate::office::Office;
-use crate::plant_import::plant_import;
-use crate::plant_line::plant_line;
-use crate::script::{ScriptEnd, script};
 use crate::serving::{Served, serve_all};
-use crate::status::Status;
-use crate::telling::tell;
 use std::alloc::{AllocError, Global};
 use std::fmt::Display;
 use std::fs::File;
@@ -15,6 +9,9 @@ use std::net::{Ipv4Addr, SocketAddrV4, TcpListener};
 use std::{env, io};
 use toll_keep::Remembering;
 use toll_plant::{MOST_FILE_BYTES, WordsFault, command_of};
+use toll_programs::{
+    FrontFault, ScriptEnd, Status, plant_import, plant_line, read_front, script, tell,
+};
 use toll_sql::SqlKeep;
 
 const USAGE: &str =

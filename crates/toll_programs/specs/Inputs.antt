@@ -1,0 +1,19 @@
+-- What a script is read from.
+use Rattle.std.specs.Prelude.{◌≡◌, ◌+◌, ◌≤◌, ℕ, Option, length}
+use Rattle.std.specs.Io.KnownBytes.{Consumes, IsAtEnd}
+use Rattle.toll_base.specs.Bytes.{Bytes}
+use Rattle.toll_programs.specs.declared.input.TheConstants.{TEXT_LIMIT}
+
+-- how many bytes a script may have
+abbrev pub script_limit : ℕ
+script_limit = TEXT_LIMIT
+
+-- this input is all that a reader had left, up to its end, and no longer than a script may be
+pub record IsWhole (old new : Option Bytes) (input : Bytes) : Type 0 where
+  pub given : Consumes old new input
+  pub ended : IsAtEnd new
+  pub short : length input ≤ script_limit
+
+-- a reader had more than a script may be, and gave one byte more
+abbrev pub IsTooLong : Option Bytes → Option Bytes → Type 0
+IsTooLong old new = (front : Bytes) × Consumes old new front × (length front ≡ script_limit + 1)

@@ -1,0 +1,22 @@
+//! Cutting texts at a byte.
+ghost use Rattle.std.specs.Prelude.{◌≡◌, ◌==◌, ◌<◌, [], ◌∷◌, length, MatchOption, IfSome, position};
+ghost use Rattle.toll_programs.specs.Pieces.{pieces_at};
+
+/// What stands before the first of these bytes, and what stands behind it: `None` where there is
+/// none.
+pub fn cut(text: &[u8], at: u8) -> Option<(&[u8], &[u8])>
+    ensures pieces { MatchOption result (pieces_at at text.now ≡ text.now ∷ [])
+        (λ parts. pieces_at at text.now ≡ parts.0.now ∷ pieces_at at parts.1.now) }
+    ensures shorter { IfSome result (λ parts. length parts.1.now < length text.now) }
+{
+    match place_of(text, at) {
+        None => None,
+        Some(place) => Some((&text[..place], &text[place + 1..])),
+    }
+}
+
+fn place_of(text: &[u8], byte: u8) -> Option<usize>
+    ensures { result ≡ position (λ b. b == byte) text.now }
+{
+    text.iter().position(|b| *b == byte)
+}

@@ -1,0 +1,122 @@
+//! The events of a script.
+ghost use Rattle.std.specs.Prelude.{◌≡◌, ◌∷◌, ◌<◌, ◌≤◌, IfOk, IfErr, IfSome, OnOk, Ok, Err, map, length, option_map};
+ghost use Rattle.toll_programs.specs.Script.{AsksFor, script_lines, asked_by, request_asked, command_asked, words_in};
+ghost use Rattle.toll_programs.specs.Asked.{deeds_of, IsFaultOf, GivesEvent, Gives, Adds, lines_in, IsFaultOfScript};
+
+use crate::cutting::cut;
+use crate::request_line::RequestLine;
+use std::alloc::{AllocError, Global};
+use thiserror::Error;
+use toll_plant::{WordsFault, command_of};
+use toll_wire::Event;
+
+/// Why a script gave no events.
+#[derive(Clone, Copy, Debug, PartialEq, Eq, Drop, Error)]
+pub enum ScriptFault {
+    /// There was no memory.
+    #[error("Memory")]
+    Memory,
+    /// The line of this number, counted from 1, is the first that is bad.
+    #[error("bad line {0}")]
+    BadLine(u64),
+}
+
+/// Why a line gave no event.
+#[derive(Clone, Copy, Debug, PartialEq, Eq, Drop, Error)]
+enum LineFault {
+    #[error("Memory")]
+    Memory,
+    #[error("bad line")]
+    Bad,
+}
+
+/// The events of the lines of a script, in order.
+pub fn events_of(alloc: Global, text: &[u8]) -> Result<Vec<Event>, ScriptFault>
+    ensures events { IfOk result (λ events. AsksFor text.now (deeds_of events.items)) }
+    ensures fault { IfErr result (IsFaultOfScript text.now) }
+{
+    let mut events = Vec::new(alloc);
+    let mut number = 0;
+    let mut rest = Some(text);
+    while let Some(lines) = rest {
+        let (line, others) = first_line(lines);
+        number += 1;
+        match add_event(alloc, &mut events, line) {
+            Ok(()) => rest = others,
+            Err(LineFault::Memory) => return Err(ScriptFault::Memory),
+            Err(LineFault::Bad) => return Err(ScriptFault::BadLine(number)),
+        }
+    }
+    Ok(events)
+}
+
+// The first line, and those behind it.
+fn first_line(lines: &[u8]) -> (&[u8], Option<&[u8]>)
+    ensures pieces { script_lines lines.now ≡ result.0.now ∷ lines_in (option_map (λ t. t.now) result.1) }
+    ensures shorter { IfSome result.1 (λ others. length others.now < length lines.now) }
+{
+    match cut(lines, b'\n') {
+        Some((line, others)) => (line, Some(others)),
+        None => (lines, None),
+    }
+}
+
+// Adds the event that a line asks for, if there is one.
+fn add_event(alloc: Global, events: &mut Vec<Event>, line: &[u8]) -> Result<(), LineFault>
+    ensures ok { OnOk result (Adds (asked_by line.now) events.old.items events.new.items) }
+    ensures fault { IfErr result (IsFaultOf (asked_by line.now)) }
+{
+    match event_of(alloc, line) {
+        Ok(Some(event)) => events.push(event).map_err(|_| LineFault::Memory),
+        Ok(None) => Ok(()),
+        Err(fault) => Err(fault),
+    }
+}
+
+// The event that a line asks for: none for an empty line and a comment.
+fn event_of(alloc: Global, line: &[u8]) -> Result<Option<Event>, LineFault>
+    ensures { Gives (asked_by line.now) result }
+{
+    match line {
+        [] | [b'#', ..] => Ok(None),
+        [b'>', b' ', request @ ..] => Ok(Some(request_of(alloc, request)?)),
+        words => Ok(Some(plant_of(alloc, words)?)),
+    }
+}
+
+fn request_of(alloc: Global, line: &[u8]) -> Result<Event, LineFault>
+    ensures { GivesEvent (request_asked line.now) result }
+{
+    let Some(request) = RequestLine::parse(line) else {
+        return Err(LineFault::Bad);
+    };
+    match request.text(alloc) {
+        Ok(text) => Ok(Event::Owner(text)),
+        Err(AllocError) => Err(LineFault::Memory),
+    }
+}
+
+fn plant_of(alloc: Global, line: &[u8]) -> Result<Event, LineFault>
+    ensures { GivesEvent (command_asked line.now) result }
+{
+    let Ok(line) = str::from_utf8(line) else {
+        return Err(LineFault::Bad);
+    };
+    let Ok(words) = words_of(alloc, line) else {
+        return Err(LineFault::Memory);
+    };
+    match command_of(alloc, &words) {
+        Ok(command) => Ok(Event::Plant(command)),
+        Err(WordsFault::Memory) => Err(LineFault::Memory),
+        Err(WordsFault::Usage(_)) => Err(LineFault::Bad),
+    }
+}
+
+// The words of a line: what stands between its spaces.
+fn words_of(alloc: Global, line: &str) -> Result<Vec<&str>, AllocError>
+    ensures { IfOk result (λ words. map (λ w. w.now) words.items ≡ words_in line.now) }
+{
+    line.split(' ')
+        .filter(|word| !word.is_empty())
+        .collect(alloc)
+}

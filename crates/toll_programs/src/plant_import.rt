@@ -1,0 +1,107 @@
+//! A file of actuals, as the program imports it.
+ghost use Rattle.std.specs.Prelude.{◌≡◌, ◌≢◌, ◌↔◌, ◌<◌, ◌≤◌, Result, Err, IfOk, OnErr, List, length};
+ghost use Rattle.std.specs.List.{list_any};
+ghost use Rattle.toll_plant.specs.ImportTexts.{import_text};
+ghost use Rattle.toll_plant.specs.Outcomes.{is_fault};
+ghost use Rattle.toll_plant.specs.declared.import_fault.ImportFault.{ImportFault};
+ghost use Rattle.toll_plant.specs.declared.report.ImportReport.{ImportReport};
+ghost use Rattle.toll_programs.specs.Imported.{IsImported};
+ghost use Rattle.toll_programs.specs.Statuses.{after_lines, is_turned_away};
+ghost use Rattle.toll_programs.specs.Told.{IsImportTold, IsTold, after_refused_file, refused_file};
+
+use crate::status::Status;
+use crate::telling::tell;
+use std::alloc::{AllocError, Global};
+use toll_keep::Keep;
+use toll_plant::{ImportFault, ImportLine, ImportReport, Outcome, import_actuals, import_text};
+use toll_wire::Sink;
+
+/// Imports a file of actuals, writes what came of its records to `output`, or why it was not imported to
+/// `error`, and gives the exit status: 0 where each record is accepted or repeated, 1 where one is refused
+/// or bad, 2 for a file that is too long or has another header, 3 where one met a fault, and where a write
+/// fails or there is no memory.
+pub fn plant_import<K: Keep, W: Sink, E: Sink>(
+    alloc: Global,
+    keep: &mut K,
+    file: &[u8],
+    output: &mut W,
+    error: &mut E,
+) -> u64
+    ensures { (imported : Result ImportReport ImportFault) × IsImported K.is_honest K.is_live K.is_closed K.has_cause K.leaves K.holds keep.old keep.new file.now imported
+        × IsImportTold (record { output = W.held output.old; now_output = W.held output.new; error = E.held error.old; now_error = E.held error.new }) imported result }
+{
+    let imported = import_actuals(alloc, keep, file);
+    show(alloc, imported, output, error)
+}
+
+// Writes what came of an import to `output`, or why there was none to `error`.
+fn show<W: Sink, E: Sink>(
+    alloc: Global,
+    imported: Result<ImportReport, ImportFault>,
+    output: &mut W,
+    error: &mut E,
+) -> u64
+    ensures { IsImportTold (record { output = W.held output.old; now_output = W.held output.new; error = E.held error.old; now_error = E.held error.new }) imported result }
+{
+    match imported {
+        Ok(report) => show_report(alloc, &report, output),
+        Err(fault) => tell(error, line_of(fault), status_after(fault)),
+    }
+}
+
+// The line for a file that was not imported. It takes no memory.
+fn line_of(fault: ImportFault) -> &'static [u8]
+    ensures { result.now ≡ refused_file fault }
+{
+    match fault {
+        ImportFault::Memory => b"fault Memory\n",
+        ImportFault::TooLong => b"too long\n",
+        ImportFault::BadHeader => b"bad header\n",
+    }
+}
+
+fn status_after(fault: ImportFault) -> Status
+    ensures { result ≡ after_refused_file fault }
+{
+    match fault {
+        ImportFault::Memory => Status::Failed,
+        ImportFault::TooLong | ImportFault::BadHeader => Status::Unread,
+    }
+}
+
+fn show_report<W: Sink>(alloc: Global, report: &ImportReport, output: &mut W) -> u64
+    ensures { IsTold (W.held output.old) (W.held output.new) (import_text report.now.lines.items) (after_lines report.now.lines.items) result }
+{
+    match import_text(alloc, report) {
+        Ok(text) => tell(output, &text, status_of(&report.lines)),
+        Err(AllocError) => u64::from(Status::Failed.code()),
+    }
+}
+
+// How the program ends after an import with these lines.
+fn status_of(lines: &[ImportLine]) -> Status
+    ensures { result ≡ after_lines lines.now }
+{
+    if has_fault(lines) {
+        Status::Failed
+    } else if has_refusal(lines) {
+        Status::Refused
+    } else {
+        Status::Done
+    }
+}
+
+fn has_fault(lines: &[ImportLine]) -> bool
+    ensures { result ≡ list_any (λ l. is_fault l.outcome) lines.now }
+{
+    lines
+        .iter()
+        .any(|line| matches!(line.outcome, Outcome::Fault(_)))
+}
+
+// Whether a record was refused, or is none.
+fn has_refusal(lines: &[ImportLine]) -> bool
+    ensures { result ≡ list_any (λ l. is_turned_away l.outcome) lines.now }
+{
+    lines.iter().any(|line| matches!(line.outcome, Outcome::Refused(_) | Outcome::BadRecord))
+}

@@ -1,0 +1,86 @@
+//! Running a script.
+ghost use Rattle.std.specs.Prelude.{◌≡◌, ◌≢◌, ◌⊎◌, ℕ, IsTrue};
+ghost use Rattle.toll_http.specs.Streams.{HasFailed, NoneFailed};
+ghost use Rattle.toll_programs.specs.Inputs.{IsTooLong};
+ghost use Rattle.toll_programs.specs.Running.{RanOver, HasBadLine, HasRun, IsCutShort, IsRun, is_idle, is_silent};
+
+use crate::events::{ScriptFault, events_of};
+use crate::input::{InputFault, read_input};
+use crate::printing::printed;
+use std::alloc::Global;
+use toll_keep::Keep;
+use toll_wire::{Sink, Source, run_events, write_reply};
+
+/// How a script ended.
+#[derive(Clone, Copy, Debug, PartialEq, Eq)]
+pub enum ScriptEnd {
+    /// All events ran, and their answers were written.
+    Done,
+    /// The line of this number, counted from 1, is the first that is no event, and not empty and no
+    /// comment either. Nothing ran, and nothing was written.
+    BadLine(u64),
+    /// The input has more than 1,048,576 bytes. Nothing ran, and nothing was written.
+    TooLong,
+    /// There was no memory, and no read failed. Either nothing ran, or all events ran and nothing was
+    /// written.
+    Memory,
+    /// A read failed. Nothing ran, and nothing was written.
+    ReadFault,
+    /// A write failed or took no byte. All events ran, and a front of their answers was written.
+    WriteFault,
+}
+
+/// Runs a script: reads it whole, looks at all its lines, runs their events over the keep, and writes
+/// the answers.
+///
+/// Lines end in LF, which may be missing behind the last. Empty lines and lines that begin with `#`
+/// ask for nothing. `> OWNER KEY METHOD TARGET` is an owner's request, with its body after one more
+/// space; `-` for OWNER or KEY leaves that field out. Any other line is the words of a command of the
+/// plant, with spaces between them.
+pub fn script<R: Source, W: Sink, K: Keep>(
+    alloc: Global,
+    reader: &mut R,
+    writer: &mut W,
+    keep: &mut K,
+) -> ScriptEnd
+    ensures done { result ≡ ScriptEnd.Done
+        → IsRun (RanOver K.is_honest K.is_live K.is_closed K.has_cause K.leaves K.holds keep.old keep.new) (R.unread reader.old) (R.unread reader.new) (W.held writer.old) (W.held writer.new) }
+    ensures cut_short { result ≡ ScriptEnd.WriteFault
+        → IsCutShort (RanOver K.is_honest K.is_live K.is_closed K.has_cause K.leaves K.holds keep.old keep.new) (R.unread reader.old) (R.unread reader.new) (W.held writer.old) (W.held writer.new) }
+    ensures memory { result ≡ ScriptEnd.Memory
+        → (keep.new ≡ keep.old) ⊎ HasRun (RanOver K.is_honest K.is_live K.is_closed K.has_cause K.leaves K.holds keep.old keep.new) (R.unread reader.old) (R.unread reader.new) }
+    ensures honest { K.is_honest keep.new → K.is_honest keep.old }
+    ensures bad_line { (number : ℕ) → result ≡ ScriptEnd.BadLine number
+        → HasBadLine (R.unread reader.old) (R.unread reader.new) number }
+    ensures too_long { result ≡ ScriptEnd.TooLong → IsTooLong (R.unread reader.old) (R.unread reader.new) }
+
+    // A fault comes where a stream failed, and no read failed at any other end. Nothing is written or run
+    // but at the ends that say so.
+    ensures read_fault { result ≡ ScriptEnd.ReadFault → HasFailed (R.has_failed reader.old) (R.has_failed reader.new) }
+    ensures no_read_fault { result ≢ ScriptEnd.ReadFault → NoneFailed (R.has_failed reader.old) (R.has_failed reader.new) }
+    ensures write_fault { result ≡ ScriptEnd.WriteFault → HasFailed (W.has_failed writer.old) (W.has_failed writer.new) }
+    ensures silent { IsTrue (is_silent result) → writer.new ≡ writer.old }
+    ensures idle { IsTrue (is_idle result) → keep.new ≡ keep.old }
+{
+    let text = match read_input(alloc, reader) {
+        Ok(text) => text,
+        Err(InputFault::Memory) => return ScriptEnd::Memory,
+        Err(InputFault::TooLong) => return ScriptEnd::TooLong,
+        Err(InputFault::Read) => return ScriptEnd::ReadFault,
+    };
+    let events = match events_of(alloc, &text) {
+        Ok(events) => events,
+        Err(ScriptFault::Memory) => return ScriptEnd::Memory,
+        Err(ScriptFault::BadLine(number)) => return ScriptEnd::BadLine(number),
+    };
+    let Ok(answers) = run_events(alloc, keep, &events) else {
+        return ScriptEnd::Memory;
+    };
+    let Ok(output) = printed(alloc, &answers) else {
+        return ScriptEnd::Memory;
+    };
+    match write_reply(writer, &output) {
+        Ok(()) => ScriptEnd::Done,
+        Err(_) => ScriptEnd::WriteFault,
+    }
+}

@@ -1,0 +1,30 @@
+//! How the program ends.
+ghost use Rattle.std.specs.Prelude.{◌≡◌};
+ghost use Rattle.toll_programs.specs.Statuses.{code_of};
+
+/// How the program ends.
+#[derive(Clone, Copy, Debug, PartialEq, Eq)]
+pub enum Status {
+    /// What was asked is done: exit status 0.
+    Done,
+    /// A command is refused, or a record of a file is refused or bad: exit status 1.
+    Refused,
+    /// The words, the script or the file are none that the program takes: exit status 2.
+    Unread,
+    /// Memory, a file, a stream or the network failed: exit status 3.
+    Failed,
+}
+
+impl Status {
+    /// The exit status.
+    pub fn code(self) -> u8
+        ensures { result ≡ code_of self }
+    {
+        match self {
+            Status::Done => 0,
+            Status::Refused => 1,
+            Status::Unread => 2,
+            Status::Failed => 3,
+        }
+    }
+}
