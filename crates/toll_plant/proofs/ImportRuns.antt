@@ -21,7 +21,8 @@ use Rattle.toll_desk.specs.Plans.{asked_by, plant_told, GoesFor, IsDone, IsValid
 use Rattle.toll_desk.specs.declared.plant_cmd.PlantCmd.{PlantCmd}
 use Rattle.toll_desk.specs.declared.plant_cmd.PlantReply.{PlantReply}
 use Rattle.toll_plant.specs.Outcomes.{judged, outcome_of, is_fault}
-use Rattle.toll_plant.specs.Imports.{Comes, IsImport, IsImportOf, IsOpenOutcome, IsPlantServed, IsRecordServed, IsRecordStep, IsWholeOutcome, AreRecordsServed, AreRecordSteps}
+use Rattle.toll_desk.specs.PlantServed.{IsPlantServed}
+use Rattle.toll_plant.specs.Imports.{Comes, IsImport, IsImportOf, IsOpenOutcome, IsRecordServed, IsRecordStep, IsWholeOutcome, AreRecordsServed, AreRecordSteps}
 use Rattle.toll_plant.specs.declared.outcome.Outcome.{Outcome}
 use Rattle.toll_plant.specs.declared.outcome.Outcome.TheVariants as came
 

@@ -1,15 +1,14 @@
 -- What comes of the records of a file of actuals.
-use Rattle.std.specs.Prelude.{◌≡◌, ◌≢◌, ◌+◌, ℕ, Bool, false, Option, Some, None, List, [], ◌∷◌, map, Ok, Err}
+use Rattle.std.specs.Prelude.{◌≡◌, ◌≢◌, ◌+◌, ℕ, Bool, Option, Some, None, List, [], ◌∷◌, map}
 use Rattle.std.specs.Bool.{MatchBool}
-use Rattle.toll_base.specs.declared.refusal.Refusal.{Refusal}
 use Rattle.toll_history.specs.History.{History}
-use Rattle.toll_history.specs.Verdict.{Verdict, Refused, IsLawful}
-use Rattle.toll_keep.specs.Content.{Content, ContentKeepsRules}
+use Rattle.toll_history.specs.Verdict.{Verdict, IsLawful}
+use Rattle.toll_keep.specs.Content.{Content}
 use Rattle.toll_keep.specs.declared.fault.KeepFault.{KeepFault}
 use Rattle.toll_keep.specs.declared.fault.KeepFault.TheVariants.{Memory, Damaged}
-use Rattle.toll_answers.specs.PlantAnswers.{CannotRead, Judged, IsPlantAnswer, after_plant}
-use Rattle.toll_desk.specs.Plans.{asked_by, asks_recall, is_accepted, plant_told, GoesFor, HoldsFor, IsDone, IsValidDeed, LeavesOr}
-use Rattle.toll_desk.specs.Reads.{Over}
+use Rattle.toll_answers.specs.PlantAnswers.{Judged, IsPlantAnswer, after_plant}
+use Rattle.toll_desk.specs.Plans.{asked_by, plant_told, HoldsFor, LeavesOr}
+use Rattle.toll_desk.specs.PlantServed.{IsPlantServed}
 use Rattle.toll_desk.specs.declared.plant_cmd.PlantCmd.{PlantCmd}
 use Rattle.toll_desk.specs.declared.plant_cmd.PlantReply.{PlantReply}
 use Rattle.toll_plant.specs.Files.{Fields, command_in}
@@ -62,21 +61,10 @@ pub record IsRecordStep (holds : Content → Type 0) (was_live : Type 0) (leaves
   pub crash : was_live → LeavesOr leaves c (after_record H command)
 
 module _ {K : Type 0} (is_honest is_live : K → Type 0) (is_closed : K → Bool) (has_cause : K → K → Type 0) (leaves : K → List Content → Type 0) (holds : K → Content → Type 0) where
-  -- what is so where the plant was answered, as the desk says it
-  pub record IsPlantServed (old new : K) (command : PlantCmd) (reply : PlantReply) : Type 0 where
-    pub honest : is_honest new → is_honest old
-    pub unread : (why : Refusal) → asked_by command ≡ CannotRead why → (plant_told reply ≡ Ok (Judged (Refused why))) × (new ≡ old)
-    pub goes : GoesFor is_honest is_live is_closed has_cause leaves old new (asked_by command) (plant_told reply)
-    pub whole : asks_recall (asked_by command) ≡ false → is_honest new → (c : Content) → holds old c → ContentKeepsRules c → plant_told reply ≢ Err Damaged
-    pub undamaged : Over is_honest holds old new (λ c H. plant_told reply ≢ Err Damaged)
-    pub valid : IsValidDeed (asked_by command)
-    pub quiet : is_honest new → (c : Content) → holds old c → is_accepted (plant_told reply) ≡ false → holds new c
-    pub done : Over is_honest holds old new (λ c H. IsDone (holds new) (is_live old) (leaves new) c (after_plant H (asked_by command)) (plant_told reply) (IsPlantAnswer H (asked_by command)))
-
   -- the record got this outcome: its command was done, or the keep was not called where it gives none
   abbrev pub IsRecordServed : K → K → Option PlantCmd → Outcome → Type 0
   IsRecordServed old new None outcome = (outcome ≡ BadRecord) × (new ≡ old)
-  IsRecordServed old new (Some command) outcome = (reply : PlantReply) × IsPlantServed old new command reply × (outcome ≡ outcome_of (plant_told reply))
+  IsRecordServed old new (Some command) outcome = (reply : PlantReply) × IsPlantServed is_honest is_live is_closed has_cause leaves holds old new command reply × (outcome ≡ outcome_of (plant_told reply))
 
   -- the records got these outcomes one after another, up to a fault, and made the one keep of the other
   abbrev pub AreRecordsServed : K → List (Option PlantCmd) → List Outcome → K → Type 0

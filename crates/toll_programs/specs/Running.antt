@@ -11,8 +11,8 @@ use Rattle.toll_programs.specs.Asked.{deeds_of}
 use Rattle.toll_programs.specs.Inputs.{IsWhole}
 use Rattle.toll_programs.specs.Printing.{printed}
 use Rattle.toll_programs.specs.Script.{AsksFor, IsFirstBad}
-use Rattle.toll_programs.specs.declared.script.ScriptEnd.{ScriptEnd}
-use Rattle.toll_programs.specs.declared.script.ScriptEnd.TheVariants.{Done, Memory, WriteFault}
+use Rattle.toll_programs.specs.declared.scripts.ScriptEnd.{ScriptEnd}
+use Rattle.toll_programs.specs.declared.scripts.ScriptEnd.TheVariants.{Done, Memory, WriteFault}
 
 -- the events got these answers one after another, over this keep; and where it was honest so far, and held a content that stands for a lawful history, they are a run from that history, and what the run leaves is held
 pub record RanOver {K : Type 0} (is_honest is_live : K → Type 0) (is_closed : K → Bool) (has_cause : K → K → Type 0) (leaves : K → List Content → Type 0) (holds : K → Content → Type 0) (old new : K) (events : List Event) (answers : List Answer) : Type 0 where

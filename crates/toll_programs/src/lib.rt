@@ -2,21 +2,21 @@
 //! the import of a file of actuals; what is written to which stream, and the exit status.
 #![tactic(auto)]
 
+mod commands;
 mod cutting;
 mod events;
+mod imports;
 mod input;
-mod plant_import;
-mod plant_line;
 mod printing;
 mod request_line;
-mod script;
+mod scripts;
 mod status;
 mod telling;
 
+pub use commands::plant_line;
+pub use imports::plant_import;
 pub use input::{FrontFault, read_front};
-pub use plant_import::plant_import;
-pub use plant_line::plant_line;
 pub use request_line::RequestLine;
-pub use script::{ScriptEnd, script};
+pub use scripts::{ScriptEnd, script};
 pub use status::Status;
 pub use telling::tell;

@@ -1,16 +1,13 @@
 -- Events of the office, and their answers, as a run.
-use Rattle.std.specs.Prelude.{◌≡◌, ◌≢◌, ◌⊎◌, Bool, false, List, [], ◌∷◌, Result, Ok, Err}
-use Rattle.toll_base.specs.declared.refusal.Refusal.{Refusal}
+use Rattle.std.specs.Prelude.{◌≡◌, ◌⊎◌, Bool, List, [], ◌∷◌, Result, Ok, Err}
 use Rattle.toll_history.specs.History.{History}
-use Rattle.toll_history.specs.Verdict.{Refused, IsLawful}
-use Rattle.toll_keep.specs.Content.{Content, ContentKeepsRules}
+use Rattle.toll_history.specs.Verdict.{IsLawful}
+use Rattle.toll_keep.specs.Content.{Content}
 use Rattle.toll_keep.specs.declared.fault.KeepFault.{KeepFault}
-use Rattle.toll_keep.specs.declared.fault.KeepFault.TheVariants.{Memory, Damaged}
-use Rattle.toll_answers.specs.PlantAnswers.{PlantTold, CannotRead, Judged, IsPlantAnswer, after_plant}
-use Rattle.toll_desk.specs.Plans.{asked_by, asks_recall, is_accepted, plant_told, GoesFor, HoldsFor, IsDone, IsValidDeed, LeavesOr}
-use Rattle.toll_desk.specs.Reads.{Over}
-use Rattle.toll_desk.specs.declared.plant_cmd.PlantCmd.{PlantCmd}
-use Rattle.toll_desk.specs.declared.plant_cmd.PlantReply.{PlantReply}
+use Rattle.toll_keep.specs.declared.fault.KeepFault.TheVariants.{Memory}
+use Rattle.toll_answers.specs.PlantAnswers.{PlantTold}
+use Rattle.toll_desk.specs.Plans.{asked_by, plant_told, HoldsFor, LeavesOr}
+use Rattle.toll_desk.specs.PlantServed.{IsPlantServed}
 use Rattle.toll_wire.specs.declared.event.Event.{Event}
 use Rattle.toll_wire.specs.declared.event.Event.TheVariants.{Owner, Plant as Command}
 use Rattle.toll_wire.specs.declared.event.Answer.{Answer}
@@ -70,21 +67,10 @@ pub record IsStepOf (holds : Content → Type 0) (was_live : Type 0) (leaves : L
   pub crash : was_live → LeavesOr leaves c (after_event http H happening)
 
 module _ {K : Type 0} (is_honest is_live : K → Type 0) (is_closed : K → Bool) (has_cause : K → K → Type 0) (leaves : K → List Content → Type 0) (holds : K → Content → Type 0) where
-  -- what is so where the plant was answered, as the desk says it
-  pub record IsPlantServed (old new : K) (command : PlantCmd) (reply : PlantReply) : Type 0 where
-    pub honest : is_honest new → is_honest old
-    pub unread : (why : Refusal) → asked_by command ≡ CannotRead why → (plant_told reply ≡ Ok (Judged (Refused why))) × (new ≡ old)
-    pub goes : GoesFor is_honest is_live is_closed has_cause leaves old new (asked_by command) (plant_told reply)
-    pub whole : asks_recall (asked_by command) ≡ false → is_honest new → (c : Content) → holds old c → ContentKeepsRules c → plant_told reply ≢ Err Damaged
-    pub undamaged : Over is_honest holds old new (λ c H. plant_told reply ≢ Err Damaged)
-    pub valid : IsValidDeed (asked_by command)
-    pub quiet : is_honest new → (c : Content) → holds old c → is_accepted (plant_told reply) ≡ false → holds new c
-    pub done : Over is_honest holds old new (λ c H. IsDone (holds new) (is_live old) (leaves new) c (after_plant H (asked_by command)) (plant_told reply) (IsPlantAnswer H (asked_by command)))
-
   -- the event got this answer
   abbrev pub IsEventServed : K → K → Event → Answer → Type 0
   IsEventServed old new (Owner bytes) (Reply out) = IsAnswered is_honest is_live is_closed has_cause leaves holds old new bytes.items out
-  IsEventServed old new (Command command) (CommandReply reply) = IsPlantServed old new command reply
+  IsEventServed old new (Command command) (CommandReply reply) = IsPlantServed is_honest is_live is_closed has_cause leaves holds old new command reply
   IsEventServed old new _ _ = ⊥
 
   -- the events got these answers one after another, and made the one keep of the other

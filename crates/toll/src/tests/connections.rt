@@ -17,7 +17,7 @@ const ADDED: &[&[&str]] = &[
 ];
 
 const PLACED: &[u8] =
-    b"POST /orders HTTP/1.1\r\nhost: 127.0.0.1\r\ntoll-owner: ACME\r\ntoll-key: ACMEKEY1\r\ncontent-length: 44\r\n\r\n{\"order\":\"O-1\",\"recipe\":\"R-1\",\"batches\":2}";
+    b"POST /orders HTTP/1.1\r\nhost: 127.0.0.1\r\ntoll-owner: ACME\r\ntoll-key: ACMEKEY1\r\ncontent-length: 42\r\n\r\n{\"order\":\"O-1\",\"recipe\":\"R-1\",\"batches\":2}";
 
 const ASKED: &[u8] =
     b"GET /orders HTTP/1.1\r\nhost: 127.0.0.1\r\ntoll-owner: ACME\r\ntoll-key: ACMEKEY1\r\ncontent-length: 0\r\n\r\n";
