@@ -6,14 +6,7 @@
 #![tactic(auto)]
 
 mod arguments;
-mod lending;
-mod office;
 mod programs;
-mod serving;
-mod session;
-#[cfg(test)]
-mod tests;
-mod timed;
 
 use crate::programs::run;
 use std::process::ExitCode;

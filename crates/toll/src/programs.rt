@@ -1,13 +1,12 @@
 //! The programs.
 use crate::arguments::{Task, task_of};
-use crate::office::Office;
-use crate::serving::{Served, serve_all};
 use std::alloc::{AllocError, Global};
 use std::fmt::Display;
 use std::fs::File;
 use std::net::{Ipv4Addr, SocketAddrV4, TcpListener};
 use std::{env, io};
 use toll_keep::Remembering;
+use toll_office::{Office, Served, serve_all};
 use toll_plant::{MOST_FILE_BYTES, WordsFault, command_of};
 use toll_programs::{
     FrontFault, ScriptEnd, Status, plant_import, plant_line, read_front, script, tell,

@@ -1,2 +1,0 @@
-//! Owners at a socket.
-mod connections;
