@@ -1,13 +1,15 @@
 //! What stories of the office share: lines of what is asked and what is said to each, over lists and over
-//! tables; the plant's lines as commands, and its replies said as text.
+//! tables; owners' lines as requests, the plant's as commands, and what is replied said as text.
 #![tactic(auto)]
 
 mod commands;
+mod http;
 mod keeps;
 mod lines;
 mod said;
 
 pub use commands::plant_cmd;
+pub use http::{reply_said, request_of};
 pub use keeps::{TableKeep, empty_tables, taken_over};
 pub use lines::{
     Line, Teller, check_lines, check_said, check_said_over, check_said_over_lists, say_to_plant,

@@ -11,14 +11,6 @@ pub fn request(alloc: Global, line: &str, body: &str) -> Result<Vec<u8>, AllocEr
     )
 }
 
-/// A request of an owner with a key: the four are the owner, the key, the method and the target.
-pub fn asked(alloc: Global, words: [&str; 4], body: &str) -> Result<Vec<u8>, AllocError> {
-    let [owner, key, method, target] = words;
-    let line = format!(in alloc; "{method} {target}")?;
-    let fields = format!(in alloc; "toll-owner: {owner}\r\ntoll-key: {key}\r\n")?;
-    keyed(alloc, &line, &fields, body)
-}
-
 /// A request with these fields of an owner and a key.
 pub fn keyed(alloc: Global, line: &str, fields: &str, body: &str) -> Result<Vec<u8>, AllocError> {
     let len = body.len();
