@@ -94,8 +94,11 @@ fn a_store_of_others_is_not_ours(rt: HostRuntime) -> Result<(), Fail> {
 
 #[test]
 fn a_missing_table_is_damage(rt: HostRuntime) -> Result<(), Fail> {
-    let conn = filled(rt.alloc())?.into_connection();
-    assert_refused(&rt, conn, "DROP TABLE voids", OpenFault::Damaged)
+    for drop in ["DROP TABLE voids", "DROP TABLE results"] {
+        let conn = filled(rt.alloc())?.into_connection();
+        assert_refused(&rt, conn, drop, OpenFault::Damaged)?;
+    }
+    Ok(())
 }
 
 #[test]
@@ -105,7 +108,7 @@ fn tables_that_tell_version_1_are_damage(rt: HostRuntime) -> Result<(), Fail> {
 }
 
 // Statements that leave rows which nobody may take as true.
-const DAMAGES: [&str; 7] = [
+const DAMAGES: [&str; 11] = [
     "UPDATE batches SET state = 12",
     "UPDATE batches SET closed = 2",
     "UPDATE moves SET amount = -1",
@@ -113,14 +116,27 @@ const DAMAGES: [&str; 7] = [
     "UPDATE moves SET kind = 9",
     "INSERT INTO lots VALUES ('ACME', 'A', 'M', '', 0, 0)",
     "INSERT INTO orders VALUES ('ACME', 'O-1', 'R', 100, 0)",
+    "INSERT INTO materials VALUES ('ACME', 'm', 'kg')",
+    "INSERT INTO materials VALUES ('ACME', 'M', 'kg'); INSERT INTO lots VALUES ('ACME', 'A', 'M', '', 0, 3)",
+    "INSERT INTO materials VALUES ('ACME', 'M', 'kg'); INSERT INTO lots VALUES ('ACME', 'A', 'M', '', 0, 2); INSERT INTO sublots VALUES ('ACME', 'A', 'S', -1)",
+    "INSERT INTO moves WITH RECURSIVE n (i) AS (SELECT 1 UNION ALL SELECT i + 1 FROM n WHERE i < 19999) SELECT 'ACME', 'N' || i, 0, 'ACME', 'A', 'S', '', 'M', '', 0, 0, 1, 0 FROM n",
 ];
+
+// Statements that leave rows which are just within the bounds, with 20,000 movements.
+const BOUNDS: &str =
+    "INSERT INTO materials VALUES ('ACME', 'M', 'kg'); INSERT INTO lots VALUES ('ACME', 'A', 'M', '', 0, 2); INSERT INTO sublots VALUES ('ACME', 'A', 'S', 0); INSERT INTO moves WITH RECURSIVE n (i) AS (SELECT 1 UNION ALL SELECT i + 1 FROM n WHERE i < 19998) SELECT 'ACME', 'N' || i, 0, 'ACME', 'A', 'S', '', 'M', '', 0, 0, 1, 0 FROM n";
+
+// A store in which these statements were run behind the rows that were put.
+fn damaged(alloc: Global, damage: &str) -> Result<Connection<MemStore>, Fail> {
+    let mut conn = filled(alloc)?.into_connection();
+    conn.execute_batch(damage)?;
+    Ok(conn)
+}
 
 // Asserts that the damage is found when the rows are read, and that the keep is closed then.
 fn assert_damage_found(rt: &(impl Abort + AllocGlobal), damage: &str) -> Result<(), Fail> {
     let alloc = rt.alloc();
-    let mut conn = filled(alloc)?.into_connection();
-    conn.execute(damage, &[])?;
-    let mut keep = adopted(alloc, conn)?;
+    let mut keep = adopted(alloc, damaged(alloc, damage)?)?;
     let owner = acme()?.owner;
     assert_eq!(rt;
         keep.slice(alloc, &owner).err(),
@@ -140,6 +156,17 @@ fn damaged_rows_are_found_and_close_the_keep(rt: HostRuntime) -> Result<(), Fail
     for damage in DAMAGES {
         assert_damage_found(&rt, damage)?;
     }
+    Ok(())
+}
+
+#[test]
+fn rows_within_the_bounds_are_no_damage(rt: HostRuntime) -> Result<(), Fail> {
+    let alloc = rt.alloc();
+    let mut keep = adopted(alloc, damaged(alloc, BOUNDS)?)?;
+    assert_eq!(rt;
+        counts(alloc, &mut keep, &acme()?.owner)?,
+        Some((1, 20_000))
+    );
     Ok(())
 }
 
