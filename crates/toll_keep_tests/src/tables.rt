@@ -1,5 +1,5 @@
 //! Rows in SQLite: told as those in memory, found again, and damaged ones never taken as true.
-use crate::rows::{acme, counts, fill_all};
+use crate::rows::{acme, batch, counts, fill_all};
 use crate::told::{assert_edges_told, assert_holder_told, assert_owners_told, assert_rows_told};
 use sqlite::{Connection, MemStore};
 use std::alloc::Global;
@@ -133,6 +133,39 @@ fn damaged(alloc: Global, damage: &str) -> Result<Connection<MemStore>, Fail> {
     Ok(conn)
 }
 
+// Asserts that the calls that tell and change rows answer Closed.
+fn assert_rows_closed<K: Keep>(
+    rt: &(impl Abort + AllocGlobal),
+    keep: &mut K,
+    damage: &str,
+) -> Result<(), Fail> {
+    let alloc = rt.alloc();
+    let closed = Some(KeepFault::Closed);
+    assert_eq!(rt; keep.slice(alloc, &acme()?.owner).err(), closed, "{damage}");
+    assert_eq!(rt; keep.owners(alloc).err(), closed, "{damage}");
+    assert_eq!(rt; keep.units(alloc).err(), closed, "{damage}");
+    assert_eq!(rt; keep.apply(alloc, &[]).err(), closed, "{damage}");
+    Ok(())
+}
+
+// Asserts that the calls that tell who holds a unit, and edges, answer Closed.
+fn assert_genealogy_closed<K: Keep>(
+    rt: &(impl Abort + AllocGlobal),
+    keep: &mut K,
+    damage: &str,
+) -> Result<(), Fail> {
+    let alloc = rt.alloc();
+    let closed = Some(KeepFault::Closed);
+    assert_eq!(rt;
+        keep.holder(alloc, &batch()?.unit).err(),
+        closed,
+        "{damage}"
+    );
+    assert_eq!(rt; keep.edges(alloc, &acme()?.owner).err(), closed, "{damage}");
+    assert_eq!(rt; keep.all_edges(alloc).err(), closed, "{damage}");
+    Ok(())
+}
+
 // Asserts that the damage is found when the rows are read, and that the keep is closed then.
 fn assert_damage_found(rt: &(impl Abort + AllocGlobal), damage: &str) -> Result<(), Fail> {
     let alloc = rt.alloc();
@@ -143,12 +176,8 @@ fn assert_damage_found(rt: &(impl Abort + AllocGlobal), damage: &str) -> Result<
         Some(KeepFault::Damaged),
         "{damage}"
     );
-    assert_eq!(rt;
-        keep.units(alloc).err(),
-        Some(KeepFault::Closed),
-        "{damage}"
-    );
-    Ok(())
+    assert_rows_closed(rt, &mut keep, damage)?;
+    assert_genealogy_closed(rt, &mut keep, damage)
 }
 
 #[test]
