@@ -8,12 +8,12 @@ use sqlite_disk::{Disk, Fuse, Memory};
 use std::alloc::Global;
 use std::test::Fail;
 
-/// More calls of a file than a run makes.
+// More calls of a file than a run makes.
 const MANY_CALLS: u64 = 10_000;
 
-/// Lets each of the two files of the office in its turn stop at its first call, its second, and so on, until
-/// the run meets no stop. Fails where one of the stops leaves another office than that from before the run
-/// or that from after it, or than that from after it once it was told as done.
+/// Lets each of the two files of the office in turn stop at its first call, its second, and so on, until
+/// the run meets no stop. Fails where a stop leaves neither the office from before the run nor the one
+/// from after it, or not the one from after it although the run was told as done.
 pub fn check_stops<R: Run>(alloc: Global, run: &R, files: &Files<Memory>) -> Result<(), Fail> {
     check_stops_of(alloc, run, files, Stopping::Log)?;
     check_stops_of(alloc, run, files, Stopping::Database)

@@ -31,7 +31,8 @@ const PLACING: Telling = Telling {
     )],
 };
 
-// ACME with two released lots of `M`, HOUSE with one of `W`, and a recipe of two segments that consumes of each.
+// ACME with two released lots of `M`, HOUSE with one of `W`, and a recipe of two segments that
+// consumes of each.
 const WITH_LOTS: &[Line] = &[
     ("owner-add ACME ACMEKEY1", "accepted"),
     ("unit-add U1", "accepted"),
