@@ -4,10 +4,9 @@ use std::fs;
 use std::io::{Read, Write};
 use std::net::{Ipv4Addr, Shutdown, SocketAddrV4, TcpListener, TcpStream};
 use std::test::Fail;
-use toll_desk::{PlantReply, plant_do};
 use toll_keep::Keep;
 use toll_office::{Office, Served, serve_one, take_lock};
-use toll_plant::command_of;
+use toll_stories::say_to_plant;
 use toll_wire::answer;
 
 const ADDED: &[&[&str]] = &[
@@ -35,8 +34,8 @@ fn remove(rt: &HostRuntime, path: &str) -> Result<(), Fail> {
 
 // Whether the plant's words are accepted.
 fn is_accepted<K: Keep>(alloc: Global, keep: &mut K, words: &[&str]) -> bool {
-    match command_of(alloc, words) {
-        Ok(command) => matches!(plant_do(alloc, keep, &command), PlantReply::Accepted),
+    match say_to_plant(alloc, keep, words) {
+        Ok(said) => said.as_str() == "accepted",
         Err(_) => false,
     }
 }

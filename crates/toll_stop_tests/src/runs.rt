@@ -1,6 +1,6 @@
 //! What is done to an office while its files stop.
 use crate::disks::{connect, disconnect, empty_files};
-use crate::lines::Asked;
+use crate::lines::{Asked, are_said};
 use sqlite::{Alter, Connection, Files};
 use sqlite_disk::Memory;
 use std::alloc::Global;
@@ -100,7 +100,7 @@ impl Telling {
 
     // Whether this is the office from after it. Fails where it is neither that nor the one from before.
     fn shows_after<K: Keep>(&self, alloc: Global, keep: &mut K) -> Result<bool, Fail> {
-        if check_lines::<Asked, K>(alloc, keep, self.before).is_ok() {
+        if are_said(alloc, keep, self.before)? {
             return Ok(false);
         }
         check_lines::<Asked, K>(alloc, keep, self.after)?;
