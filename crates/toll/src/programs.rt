@@ -5,13 +5,9 @@ use std::fmt::Display;
 use std::fs::File;
 use std::net::{Ipv4Addr, SocketAddrV4, TcpListener};
 use std::{env, io};
-use toll_keep::Remembering;
-use toll_office::{Office, Served, serve_all};
+use toll_office::{OfficeFault, Served, do_command, do_import, do_script, serve_all};
 use toll_plant::{MOST_FILE_BYTES, WordsFault, command_of};
-use toll_programs::{
-    FrontFault, ScriptEnd, Status, plant_import, plant_line, read_front, script, tell,
-};
-use toll_sql::SqlKeep;
+use toll_programs::{FrontFault, ScriptEnd, Status, read_front, tell};
 
 const USAGE: &str =
     "usage: toll script | toll --db FILE COMMAND.. | toll --db FILE import CSV | toll --db FILE serve PORT COUNT";
@@ -47,11 +43,7 @@ fn texts_of(alloc: Global, words: &[String]) -> Result<Vec<&str>, AllocError> {
 }
 
 fn run_script(rt: &HostRuntime) -> u64 {
-    let Ok(keep) = SqlKeep::in_memory(rt.alloc()) else {
-        return fail(rt, Status::Failed, "fault Memory");
-    };
-    let mut keep = Remembering::new(rt.alloc(), keep);
-    match script(rt.alloc(), &mut rt.reader(), &mut io::writer(rt), &mut keep) {
+    match do_script(rt.alloc(), &mut rt.reader(), &mut io::writer(rt)) {
         ScriptEnd::Done => u64::from(Status::Done.code()),
         ScriptEnd::BadLine(number) => {
             fail(rt, Status::Unread, format_args!("bad line {number}"))
@@ -69,19 +61,8 @@ fn run_words(rt: &HostRuntime, file: &str, words: &[&str]) -> u64 {
         Err(WordsFault::Memory) => return fail(rt, Status::Failed, "fault Memory"),
         Err(WordsFault::Usage(text)) => return tell(&mut rt.stderr(), &text, Status::Unread),
     };
-    let mut office = match Office::open(rt, file) {
-        Ok(office) => office,
-        Err(fault) => return fail(rt, Status::Failed, format_args!("fault {fault}")),
-    };
-    let status = plant_line(
-        rt.alloc(),
-        &mut office.keep,
-        &command,
-        &mut io::writer(rt),
-        &mut rt.stderr(),
-    );
-    office.close();
-    status
+    let done = do_command(rt, file, &command, &mut io::writer(rt), &mut rt.stderr());
+    status_of(rt, done)
 }
 
 fn run_import(rt: &HostRuntime, file: &str, actuals: &str) -> u64 {
@@ -89,19 +70,16 @@ fn run_import(rt: &HostRuntime, file: &str, actuals: &str) -> u64 {
         Ok(text) => text,
         Err(fault) => return fail(rt, Status::Failed, format_args!("fault {fault}")),
     };
-    let mut office = match Office::open(rt, file) {
-        Ok(office) => office,
-        Err(fault) => return fail(rt, Status::Failed, format_args!("fault {fault}")),
-    };
-    let status = plant_import(
-        rt.alloc(),
-        &mut office.keep,
-        &text,
-        &mut io::writer(rt),
-        &mut rt.stderr(),
-    );
-    office.close();
-    status
+    let done = do_import(rt, file, &text, &mut io::writer(rt), &mut rt.stderr());
+    status_of(rt, done)
+}
+
+// The exit status of what was done over an office, or why it was not opened.
+fn status_of(rt: &impl Eprint, done: Result<u64, OfficeFault>) -> u64 {
+    match done {
+        Ok(status) => status,
+        Err(fault) => fail(rt, Status::Failed, format_args!("fault {fault}")),
+    }
 }
 
 // A file of actuals, of which no more is read than shows that it is too long.

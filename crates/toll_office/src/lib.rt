@@ -1,12 +1,14 @@
-//! The office in a file: opened under its lock, kept open between requests while nobody else changes it,
-//! and served to owners on a socket.
+//! The office in a file: opened under its lock, for a command, an import, or owners on a socket, for whom it
+//! stays open between requests while nobody else changes it; and an office in memory for a script.
 #![tactic(auto)]
 
+mod doing;
 mod lending;
 mod office;
 mod serving;
 mod session;
 mod timed;
 
-pub use office::{FileKeep, Office, OfficeFault, take_lock};
+pub use doing::{do_command, do_import, do_script};
+pub use office::{OfficeFault, take_lock};
 pub use serving::{Served, serve_all, serve_one};

@@ -1,13 +1,11 @@
 //! Connections to an office in a file.
-use std::alloc::Global;
 use std::fs;
+use std::fs::File;
 use std::io::{Read, Write};
 use std::net::{Ipv4Addr, Shutdown, SocketAddrV4, TcpListener, TcpStream};
 use std::test::Fail;
-use toll_keep::Keep;
-use toll_office::{Office, Served, serve_one, take_lock};
-use toll_stories::say_to_plant;
-use toll_wire::answer;
+use toll_office::{Served, do_command, serve_one, take_lock};
+use toll_plant::command_of;
 
 const ADDED: &[&[&str]] = &[
     &["owner-add", "ACME", "ACMEKEY1"],
@@ -25,43 +23,37 @@ const TOLD: &[u8] =
 
 // Takes a file away, and what lies beside it.
 fn remove(rt: &HostRuntime, path: &str) -> Result<(), Fail> {
-    for ending in &["", "-wal", ".lock"] {
+    for ending in &["", "-wal", ".lock", ".out", ".err"] {
         let name = format!(in rt.alloc(); "{path}{ending}")?;
         let _ = fs::remove_file(rt, name.as_str());
     }
     Ok(())
 }
 
-// Whether the plant's words are accepted.
-fn is_accepted<K: Keep>(alloc: Global, keep: &mut K, words: &[&str]) -> bool {
-    match say_to_plant(alloc, keep, words) {
-        Ok(said) => said.as_str() == "accepted",
-        Err(_) => false,
-    }
-}
-
 // Adds an owner and a recipe, and places an order: whether all of it is done.
-fn is_placed<K: Keep>(alloc: Global, keep: &mut K) -> bool {
+fn is_made(rt: &HostRuntime, path: &str) -> Result<bool, Fail> {
     for words in ADDED {
-        if !is_accepted(alloc, keep, words) {
-            return false;
+        if !is_done(rt, path, words)? {
+            return Ok(false);
         }
     }
-    answer(alloc, keep, PLACED)
-        .bytes()
-        .starts_with(b"HTTP/1.1 200 OK\r\n")
+    let (_, reply) = exchange(rt, path, PLACED)?;
+    Ok(reply.starts_with(b"HTTP/1.1 200 OK\r\n"))
 }
 
-// Makes an office in a file, in which an order was placed: whether all of it is done.
-fn is_made(rt: &HostRuntime, path: &str) -> bool {
-    match Office::open(rt, path) {
-        Ok(mut office) => {
-            let placed = is_placed(rt.alloc(), &mut office.keep);
-            office.close();
-            placed
-        }
-        Err(_) => false,
-    }
+// A file beside the office, for what is written.
+fn page_of(rt: &HostRuntime, path: &str, ending: &str) -> Result<File, Fail> {
+    let name = format!(in rt.alloc(); "{path}.{ending}")?;
+    Ok(File::create(rt, name.as_str())?)
+}
+
+// Whether the command of these words is done.
+fn is_done(rt: &HostRuntime, path: &str, words: &[&str]) -> Result<bool, Fail> {
+    let command = command_of(rt.alloc(), words)?;
+    let mut output = page_of(rt, path, "out")?;
+    let mut error = page_of(rt, path, "err")?;
+    let status = do_command(rt, path, &command, &mut output, &mut error)?;
+    Ok(status == 0)
 }
 
 // Sends these bytes to a socket and closes that side, serves the connection, and gives what comes back.
@@ -80,7 +72,7 @@ fn exchange(rt: &HostRuntime, path: &str, bytes: &[u8]) -> Result<(Served, Vec<u
 fn a_peer_is_served_from_a_file(rt: HostRuntime) -> Result<(), Fail> {
     let path = "a_peer_is_served.db";
     remove(&rt, path)?;
-    assert!(&rt; is_made(&rt, path));
+    assert!(&rt; is_made(&rt, path)?);
     let (served, reply) = exchange(&rt, path, ASKED)?;
     assert!(&rt; served == Served::Answered);
     assert_eq!(&rt; reply.as_slice(), TOLD);
@@ -91,7 +83,7 @@ fn a_peer_is_served_from_a_file(rt: HostRuntime) -> Result<(), Fail> {
 fn half_a_head_is_a_bad_request(rt: HostRuntime) -> Result<(), Fail> {
     let path = "half_a_head.db";
     remove(&rt, path)?;
-    assert!(&rt; is_made(&rt, path));
+    assert!(&rt; is_made(&rt, path)?);
     let (served, reply) = exchange(&rt, path, b"GET /orders HTTP/1.1\r\nhost")?;
     assert!(&rt; served == Served::Answered);
     assert!(&rt; reply.starts_with(b"HTTP/1.1 400 Bad Request\r\n"));
@@ -102,7 +94,7 @@ fn half_a_head_is_a_bad_request(rt: HostRuntime) -> Result<(), Fail> {
 fn a_file_that_another_uses_is_unavailable(rt: HostRuntime) -> Result<(), Fail> {
     let path = "another_uses.db";
     remove(&rt, path)?;
-    assert!(&rt; is_made(&rt, path));
+    assert!(&rt; is_made(&rt, path)?);
     let Ok(lock) = take_lock(&rt, path) else {
         panic!(&rt; "the lock was not got");
     };
