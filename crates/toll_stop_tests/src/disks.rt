@@ -11,34 +11,32 @@ pub enum Stopping {
     Database,
 }
 
-/// Two files that are empty.
-pub fn empty_files(alloc: Global) -> Files<Memory> {
+/// The two files, each of which passes so many calls on.
+pub type Disks = Files<Fuse<Memory>>;
+
+/// Two files that are empty, and never stop.
+pub fn empty_files(alloc: Global) -> Disks {
     Files {
-        log: Memory::new(alloc),
-        db: Memory::new(alloc),
+        log: Fuse::new(Memory::new(alloc), u64::MAX),
+        db: Fuse::new(Memory::new(alloc), u64::MAX),
     }
 }
 
-// A file that has these bytes, also after a power cut.
-fn disk_of(alloc: Global, bytes: &[u8]) -> io::Result<Memory> {
-    let mut disk = Memory::new(alloc);
-    disk.write_at(0, bytes)?;
-    disk.sync()?;
-    Ok(disk)
-}
-
-// The same, that passes so many calls on.
-fn fused_disk(alloc: Global, disk: &Memory, calls: u64) -> io::Result<Fuse<Memory>> {
-    Ok(Fuse::new(disk_of(alloc, disk.bytes())?, calls))
+// A file with the same bytes, also after a power cut, that passes so many calls on.
+fn fused_disk(alloc: Global, disk: &Fuse<Memory>, calls: u64) -> io::Result<Fuse<Memory>> {
+    let mut copy = Memory::new(alloc);
+    copy.write_at(0, disk.inner().bytes())?;
+    copy.sync()?;
+    Ok(Fuse::new(copy, calls))
 }
 
 /// The same two files, where this one passes so many calls on, and the other one all.
 pub fn fused_files(
     alloc: Global,
-    files: &Files<Memory>,
+    files: &Disks,
     stopping: Stopping,
     calls: u64,
-) -> io::Result<Files<Fuse<Memory>>> {
+) -> io::Result<Disks> {
     let (log_calls, db_calls) = match stopping {
         Stopping::Log => (calls, u64::MAX),
         Stopping::Database => (u64::MAX, calls),
@@ -49,12 +47,9 @@ pub fn fused_files(
     })
 }
 
-/// What stands in these two files, in files of its own.
-pub fn left_files(alloc: Global, files: &Files<Fuse<Memory>>) -> io::Result<Files<Memory>> {
-    Ok(Files {
-        log: disk_of(alloc, files.log.inner().bytes())?,
-        db: disk_of(alloc, files.db.inner().bytes())?,
-    })
+/// What stands in these two files, in files that never stop.
+pub fn left_files(alloc: Global, files: &Disks) -> io::Result<Disks> {
+    fused_files(alloc, files, Stopping::Log, u64::MAX)
 }
 
 /// Whether the file has stopped, or does so at its next call.

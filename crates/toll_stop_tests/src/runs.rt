@@ -1,8 +1,7 @@
 //! What is done to an office while its files stop.
-use crate::disks::{connect, disconnect, empty_files};
+use crate::disks::{Disks, connect, disconnect, empty_files};
 use crate::lines::{Asked, are_said};
-use sqlite::{Alter, Connection, Files};
-use sqlite_disk::Memory;
+use sqlite::{Alter, Connection};
 use std::alloc::Global;
 use std::test::Fail;
 use toll_keep::{Keep, Remembering};
@@ -81,7 +80,7 @@ pub struct Telling {
 
 impl Telling {
     /// The files of the office to which the line is told.
-    pub fn files(&self, alloc: Global) -> Result<Files<Memory>, Fail> {
+    pub fn files(&self, alloc: Global) -> Result<Disks, Fail> {
         match connect(alloc, empty_files(alloc)) {
             Ok(conn) => Ok(disconnect(told_to_new(alloc, conn, self.story)?)),
             Err(_) => Err("no store".into()),

@@ -1,10 +1,10 @@
 //! Stops at each call of each file, and what is found behind them.
 use crate::disks::{
-    Stopping, connect, cut_power, disconnect, fused_files, has_stopped, left_files,
+    Disks, Stopping, connect, cut_power, disconnect, fused_files, has_stopped, left_files,
 };
 use crate::runs::{Run, Told};
 use sqlite::Files;
-use sqlite_disk::{Disk, Fuse, Memory};
+use sqlite_disk::Disk;
 use std::alloc::Global;
 use std::test::Fail;
 
@@ -14,7 +14,7 @@ const MANY_CALLS: u64 = 10_000;
 /// Lets each of the two files of the office in turn stop at its first call, its second, and so on, until
 /// the run meets no stop. Fails where a stop leaves neither the office from before the run nor the one
 /// from after it, or not the one from after it although the run was told as done.
-pub fn check_stops<R: Run>(alloc: Global, run: &R, files: &Files<Memory>) -> Result<(), Fail> {
+pub fn check_stops<R: Run>(alloc: Global, run: &R, files: &Disks) -> Result<(), Fail> {
     check_stops_of(alloc, run, files, Stopping::Log)?;
     check_stops_of(alloc, run, files, Stopping::Database)
 }
@@ -22,7 +22,7 @@ pub fn check_stops<R: Run>(alloc: Global, run: &R, files: &Files<Memory>) -> Res
 fn check_stops_of<R: Run>(
     alloc: Global,
     run: &R,
-    files: &Files<Memory>,
+    files: &Disks,
     stopping: Stopping,
 ) -> Result<(), Fail> {
     for calls in 0..MANY_CALLS {
@@ -35,7 +35,7 @@ fn check_stops_of<R: Run>(
 }
 
 // Whether the run over these files meets a stop.
-fn stops<R: Run>(alloc: Global, run: &R, files: Files<Fuse<Memory>>) -> Result<bool, Fail> {
+fn stops<R: Run>(alloc: Global, run: &R, files: Disks) -> Result<bool, Fail> {
     let (mut left, told) = go_over(alloc, run, files);
     let stopped = has_stopped(&mut left.log) || has_stopped(&mut left.db);
     if told == Told::Other || (told == Told::Fault && !stopped) {
@@ -59,12 +59,7 @@ fn go_over<R: Run, D: Disk + Drop>(alloc: Global, run: &R, files: Files<D>) -> (
 }
 
 // Fails where the office in these files is not one that may be left.
-fn check_left<R: Run>(
-    alloc: Global,
-    run: &R,
-    left: &Files<Fuse<Memory>>,
-    told: Told,
-) -> Result<(), Fail> {
+fn check_left<R: Run>(alloc: Global, run: &R, left: &Disks, told: Told) -> Result<(), Fail> {
     let is_after = match connect(alloc, left_files(alloc, left)?) {
         Ok(conn) => run.is_after(alloc, conn)?,
         Err(_) => return Err("the files can't be opened again".into()),
