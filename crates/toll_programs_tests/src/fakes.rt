@@ -16,6 +16,7 @@ pub struct Feed<'t> {
 }
 
 impl<'t> Feed<'t> {
+    /// A feed of this text.
     pub fn new(text: &'t [u8], piece: usize, good_reads: usize) -> Self {
         Feed {
             text,
@@ -57,6 +58,7 @@ pub struct Page {
 }
 
 impl Page {
+    /// A page that is empty.
     pub fn new(alloc: Global, piece: usize, good_writes: usize) -> Self {
         Page {
             taken: Vec::new(alloc),
