@@ -1,5 +1,5 @@
 -- A keep over the files that a path names.
-use Rattle.std.specs.Prelude.{◌≡◌, ◌≢◌, ◌⊎◌, Bool, true, false, None, Option, Result, IfSome, IsTrue}
+use Rattle.std.specs.Prelude.{◌≡◌, ◌⊎◌, Bool, true, false, None, Option, Result, IfSome, IsTrue}
 use Rattle.sqlite.specs.Closing.{IsCopied}
 use Rattle.sqlite.specs.Files.{FailsToOpenFiles, IsCleanLeft, IsClosed, IsOpened, LeavesFiles, file_state}
 use Rattle.sqlite.specs.Held.{Held, IsNew}
@@ -22,7 +22,7 @@ use Rattle.sqlite_wal.specs.Reads.{AreClean}
 use Rattle.sqlite_wal.specs.Recovery.{Image}
 use Rattle.toll_sql.specs.Opening.{Adopts, Creates, refuses, succeeds}
 use Rattle.toll_sql.specs.declared.open_fault.OpenFault.{OpenFault}
-use Rattle.toll_sql.specs.declared.open_fault.OpenFault.TheVariants.{Memory, Damaged, NotOurs}
+use Rattle.toll_sql.specs.declared.open_fault.OpenFault.TheVariants.{Memory, Disk, NotOurs}
 
 -- the tables are to be made, or to be found
 abbrev pub Takes : Bool → State → State → Result (Unit {0}) OpenFault → Type 0
@@ -33,12 +33,16 @@ Takes false old new answer = Adopts old new answer
 abbrev pub IsKeptFrom : {D : Type 0} {g : Ghosts D} → Bool → Image → Held (FileStore D g) → Type 0
 IsKeptFrom {D} {g} fresh image new = (opened : Held (FileStore D g)) × IsNew opened × (HasCleanDisk (file_state opened) → IsOpened opened × FindsIn image (file_state opened)) × Takes fresh (file_state opened) (file_state new) succeeds
 
+-- the fault that an error of opening files is: want of memory, a file that is no database, and else the disk
+abbrev pub fault_of_files : Error → OpenFault
+fault_of_files (SqliteFailure code.OutOfMemory) = Memory
+fault_of_files (SqliteFailure code.NotADatabase) = NotOurs
+fault_of_files _ = Disk
+
 -- the file could not be opened: by sqlite's own account of its error, and of what is left of the files where they were opened
 pub record IsUnopened {D : Type 0} {g : Ghosts D} (e : Error) (left : Option (Leftover D g)) (fault : OpenFault) : Type 0 where
   pub named : IsTrue (is_open_error e)
-  pub memory : fault ≡ Memory → e ≡ SqliteFailure code.OutOfMemory
-  pub foreign : fault ≡ NotOurs → e ≡ SqliteFailure code.NotADatabase
-  pub undamaged : fault ≢ Damaged
+  pub told : fault ≡ fault_of_files e
   pub none : left ≡ None → (e ≡ SqliteFailure code.CannotOpen) ⊎ ((e ≡ SqliteFailure code.OutOfMemory) ⊎ (e ≡ SqliteFailure code.DatabaseBusy))
   pub some : IfSome left (λ rest. (files : Files D) × (IsCleanLeft rest → FailsToOpenFiles files rest e × LeavesFiles files rest))
 

@@ -1,10 +1,10 @@
 //! A keep made over a store, and given back.
-ghost use Rattle.std.specs.Prelude.{◌≡◌, ◌≢◌, false, IfOk, IfErr, OnOk};
+ghost use Rattle.std.specs.Prelude.{◌≡◌, false, IfOk, IfErr, OnOk};
 ghost use Rattle.sqlite.specs.Held.{state};
 ghost use Rattle.sqlite.specs.Steps.{over_memory};
 ghost use Rattle.sqlite_wal.specs.Files.{image_at};
 ghost use Rattle.toll_keep.specs.Content.{nothing};
-ghost use Rattle.toll_sql.specs.FromFiles.{IsKeptFrom, IsLeftIn, IsRefusedFrom, IsUnclosed, Takes};
+ghost use Rattle.toll_sql.specs.FromFiles.{IsKeptFrom, IsLeftIn, IsRefusedFrom, IsUnclosed, Takes, fault_of_files};
 ghost use Rattle.toll_sql.specs.Opening.{Adopts, Creates, refuses, succeeds};
 ghost use Rattle.toll_sql.specs.Stores.{HoldsIn};
 
@@ -136,9 +136,7 @@ fn take_over<S: Alter>(
 
 // The fault that an error of opening a file is.
 fn file_fault_of(error: Error) -> OpenFault
-    ensures memory { result ≡ OpenFault.Memory → error ≡ Error.SqliteFailure ErrorCode.OutOfMemory }
-    ensures other { result ≡ OpenFault.NotOurs → error ≡ Error.SqliteFailure ErrorCode.NotADatabase }
-    ensures undamaged { result ≢ OpenFault.Damaged }
+    ensures { result ≡ fault_of_files error }
 {
     match error {
         Error::SqliteFailure(ErrorCode::OutOfMemory) => OpenFault::Memory,

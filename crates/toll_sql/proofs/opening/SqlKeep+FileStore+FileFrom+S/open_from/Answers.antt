@@ -14,8 +14,7 @@ returns-in-Ok-take_over g c =
 pub returns-in-Err-clause-refused : goal.returns-in-Err-clause-refused
 returns-in-Err-clause-refused g c =
     let e = c.in-Err.ensures in
-    let f = c.file_fault_of.ensures in
-    inl (c.in-Err.error, c.in-Err.field-0-1, record { named = e.named; memory = f.memory; foreign = f.other; undamaged = f.undamaged; none = e.unopened; some = weaker _ _ (λ rest h. (h.0, h.3)) c.in-Err.field-0-1 e.cause })
+    inl (c.in-Err.error, c.in-Err.field-0-1, record { named = e.named; told = c.file_fault_of.ensures; none = e.unopened; some = weaker _ _ (λ rest h. (h.0, h.3)) c.in-Err.field-0-1 e.cause })
 
 pub returns-clause-refused : goal.returns-clause-refused
 returns-clause-refused g c =
