@@ -1,0 +1,13 @@
+//! What the contracts of `toll_desk` do not show: that ample memory meets no refusal, and what is said
+//! along stories of the office, line by line.
+
+mod batches;
+mod genealogy;
+mod lines;
+mod lots;
+mod movements;
+mod owners;
+mod request_words;
+mod said;
+mod setups;
+mod voids;

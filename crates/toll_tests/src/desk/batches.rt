@@ -1,0 +1,93 @@
+//! Stories of orders, batches and units.
+use crate::desk::lines::Asked;
+use crate::desk::setups::WITH_BATCH;
+use crate::stories::{Line, WITH_RECIPE, check_said};
+use std::test::Fail;
+
+const UNIT_IS_HELD: &[Line] = &[
+    ("recipe-add BOLT R 1", "accepted"),
+    ("> BOLT BOLTKEY1 place O R 1", "order O R 1 open"),
+    ("open BOLT O U1", "refused 7"),
+    ("> BOLT BOLTKEY1 batch O 1", "refused 22"),
+    ("open BOLT O U9", "refused 6"),
+];
+
+#[test]
+fn a_unit_is_held_whoever_holds_it(rt: HostRuntime) -> Result<(), Fail> {
+    check_said::<Asked>(rt.alloc(), &[WITH_RECIPE, WITH_BATCH, UNIT_IS_HELD])
+}
+
+const HELD_AND_STOPPED: &[Line] = &[
+    ("do ACME O 1 pause", "accepted"),
+    ("do ACME O 1 hold", "accepted"),
+    ("do ACME O 1 done", "accepted"),
+    ("do ACME O 1 pause", "refused 23"),
+    ("do ACME O 1 restart", "accepted"),
+    ("do ACME O 1 stop", "accepted"),
+    ("do ACME O 1 done", "accepted"),
+    ("do ACME O 1 reset", "accepted"),
+    ("do ACME O 1 start", "accepted"),
+    ("close ACME O 1", "refused 23"),
+    ("do ACME O 1 done", "accepted"),
+    ("close ACME O 1", "accepted"),
+    ("close ACME O 1", "refused 24"),
+    ("open ACME O U1", "refused 21"),
+    ("do ACME O 2 start", "refused 22"),
+    ("do ACME O 1 run", "refused 1"),
+    (
+        "batch ACME O 1",
+        "O/1 complete U1 closed\n 1 consumed ACME             M                       100              0\n 1 produced ACME             P                        90              0\n",
+    ),
+];
+
+#[test]
+fn a_batch_goes_through_its_states(rt: HostRuntime) -> Result<(), Fail> {
+    check_said::<Asked>(rt.alloc(), &[WITH_RECIPE, WITH_BATCH, HELD_AND_STOPPED])
+}
+
+const CANCELLED: &[Line] = &[
+    ("> ACME ACMEKEY1 cancel O", "refused 20"),
+    ("> ACME ACMEKEY1 cancel O-9", "refused 18"),
+    ("> ACME ACMEKEY1 place O-1 R 2", "order O-1 R 2 open"),
+    ("> ACME ACMEKEY1 cancel O-1", "order O-1 R 2 cancelled"),
+    ("> ACME ACMEKEY1 place O-1 R 2", "order O-1 R 2 cancelled"),
+    ("> ACME ACMEKEY1 cancel O-1", "refused 19"),
+    ("open ACME O-1 U1", "refused 19"),
+    (
+        "orders ACME",
+        "O                R                 1 open\nO-1              R                 2 cancelled\n",
+    ),
+];
+
+#[test]
+fn an_order_is_cancelled_before_its_first_batch(rt: HostRuntime) -> Result<(), Fail> {
+    check_said::<Asked>(rt.alloc(), &[WITH_RECIPE, WITH_BATCH, CANCELLED])
+}
+
+const ORDERS_OF_HOUSE: &[Line] = &[
+    ("order HO NONE 1", "refused 13"),
+    ("recipe-add HOUSE HB 1", "accepted"),
+    ("order HO HB 1", "accepted"),
+    ("order HO HB 1", "repeated"),
+    ("cancel HO", "accepted"),
+    ("cancel HO", "refused 19"),
+    ("release H-1", "refused 27"),
+    ("reject H-1", "refused 27"),
+];
+
+const REQUIREMENTS: &[Line] = &[
+    ("require ACME R 1 consumed BOLT M 1", "refused 14"),
+    ("recipe-add ACME R2 1", "accepted"),
+    ("require ACME R2 1 consumed BOLT M 1", "refused 38"),
+    ("require ACME R2 1 produced HOUSE M 1", "refused 38"),
+    ("require ACME R2 2 consumed ACME M 1", "refused 15"),
+    ("require ACME R2 1 consumed ACME N 1", "refused 9"),
+];
+
+#[test]
+fn house_orders_as_owners_do(rt: HostRuntime) -> Result<(), Fail> {
+    check_said::<Asked>(
+        rt.alloc(),
+        &[WITH_RECIPE, WITH_BATCH, ORDERS_OF_HOUSE, REQUIREMENTS],
+    )
+}

@@ -1,0 +1,99 @@
+//! Stories of movements.
+use crate::desk::lines::Asked;
+use crate::desk::setups::WITH_BATCH;
+use crate::stories::{CONSUMED_ONCE, Line, WITH_RECIPE, check_said};
+use std::test::Fail;
+
+const ALL_CONSUMED: &[Line] = &[
+    (
+        "> ACME ACMEKEY1 lot A",
+        "lot A M kg receipts released, S1 0",
+    ),
+    (
+        "> ACME ACMEKEY1 batch O 1",
+        "O/1 running U1 open\n 1 consumed ACME             M                       100            100\n 1 produced ACME             P                        90              0\n",
+    ),
+];
+
+#[test]
+fn a_batch_consumes_what_there_is(rt: HostRuntime) -> Result<(), Fail> {
+    check_said::<Asked>(
+        rt.alloc(),
+        &[WITH_RECIPE, WITH_BATCH, CONSUMED_ONCE, ALL_CONSUMED],
+    )
+}
+
+// The product may be consumed in segment 2.
+const CONSUMED_AGAIN: &[Line] = &[("require ACME R 2 consumed ACME P 1", "accepted")];
+
+const PRODUCT_CONSUMED: &[Line] = &[
+    (
+        "actual K2 ACME O 1 2 consumed P ACME P1 S1 1 11",
+        "refused 27",
+    ),
+    (
+        "actual K3 ACME O 1 1 produced P ACME P1 S1 30 11",
+        "accepted",
+    ),
+    (
+        "actual K2 ACME O 1 2 consumed P ACME P1 S1 1 11",
+        "refused 31",
+    ),
+    (
+        "actual K3 ACME O 1 1 produced P ACME P1 S1 30 11",
+        "repeated",
+    ),
+    (
+        "> ACME ACMEKEY1 release P1",
+        "lot P1 P kg O/1 released, S1 30",
+    ),
+    (
+        "actual K2 ACME O 1 2 consumed P ACME P1 S1 1 11",
+        "accepted",
+    ),
+    (
+        "actual K3 ACME O 1 1 produced P ACME P1 S1 30 11",
+        "repeated",
+    ),
+    (
+        "> ACME ACMEKEY1 stock",
+        "stock, A M kg released 100, P1 P kg released 29",
+    ),
+];
+
+#[test]
+fn a_product_is_consumed_once_it_is_released(rt: HostRuntime) -> Result<(), Fail> {
+    check_said::<Asked>(
+        rt.alloc(),
+        &[WITH_RECIPE, CONSUMED_AGAIN, WITH_BATCH, PRODUCT_CONSUMED],
+    )
+}
+
+const SPLIT_AND_SHIPPED: &[Line] = &[
+    ("split ACME K4 A S1 S2 30 12", "accepted"),
+    ("split ACME K5 A S1 S1 1 12", "refused 34"),
+    ("scrap ACME K6 A S2 30 12", "accepted"),
+    (
+        "stock ACME",
+        "A                S1               M                released                70 kg\nA                S2               M                released                 0 kg\n",
+    ),
+    ("ship ACME K7 A S1 70 12", "accepted"),
+    ("ship ACME K8 A S1 1 12", "refused 33"),
+    ("ship ACME K8 A S3 1 12", "refused 28"),
+    (
+        "batch ACME O 1",
+        "O/1 running U1 open\n 1 consumed ACME             M                       100              0\n 1 produced ACME             P                        90              0\n",
+    ),
+    ("batch ACME O 2", "refused 22"),
+    ("stock BOLT", ""),
+    ("orders BOLT", ""),
+    ("stock NOBODY", "refused 3"),
+    ("receive ACME K9 M A S1 0 12", "refused 2"),
+    ("receive ACME K9 M A S1 1000000001 12", "refused 2"),
+    ("receive ACME K9 M A S1 1 12", "refused 32"),
+];
+
+#[test]
+fn material_is_split_scrapped_and_shipped(rt: HostRuntime) -> Result<(), Fail> {
+    check_said::<Asked>(rt.alloc(), &[WITH_RECIPE, WITH_BATCH, SPLIT_AND_SHIPPED])
+}

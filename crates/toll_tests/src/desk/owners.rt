@@ -1,0 +1,129 @@
+//! Stories of owners and the plant, over a list keep and over one that once has no memory.
+use crate::desk::lines::Asked;
+use crate::stories::{Line, Teller, check_said, check_said_over};
+use std::alloc::{AllocError, Global};
+use std::test::Fail;
+use toll_keep::{MemKeep, Refusing};
+
+const WITH_ACME: &[Line] = &[
+    ("owner-add ACME ACMEKEY1", "accepted"),
+    ("> ACME ACMEKEY1 orders", "orders"),
+    ("> ACME ACMEKEY1 stock", "stock"),
+    ("recipe-add ACME R-1 2", "accepted"),
+];
+
+const PLACED_ONCE: &[Line] = &[
+    ("> ACME ACMEKEY1 place O-1 R-1 2", "order O-1 R-1 2 open"),
+    ("> ACME ACMEKEY1 orders", "orders, O-1 R-1 2 open"),
+    ("> ACME ACMEKEY1 place O-1 R-1 2", "order O-1 R-1 2 open"),
+    ("> ACME ACMEKEY1 place O-1 R-1 3", "refused 17"),
+    ("> ACME ACMEKEY1 orders", "orders, O-1 R-1 2 open"),
+    ("> ACME ACMEKEY1 order O-1", "order O-1 R-1 2 open"),
+    ("> ACME ACMEKEY1 order O-2", "refused 18"),
+];
+
+#[test]
+fn an_order_is_placed_once(rt: HostRuntime) -> Result<(), Fail> {
+    check_said::<Asked>(rt.alloc(), &[WITH_ACME, PLACED_ONCE])
+}
+
+const OF_ONE_NAME: &[Line] = &[
+    ("owner-add BOLT BOLTKEY1", "accepted"),
+    ("recipe-add BOLT R-9 1", "accepted"),
+    ("> ACME ACMEKEY1 place O-1 R-1 2", "order O-1 R-1 2 open"),
+    ("> BOLT BOLTKEY1 place O-1 R-9 7", "order O-1 R-9 7 open"),
+    ("> ACME ACMEKEY1 order O-1", "order O-1 R-1 2 open"),
+    ("> BOLT BOLTKEY1 order O-1", "order O-1 R-9 7 open"),
+];
+
+#[test]
+fn owners_have_orders_of_one_name(rt: HostRuntime) -> Result<(), Fail> {
+    check_said::<Asked>(rt.alloc(), &[WITH_ACME, OF_ONE_NAME])
+}
+
+const FORBIDDEN: &[Line] = &[
+    ("> ACME BOLTKEY1 place O-1 R-1 2", "forbidden"),
+    ("> ACME BOLTKEY1 orders", "forbidden"),
+    ("> BOLT BOLTKEY1 orders", "forbidden"),
+    ("> HOUSE ACMEKEY1 orders", "forbidden"),
+    ("> ACME ACMEKEY1 orders", "orders"),
+];
+
+#[test]
+fn a_wrong_key_is_forbidden(rt: HostRuntime) -> Result<(), Fail> {
+    check_said::<Asked>(rt.alloc(), &[WITH_ACME, FORBIDDEN])
+}
+
+const ADDED_ONCE: &[Line] = &[
+    ("owner-add ACME ACMEKEY1", "refused 4"),
+    ("owner-add HOUSE HOUSEKEY1", "refused 4"),
+    ("owner-add BOLT BOLT", "refused 1"),
+    ("recipe-add ACME R-1 2", "refused 12"),
+    ("recipe-add BOLT R-1 2", "refused 3"),
+    ("unit-add U1", "accepted"),
+    ("unit-add U1", "refused 5"),
+];
+
+#[test]
+fn an_owner_is_added_once(rt: HostRuntime) -> Result<(), Fail> {
+    check_said::<Asked>(rt.alloc(), &[WITH_ACME, ADDED_ONCE])
+}
+
+const NOT_PLACED_WITHOUT_MEMORY: &[Line] = &[
+    ("> ACME ACMEKEY1 place O-1 R-1 2", "fault Memory"),
+    ("> ACME ACMEKEY1 orders", "orders"),
+    ("> ACME ACMEKEY1 place O-1 R-1 2", "order O-1 R-1 2 open"),
+    ("> ACME ACMEKEY1 orders", "orders, O-1 R-1 2 open"),
+];
+
+#[test]
+fn an_order_without_memory_is_not_placed(rt: HostRuntime) -> Result<(), Fail> {
+    let mut keep = MemKeep::new(rt.alloc());
+    check_said_over::<Asked, _>(rt.alloc(), &mut keep, &[WITH_ACME])?;
+    check_said_over::<Asked, _>(
+        rt.alloc(),
+        &mut Refusing::new(keep),
+        &[NOT_PLACED_WITHOUT_MEMORY],
+    )
+}
+
+const NOT_ADDED_WITHOUT_MEMORY: &[Line] = &[
+    ("owner-add ACME ACMEKEY1", "fault Memory"),
+    ("> ACME ACMEKEY1 orders", "forbidden"),
+    ("owner-add ACME ACMEKEY1", "accepted"),
+    ("> ACME ACMEKEY1 orders", "orders"),
+];
+
+#[test]
+fn an_owner_without_memory_is_not_added(rt: HostRuntime) -> Result<(), Fail> {
+    let mut keep = Refusing::new(MemKeep::new(rt.alloc()));
+    check_said_over::<Asked, _>(rt.alloc(), &mut keep, &[NOT_ADDED_WITHOUT_MEMORY])
+}
+
+// How many of the numbers from 0 are accepted between these words, over an empty keep, and what is
+// said to the next.
+fn fill(alloc: Global, before: &str, behind: &str) -> Result<String, AllocError> {
+    let mut keep = MemKeep::new(alloc);
+    for number in 0..1_000 {
+        let line = format!(in alloc; "{before}{number}{behind}")?;
+        let said = Asked::say(alloc, &mut keep, &line)?;
+        if said.as_str() != "accepted" {
+            return format!(in alloc; "{number}, {said}");
+        }
+    }
+    format!(in alloc; "all")
+}
+
+#[test]
+fn there_are_64_owners_at_most(rt: HostRuntime) -> Result<(), Fail> {
+    let owners = fill(rt.alloc(), "owner-add W-", " OWNERKEY1")?;
+    assert!(rt; owners.as_str() == "64, refused 39", "{owners}");
+    Ok(())
+}
+
+#[test]
+fn there_are_200_units_at_most(rt: HostRuntime) -> Result<(), Fail> {
+    let units = fill(rt.alloc(), "unit-add U-", "")?;
+    assert!(rt; units.as_str() == "200, refused 39", "{units}");
+    Ok(())
+}

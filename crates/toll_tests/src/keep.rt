@@ -1,0 +1,8 @@
+//! Tests of keeps: that ample memory meets no refusal, and what is told of rows that were put.
+
+mod counting;
+mod first_version;
+mod rows;
+mod tables;
+mod tests;
+mod told;

@@ -1,0 +1,121 @@
+//! What the contracts do not show: that ample memory meets no refusal, and what is told of rows that
+//! were put.
+use crate::keep::counting::Counting;
+use crate::keep::rows::{acme, actual, batch, counts, edge, fill, fill_all};
+use crate::keep::told::{
+    assert_edges_told, assert_holder_told, assert_owners_told, assert_rows_told,
+};
+use std::alloc::Global;
+use std::test::Fail;
+use toll_base::{Change, Disposition, LotRow, Name, Origin, Role, Row};
+use toll_keep::{Keep, KeepFault, MemKeep, Refusing, Remembering};
+
+fn filled(alloc: Global) -> Result<MemKeep, Fail> {
+    let mut keep = MemKeep::new(alloc);
+    fill_all(alloc, &mut keep)?;
+    Ok(keep)
+}
+
+#[test]
+fn owners_and_units_are_told(rt: HostRuntime) -> Result<(), Fail> {
+    assert_owners_told(&rt, &mut filled(rt.alloc())?)
+}
+
+#[test]
+fn rows_are_told(rt: HostRuntime) -> Result<(), Fail> {
+    assert_rows_told(&rt, &mut filled(rt.alloc())?)
+}
+
+#[test]
+fn a_unit_is_held(rt: HostRuntime) -> Result<(), Fail> {
+    assert_holder_told(&rt, &mut filled(rt.alloc())?)
+}
+
+#[test]
+fn edges_are_told(rt: HostRuntime) -> Result<(), Fail> {
+    assert_edges_told(&rt, &mut filled(rt.alloc())?)
+}
+
+#[test]
+fn one_change_is_refused(rt: HostRuntime) -> Result<(), Fail> {
+    let alloc = rt.alloc();
+    let mut keep = Refusing::new(filled(alloc)?);
+    let changes = [Change::Owner(acme()?)];
+    assert_eq!(rt; keep.apply(alloc, &changes), Err(KeepFault::Memory));
+    assert_eq!(rt; keep.apply(alloc, &changes), Ok(()));
+    assert_eq!(rt; keep.owners(alloc)?.len(), 1);
+    Ok(())
+}
+
+// The batch closed, a movement more, and a lot of a material that is not there.
+fn changes_with_a_lot_too_many(owner: Name) -> Result<[Change; 3], Fail> {
+    let mut closed = batch()?;
+    closed.closed = true;
+    let lot = LotRow {
+        lot: owner,
+        material: owner,
+        origin: Origin::Receipts,
+        disposition: Disposition::Quarantined,
+    };
+    Ok([
+        Change::Put(owner, Row::Batch(closed)),
+        Change::Put(owner, actual(b"K3", Role::Consumed, edge()?.from)?),
+        Change::Put(owner, Row::Lot(lot)),
+    ])
+}
+
+#[test]
+fn changes_that_do_not_fit_are_taken_back(rt: HostRuntime) -> Result<(), Fail> {
+    let alloc = rt.alloc();
+    let mut keep = filled(alloc)?;
+    let owner = acme()?.owner;
+    let changes = changes_with_a_lot_too_many(owner)?;
+    assert_eq!(rt; keep.apply(alloc, &changes), Err(KeepFault::Memory));
+    assert_eq!(rt; counts(alloc, &mut keep, &owner)?, Some((1, 2)));
+    assert!(rt; keep.holder(alloc, &batch()?.unit)?.is_some());
+    Ok(())
+}
+
+#[test]
+fn remembered_rows_follow_the_changes(rt: HostRuntime) -> Result<(), Fail> {
+    let alloc = rt.alloc();
+    let mut keep = Remembering::new(alloc, Counting::new(MemKeep::new(alloc)));
+    let acme = acme()?;
+    keep.apply(alloc, &[Change::Owner(acme)])?;
+    assert_eq!(rt; counts(alloc, &mut keep, &acme.owner)?, Some((0, 0)));
+    fill(alloc, &mut keep, &acme.owner, batch()?)?;
+    assert_eq!(rt; counts(alloc, &mut keep, &acme.owner)?, Some((1, 2)));
+    assert_eq!(rt; keep.inside().read(), 1);
+    Ok(())
+}
+
+#[test]
+fn a_refused_change_makes_it_forget(rt: HostRuntime) -> Result<(), Fail> {
+    let alloc = rt.alloc();
+    let mut keep = Remembering::new(alloc, Counting::new(Refusing::new(filled(alloc)?)));
+    let owner = acme()?.owner;
+    assert_eq!(rt; counts(alloc, &mut keep, &owner)?, Some((1, 2)));
+    let refused = keep.apply(alloc, &[Change::Put(owner, Row::Batch(batch()?))]);
+    assert_eq!(rt; refused, Err(KeepFault::Memory));
+    assert_eq!(rt; counts(alloc, &mut keep, &owner)?, Some((1, 2)));
+    assert_eq!(rt; keep.inside().read(), 2);
+    Ok(())
+}
+
+#[test]
+fn edges_come_from_a_remembered_slice(rt: HostRuntime) -> Result<(), Fail> {
+    let alloc = rt.alloc();
+    let mut keep = Remembering::new(alloc, filled(alloc)?);
+    let owner = acme()?.owner;
+    let told = keep.edges(alloc, &owner)?;
+    assert_eq!(rt; counts(alloc, &mut keep, &owner)?, Some((1, 2)));
+    let remembered = keep.edges(alloc, &owner)?;
+    assert_eq!(rt; remembered.as_slice(), told.as_slice());
+    assert_eq!(rt; remembered.as_slice(), [edge()?].as_slice());
+    Ok(())
+}
+
+#[test]
+fn faults_have_words(rt: HostRuntime) {
+    assert_eq!(rt; KeepFault::Damaged.name(), "Damaged");
+}

@@ -1,0 +1,3 @@
+//! Tests of the office in a file: owners at a socket, and a file that another uses.
+
+mod connections;

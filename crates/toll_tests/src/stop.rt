@@ -1,0 +1,7 @@
+//! Tests of stops: an office over two disks in memory, each of which stops at each of its calls in turn,
+//! and what is found when it is opened again.
+
+mod disks;
+mod runs;
+mod stops;
+mod stories;

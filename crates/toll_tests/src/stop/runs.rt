@@ -1,0 +1,143 @@
+//! What is done to an office while its files stop.
+use crate::stop::disks::{Disks, connect, disconnect, empty_files};
+use crate::stories::{Line, Teller, are_said, check_lines, check_said_over};
+use crate::wire::lines::Asked;
+use sqlite::{Alter, Connection};
+use std::alloc::Global;
+use std::test::Fail;
+use toll_keep::{Keep, Remembering};
+use toll_sql::{OpenFault, SqlKeep};
+
+/// What comes of a run.
+#[derive(Clone, Copy, PartialEq, Eq)]
+pub enum Told {
+    /// It was done.
+    Done,
+    /// A fault of the disk was told.
+    Fault,
+    /// Something else was told.
+    Other,
+}
+
+/// Something that is done to an office.
+pub trait Run {
+    /// Does it to the office in this store, and hands the store back.
+    fn go<S: Alter + Drop>(&self, alloc: Global, conn: Connection<S>) -> (Connection<S>, Told);
+
+    /// Whether the office in this store is the one from after it, and not the one from before. Fails
+    /// where it is neither.
+    fn is_after<S: Alter + Drop>(&self, alloc: Global, conn: Connection<S>) -> Result<bool, Fail>;
+}
+
+fn told_of(fault: OpenFault) -> Told {
+    match fault {
+        OpenFault::Disk => Told::Fault,
+        _ => Told::Other,
+    }
+}
+
+/// The tables of the office are made. Before it there are none, and after it nobody is there.
+pub struct Making;
+
+impl Run for Making {
+    fn go<S: Alter + Drop>(&self, _alloc: Global, conn: Connection<S>) -> (Connection<S>, Told) {
+        match SqlKeep::create(conn) {
+            Ok(keep) => (keep.into_connection(), Told::Done),
+            Err((fault, conn)) => (conn, told_of(fault)),
+        }
+    }
+
+    fn is_after<S: Alter + Drop>(&self, alloc: Global, conn: Connection<S>) -> Result<bool, Fail> {
+        match SqlKeep::adopt(alloc, conn) {
+            Ok(mut keep) => check_empty(alloc, &mut keep),
+            Err((OpenFault::NotOurs, _)) => Ok(false),
+            Err((fault, _)) => Err(fault.into()),
+        }
+    }
+}
+
+// Fails where there is an owner or a unit.
+fn check_empty<K: Keep>(alloc: Global, keep: &mut K) -> Result<bool, Fail> {
+    if keep.owners(alloc)?.is_empty() && keep.units(alloc)?.is_empty() {
+        return Ok(true);
+    }
+    Err("a new office has rows".into())
+}
+
+/// A line is told to an office.
+pub struct Telling {
+    /// What was told before.
+    pub story: &'static [&'static [Line]],
+    /// The line, and what is said to it where no file stops.
+    pub line: Line,
+    /// What is said to it where a file stops.
+    pub fault: &'static str,
+    /// What shows the office from before.
+    pub before: &'static [Line],
+    /// What shows the office from after.
+    pub after: &'static [Line],
+}
+
+impl Telling {
+    /// The files of the office to which the line is told.
+    pub fn files(&self, alloc: Global) -> Result<Disks, Fail> {
+        match connect(alloc, empty_files(alloc)) {
+            Ok(conn) => Ok(disconnect(told_to_new(alloc, conn, self.story)?)),
+            Err(_) => Err("no store".into()),
+        }
+    }
+
+    // What comes of the line.
+    fn say<K: Keep>(&self, alloc: Global, keep: &mut K) -> Told {
+        let (asked, done) = self.line;
+        match Asked::say(alloc, keep, asked) {
+            Ok(said) if said.as_str() == done => Told::Done,
+            Ok(said) if said.as_str() == self.fault => Told::Fault,
+            _ => Told::Other,
+        }
+    }
+
+    // Whether this is the office from after it. Fails where it is neither that nor the one from before.
+    fn shows_after<K: Keep>(&self, alloc: Global, keep: &mut K) -> Result<bool, Fail> {
+        if are_said::<Asked, K>(alloc, keep, self.before)? {
+            return Ok(false);
+        }
+        check_lines::<Asked, K>(alloc, keep, self.after)?;
+        Ok(true)
+    }
+}
+
+// The store of a new office to which these chapters were told.
+fn told_to_new<S: Alter + Drop>(
+    alloc: Global,
+    conn: Connection<S>,
+    story: &[&[Line]],
+) -> Result<Connection<S>, Fail> {
+    match SqlKeep::create(conn) {
+        Ok(mut keep) => match check_said_over::<Asked, SqlKeep<S>>(alloc, &mut keep, story) {
+            Ok(()) => Ok(keep.into_connection()),
+            Err(fail) => Err(fail),
+        },
+        Err((fault, _)) => Err(fault.into()),
+    }
+}
+
+impl Run for Telling {
+    fn go<S: Alter + Drop>(&self, alloc: Global, conn: Connection<S>) -> (Connection<S>, Told) {
+        match SqlKeep::adopt(alloc, conn) {
+            Ok(keep) => {
+                let mut keep = Remembering::new(alloc, keep);
+                let told = self.say(alloc, &mut keep);
+                (keep.inside().into_connection(), told)
+            }
+            Err((fault, conn)) => (conn, told_of(fault)),
+        }
+    }
+
+    fn is_after<S: Alter + Drop>(&self, alloc: Global, conn: Connection<S>) -> Result<bool, Fail> {
+        match SqlKeep::adopt(alloc, conn) {
+            Ok(mut keep) => self.shows_after(alloc, &mut keep),
+            Err((fault, _)) => Err(fault.into()),
+        }
+    }
+}

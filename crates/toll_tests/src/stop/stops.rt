@@ -1,0 +1,71 @@
+//! Stops at each call of each file, and what is found behind them.
+use crate::stop::disks::{
+    Disks, Stopping, connect, cut_power, disconnect, fused_files, has_stopped, left_files,
+};
+use crate::stop::runs::{Run, Told};
+use sqlite::Files;
+use sqlite_disk::Disk;
+use std::alloc::Global;
+use std::test::Fail;
+
+// More calls of a file than a run makes.
+const MANY_CALLS: u64 = 10_000;
+
+/// Lets each of the two files of the office in turn stop at its first call, its second, and so on, until
+/// the run meets no stop. Fails where a stop leaves neither the office from before the run nor the one
+/// from after it, or not the one from after it although the run was told as done.
+pub fn check_stops<R: Run>(alloc: Global, run: &R, files: &Disks) -> Result<(), Fail> {
+    check_stops_of(alloc, run, files, Stopping::Log)?;
+    check_stops_of(alloc, run, files, Stopping::Database)
+}
+
+fn check_stops_of<R: Run>(
+    alloc: Global,
+    run: &R,
+    files: &Disks,
+    stopping: Stopping,
+) -> Result<(), Fail> {
+    for calls in 0..MANY_CALLS {
+        let fused = fused_files(alloc, files, stopping, calls)?;
+        if !stops(alloc, run, fused)? {
+            return Ok(());
+        }
+    }
+    Err("each run meets a stop".into())
+}
+
+// Whether the run over these files meets a stop.
+fn stops<R: Run>(alloc: Global, run: &R, files: Disks) -> Result<bool, Fail> {
+    let (mut left, told) = go_over(alloc, run, files);
+    let stopped = has_stopped(&mut left.log) || has_stopped(&mut left.db);
+    if told == Told::Other || (told == Told::Fault && !stopped) {
+        return Err("neither done nor stopped".into());
+    }
+    check_left(alloc, run, &left, told)?;
+    cut_power(&mut left);
+    check_left(alloc, run, &left, told)?;
+    Ok(stopped)
+}
+
+// The run over these files, and the files that it leaves.
+fn go_over<R: Run, D: Disk + Drop>(alloc: Global, run: &R, files: Files<D>) -> (Files<D>, Told) {
+    match connect(alloc, files) {
+        Ok(conn) => {
+            let (conn, told) = run.go(alloc, conn);
+            (disconnect(conn), told)
+        }
+        Err(files) => (files, Told::Fault),
+    }
+}
+
+// Fails where the office in these files is not one that may be left.
+fn check_left<R: Run>(alloc: Global, run: &R, left: &Disks, told: Told) -> Result<(), Fail> {
+    let is_after = match connect(alloc, left_files(alloc, left)?) {
+        Ok(conn) => run.is_after(alloc, conn)?,
+        Err(_) => return Err("the files can't be opened again".into()),
+    };
+    if told == Told::Done && !is_after {
+        return Err("what was told as done is lost".into());
+    }
+    Ok(())
+}

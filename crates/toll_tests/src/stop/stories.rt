@@ -1,0 +1,120 @@
+//! Runs over an office whose files stop, and what shows the office before and after each.
+use crate::stop::disks::empty_files;
+use crate::stop::runs::{Making, Telling};
+use crate::stop::stops::check_stops;
+use crate::stories::{A_CONSUMED, P1_PRODUCED, WITH_HOUSE};
+use crate::wire::setups::{
+    RELEASED_AND_PLACED, WITH_ACME, WITH_PRODUCT_OF_HOUSE, WITH_RECIPE_OF_HOUSE,
+};
+use std::test::Fail;
+
+#[test]
+fn a_stop_leaves_no_tables_or_an_empty_office(rt: HostRuntime) -> Result<(), Fail> {
+    check_stops(rt.alloc(), &Making, &empty_files(rt.alloc()))
+}
+
+// ACME places an order by that recipe.
+const PLACING: Telling = Telling {
+    story: &[WITH_ACME],
+    line: (
+        "> ACME ACMEKEY1 POST /orders {\"order\":\"O-1\",\"recipe\":\"R-1\",\"batches\":2}",
+        "200 {\"batches\":2,\"order\":\"O-1\",\"recipe\":\"R-1\",\"status\":\"open\"}",
+    ),
+    fault: "503 {\"error\":\"Unavailable\"}",
+    before: &[("> ACME ACMEKEY1 GET /orders", "200 {\"orders\":[]}")],
+    after: &[(
+        "> ACME ACMEKEY1 GET /orders",
+        "200 {\"orders\":[{\"batches\":2,\"order\":\"O-1\",\"recipe\":\"R-1\",\"status\":\"open\"}]}",
+    )],
+};
+
+// The batch consumes all that HOUSE has.
+const CONSUMING: Telling = Telling {
+    story: &[WITH_HOUSE, RELEASED_AND_PLACED, A_CONSUMED],
+    line: (
+        "actual K4 ACME O 1 1 consumed W HOUSE H-1 S 10 2",
+        "accepted",
+    ),
+    fault: "fault Disk",
+    before: &[
+        (
+            "stock HOUSE",
+            "H-1              S                W                released                10 kg\n",
+        ),
+        (
+            "batch ACME O 1",
+            "O/1 running U1 open\n 1 consumed ACME             M                        10             10\n 1 consumed HOUSE            W                        10              0\n 1 produced ACME             P                        10              0\n 2 consumed ACME             M                        10              0\n",
+        ),
+    ],
+    after: &[
+        (
+            "stock HOUSE",
+            "H-1              S                W                released                 0 kg\n",
+        ),
+        (
+            "batch ACME O 1",
+            "O/1 running U1 open\n 1 consumed ACME             M                        10             10\n 1 consumed HOUSE            W                        10             10\n 1 produced ACME             P                        10              0\n 2 consumed ACME             M                        10              0\n",
+        ),
+    ],
+};
+
+// The batch of ACME is opened.
+const OPENING: Telling = Telling {
+    story: &[WITH_RECIPE_OF_HOUSE, WITH_PRODUCT_OF_HOUSE],
+    line: ("open ACME O U2", "accepted"),
+    fault: "fault Disk",
+    before: &[
+        (
+            "> ACME ACMEKEY1 GET /batches/O/1",
+            "404 {\"code\":22,\"error\":\"UnknownBatch\"}",
+        ),
+        ("batch ACME O 1", "refused 22"),
+    ],
+    after: &[
+        (
+            "> ACME ACMEKEY1 GET /batches/O/1",
+            "200 {\"batch\":1,\"closed\":false,\"order\":\"O\",\"requirements\":[{\"actual\":0,\"material\":\"V\",\"owner\":\"HOUSE\",\"required\":4,\"segment\":1,\"use\":\"consumed\"},{\"actual\":0,\"material\":\"P\",\"owner\":\"ACME\",\"required\":5,\"segment\":1,\"use\":\"produced\"}],\"state\":\"idle\",\"unit\":\"U2\"}",
+        ),
+        (
+            "batch ACME O 1",
+            "O/1 idle U2 open\n 1 consumed HOUSE            V                         4              0\n 1 produced ACME             P                         5              0\n",
+        ),
+    ],
+};
+
+// The batch gives back what it consumed of HOUSE's.
+const VOIDING: Telling = Telling {
+    story: &[WITH_HOUSE, RELEASED_AND_PLACED, A_CONSUMED, P1_PRODUCED],
+    line: ("void ACME K4", "accepted"),
+    fault: "fault Disk",
+    before: &[
+        (
+            "stock HOUSE",
+            "H-1              S                W                released                 0 kg\n",
+        ),
+        (
+            "> ACME ACMEKEY1 GET /trace/house/H-1",
+            "200 {\"lots\":[{\"lot\":\"H-1\",\"owner\":\"HOUSE\",\"steps\":0},{\"lot\":\"P1\",\"owner\":\"ACME\",\"steps\":1}]}",
+        ),
+    ],
+    after: &[
+        (
+            "stock HOUSE",
+            "H-1              S                W                released                10 kg\n",
+        ),
+        (
+            "> ACME ACMEKEY1 GET /trace/house/H-1",
+            "404 {\"code\":27,\"error\":\"UnknownLot\"}",
+        ),
+    ],
+};
+
+const RUNS: &[Telling] = &[PLACING, CONSUMING, OPENING, VOIDING];
+
+#[test]
+fn a_stop_leaves_the_rows_from_before_or_after(rt: HostRuntime) -> Result<(), Fail> {
+    for run in RUNS {
+        check_stops(rt.alloc(), run, &run.files(rt.alloc())?)?;
+    }
+    Ok(())
+}

@@ -1,0 +1,22 @@
+//! What stories of the office share: lines of what is asked and what is said to each, over lists and over
+//! tables; owners' lines as requests, the plant's as commands, and what is replied said as text.
+
+mod commands;
+mod http;
+mod keeps;
+mod lines;
+mod said;
+mod setups;
+
+pub use commands::plant_cmd;
+pub use http::{reply_said, request_of};
+pub use keeps::{TableKeep, empty_tables, taken_over};
+pub use lines::{
+    Line, Teller, are_said, check_lines, check_said, check_said_over, check_said_over_lists,
+    say_to_plant,
+};
+pub use said::{plant_said, said_fault, said_refusal, said_text, text_of};
+pub use setups::{
+    A_CONSUMED, BOTH_RUN, CONSUMED_ONCE, CONSUMPTION_VOIDED, P1_PRODUCED, WITH_HOUSE, WITH_RECIPE,
+    WITH_TWO_RECIPES,
+};

@@ -1,0 +1,31 @@
+//! Owners' lines over HTTP.
+use crate::stories::said::text_of;
+use std::alloc::{AllocError, Global};
+
+/// The request of an owner's line: `>`, its name and its key, the method, the target and, where there is
+/// one, the body. `None` for every other line. An `Err` means that there was no memory.
+pub fn request_of(alloc: Global, line: &str) -> Result<Option<Vec<u8>>, AllocError> {
+    let words: Vec<&str> = line.split(' ').collect(alloc)?;
+    let (owner, key, method, target, body) = match words.as_slice() {
+        [">", owner, key, method, target] => (owner, key, method, target, ""),
+        [">", owner, key, method, target, body] => (owner, key, method, target, *body),
+        _ => return Ok(None),
+    };
+    let len = body.len();
+    let text = format!(in alloc;
+        "{method} {target} HTTP/1.1\r\nhost: 127.0.0.1\r\ntoll-owner: {owner}\r\ntoll-key: {key}\r\ncontent-length: {len}\r\n\r\n{body}"
+    )?;
+    Ok(Some(text.into_bytes()))
+}
+
+/// What a reply says: its status and, where there is one, its body. An `Err` means that there was no
+/// memory.
+pub fn reply_said(alloc: Global, reply: &[u8]) -> Result<String, AllocError> {
+    let text = text_of(reply);
+    let status = text.get(9..12).unwrap_or("?");
+    match text.split_once("\r\n\r\n") {
+        Some((_, "")) => String::from_str(alloc, status),
+        Some((_, body)) => format!(in alloc; "{status} {body}"),
+        None => String::from_str(alloc, "?"),
+    }
+}
