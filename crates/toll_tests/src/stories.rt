@@ -1,5 +1,6 @@
 //! What stories of the office share: lines of what is asked and what is said to each, over lists and over
-//! tables; owners' lines as requests, the plant's as commands, and what is replied said as text.
+//! tables; owners' lines as requests, the plant's as commands, what is replied said as text, and how several
+//! stories begin.
 
 mod commands;
 mod http;
