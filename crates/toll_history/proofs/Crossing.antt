@@ -67,7 +67,8 @@ pub movements_not_crossing : (H : History) → IsLawful H → NoneCrosses (movem
 movements_not_crossing [] lawful = tt
 movements_not_crossing (c ∷ H) lawful = moved_not_crossing c.owner c.action (movements H) (accepted_not_crossing H c lawful.2) (movements_not_crossing H lawful.0)
 
-all_filtered : {X : Type 0} (P : X → Type 0) (q : X → Bool) (xs : List X) → AllByRecursion P xs → AllByRecursion P (filter q xs)
+-- what holds of each holds of those that a filter keeps
+pub all_filtered : {X : Type 0} (P : X → Type 0) (q : X → Bool) (xs : List X) → AllByRecursion P xs → AllByRecursion P (filter q xs)
 all_filtered P q [] all = tt
 all_filtered P q (x ∷ xs) all =
     elim (q x) as (λ b. AllByRecursion P (cond b (x ∷ filter q xs) (filter q xs))) [

@@ -7,6 +7,7 @@ pub mod Passed
 pub mod Acts
 pub mod Found
 pub mod EachMove
+pub mod Sums
 pub mod StandsOnce
 pub mod Moving
 pub mod Lots

@@ -1,12 +1,12 @@
 -- What an accepted movement brings, and what it takes.
-use Rattle.std.proofs.Common.{◌≡◌, ℕ, ◌+◌, ◌≤◌, Bool, true, false, not, ◌&&◌, ◌||◌, cond, nat_lt, Option, Some, None, is_none, List, [], ◌∷◌, filter, refl, sym, ap, subst, ◌∙◌, arith}
+use Rattle.std.proofs.Common.{◌≡◌, ℕ, ◌+◌, ◌≤◌, Bool, true, false, not, ◌&&◌, ◌||◌, cond, nat_lt, Option, Some, None, is_none, [], ◌∷◌, refl, sym, ap, subst, ◌∙◌, arith}
 use mathlib.Core.Bool.{false≢true}
 use Rattle.std.specs.Option.{option_map_or}
 use Rattle.std.proofs.lemmas.Bool.{not-false, or_left}
 use Rattle.std.proofs.lemmas.Bool.Decides.{nat_tests}
 use Rattle.toll_base.specs.Bytes.{Bytes, same_bytes}
 use Rattle.toll_base.specs.Values.{house_name}
-use Rattle.toll_base.specs.Words.{total, where_so, is_some_where}
+use Rattle.toll_base.specs.Words.{where_so, is_some_where}
 use Rattle.toll_history.specs.Command.{Action, Record, Void, by}
 use Rattle.toll_history.specs.History.{History, acts}
 use Rattle.toll_base.specs.Lots.{lot_id, same_lot}
@@ -24,6 +24,7 @@ use Rattle.toll_base.proofs.Bools.{both}
 use Rattle.toll_base.proofs.Texts.{same_bytes-exact}
 use Rattle.toll_history.proofs.Options.{map_none, true_where}
 use Rattle.toll_history.proofs.Passed.{MoveFits, accepted_passes}
+use Rattle.toll_history.proofs.Sums.{total-filter_le}
 
 pub same_lot-exact : (a b : LotId) → same_lot a b ≡ true → a ≡ b
 same_lot-exact a b h = let parts = both (same_bytes a.owner b.owner) (same_bytes a.lot b.lot) h in
@@ -56,14 +57,6 @@ tables_for_are H o source crossed =
     ] refl crossed
 
 -- ---- amounts
-
-total-filter_le : {X : Type 0} (f : X → ℕ) (p : X → Bool) (xs : List X) → total f (filter p xs) ≤ total f xs
-total-filter_le f p [] = omega arith
-total-filter_le f p (x ∷ xs) =
-    elim (p x) as (λ b. total f (cond b (x ∷ filter p xs) (filter p xs)) ≤ f x + total f xs) [
-      | true ↦ omega (arith, total-filter_le f p xs)
-      | false ↦ omega (arith, total-filter_le f p xs)
-    ]
 
 -- a void brings nothing into a sublot
 pub brought-voided : (H : History) (o key : Bytes) (id : LotId) (sub : Bytes) → brought (by o (Void key) ∷ H) id sub ≤ brought H id sub

@@ -12,6 +12,7 @@ use Rattle.toll_base.proofs.Bools.{both}
 use Rattle.toll_base.proofs.Texts.{same_bytes-exact}
 use Rattle.toll_history.proofs.Acts.{any_acts}
 use Rattle.toll_history.proofs.Found.{movement_of-recorded, movement_of-kept, key_found, key_is_new}
+use Rattle.toll_history.proofs.Sums.{total-alike, total-filtered}
 
 -- no movement of the list passes the test, so far as sums see
 abbrev pub Never : (Movement → Bool) → List Movement → Type 0
@@ -20,19 +21,6 @@ Never p ms = (f : Movement → ℕ) → total f ms ≡ total (λ x. cond (p x) 0
 -- this one does, and no other
 abbrev pub Once : (Movement → Bool) → Movement → List Movement → Type 0
 Once p m ms = (f : Movement → ℕ) → total f ms ≡ f m + total (λ x. cond (p x) 0 (f x)) ms
-
-total-alike : {X : Type 0} (f g : X → ℕ) (xs : List X) → ((x : X) → f x ≡ g x) → total f xs ≡ total g xs
-total-alike f g [] same = refl
-total-alike f g (x ∷ xs) same = λ i. same x i + total-alike f g xs same i
-
--- the sum over what a filter leaves
-pub total-filtered : (q : Movement → Bool) (f : Movement → ℕ) (ms : List Movement) → total f (filter (λ x. not (q x)) ms) ≡ total (λ x. cond (q x) 0 (f x)) ms
-total-filtered q f [] = refl
-total-filtered q f (x ∷ xs) =
-    elim (q x) as (λ b. total f (cond (not b) (x ∷ filter (λ y. not (q y)) xs) (filter (λ y. not (q y)) xs)) ≡ cond b 0 (f x) + total (λ y. cond (q y) 0 (f y)) xs) [
-      | true ↦ omega (arith, total-filtered q f xs)
-      | false ↦ omega (arith, total-filtered q f xs)
-    ]
 
 swapped : (a b : Bool) (n : ℕ) → cond a 0 (cond b 0 n) ≡ cond b 0 (cond a 0 n)
 swapped true true n = refl

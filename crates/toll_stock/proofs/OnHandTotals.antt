@@ -1,5 +1,5 @@
 -- What is in the sublots of a lot is what its standing movements received and produced, less what they used up.
-use Rattle.std.proofs.Common.{◌≡◌, ℕ, ◌+◌, ◌-◌, ◌≤◌, Bool, true, false, not, ◌&&◌, cond, Option, Some, None, is_some, List, [], ◌∷◌, ◌++◌, filter, refl, sym, ap, ◌∙◌, arith}
+use Rattle.std.proofs.Common.{◌≡◌, ℕ, ◌+◌, ◌-◌, ◌≤◌, Bool, true, false, not, ◌&&◌, cond, Option, Some, None, is_some, List, [], ◌∷◌, ◌++◌, refl, sym, ap, ◌∙◌, arith}
 use mathlib.Core.Bool.{false≢true}
 use Rattle.std.specs.List.{AllByRecursion}
 use Rattle.std.specs.Option.{option_map_or}
@@ -23,13 +23,15 @@ use Rattle.toll_base.specs.declared.movement.Move.{Move}
 use Rattle.toll_base.specs.declared.movement.Move.TheVariants.{Receive, Split, Ship, Scrap, Actual}
 use Rattle.toll_base.specs.declared.rows.SublotRow.{SublotRow}
 use Rattle.toll_base.proofs.Bools.{both, and_is}
+use Rattle.toll_history.proofs.Crossing.{all_filtered}
 use Rattle.toll_history.proofs.Options.{some_where}
 use Rattle.toll_history.proofs.Owned.{all_bring_own, all_take_known}
 use Rattle.toll_history.proofs.Stock.{covered}
 use Rattle.toll_base.proofs.Texts.{same_bytes-exact, same_bytes-refl, same_bytes-symm, is_eq-then, pair_cmp_total}
 use Rattle.toll_history.specs.Amounts.{adds_to, uses_up, amounts, on_hand}
 use Rattle.toll_stock.specs.LotTotals.{on_hand_in}
-use Rattle.toll_stock.proofs.Sums.{total-along, total-each, total-plus, total-zero, total-swapped, cond-total, cond_zero, along, each_found, total_at}
+use Rattle.toll_history.proofs.Sums.{total-alike}
+use Rattle.toll_stock.proofs.Sums.{total-along, total-plus, total-zero, total-swapped, cond-total, cond_zero, along, each_found, total_at}
 
 -- ---- the sublots that a movement brings into and takes from
 
@@ -75,17 +77,9 @@ takes-comes_from id sub o (Actual order number segment Produced material lot sub
 
 -- ---- what holds of each movement holds of those that stand
 
-filtered : {X : Type 0} (P : X → Type 0) (p : X → Bool) (xs : List X) → AllByRecursion P xs → AllByRecursion P (filter p xs)
-filtered P p [] h = tt
-filtered P p (x ∷ xs) h =
-    elim (p x) as (λ b. AllByRecursion P (cond b (x ∷ filter p xs) (filter p xs))) [
-      | true ↦ (h.0, filtered P p xs h.1)
-      | false ↦ filtered P p xs h.1
-    ]
-
 standing_step : (P : Movement → Type 0) (o : Bytes) (a : Action) (ms older : List Movement) → AllByRecursion P (moved_by o a ++ ms) → (AllByRecursion P ms → AllByRecursion P older) → AllByRecursion P (standing_after o a older)
 standing_step P o (Record row) ms older each before = (each.0, before each.1)
-standing_step P o (Void key) ms older each before = filtered P (λ m. not (has_key o key m)) older (before each)
+standing_step P o (Void key) ms older each before = all_filtered P (λ m. not (has_key o key m)) older (before each)
 standing_step P o a ms older each before = before each
 
 pub each_standing : (P : Movement → Type 0) (H : History) → AllByRecursion P (movements H) → AllByRecursion P (standing H)
@@ -114,13 +108,13 @@ module _ (rows : List SublotRow) (ordered : IsInKeyOrder pair_cmp (λ row. (row.
 
   -- the place is found among the lot's sublots once
   once_in : (place : Option Place) (n : ℕ) → HasPlace place → total (λ row. cond (same_bytes row.lot lot) (cond (is_at (lot_id o row.lot) row.sublot place) n 0) 0) rows ≡ cond (is_in (lot_id o lot) place) n 0
-  once_in None n there = total-each _ (λ row. 0) rows (λ row. cond_zero (same_bytes row.lot lot)) ∙ total-zero rows
+  once_in None n there = total-alike _ (λ row. 0) rows (λ row. cond_zero (same_bytes row.lot lot)) ∙ total-zero rows
   once_in (Some p) n there =
       elim (same_lot (lot_id o lot) p.0) as (λ b. same_lot (lot_id o lot) p.0 ≡ b → total (λ row. cond (same_bytes row.lot lot) (cond (same_lot (lot_id o row.lot) p.0 && same_bytes row.sublot p.1) n 0) 0) rows ≡ cond b n 0) [
         | true ↦ λ here.
             let parts = both (same_bytes o p.0.owner) (same_bytes lot p.0.lot) here in
             let e = same_bytes-exact lot p.0.lot parts.1 in
-            total-each _ (λ row. cond (is_eq (pair_cmp (lot, p.1) (row.lot, row.sublot))) n 0) rows (λ row.
+            total-alike _ (λ row. cond (is_eq (pair_cmp (lot, p.1) (row.lot, row.sublot))) n 0) rows (λ row.
             (λ i. cond (same_bytes row.lot lot) (cond ((parts.0 i && same_bytes row.lot (sym e i)) && same_bytes row.sublot p.1) n 0) 0)
             ∙ chosen (same_bytes row.lot lot) (same_bytes row.sublot p.1) n
             ∙ (λ i. cond (same_bytes-symm row.lot lot i && same_bytes-symm row.sublot p.1 i) n 0)
@@ -128,7 +122,7 @@ module _ (rows : List SublotRow) (ordered : IsInKeyOrder pair_cmp (λ row. (row.
             ∙ total_at pair_cmp pair_cmp_total (λ row. (row.lot, row.sublot)) (λ _. n) rows (lot, p.1) ordered
             ∙ all_of_it _ n (there here)
         | false ↦ λ elsewhere.
-            total-each _ (λ row. 0) rows (λ row.
+            total-alike _ (λ row. 0) rows (λ row.
             elim (same_bytes row.lot lot) as (λ b. same_bytes row.lot lot ≡ b → cond b (cond (same_lot (lot_id o row.lot) p.0 && same_bytes row.sublot p.1) n 0) 0 ≡ 0) [
               | true ↦ λ same. ap (λ l. cond (same_lot (lot_id o l) p.0 && same_bytes row.sublot p.1) n 0) (same_bytes-exact row.lot lot same) ∙ ap (λ b. cond (b && same_bytes row.sublot p.1) n 0) elsewhere
               | false ↦ λ other. refl
@@ -140,7 +134,7 @@ module _ (rows : List SublotRow) (ordered : IsInKeyOrder pair_cmp (λ row. (row.
   moved_in : (place : Movement → Option Place) (ms : List Movement) → AllByRecursion (λ m. HasPlace (place m)) ms →
       total (λ row. cond (same_bytes row.lot lot) (total (λ m. cond (is_at (lot_id o row.lot) row.sublot (place m)) m.1.amount 0) ms) 0) rows ≡ total (λ m. cond (is_in (lot_id o lot) (place m)) m.1.amount 0) ms
   moved_in place ms there =
-      total-each _ (λ row. total (λ m. cond (same_bytes row.lot lot) (cond (is_at (lot_id o row.lot) row.sublot (place m)) m.1.amount 0) 0) ms) rows (λ row. cond-total (same_bytes row.lot lot) (λ m. cond (is_at (lot_id o row.lot) row.sublot (place m)) m.1.amount 0) ms)
+      total-alike _ (λ row. total (λ m. cond (same_bytes row.lot lot) (cond (is_at (lot_id o row.lot) row.sublot (place m)) m.1.amount 0) 0) ms) rows (λ row. cond-total (same_bytes row.lot lot) (λ m. cond (is_at (lot_id o row.lot) row.sublot (place m)) m.1.amount 0) ms)
       ∙ total-swapped (λ row m. cond (same_bytes row.lot lot) (cond (is_at (lot_id o row.lot) row.sublot (place m)) m.1.amount 0) 0) rows ms
       ∙ total-along _ (λ m. cond (is_in (lot_id o lot) (place m)) m.1.amount 0) ms (along _ _ (λ m has. once_in (place m) m.1.amount has) ms there)
 
@@ -195,15 +189,15 @@ module _ (H : History) (lawful : IsLawful H) (s : Slice) (there : IsRowsOf H s) 
 
   brought_is : all_brought ≡ total (λ m. cond (is_in id (goes_to m.0 m.1.what)) m.1.amount 0) (standing H)
   brought_is =
-      total-each _ (λ row. cond (same_bytes row.lot lot) (total (λ m. cond (is_at (lot_id s.owner row.lot) row.sublot (goes_to m.0 m.1.what)) m.1.amount 0) (standing H)) 0) s.sublots
-      (λ row. ap (λ n. cond (same_bytes row.lot lot) n 0) (total-each _ _ (standing H) (λ m. ap (λ b. cond b m.1.amount 0) (brings-goes_to (lot_id s.owner row.lot) row.sublot m.0 m.1.what))))
+      total-alike _ (λ row. cond (same_bytes row.lot lot) (total (λ m. cond (is_at (lot_id s.owner row.lot) row.sublot (goes_to m.0 m.1.what)) m.1.amount 0) (standing H)) 0) s.sublots
+      (λ row. ap (λ n. cond (same_bytes row.lot lot) n 0) (total-alike _ _ (standing H) (λ m. ap (λ b. cond b m.1.amount 0) (brings-goes_to (lot_id s.owner row.lot) row.sublot m.0 m.1.what))))
       ∙ moved_in s.sublots ordered s.owner lot (λ m. goes_to m.0 m.1.what) (standing H)
       (along _ _ (λ m brings. has_goes_to m brings (goes_to m.0 m.1.what) refl) (standing H) (each_standing (BringsOwn H) H (all_bring_own H lawful)))
 
   taken_is : all_taken ≡ total (λ m. cond (is_in id (comes_from m.0 m.1.what)) m.1.amount 0) (standing H)
   taken_is =
-      total-each _ (λ row. cond (same_bytes row.lot lot) (total (λ m. cond (is_at (lot_id s.owner row.lot) row.sublot (comes_from m.0 m.1.what)) m.1.amount 0) (standing H)) 0) s.sublots
-      (λ row. ap (λ n. cond (same_bytes row.lot lot) n 0) (total-each _ _ (standing H) (λ m. ap (λ b. cond b m.1.amount 0) (takes-comes_from (lot_id s.owner row.lot) row.sublot m.0 m.1.what))))
+      total-alike _ (λ row. cond (same_bytes row.lot lot) (total (λ m. cond (is_at (lot_id s.owner row.lot) row.sublot (comes_from m.0 m.1.what)) m.1.amount 0) (standing H)) 0) s.sublots
+      (λ row. ap (λ n. cond (same_bytes row.lot lot) n 0) (total-alike _ _ (standing H) (λ m. ap (λ b. cond b m.1.amount 0) (takes-comes_from (lot_id s.owner row.lot) row.sublot m.0 m.1.what))))
       ∙ moved_in s.sublots ordered s.owner lot (λ m. comes_from m.0 m.1.what) (standing H)
       (along _ _ (λ m takes. has_comes_from m takes (comes_from m.0 m.1.what) refl) (standing H) (each_standing (TakesKnown H) H (all_take_known H lawful)))
 
@@ -230,10 +224,10 @@ module _ (H : History) (lawful : IsLawful H) (s : Slice) (there : IsRowsOf H s) 
   on_hand_is =
       let split = total (λ (m : Movement). cond (splits id m.0 m.1.what) m.1.amount 0) (standing H) in
       let came : total (λ m. cond (is_in id (goes_to m.0 m.1.what)) m.1.amount 0) (standing H) ≡ amounts (adds_to id) H + split =
-      total-each _ (λ m. cond (adds_to id m.0 m.1.what) m.1.amount 0 + cond (splits id m.0 m.1.what) m.1.amount 0) (standing H) (λ m. into_lot id m.0 m.1.what m.1.amount)
+      total-alike _ (λ m. cond (adds_to id m.0 m.1.what) m.1.amount 0 + cond (splits id m.0 m.1.what) m.1.amount 0) (standing H) (λ m. into_lot id m.0 m.1.what m.1.amount)
       ∙ total-plus (λ m. cond (adds_to id m.0 m.1.what) m.1.amount 0) (λ m. cond (splits id m.0 m.1.what) m.1.amount 0) (standing H) in
       let went : total (λ m. cond (is_in id (comes_from m.0 m.1.what)) m.1.amount 0) (standing H) ≡ amounts (uses_up id) H + split =
-      total-each _ (λ m. cond (uses_up id m.0 m.1.what) m.1.amount 0 + cond (splits id m.0 m.1.what) m.1.amount 0) (standing H) (λ m. out_of_lot id m.0 m.1.what m.1.amount)
+      total-alike _ (λ m. cond (uses_up id m.0 m.1.what) m.1.amount 0 + cond (splits id m.0 m.1.what) m.1.amount 0) (standing H) (λ m. out_of_lot id m.0 m.1.what m.1.amount)
       ∙ total-plus (λ m. cond (uses_up id m.0 m.1.what) m.1.amount 0) (λ m. cond (splits id m.0 m.1.what) m.1.amount 0) (standing H) in
       less (on_hand_in s lot) all_taken all_brought (amounts (adds_to id) H) (amounts (uses_up id) H) split held_and_taken (brought_is ∙ came) (taken_is ∙ went)
     where

@@ -21,7 +21,8 @@ use Rattle.toll_history.proofs.StandsOnce.{stands_once}
 use Rattle.toll_base.proofs.Texts.{same_bytes-exact, same_bytes-refl, same_bytes-symm}
 use Rattle.toll_history.specs.Amounts.{ships_from, shipped}
 use Rattle.toll_stock.specs.LotTotals.{is_shipment_of, shipped_in}
-use Rattle.toll_stock.proofs.Sums.{total-along, total-each, total-zero, total-swapped, cond-total, cond_zero, along, each_found, total_at}
+use Rattle.toll_history.proofs.Sums.{total-alike}
+use Rattle.toll_stock.proofs.Sums.{total-along, total-zero, total-swapped, cond-total, cond_zero, along, each_found, total_at}
 use Rattle.toll_stock.proofs.OnHandTotals.{each_standing}
 
 -- what a movement takes of the lot as a shipment
@@ -67,10 +68,10 @@ module _ (H : History) (lawful : IsLawful H) (s : Slice) (there : IsRowsOf H s) 
         | true ↦ λ is.
             let known : movement_of (acts s.owner H) row.key ≡ Some row = sym (given row.key) ∙ found in
             let once = (stands_once H s.owner row.key lawful).once row known (stays row known is) (λ m. cond (has_key s.owner row.key m) row.amount 0) in
-            let rest : total (λ x. cond (has_key s.owner row.key x) 0 (cond (has_key s.owner row.key x) row.amount 0)) (standing H) ≡ 0 = total-each _ (λ x. 0) (standing H) (λ x. twice (has_key s.owner row.key x) row.amount) ∙ total-zero (standing H) in
+            let rest : total (λ x. cond (has_key s.owner row.key x) 0 (cond (has_key s.owner row.key x) row.amount 0)) (standing H) ≡ 0 = total-alike _ (λ x. 0) (standing H) (λ x. twice (has_key s.owner row.key x) row.amount) ∙ total-zero (standing H) in
             let own : cond (has_key s.owner row.key (s.owner, row)) row.amount 0 ≡ row.amount = λ i. cond (same_bytes-refl s.owner i && same_bytes-refl row.key i) row.amount 0 in
             omega (arith, once, rest, own)
-        | false ↦ λ other. sym (total-each _ (λ m. 0) (standing H) (λ m. cond_zero (has_key s.owner row.key m)) ∙ total-zero (standing H))
+        | false ↦ λ other. sym (total-alike _ (λ m. 0) (standing H) (λ m. cond_zero (has_key s.owner row.key m)) ∙ total-zero (standing H))
       ] refl
 
   -- a standing movement takes of the lot what the row with its key does
@@ -80,7 +81,7 @@ module _ (H : History) (lawful : IsLawful H) (s : Slice) (there : IsRowsOf H s) 
 
   taken_by : (m : Movement) → movement_of (acts m.0 H) m.1.key ≡ Some m.1 → total (λ row. cond (has_key s.owner row.key m) (shipment lot row) 0) s.moves ≡ cond (ships_from (lot_id s.owner lot) m.0 m.1.what) m.1.amount 0
   taken_by m found =
-      total-each _ (λ row. cond (same_bytes s.owner m.0) (cond (same_bytes m.1.key row.key) (shipment lot row) 0) 0) s.moves
+      total-alike _ (λ row. cond (same_bytes s.owner m.0) (cond (same_bytes m.1.key row.key) (shipment lot row) 0) 0) s.moves
       (λ row. ap (λ b. cond (same_bytes s.owner m.0 && b) (shipment lot row) 0) (same_bytes-symm row.key m.1.key) ∙ both_ways (same_bytes s.owner m.0) (same_bytes m.1.key row.key) (shipment lot row))
       ∙ sym (cond-total (same_bytes s.owner m.0) (λ row. cond (same_bytes m.1.key row.key) (shipment lot row) 0) s.moves)
       ∙ ap (λ n. cond (same_bytes s.owner m.0) n 0) (total_at bytes_cmp nat_list_cmp_total (λ row. row.key) (shipment lot) s.moves m.1.key ordered)

@@ -11,6 +11,7 @@ use Rattle.std.specs.declared.cmp.Ordering.TheVariants.{Less, Equal, Greater}
 use Rattle.std.proofs.lemmas.Cmp.{tied_itself}
 use Rattle.toll_base.specs.Table.{IsInKeyOrder, row_at}
 use Rattle.toll_base.specs.Words.{total, count}
+use Rattle.toll_history.proofs.Sums.{total-alike, total-kept}
 
 -- ---- sums
 
@@ -18,10 +19,6 @@ use Rattle.toll_base.specs.Words.{total, count}
 pub total-along : {X : Type 0} (f g : X → ℕ) (xs : List X) → AllByRecursion (λ x. f x ≡ g x) xs → total f xs ≡ total g xs
 total-along f g [] same = refl
 total-along f g (x ∷ xs) same = λ i. same.0 i + total-along f g xs same.1 i
-
-pub total-each : {X : Type 0} (f g : X → ℕ) (xs : List X) → ((x : X) → f x ≡ g x) → total f xs ≡ total g xs
-total-each f g [] same = refl
-total-each f g (x ∷ xs) same = λ i. same x i + total-each f g xs same i
 
 pub total-plus : {X : Type 0} (f g : X → ℕ) (xs : List X) → total (λ x. f x + g x) xs ≡ total f xs + total g xs
 total-plus f g [] = refl
@@ -51,22 +48,13 @@ total_bounded f most (x ∷ xs) le =
     let rest = total_bounded f most xs le.1 in
     omega arith
 
--- the sum over what a filter keeps
-pub total-kept : {X : Type 0} (q : X → Bool) (f : X → ℕ) (xs : List X) → total f (filter q xs) ≡ total (λ x. cond (q x) (f x) 0) xs
-total-kept q f [] = refl
-total-kept q f (x ∷ xs) =
-    elim (q x) as (λ b. total f (cond b (x ∷ filter q xs) (filter q xs)) ≡ cond b (f x) 0 + total (λ y. cond (q y) (f y) 0) xs) [
-      | true ↦ ap (λ n. f x + n) (total-kept q f xs)
-      | false ↦ omega (arith, total-kept q f xs)
-    ]
-
 both_pass : (a b : Bool) → ◌≡◌ {A = ℕ} (cond a (cond b 1 0) 0) (cond (a && b) 1 0)
 both_pass true b = refl
 both_pass false b = refl
 
 -- how many pass, of those that a filter keeps
 pub count-kept : {X : Type 0} (p q : X → Bool) (xs : List X) → count q (filter p xs) ≡ count (λ x. p x && q x) xs
-count-kept p q xs = total-kept p (λ x. cond (q x) 1 0) xs ∙ total-each _ _ xs (λ x. both_pass (p x) (q x))
+count-kept p q xs = total-kept p (λ x. cond (q x) 1 0) xs ∙ total-alike _ _ xs (λ x. both_pass (p x) (q x))
 
 -- what is left from a place on
 pub total-drop : {X : Type 0} (f : X → ℕ) (xs : List X) (i : ℕ) (d : X) → i < length xs → total f (drop i xs) ≡ f (get_or xs i d) + total f (drop (suc i) xs)

@@ -16,7 +16,7 @@ use Rattle.toll_history.proofs.KeysOnce.{void_of_actual}
 use Rattle.toll_history.proofs.Own.{other_than}
 use Rattle.toll_base.proofs.Texts.{same_bytes-exact, same_bytes-refl, same_bytes-symm}
 use Rattle.toll_work.proofs.KeyedRows.{row_at-filter, filter_ordered, head_found, total_taken}
-use Rattle.toll_work.proofs.Sums.{total-filtered, total-alike}
+use Rattle.toll_history.proofs.Sums.{total-filtered, total-alike}
 
 -- of an owner's actions, the movements that no later one voids
 abbrev pub own_standing : List Action → List MoveRow

@@ -24,7 +24,7 @@ use Rattle.toll_work.specs.BatchView.{amount_for, standing_in, line, lines_in, I
 use Rattle.toll_work.specs.declared.views.BatchView.{BatchView}
 use Rattle.toll_work.proofs.KeyedRows.{made_at, made_ordered}
 use Rattle.toll_work.proofs.StandingSums.{of_owner, sum_of_rows}
-use Rattle.toll_work.proofs.Sums.{total-kept, total-alike}
+use Rattle.toll_history.proofs.Sums.{total-kept, total-alike}
 
 -- keys that tie are of one recipe
 pub tied_first : (a b : Ordering) → is_eq (ordering_then a b) ≡ true → is_eq a ≡ true
