@@ -132,19 +132,21 @@ order_checks t order recipe batches =
     ∷ (nat_le MOST_ORDERS t.orders, Some LimitReached)
     ∷ []
 
-abbrev pub cancel_checks : Tables → (order : Bytes) → Checks
-cancel_checks t order =
+-- what cancelling an order and opening a batch of it have in common
+abbrev pub standing_order_checks : Tables → (order : Bytes) → Checks
+standing_order_checks t order =
     (is_none (t.order order), Some UnknownOrder)
     ∷ (is_some_where (λ row. row.cancelled) (t.order order), Some OrderCancelled)
-    ∷ (nat_lt 0 (t.opened order), Some OrderStarted)
     ∷ []
+
+abbrev pub cancel_checks : Tables → (order : Bytes) → Checks
+cancel_checks t order = standing_order_checks t order ++ (nat_lt 0 (t.opened order), Some OrderStarted) ∷ []
 
 -- whether the unit is known, and whether it is held
 abbrev pub open_checks : Tables → (order : Bytes) → (known busy : Bool) → Checks
 open_checks t order known busy =
-    (is_none (t.order order), Some UnknownOrder)
-    ∷ (is_some_where (λ row. row.cancelled) (t.order order), Some OrderCancelled)
-    ∷ (is_some_where (λ row. nat_le row.batches (t.opened order)) (t.order order), Some NoMoreBatches)
+    standing_order_checks t order
+    ++ (is_some_where (λ row. nat_le row.batches (t.opened order)) (t.order order), Some NoMoreBatches)
     ∷ (not known, Some UnknownUnit)
     ∷ (busy, Some UnitBusy)
     ∷ []

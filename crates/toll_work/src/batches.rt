@@ -13,6 +13,7 @@ ghost use Rattle.toll_base.specs.declared.decision.Change.TheVariants as Change;
 ghost use Rattle.toll_work.specs.Opening.{DecidesOpening};
 ghost use Rattle.toll_work.specs.Plans.{opened_rows, commanded_row, closed_row, changed_rows};
 
+use crate::orders::{count_opened, find_standing};
 use crate::states::next;
 use std::alloc::{AllocError, Global};
 use toll_base::{
@@ -51,12 +52,10 @@ fn plan_opening(
     ensures kept { KeepsRules slice.now }
 {
     let owner = *slice.owner();
-    let Some(known) = slice.order(order) else {
-        return Ok(Decision::Refuse(Refusal::UnknownOrder));
+    let known = match find_standing(slice, order) {
+        Ok(known) => known,
+        Err(why) => return Ok(Decision::Refuse(why)),
     };
-    if known.cancelled {
-        return Ok(Decision::Refuse(Refusal::OrderCancelled));
-    }
     let Some(number) = next_number(count_opened(slice, order), known.batches) else {
         return Ok(Decision::Refuse(Refusal::NoMoreBatches));
     };
@@ -84,17 +83,6 @@ fn next_number(opened: u64, batches: BatchNo) -> Option<BatchNo>
         return None;
     }
     BatchNo::new(opened + 1).ok()
-}
-
-/// How many batches of the order were opened.
-pub fn count_opened(slice: &Slice, order: &Name) -> u64
-    ensures { result ≡ (tables_of slice.now).opened order.now }
-{
-    slice
-        .batches()
-        .iter()
-        .filter(|row| row.order == *order)
-        .count() as u64
 }
 
 /// Commands the batch, which goes to the state that the command leads to.

@@ -1,18 +1,17 @@
 //! Orders.
-ghost use Rattle.std.specs.Prelude.{◌≡◌, true, is_some, [], ◌∷◌, map, IfOk};
+ghost use Rattle.std.specs.Prelude.{◌≡◌, true, is_some, Some, [], ◌∷◌, map, IfOk};
 ghost use Rattle.toll_history.specs.Command.{PlaceOrder, CancelOrder, by};
 ghost use Rattle.toll_base.specs.Changes.{changes_of};
-ghost use Rattle.toll_history.specs.Decision.{IsDecided, Decides, DecisionKeepsRules};
+ghost use Rattle.toll_history.specs.Decision.{IsDecided, Decides, DecisionKeepsRules, said};
 ghost use Rattle.toll_history.specs.OwnChanges.{PutsOnly};
 ghost use Rattle.toll_base.specs.Slice.{order_at};
 ghost use Rattle.toll_base.specs.SliceRules.{KeepsRules};
 ghost use Rattle.toll_history.specs.Tables.{tables_of};
-ghost use Rattle.toll_history.specs.Verdict.{order_checks, cancel_checks};
+ghost use Rattle.toll_history.specs.Verdict.{first_of, order_checks, standing_order_checks, cancel_checks};
 ghost use Rattle.toll_base.specs.declared.decision.Change.TheVariants as Change;
 ghost use Rattle.toll_base.specs.declared.rows.Row.TheVariants as Row;
 ghost use Rattle.toll_work.specs.Plans.{cancelled_rows};
 
-use crate::batches::count_opened;
 use std::alloc::{AllocError, Global};
 use toll_base::{BatchNo, Change, Decision, MOST_ORDERS, Name, OrderRow, Refusal, Row, Slice};
 
@@ -79,12 +78,10 @@ fn plan_cancelling(alloc: Global, slice: &Slice, order: &Name) -> Result<Decisio
     ensures kept { KeepsRules slice.now }
 {
     let owner = *slice.owner();
-    let Some(known) = slice.order(order) else {
-        return Ok(Decision::Refuse(Refusal::UnknownOrder));
+    let known = match find_standing(slice, order) {
+        Ok(known) => known,
+        Err(why) => return Ok(Decision::Refuse(why)),
     };
-    if known.cancelled {
-        return Ok(Decision::Refuse(Refusal::OrderCancelled));
-    }
     if count_opened(slice, order) > 0 {
         return Ok(Decision::Refuse(Refusal::OrderStarted));
     }
@@ -93,4 +90,29 @@ fn plan_cancelling(alloc: Global, slice: &Slice, order: &Name) -> Result<Decisio
         ..known
     };
     Decision::accept(alloc, Change::Put(owner, Row::Order(row)))
+}
+
+/// The order, where it is known and isn't cancelled.
+pub fn find_standing(slice: &Slice, order: &Name) -> Result<OrderRow, Refusal>
+    ensures checks { said result ≡ first_of (standing_order_checks (tables_of slice.now) order.now) }
+    ensures order { IfOk result (λ row. order_at slice.now order.now ≡ Some row) }
+{
+    let Some(known) = slice.order(order) else {
+        return Err(Refusal::UnknownOrder);
+    };
+    if known.cancelled {
+        return Err(Refusal::OrderCancelled);
+    }
+    Ok(known)
+}
+
+/// How many batches of the order were opened.
+pub fn count_opened(slice: &Slice, order: &Name) -> u64
+    ensures { result ≡ (tables_of slice.now).opened order.now }
+{
+    slice
+        .batches()
+        .iter()
+        .filter(|row| row.order == *order)
+        .count() as u64
 }

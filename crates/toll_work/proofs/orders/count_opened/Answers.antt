@@ -3,7 +3,7 @@ use Rattle.std.specs.List.{count_by}
 use Rattle.toll_base.specs.Bytes.{same_bytes}
 use Rattle.toll_base.specs.declared.rows.BatchRow.{BatchRow}
 use Rattle.toll_base.proofs.PutRules.{count-is}
-use Rattle.toll_work.proofs.batches.count_opened.Goals as goal
+use Rattle.toll_work.proofs.orders.count_opened.Goals as goal
 
 pub returns : goal.returns
 returns c =
