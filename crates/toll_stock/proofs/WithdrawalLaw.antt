@@ -30,19 +30,18 @@ module _ (row : MoveRow) (lot sublot : Bytes) (withdraws : Withdraws row lot sub
     own_accept H o accepted = ap first_of (sym (are o (tables_given H o) (tables_given H house_name))) ∙ checks_accept H o row accepted
 
     module _ (own : Slice) (d : Decision) (decided : IsDecided (key_checks (tables_of own) row ++ checks (tables_of own)) (Put own.owner (Move row) ∷ Put own.owner (Sublot (left row lot sublot withdraws (tables_of own))) ∷ []) d) where
-      withdrawal_decided : Decides (by own.owner (Record row)) own d
-      withdrawal_decided =
-          decides (Record row) (rows row lot sublot withdraws) (grows row lot sublot withdraws (λ H o accepted. sublot_there (tables_given H o) (own_accept H o accepted))) (leaves row lot sublot withdraws) own d _ decided
-          (λ H lawful valid known there.
-          ap (λ cs. first_of (key_checks (tables_of own) row ++ cs)) (sym (are own.owner (tables_of own) (tables_given H house_name)))
-          ∙ verdict_is H own.owner (Record row) (tables_of own) _ known there refl)
-
-      withdrawal_keeps : KeepsRules own → DecisionKeepsRules own d
-      withdrawal_keeps keeps =
-          keeps_rules own (rows row lot sublot withdraws (tables_of own)) d _ decided keeps
-          (λ accepted.
-          let own_accepted = rest_accept (key_checks (tables_of own) row) (checks (tables_of own)) accepted in
-          went_fit own row lot sublot row.amount keeps (has_room (tables_of own) own_accepted) (no_actual own) (lot_there (tables_of own) own_accepted) (sublot_there (tables_of own) own_accepted))
+      withdrawal_owes : Decides (by own.owner (Record row)) own d × (KeepsRules own → DecisionKeepsRules own d)
+      withdrawal_owes = (
+        decides (Record row) (rows row lot sublot withdraws) (grows row lot sublot withdraws (λ H o accepted. sublot_there (tables_given H o) (own_accept H o accepted))) (leaves row lot sublot withdraws) own d _ decided
+            (λ H lawful valid known there.
+            ap (λ cs. first_of (key_checks (tables_of own) row ++ cs)) (sym (are own.owner (tables_of own) (tables_given H house_name)))
+            ∙ verdict_is H own.owner (Record row) (tables_of own) _ known there refl),
+        λ keeps.
+            keeps_rules own (rows row lot sublot withdraws (tables_of own)) d _ decided keeps
+            (λ accepted.
+            let own_accepted = rest_accept (key_checks (tables_of own) row) (checks (tables_of own)) accepted in
+            went_fit own row lot sublot row.amount keeps (has_room (tables_of own) own_accepted) (no_actual own) (lot_there (tables_of own) own_accepted) (sublot_there (tables_of own) own_accepted)),
+      )
 
 -- ---- shipments, and scrapping
 
@@ -60,20 +59,12 @@ module _ (key lot sublot : Bytes) (amount day : ℕ) where
   scraps = record { takes = λ p o k. refl; brings = λ o k. refl; makes = λ o l. refl; no_lot = λ o ms. refl; no_sublot = λ o ms. refl; into_none = λ o. refl }
 
   module _ (own : Slice) (d : Decision) where
-    abbrev IsShipment : Type 0
-    IsShipment = IsDecided (key_checks (tables_of own) shipment ++ ship_checks (tables_of own) lot sublot amount) (Put own.owner (Move shipment) ∷ Put own.owner (Sublot (record { lot = lot; sublot = sublot; amount = amount_in (tables_of own) lot sublot - amount })) ∷ []) d
+    -- the row is put, and the sublot with so much less in it
+    abbrev IsPlanned : MoveRow → Checks → Type 0
+    IsPlanned row checks = IsDecided (key_checks (tables_of own) row ++ checks) (Put own.owner (Move row) ∷ Put own.owner (Sublot (record { lot = lot; sublot = sublot; amount = amount_in (tables_of own) lot sublot - amount })) ∷ []) d
 
-    pub shipment_decided : IsShipment → Decides (by own.owner (Record shipment)) own d
-    shipment_decided = withdrawal_decided shipment lot sublot ships (λ s. refl) (λ t. ship_checks t lot sublot amount) (λ o t house. refl) (λ t h. none_applies (ship_checks t lot sublot amount) h 0) (λ t h. none_applies (ship_checks t lot sublot amount) h 1) (λ t h. none_applies (ship_checks t lot sublot amount) h 4) own d
+    pub shipment_owes : IsPlanned shipment (ship_checks (tables_of own) lot sublot amount) → Decides (by own.owner (Record shipment)) own d × (KeepsRules own → DecisionKeepsRules own d)
+    shipment_owes = withdrawal_owes shipment lot sublot ships (λ s. refl) (λ t. ship_checks t lot sublot amount) (λ o t house. refl) (λ t h. none_applies (ship_checks t lot sublot amount) h 0) (λ t h. none_applies (ship_checks t lot sublot amount) h 1) (λ t h. none_applies (ship_checks t lot sublot amount) h 4) own d
 
-    pub shipment_keeps : IsShipment → KeepsRules own → DecisionKeepsRules own d
-    shipment_keeps = withdrawal_keeps shipment lot sublot ships (λ s. refl) (λ t. ship_checks t lot sublot amount) (λ o t house. refl) (λ t h. none_applies (ship_checks t lot sublot amount) h 0) (λ t h. none_applies (ship_checks t lot sublot amount) h 1) (λ t h. none_applies (ship_checks t lot sublot amount) h 4) own d
-
-    abbrev IsScrapping : Type 0
-    IsScrapping = IsDecided (key_checks (tables_of own) scrapping ++ scrap_checks (tables_of own) lot sublot amount) (Put own.owner (Move scrapping) ∷ Put own.owner (Sublot (record { lot = lot; sublot = sublot; amount = amount_in (tables_of own) lot sublot - amount })) ∷ []) d
-
-    pub scrapping_decided : IsScrapping → Decides (by own.owner (Record scrapping)) own d
-    scrapping_decided = withdrawal_decided scrapping lot sublot scraps (λ s. refl) (λ t. scrap_checks t lot sublot amount) (λ o t house. refl) (λ t h. none_applies (scrap_checks t lot sublot amount) h 0) (λ t h. none_applies (scrap_checks t lot sublot amount) h 1) (λ t h. none_applies (scrap_checks t lot sublot amount) h 3) own d
-
-    pub scrapping_keeps : IsScrapping → KeepsRules own → DecisionKeepsRules own d
-    scrapping_keeps = withdrawal_keeps scrapping lot sublot scraps (λ s. refl) (λ t. scrap_checks t lot sublot amount) (λ o t house. refl) (λ t h. none_applies (scrap_checks t lot sublot amount) h 0) (λ t h. none_applies (scrap_checks t lot sublot amount) h 1) (λ t h. none_applies (scrap_checks t lot sublot amount) h 3) own d
+    pub scrapping_owes : IsPlanned scrapping (scrap_checks (tables_of own) lot sublot amount) → Decides (by own.owner (Record scrapping)) own d × (KeepsRules own → DecisionKeepsRules own d)
+    scrapping_owes = withdrawal_owes scrapping lot sublot scraps (λ s. refl) (λ t. scrap_checks t lot sublot amount) (λ o t house. refl) (λ t h. none_applies (scrap_checks t lot sublot amount) h 0) (λ t h. none_applies (scrap_checks t lot sublot amount) h 1) (λ t h. none_applies (scrap_checks t lot sublot amount) h 3) own d

@@ -93,25 +93,12 @@ fn check_split(
 ) -> Result<(), Refusal>
     ensures { said result ≡ first_of (split_checks (tables_of slice.now) lot.now sublot.now target.now amount ++ sublot_bounds (tables_of slice.now) lot.now target.now amount) }
 {
-    match check_parting(slice, lot, sublot, target, amount) {
+    if *sublot == *target {
+        return Err(Refusal::SameSublot);
+    }
+    match check_taking(slice, lot, sublot, amount) {
         Err(why) => Err(why),
         Ok(()) if has_room_in(slice, lot, target, amount) => Ok(()),
         Ok(()) => Err(Refusal::LimitReached),
     }
-}
-
-// Whether the amount can be taken from the sublot, which isn't the target.
-fn check_parting(
-    slice: &Slice,
-    lot: &Name,
-    sublot: &Name,
-    target: &Name,
-    amount: Amount,
-) -> Result<(), Refusal>
-    ensures { said result ≡ first_of (split_checks (tables_of slice.now) lot.now sublot.now target.now amount) }
-{
-    if *sublot == *target {
-        return Err(Refusal::SameSublot);
-    }
-    check_taking(slice, lot, sublot, amount)
 }

@@ -1,10 +1,13 @@
+use Rattle.std.proofs.Common.{[], ◌∷◌, Some, ap, ◌∙◌}
+use Rattle.toll_base.specs.declared.refusal.Refusal.TheVariants.{SameSublot}
 use Rattle.toll_history.specs.Bounds.{sublot_bounds}
 use Rattle.toll_history.specs.Tables.{tables_of}
-use Rattle.toll_history.specs.Verdict.{split_checks}
+use Rattle.toll_history.specs.Verdict.{first_of, scrap_checks, split_checks}
 use Rattle.toll_history.proofs.Accepted.{refused_first}
 use Rattle.toll_stock.proofs.splits.check_split.Goals as goal
 
 pub returns-in-Err : goal.returns-in-Err
 returns-in-Err c =
-    let t = tables_of c.args.slice.now in
-    refused_first (split_checks t c.args.lot.now c.args.sublot.now c.args.target.now c.args.amount) (sublot_bounds t c.args.lot.now c.args.target.now c.args.amount) c.in-Err.why c.in-Err.ensures
+    let t = tables_of c.args.slice.now in let lot = c.args.lot.now in let sublot = c.args.sublot.now in let target = c.args.target.now in
+    refused_first (split_checks t lot sublot target c.args.amount) (sublot_bounds t lot target c.args.amount) c.in-Err.why
+    (c.in-Err.ensures ∙ ap (λ b. first_of ((b, Some SameSublot) ∷ scrap_checks t lot sublot c.args.amount)) c.if-eq.ensures)
