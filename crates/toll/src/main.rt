@@ -5,7 +5,6 @@
 //! the office in a file.
 #![tactic(auto)]
 
-mod arguments;
 mod programs;
 
 use crate::programs::run;

@@ -1,5 +1,4 @@
 //! The programs.
-use crate::arguments::{Task, task_of};
 use std::alloc::{AllocError, Global};
 use std::fmt::Display;
 use std::fs::File;
@@ -7,7 +6,7 @@ use std::net::{Ipv4Addr, SocketAddrV4, TcpListener};
 use std::{env, io};
 use toll_office::{OfficeFault, Served, do_command, do_import, do_script, serve_all};
 use toll_plant::{MOST_FILE_BYTES, WordsFault, command_of};
-use toll_programs::{FrontFault, ScriptEnd, Status, read_front, tell};
+use toll_programs::{FrontFault, ScriptEnd, Status, Task, read_front, task_of, tell};
 
 const USAGE: &str =
     "usage: toll script | toll --db FILE COMMAND.. | toll --db FILE import CSV | toll --db FILE serve PORT COUNT";

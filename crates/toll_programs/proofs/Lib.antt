@@ -2,3 +2,4 @@ pub mod PieceLemmas
 pub mod LineLemmas
 pub mod RequestLemmas
 pub mod TellLemmas
+pub mod TaskLemmas

@@ -9,3 +9,5 @@ pub mod Running
 pub mod Statuses
 pub mod Told
 pub mod Imported
+pub mod Tasks
+pub mod ShownTask

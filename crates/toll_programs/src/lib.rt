@@ -11,6 +11,7 @@ mod printing;
 mod request_line;
 mod scripts;
 mod status;
+mod task;
 mod telling;
 
 pub use commands::plant_line;
@@ -19,4 +20,5 @@ pub use input::{FrontFault, read_front};
 pub use request_line::RequestLine;
 pub use scripts::{ScriptEnd, script};
 pub use status::Status;
+pub use task::{MOST_CONNECTIONS, Task, task_of};
 pub use telling::tell;

@@ -12,3 +12,4 @@ mod office;
 mod prints;
 mod programs;
 mod rows;
+mod words;

@@ -1,4 +1,8 @@
 //! The words that the program is called with.
+ghost use Rattle.std.specs.Prelude.{◌≡◌, map, option_map};
+ghost use Rattle.toll_programs.specs.ShownTask.{shown_task};
+ghost use Rattle.toll_programs.specs.Tasks.{asked_for, asked_of_office, asked_of_serving};
+
 use toll_base::number;
 
 /// What the program is asked for.
@@ -25,19 +29,25 @@ pub enum Task<'a> {
 }
 
 /// How many connections may be asked for.
-const MOST_CONNECTIONS: u64 = 1_000_000;
+pub const MOST_CONNECTIONS: u64 = 1_000_000;
 
 /// What the words behind the program's name ask for: `None` where they are none of its four forms.
-pub fn task_of<'a>(words: &'a [&'a str]) -> Option<Task<'a>> {
-    let (first, others) = words.split_first()?;
-    match (*first, others) {
-        ("script", []) => Some(Task::Script),
-        ("--db", [file, words @ ..]) => task_of_file(file, words),
+/// Two words behind the file of which the first is `import`, and three of which it is `serve`, are no
+/// command of the plant's.
+pub fn task_of<'a>(words: &'a [&'a str]) -> Option<Task<'a>>
+    ensures { option_map shown_task result ≡ asked_for (map (λ w. w.now) words.entry.now) }
+{
+    match words {
+        [word] if *word == "script" => Some(Task::Script),
+        [word, file, words @ ..] if *word == "--db" => task_of_office(file, words),
         _ => None,
     }
 }
 
-fn task_of_file<'a>(file: &'a str, words: &'a [&'a str]) -> Option<Task<'a>> {
+// What is asked for over the office in a file.
+fn task_of_office<'a>(file: &'a str, words: &'a [&'a str]) -> Option<Task<'a>>
+    ensures { option_map shown_task result ≡ asked_of_office file.now (map (λ w. w.now) words.entry.now) }
+{
     match words {
         [] => None,
         [first, actuals] if *first == "import" => Some(Task::Import { file, actuals }),
@@ -46,7 +56,9 @@ fn task_of_file<'a>(file: &'a str, words: &'a [&'a str]) -> Option<Task<'a>> {
     }
 }
 
-fn task_of_serving<'a>(file: &'a str, port: &str, count: &str) -> Option<Task<'a>> {
+fn task_of_serving<'a>(file: &'a str, port: &str, count: &str) -> Option<Task<'a>>
+    ensures { option_map shown_task result ≡ asked_of_serving file.now port.now count.now }
+{
     let port = u16::try_from(number(port.as_bytes())?).ok()?;
     let count = number(count.as_bytes())?;
     if count == 0 || count > MOST_CONNECTIONS {
