@@ -1,5 +1,6 @@
 //! Each text, as it is printed.
-use crate::rows::{batch, lot, material, name, order, put_all, recalled, step, sublot};
+use crate::print::rows::{batch, lot, material, order, put_all, recalled, step, sublot};
+use crate::rows::name;
 use std::process::Abort;
 use std::test::Fail;
 use toll_base::{Disposition, Slice};

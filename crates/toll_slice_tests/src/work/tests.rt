@@ -1,7 +1,7 @@
 //! Decisions on recipes, orders and batches.
-use crate::stories::Line::{Batches, Cancel, Close, Do, Open, Place, Recipe, Require};
-use crate::stories::Said::{Accepted, Now, Number, Refused, Repeated};
-use crate::stories::{FROM_A, Line, Said, Usage, WITH_BATCH, WITH_RECIPE, tell, tell_of};
+use crate::work::stories::Line::{Batches, Cancel, Close, Do, Open, Place, Recipe, Require};
+use crate::work::stories::Said::{Accepted, Now, Number, Refused, Repeated};
+use crate::work::stories::{FROM_A, Line, Said, Usage, WITH_BATCH, WITH_RECIPE, tell, tell_of};
 use std::test::Fail;
 use toll_base::Refusal::{
     BadState, BatchClosed, CrossOwner, NoMoreBatches, OrderCancelled, OrderExists, OrderStarted,

@@ -1,6 +1,7 @@
 //! What is in stock, a lot with its rows, and what was consumed.
-use crate::rows::Line::{Actual, Lot, Material, Result as Tested, Sublot, Void};
-use crate::rows::{Line, fill, name};
+use crate::rows::name;
+use crate::views::rows::Line::{Actual, Lot, Material, Result as Tested, Sublot, Void};
+use crate::views::rows::{Line, fill};
 use std::alloc::Global;
 use std::test::Fail;
 use toll_base::Role::{Consumed, Produced};

@@ -1,4 +1,5 @@
 //! Edges that the actuals of a slice draw.
+use crate::rows::put;
 use std::alloc::Global;
 use std::test::Fail;
 use toll_base::{
@@ -39,13 +40,6 @@ fn movement(recorded: Recorded) -> Result<MoveRow, Refusal> {
         amount: Amount::new(10)?,
         day: Day::new(2)?,
     })
-}
-
-fn put(slice: &mut Slice, row: Row) -> Result<(), Fail> {
-    if !slice.fits(&row) {
-        return Err(Fail::new("the row does not fit"));
-    }
-    Ok(slice.put(row)?)
 }
 
 fn put_movement(slice: &mut Slice, recorded: Recorded) -> Result<(), Fail> {

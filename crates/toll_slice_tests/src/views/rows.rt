@@ -1,4 +1,5 @@
 //! Rows of an owner, as lines of a table.
+use crate::rows::{name, put};
 use std::test::Fail;
 use toll_base::{
     Amount, BatchNo, Day, Disposition, LotId, LotRow, MaterialRow, Measure, Move, MoveRow, Name,
@@ -20,21 +21,6 @@ pub(crate) enum Line {
     Actual(&'static str, Role, &'static str, &'static str),
     /// The actual with this key is voided.
     Void(&'static str),
-}
-
-/// The name that this text is, and `HOUSE` where it is none.
-pub(crate) fn name(text: &str) -> Name {
-    match Name::parse(text.as_bytes()) {
-        Ok(name) => name,
-        Err(_) => Name::house(),
-    }
-}
-
-fn put(slice: &mut Slice, row: Row) -> Result<(), Fail> {
-    if !slice.fits(&row) {
-        return Err(Fail::from(Refusal::LimitReached));
-    }
-    Ok(slice.put(row)?)
 }
 
 fn put_material(slice: &mut Slice, material: &str, measure: &str) -> Result<(), Fail> {

@@ -1,4 +1,5 @@
 //! Rows that are shown.
+use crate::rows::{name, put};
 use std::alloc::Global;
 use std::test::Fail;
 use toll_base::{
@@ -9,14 +10,6 @@ use toll_genealogy::RecallLine;
 use toll_stock::Totals;
 use toll_trace::Step;
 use toll_work::{BatchView, RequirementLine};
-
-/// The name that this text is, and `HOUSE` where it is none.
-pub(crate) fn name(text: &str) -> Name {
-    match Name::parse(text.as_bytes()) {
-        Ok(name) => name,
-        Err(_) => Name::house(),
-    }
-}
 
 /// The order, whose recipe is `R-1`.
 pub(crate) fn order(order: &str, batches: u64, cancelled: bool) -> Result<Row, Refusal> {
@@ -55,10 +48,7 @@ pub(crate) fn sublot(lot: &str, sublot: &str, amount: u64) -> Row {
 /// Adds rows of one owner.
 pub(crate) fn put_all(slice: &mut Slice, rows: &[Row]) -> Result<(), Fail> {
     for row in rows {
-        if !slice.fits(row) {
-            return Err(Fail::from(Refusal::LimitReached));
-        }
-        slice.put(*row)?;
+        put(slice, *row)?;
     }
     Ok(())
 }

@@ -3,6 +3,7 @@
 ghost use Rattle.std.specs.Prelude.{◌≡◌, true, IfOk};
 ghost use Rattle.toll_history.specs.Verdict.{is_actual};
 
+use crate::rows::{name, put};
 use std::alloc::Global;
 use std::test::Fail;
 use toll_base::{
@@ -75,21 +76,6 @@ pub(crate) struct Usage {
     pub owner: &'static str,
     pub lot: &'static str,
     pub sublot: &'static str,
-}
-
-/// The name that this text is, and `HOUSE` where it is none.
-pub(crate) fn name(text: &str) -> Name {
-    match Name::parse(text.as_bytes()) {
-        Ok(name) => name,
-        Err(_) => Name::house(),
-    }
-}
-
-fn put(slice: &mut Slice, row: Row) -> Result<(), Fail> {
-    if !slice.fits(&row) {
-        return Err(Fail::from(Refusal::LimitReached));
-    }
-    Ok(slice.put(row)?)
 }
 
 // Puts the row among those of its owner.

@@ -1,5 +1,5 @@
 //! Movements, as stories of one lot of milk.
-use crate::story::{
+use crate::stock::story::{
     Names, Said, Story, add_milk, add_ph, has_disposition, has_result, holds, ph_limits, put,
     put_lot, put_lot_of, record_value, reject_it, release_it, settle,
 };

@@ -1,11 +1,12 @@
 //! Decisions on actuals, and what is told of a batch.
-use crate::stories::Line::{
+use crate::rows::name;
+use crate::work::stories::Line::{
     Actual, Actuals, AmountIn, Close, Do, LotOf, Material, Movements, Open, Place, Receive, Recipe,
     Release, Require, Scrap, Sums, Void,
 };
-use crate::stories::Said::{Accepted, Did, Is, Now, Number, Refused, Repeated};
-use crate::stories::{
-    FROM_A, INTO_P1, Line, Said, Usage, WITH_BATCH, WITH_RECIPE, first_wrong_of, name, tell, view,
+use crate::work::stories::Said::{Accepted, Did, Is, Now, Number, Refused, Repeated};
+use crate::work::stories::{
+    FROM_A, INTO_P1, Line, Said, Usage, WITH_BATCH, WITH_RECIPE, first_wrong_of, tell, view,
 };
 use std::alloc::Global;
 use std::test::Fail;
