@@ -29,10 +29,6 @@ abbrev pub Takes : Bool → State → State → Result (Unit {0}) OpenFault → 
 Takes true old new answer = Creates old new answer
 Takes false old new answer = Adopts old new answer
 
--- a connection was opened that finds what the files hold, and its tables were made or found
-abbrev pub IsKeptFrom : {D : Type 0} {g : Ghosts D} → Bool → Image → Held (FileStore D g) → Type 0
-IsKeptFrom {D} {g} fresh image new = (opened : Held (FileStore D g)) × IsNew opened × (HasCleanDisk (file_state opened) → IsOpened opened × FindsIn image (file_state opened)) × Takes fresh (file_state opened) (file_state new) succeeds
-
 -- the fault that an error of opening files is: want of memory, a file that is no database, and else the disk
 abbrev pub fault_of_files : Error → OpenFault
 fault_of_files (SqliteFailure code.OutOfMemory) = Memory
@@ -46,11 +42,24 @@ pub record IsUnopened {D : Type 0} {g : Ghosts D} (e : Error) (left : Option (Le
   pub none : left ≡ None → (e ≡ SqliteFailure code.CannotOpen) ⊎ ((e ≡ SqliteFailure code.OutOfMemory) ⊎ (e ≡ SqliteFailure code.DatabaseBusy))
   pub some : IfSome left (λ rest. (files : Files D) × (IsCleanLeft rest → FailsToOpenFiles files rest e × LeavesFiles files rest))
 
+-- a connection was opened that finds what the files hold
+pub record IsOpenedFrom {D : Type 0} {g : Ghosts D} (image : Image) (opened : Held (FileStore D g)) : Type 0 where
+  pub fresh : IsNew opened
+  pub found : HasCleanDisk (file_state opened) → IsOpened opened × FindsIn image (file_state opened)
+
+-- the files could not be opened: by sqlite's own account, of which the fault tells what it is told as
+abbrev pub IsUnopenedFrom : {D : Type 0} (g : Ghosts D) → OpenFault → Type 0
+IsUnopenedFrom {D} g fault = (e : Error) × (left : Option (Leftover D g)) × IsUnopened {D = D} {g = g} e left fault
+
+-- a connection was opened, and its tables were made or found
+abbrev pub IsKeptFrom : {D : Type 0} {g : Ghosts D} → Bool → Image → Held (FileStore D g) → Type 0
+IsKeptFrom {D} {g} fresh image new = (opened : Held (FileStore D g)) × IsOpenedFrom image opened × Takes fresh (file_state opened) (file_state new) succeeds
+
 -- no keep came of the files: they could not be opened, or the connection's tables could not be made or found
 abbrev pub IsRefusedFrom : {D : Type 0} (g : Ghosts D) → Bool → Image → OpenFault → Type 0
 IsRefusedFrom {D} g fresh image fault =
-    ((e : Error) × (left : Option (Leftover D g)) × IsUnopened {D = D} {g = g} e left fault)
-    ⊎ ((opened : Held (FileStore D g)) × IsNew opened × (HasCleanDisk (file_state opened) → IsOpened opened × FindsIn image (file_state opened)) × ((left : Held (FileStore D g)) × Takes fresh (file_state opened) (file_state left) (refuses fault)))
+    IsUnopenedFrom g fault
+    ⊎ ((opened : Held (FileStore D g)) × IsOpenedFrom image opened × ((left : Held (FileStore D g)) × Takes fresh (file_state opened) (file_state left) (refuses fault)))
 
 -- the files are closed, and what was committed stands in the database file
 abbrev pub IsLeftIn : {D : Type 0} {g : Ghosts D} → Held (FileStore D g) → Type 0

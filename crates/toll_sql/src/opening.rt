@@ -4,7 +4,7 @@ ghost use Rattle.sqlite.specs.Held.{state};
 ghost use Rattle.sqlite.specs.Steps.{over_memory};
 ghost use Rattle.sqlite_wal.specs.Files.{image_at};
 ghost use Rattle.toll_keep.specs.Content.{nothing};
-ghost use Rattle.toll_sql.specs.FromFiles.{IsKeptFrom, IsLeftIn, IsRefusedFrom, IsUnclosed, Takes, fault_of_files};
+ghost use Rattle.toll_sql.specs.FromFiles.{IsKeptFrom, IsLeftIn, IsOpenedFrom, IsRefusedFrom, IsUnclosed, IsUnopenedFrom, Takes, fault_of_files};
 ghost use Rattle.toll_sql.specs.Opening.{Adopts, Creates, refuses, succeeds};
 ghost use Rattle.toll_sql.specs.Stores.{HoldsIn};
 
@@ -107,14 +107,38 @@ impl<S: Start> SqlKeep<FileStore<FileFrom<S>>> {
         ensures made { IfOk result (λ keep. IsKeptFrom fresh (image_at S.Start) keep.conn × (keep.closed ≡ false)) }
         ensures refused { IfErr result (IsRefusedFrom ⟦<FileFrom<S> as Disk>⟧ fresh (image_at S.Start)) }
     {
-        let conn = match Connection::open_from(rt, path, false, start) {
-            Ok(conn) => conn,
-            Err((error, _)) => return Err(file_fault_of(error)),
-        };
-        match take_over(rt.alloc(), conn, fresh) {
-            Ok(keep) => Ok(keep),
-            Err((fault, _)) => Err(fault),
-        }
+        let conn = connect(rt, path, start)?;
+        keep_of(rt.alloc(), conn, fresh)
+    }
+}
+
+// A connection to the file.
+fn connect<S: Start>(
+    rt: &HostRuntime,
+    path: &str,
+    start: S,
+) -> Result<Connection<FileStore<FileFrom<S>>>, OpenFault>
+    ensures opened { IfOk result (IsOpenedFrom (image_at S.Start)) }
+    ensures unopened { IfErr result (IsUnopenedFrom ⟦<FileFrom<S> as Disk>⟧) }
+{
+    match Connection::open_from(rt, path, false, start) {
+        Ok(conn) => Ok(conn),
+        Err((error, _)) => Err(file_fault_of(error)),
+    }
+}
+
+// The keep of a connection that is taken over, which is let go where there is none.
+fn keep_of<S: Alter + Drop>(
+    alloc: Global,
+    conn: Connection<S>,
+    fresh: bool,
+) -> Result<SqlKeep<S>, OpenFault>
+    ensures made { IfOk result (λ keep. Takes fresh (state S.Store conn) (state S.Store keep.conn) succeeds × (keep.closed ≡ false)) }
+    ensures refused { IfErr result (λ fault. (left : _) × Takes fresh (state S.Store conn) (state S.Store left) (refuses fault)) }
+{
+    match take_over(alloc, conn, fresh) {
+        Ok(keep) => Ok(keep),
+        Err((fault, _)) => Err(fault),
     }
 }
 
