@@ -7,34 +7,39 @@ use Rattle.sqlite.specs.Compile.{table_defined_by}
 use Rattle.sqlite.specs.Does.{lacks_sequence}
 use Rattle.sqlite.specs.Listing.{understood}
 use Rattle.sqlite.specs.Table.{Table}
-use Rattle.sqlite_resolve.specs.Compile.{index_defined_by}
+use Rattle.sqlite_resolve.specs.Compile.{compiled, index_defined_by}
 use Rattle.sqlite_tied.specs.Compute.{everything}
 use Rattle.toll_sql.specs.Plain.{no_schema}
 use Rattle.toll_sql.specs.Tables.{every_table, with_tables, earlier, table_of, tree_of, made_before, made_all, by_batch, create_text, index_text}
 use Rattle.toll_sql.specs.declared.table_kind.TableKind.{TableKind}
 use Rattle.toll_sql.specs.declared.table_kind.TableKind.TheVariants.{Meta, Owners, Units, Materials, Tests, Recipes, Requirements, Orders, Batches, Lots, Sublots, Moves, Results, Voids}
 use Rattle.toll_sql.proofs.PutTexts.{number_of}
+use Rattle.toll_sql.proofs.TextLemmas.{one_statement, command_is, statement_is, plain}
 
 -- the table before it has a tree
 abbrev pub unplaced : TableKind → Table
 unplaced k = record (table_of k) { tree = 0 }
 
+create_compiles : (k : TableKind) → compiled (made_before k) (create_text k) ≡ Ok (one_statement CreateTable [] (create_text k))
+unfolding everything
+create_compiles Meta = refl
+create_compiles Owners = refl
+create_compiles Units = refl
+create_compiles Materials = refl
+create_compiles Tests = refl
+create_compiles Recipes = refl
+create_compiles Requirements = refl
+create_compiles Orders = refl
+create_compiles Batches = refl
+create_compiles Lots = refl
+create_compiles Sublots = refl
+create_compiles Moves = refl
+create_compiles Results = refl
+create_compiles Voids = refl
+
 pub create_is : (k : TableKind) → (command_of (understood (made_before k) (create_text k)) ≡ CreateTable) × (statement_of (create_text k) (understood (made_before k) (create_text k)) ≡ create_text k) × IsPlain (understood (made_before k) (create_text k))
-unfolding understood everything
-create_is Meta = (refl, refl, (refl, refl))
-create_is Owners = (refl, refl, (refl, refl))
-create_is Units = (refl, refl, (refl, refl))
-create_is Materials = (refl, refl, (refl, refl))
-create_is Tests = (refl, refl, (refl, refl))
-create_is Recipes = (refl, refl, (refl, refl))
-create_is Requirements = (refl, refl, (refl, refl))
-create_is Orders = (refl, refl, (refl, refl))
-create_is Batches = (refl, refl, (refl, refl))
-create_is Lots = (refl, refl, (refl, refl))
-create_is Sublots = (refl, refl, (refl, refl))
-create_is Moves = (refl, refl, (refl, refl))
-create_is Results = (refl, refl, (refl, refl))
-create_is Voids = (refl, refl, (refl, refl))
+create_is k = let is = create_compiles k in let before = made_before k in let text = create_text k in
+    (command_is before text is, statement_is before text is, plain before text is)
 
 pub create_defines : (k : TableKind) → table_defined_by (create_text k) ≡ Ok (unplaced k)
 unfolding everything
@@ -137,9 +142,12 @@ next_is Moves = refl
 next_is Results = refl
 next_is Voids = refl
 
+index_compiles : compiled made_all index_text ≡ Ok (one_statement (CreateIndex (number_of Moves)) [] index_text)
+unfolding everything
+index_compiles = refl
+
 pub index_is : (command_of (understood made_all index_text) ≡ CreateIndex (number_of Moves)) × (statement_of index_text (understood made_all index_text) ≡ index_text) × IsPlain (understood made_all index_text)
-unfolding understood everything
-index_is = (refl, refl, (refl, refl))
+index_is = (command_is made_all index_text index_compiles, statement_is made_all index_text index_compiles, plain made_all index_text index_compiles)
 
 pub index_listed : slice_get made_all.tables (number_of Moves) ≡ Some (table_of Moves)
 index_listed = refl

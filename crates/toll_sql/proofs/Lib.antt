@@ -5,6 +5,7 @@ pub mod PutCommon
 pub mod CauseLemmas
 pub mod QueryLemmas
 pub mod UpsertLemmas
+pub mod TextLemmas
 pub mod PutTexts
 pub mod CellLemmas
 pub mod PutRows

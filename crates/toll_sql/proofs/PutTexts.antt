@@ -1,8 +1,9 @@
 -- What the texts that put rows mean. Written by tools/sql-texts.
-use Rattle.std.proofs.Common.{◌≡◌, ◌⊎◌, inl, inr, ℕ, zero, suc, ◌+◌, nat_eq, List, [], ◌∷◌, length, Some, slice_get, get_or, refl, sym, ap, ◌∙◌}
+use Rattle.std.proofs.Common.{◌≡◌, ◌⊎◌, inl, inr, ℕ, zero, suc, ◌+◌, nat_eq, List, [], ◌∷◌, length, codes, Some, Ok, slice_get, get_or, refl, sym, ap, ◌∙◌}
 use Rattle.std.proofs.lemmas.Bool.{cases_Bool, eqb-true, eq-eqb}
 use Rattle.sqlite.proofs.Callers.{command_of}
 use Rattle.sqlite.specs.Collation.TheVariants.{Binary}
+use Rattle.sqlite.specs.Command.{Command}
 use Rattle.sqlite.specs.Command.TheVariants.{InsertOr}
 use Rattle.sqlite.specs.Listing.{understood}
 use Rattle.sqlite.specs.Query.{Query}
@@ -10,6 +11,7 @@ use Rattle.sqlite.specs.Source.TheVariants.{Values}
 use Rattle.sqlite.specs.Term.{Term, lit, col, op2}
 use Rattle.sqlite.specs.declared.types.Value.TheVariants.{Null}
 use Rattle.sqlite_schema.specs.declared.command.Conflict.TheVariants.{Abort}
+use Rattle.sqlite_resolve.specs.Compile.{compiled}
 use Rattle.sqlite_sql.specs.declared.ops.BinaryOp.TheVariants.{Compare}
 use Rattle.sqlite_sql.specs.declared.ops.CompareOp.TheVariants.{Eq}
 use Rattle.sqlite_tied.specs.Compute.{everything}
@@ -18,6 +20,7 @@ use Rattle.toll_sql.specs.Select.{plain_query}
 use Rattle.toll_sql.specs.Tables.{ours, every_table, table_of, tree_of, keys_of, width_of, put_text}
 use Rattle.toll_sql.specs.declared.table_kind.TableKind.{TableKind}
 use Rattle.toll_sql.specs.declared.table_kind.TableKind.TheVariants.{Meta, Owners, Units, Materials, Tests, Recipes, Requirements, Orders, Batches, Lots, Sublots, Moves, Results, Voids}
+use Rattle.toll_sql.proofs.TextLemmas.{one_statement, command_is, given}
 
 -- so many columns of a row, from this one on
 abbrev pub terms_from : ℕ → ℕ → ℕ → List Term
@@ -128,36 +131,60 @@ tree_is Moves = refl
 tree_is Results = refl
 tree_is Voids = refl
 
-pub put_is : (k : TableKind) → command_of (understood ours (put_text k)) ≡ InsertOr (number_of k) Abort (Values (inserted (width_of k)) (suc (width_of k))) (record { target = Some (keys_of k); update = Some (record { lets = []; body = update (tree_of k) (width_of k) }) } ∷ [])
-unfolding understood everything
-put_is Meta = refl
-put_is Owners = refl
-put_is Units = refl
-put_is Materials = refl
-put_is Tests = refl
-put_is Recipes = refl
-put_is Requirements = refl
-put_is Orders = refl
-put_is Batches = refl
-put_is Lots = refl
-put_is Sublots = refl
-put_is Moves = refl
-put_is Results = refl
-put_is Voids = refl
+abbrev pub putting : TableKind → Command
+putting k = InsertOr (number_of k) Abort (Values (inserted (width_of k)) (suc (width_of k))) (record { target = Some (keys_of k); update = Some (record { lets = []; body = update (tree_of k) (width_of k) }) } ∷ [])
+
+abbrev pub slots_of : TableKind → List (List ℕ)
+slots_of Meta = codes "?1" ∷ codes "?2" ∷ []
+slots_of Owners = codes "?1" ∷ codes "?2" ∷ []
+slots_of Units = codes "?1" ∷ []
+slots_of Materials = codes "?1" ∷ codes "?2" ∷ codes "?3" ∷ []
+slots_of Tests = codes "?1" ∷ codes "?2" ∷ codes "?3" ∷ codes "?4" ∷ codes "?5" ∷ []
+slots_of Recipes = codes "?1" ∷ codes "?2" ∷ codes "?3" ∷ []
+slots_of Requirements = codes "?1" ∷ codes "?2" ∷ codes "?3" ∷ codes "?4" ∷ codes "?5" ∷ codes "?6" ∷ codes "?7" ∷ []
+slots_of Orders = codes "?1" ∷ codes "?2" ∷ codes "?3" ∷ codes "?4" ∷ codes "?5" ∷ []
+slots_of Batches = codes "?1" ∷ codes "?2" ∷ codes "?3" ∷ codes "?4" ∷ codes "?5" ∷ codes "?6" ∷ []
+slots_of Lots = codes "?1" ∷ codes "?2" ∷ codes "?3" ∷ codes "?4" ∷ codes "?5" ∷ codes "?6" ∷ []
+slots_of Sublots = codes "?1" ∷ codes "?2" ∷ codes "?3" ∷ codes "?4" ∷ []
+slots_of Moves = codes "?1" ∷ codes "?2" ∷ codes "?3" ∷ codes "?4" ∷ codes "?5" ∷ codes "?6" ∷ codes "?7" ∷ codes "?8" ∷ codes "?9" ∷ codes "?10" ∷ codes "?11" ∷ codes "?12" ∷ codes "?13" ∷ []
+slots_of Results = codes "?1" ∷ codes "?2" ∷ codes "?3" ∷ codes "?4" ∷ codes "?5" ∷ codes "?6" ∷ []
+slots_of Voids = codes "?1" ∷ codes "?2" ∷ []
+
+slots_are : (k : TableKind) → length (slots_of k) ≡ width_of k
+slots_are Meta = refl
+slots_are Owners = refl
+slots_are Units = refl
+slots_are Materials = refl
+slots_are Tests = refl
+slots_are Recipes = refl
+slots_are Requirements = refl
+slots_are Orders = refl
+slots_are Batches = refl
+slots_are Lots = refl
+slots_are Sublots = refl
+slots_are Moves = refl
+slots_are Results = refl
+slots_are Voids = refl
+
+put_compiles : (k : TableKind) → compiled ours (put_text k) ≡ Ok (one_statement (putting k) (slots_of k) (put_text k))
+unfolding everything
+put_compiles Meta = refl
+put_compiles Owners = refl
+put_compiles Units = refl
+put_compiles Materials = refl
+put_compiles Tests = refl
+put_compiles Recipes = refl
+put_compiles Requirements = refl
+put_compiles Orders = refl
+put_compiles Batches = refl
+put_compiles Lots = refl
+put_compiles Sublots = refl
+put_compiles Moves = refl
+put_compiles Results = refl
+put_compiles Voids = refl
+
+pub put_is : (k : TableKind) → command_of (understood ours (put_text k)) ≡ putting k
+put_is k = command_is ours (put_text k) (put_compiles k)
 
 pub put_given : (k : TableKind) → IsGiven (put_text k) (width_of k) (understood ours (put_text k))
-unfolding understood everything
-put_given Meta = (refl, refl, refl, refl)
-put_given Owners = (refl, refl, refl, refl)
-put_given Units = (refl, refl, refl, refl)
-put_given Materials = (refl, refl, refl, refl)
-put_given Tests = (refl, refl, refl, refl)
-put_given Recipes = (refl, refl, refl, refl)
-put_given Requirements = (refl, refl, refl, refl)
-put_given Orders = (refl, refl, refl, refl)
-put_given Batches = (refl, refl, refl, refl)
-put_given Lots = (refl, refl, refl, refl)
-put_given Sublots = (refl, refl, refl, refl)
-put_given Moves = (refl, refl, refl, refl)
-put_given Results = (refl, refl, refl, refl)
-put_given Voids = (refl, refl, refl, refl)
+put_given k = given ours (put_text k) (put_compiles k) (slots_are k)

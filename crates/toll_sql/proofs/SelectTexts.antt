@@ -1,5 +1,5 @@
 -- What the texts that read rows mean. Written by tools/sql-texts.
-use Rattle.std.proofs.Common.{◌≡◌, ℕ, zero, suc, Bool, false, cond, List, [], ◌∷◌, length, codes, refl}
+use Rattle.std.proofs.Common.{◌≡◌, ℕ, zero, suc, Bool, true, false, cond, List, [], ◌∷◌, length, codes, Ok, refl}
 use Rattle.sqlite.proofs.Callers.{command_of}
 use Rattle.sqlite.specs.Collation.TheVariants.{Binary}
 use Rattle.sqlite.specs.Command.{Command}
@@ -7,6 +7,7 @@ use Rattle.sqlite.specs.Command.TheVariants.{Select}
 use Rattle.sqlite.specs.Listing.{understood, reads_listing}
 use Rattle.sqlite.specs.Query.{Query}
 use Rattle.sqlite.specs.Term.{Term, col, op2}
+use Rattle.sqlite_resolve.specs.Compile.{compiled}
 use Rattle.sqlite_sql.specs.declared.ops.BinaryOp.TheVariants.{Compare}
 use Rattle.sqlite_sql.specs.declared.ops.CompareOp.TheVariants.{Eq}
 use Rattle.sqlite_tied.specs.Compute.{everything}
@@ -18,6 +19,7 @@ use Rattle.toll_sql.specs.Tables.{ours, tree_of, keys_of, width_of, is_owned, se
 use Rattle.toll_sql.specs.declared.table_kind.TableKind.{TableKind}
 use Rattle.toll_sql.specs.declared.table_kind.TableKind.TheVariants.{Meta, Owners, Units, Materials, Tests, Recipes, Requirements, Orders, Batches, Lots, Sublots, Moves, Results, Voids}
 use Rattle.toll_sql.proofs.PutTexts.{terms_from}
+use Rattle.toll_sql.proofs.TextLemmas.{one_statement, command_is, unlisted, given}
 
 -- the first column is the parameter
 abbrev pub owner_is : List Term
@@ -53,36 +55,33 @@ names_of Voids = codes "owner" ∷ codes "mkey" ∷ []
 abbrev pub selecting : TableKind → Command
 selecting k = Select (record { lets = []; body = query_of k }) (names_of k)
 
+-- the owner is the one parameter, where there is one
+abbrev pub slot_of : Bool → List (List ℕ)
+slot_of b = cond b (codes "?1" ∷ []) []
+
+slot_is : (b : Bool) → length (slot_of b) ≡ cond b 1 0
+slot_is true = refl
+slot_is false = refl
+
+select_compiles : (k : TableKind) → compiled ours (select_text k) ≡ Ok (one_statement (selecting k) (slot_of (is_owned k)) (select_text k))
+unfolding everything
+select_compiles Meta = refl
+select_compiles Owners = refl
+select_compiles Units = refl
+select_compiles Materials = refl
+select_compiles Tests = refl
+select_compiles Recipes = refl
+select_compiles Requirements = refl
+select_compiles Orders = refl
+select_compiles Batches = refl
+select_compiles Lots = refl
+select_compiles Sublots = refl
+select_compiles Moves = refl
+select_compiles Results = refl
+select_compiles Voids = refl
+
 pub select_is : (k : TableKind) → (command_of (understood ours (select_text k)) ≡ selecting k) × (reads_listing ours (select_text k) ≡ false)
-unfolding understood everything
-select_is Meta = (refl, refl)
-select_is Owners = (refl, refl)
-select_is Units = (refl, refl)
-select_is Materials = (refl, refl)
-select_is Tests = (refl, refl)
-select_is Recipes = (refl, refl)
-select_is Requirements = (refl, refl)
-select_is Orders = (refl, refl)
-select_is Batches = (refl, refl)
-select_is Lots = (refl, refl)
-select_is Sublots = (refl, refl)
-select_is Moves = (refl, refl)
-select_is Results = (refl, refl)
-select_is Voids = (refl, refl)
+select_is k = (command_is ours (select_text k) (select_compiles k), unlisted ours (select_text k) (select_compiles k))
 
 pub select_given : (k : TableKind) → IsGiven (select_text k) (cond (is_owned k) 1 0) (understood ours (select_text k))
-unfolding understood everything
-select_given Meta = (refl, refl, refl, refl)
-select_given Owners = (refl, refl, refl, refl)
-select_given Units = (refl, refl, refl, refl)
-select_given Materials = (refl, refl, refl, refl)
-select_given Tests = (refl, refl, refl, refl)
-select_given Recipes = (refl, refl, refl, refl)
-select_given Requirements = (refl, refl, refl, refl)
-select_given Orders = (refl, refl, refl, refl)
-select_given Batches = (refl, refl, refl, refl)
-select_given Lots = (refl, refl, refl, refl)
-select_given Sublots = (refl, refl, refl, refl)
-select_given Moves = (refl, refl, refl, refl)
-select_given Results = (refl, refl, refl, refl)
-select_given Voids = (refl, refl, refl, refl)
+select_given k = given ours (select_text k) (select_compiles k) (slot_is (is_owned k))

@@ -1,10 +1,9 @@
 //! Edges that the actuals of a slice draw.
-use crate::rows::put;
+use crate::rows::{name, put};
 use std::alloc::Global;
 use std::test::Fail;
 use toll_base::{
-    Amount, BatchNo, Day, Edge, LotId, Move, MoveRow, Name, Refusal, Role, Row, Segment, Slice,
-    VoidRow,
+    Amount, BatchNo, Day, Edge, LotId, Move, MoveRow, Refusal, Role, Row, Segment, Slice, VoidRow,
 };
 use toll_trace::edges_of;
 
@@ -14,28 +13,29 @@ type Named = (&'static str, &'static str);
 /// An actual: its key, its batch of the order O, its segment, its role, and its lot.
 type Recorded = (&'static str, u64, u64, Role, Named);
 
-fn lot_of(named: Named) -> Result<LotId, Refusal> {
-    let owner = Name::parse(named.0.as_bytes())?;
-    let lot = Name::parse(named.1.as_bytes())?;
-    Ok(LotId { owner, lot })
+fn lot_of((owner, lot): Named) -> LotId {
+    LotId {
+        owner: name(owner),
+        lot: name(lot),
+    }
 }
 
 fn what((_, number, segment, role, lot): Recorded) -> Result<Move, Refusal> {
-    let order = Name::parse(b"O")?;
+    let order = name("O");
     Ok(Move::Actual {
         order,
         number: BatchNo::new(number)?,
         segment: Segment::new(segment)?,
         role,
         material: order,
-        lot: lot_of(lot)?,
+        lot: lot_of(lot),
         sublot: order,
     })
 }
 
 fn movement(recorded: Recorded) -> Result<MoveRow, Refusal> {
     Ok(MoveRow {
-        key: Name::parse(recorded.0.as_bytes())?,
+        key: name(recorded.0),
         what: what(recorded)?,
         amount: Amount::new(10)?,
         day: Day::new(2)?,
@@ -48,8 +48,7 @@ fn put_movement(slice: &mut Slice, recorded: Recorded) -> Result<(), Fail> {
 }
 
 fn put_void(slice: &mut Slice, key: &str) -> Result<(), Fail> {
-    let key = Name::parse(key.as_bytes())?;
-    put(slice, Row::Void(VoidRow { key }))
+    put(slice, Row::Void(VoidRow { key: name(key) }))
 }
 
 fn record_all(slice: &mut Slice, actuals: &[Recorded]) -> Result<(), Fail> {
@@ -104,8 +103,7 @@ fn acme_draws(
     voided: &[&str],
     from: &[Named],
 ) -> Result<bool, Fail> {
-    let acme = Name::parse(b"ACME")?;
-    let mut slice = Slice::new(alloc, acme);
+    let mut slice = Slice::new(alloc, name("ACME"));
     draws(alloc, &mut slice, actuals, voided, from)
 }
 

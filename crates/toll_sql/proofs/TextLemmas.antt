@@ -1,0 +1,34 @@
+-- What a text asks for that compiles to one whole statement.
+use Rattle.std.proofs.Common.{◌≡◌, ◌-◌, ℕ, true, false, List, [], length, take_all, le-leb, None, Ok, if◌then◌else◌, refl, sym, ap, subst, ◌∙◌, arith}
+use Rattle.sqlite.proofs.Callers.{IsPlain, command_of, statement_of}
+use Rattle.sqlite.specs.Command.{Command}
+use Rattle.sqlite.specs.Listing.{understood, reads_listing, misses_table, if_select, listing_schema}
+use Rattle.sqlite.specs.Schema.{Schema}
+use Rattle.sqlite_resolve.specs.Compile.{compiled}
+use Rattle.sqlite_resolve.specs.declared.compiled.Compiled.{Compiled}
+use Rattle.toll_sql.specs.Given.{IsGiven}
+
+-- the text is one statement, with parameters of these names, no RETURNING and no time
+abbrev pub one_statement : Command → List (List ℕ) → List ℕ → Compiled
+one_statement command names sql = record { command = command; returning = None; names = names; formats = []; start = 0; end = length sql; tail = length sql }
+
+-- what a text means follows from what it compiles to, so that the prover compiles it only once
+module _ (schema : Schema) (sql : List ℕ) {command : Command} {names : List (List ℕ)} (is : compiled schema sql ≡ Ok (one_statement command names sql)) where
+  understood_is : understood schema sql ≡ Ok (one_statement command names sql)
+  unfolding understood
+  understood_is = ap (λ r. if misses_table r then if_select (compiled listing_schema sql) else r) is
+
+  pub command_is : command_of (understood schema sql) ≡ command
+  command_is = ap command_of understood_is
+
+  pub unlisted : reads_listing schema sql ≡ false
+  unlisted = ap misses_table is
+
+  pub statement_is : statement_of sql (understood schema sql) ≡ sql
+  statement_is = ap (statement_of sql) understood_is ∙ take_all (length sql - 0) sql (omega arith)
+
+  pub plain : IsPlain (understood schema sql)
+  plain = subst IsPlain (sym understood_is) (refl, refl)
+
+  pub given : {n : ℕ} → length names ≡ n → IsGiven sql n (understood schema sql)
+  given {n} so = subst (IsGiven sql n) (sym understood_is) (le-leb (length sql) (length sql) (omega arith), so, refl, refl)
