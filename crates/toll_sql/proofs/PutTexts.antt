@@ -131,9 +131,11 @@ tree_is Moves = refl
 tree_is Results = refl
 tree_is Voids = refl
 
+-- a row is inserted, or the row with its key is changed to it
 abbrev pub putting : TableKind → Command
 putting k = InsertOr (number_of k) Abort (Values (inserted (width_of k)) (suc (width_of k))) (record { target = Some (keys_of k); update = Some (record { lets = []; body = update (tree_of k) (width_of k) }) } ∷ [])
 
+-- the parameters, by their names
 abbrev pub slots_of : TableKind → List (List ℕ)
 slots_of Meta = codes "?1" ∷ codes "?2" ∷ []
 slots_of Owners = codes "?1" ∷ codes "?2" ∷ []
@@ -166,6 +168,7 @@ slots_are Moves = refl
 slots_are Results = refl
 slots_are Voids = refl
 
+-- (from here on no text is compiled again: all else follows)
 put_compiles : (k : TableKind) → compiled ours (put_text k) ≡ Ok (one_statement (putting k) (slots_of k) (put_text k))
 unfolding everything
 put_compiles Meta = refl
