@@ -1,5 +1,5 @@
 -- A change is put as the row that it has.
-use Rattle.std.proofs.Common.{◌≡◌, ℕ, true, Ok, Err, Result, OnOk, refl, sym, subst}
+use Rattle.std.proofs.Common.{◌≡◌, true, Ok, Err, Result, OnOk, refl, sym, subst}
 use Rattle.sqlite.specs.Order.{Row}
 use Rattle.sqlite.specs.State.{State}
 use Rattle.sqlite.specs.declared.error.Error.{Error}
@@ -30,7 +30,7 @@ module _ (change : Change) (old new : State) (valid : IsValid change) where
   made (Ok x) h = record { put = record { valid = valid; put = h.put }; ready = h.ready; committed = h.committed }
   made (Err e) h = tt
 
-  pub as_change : (cells : Row) (r : Result ℕ Error) → cells ≡ cells_of_change change
+  pub as_change : {X : Type 0} (cells : Row) (r : Result X Error) → cells ≡ cells_of_change change
       → (fill (table_of_change change) cells ≡ true → IsWriting (MakesRow (table_of_change change) cells) old new r) → IsWriting (MakesPut change) old new r
   as_change cells r is writes =
       let w : IsWriting (MakesRow (table_of_change change) (cells_of_change change)) old new r =

@@ -87,3 +87,12 @@ module _ (k : TableKind) (cells : Row) (fits : fill k cells ≡ true) (old new :
     kept = λ clean. kept r outside (runs clean);
     survives = survives;
   }
+
+-- how many rows were written is not told on
+abbrev pub uncounted : Result ℕ Error → Result (Unit {0}) Error
+uncounted (Ok count) = Ok tt
+uncounted (Err e) = Err e
+
+pub writes_uncounted : {Makes : State → State → Type 0} {old new : State} (r : Result ℕ Error) → IsWriting Makes old new r → IsWriting Makes old new (uncounted r)
+writes_uncounted (Ok count) w = record { makes = w.makes; inside = w.inside; fault = λ clean within. tt; kept = w.kept; survives = w.survives }
+writes_uncounted (Err e) w = record { makes = λ clean ready. tt; inside = λ clean within. tt; fault = w.fault; kept = w.kept; survives = w.survives }

@@ -63,7 +63,7 @@ fn make_index<S: Alter>(tx: &mut Transaction<'_, S>) -> Result<usize, Error>
 }
 
 /// Makes the index and writes the version; all tables are there.
-pub(crate) fn finish<S: Alter>(tx: &mut Transaction<'_, S>) -> Result<usize, Error>
+pub(crate) fn finish<S: Alter>(tx: &mut Transaction<'_, S>) -> Result<(), Error>
     ensures same_reference { tx.new.conn.ghost_name ≡ tx.old.conn.ghost_name }
     ensures steps { IsStep (IsShapedAs made_all) Finishes (state S.Store tx.old.conn.now) (state S.Store tx.new.conn.now) result }
 {
@@ -83,7 +83,7 @@ fn make_tables<S: Alter>(tx: &mut Transaction<'_, S>) -> Result<(), Error>
 }
 
 // Makes all tables and the index, and writes the version.
-fn make_all<S: Alter>(tx: &mut Transaction<'_, S>) -> Result<usize, Error>
+fn make_all<S: Alter>(tx: &mut Transaction<'_, S>) -> Result<(), Error>
     ensures same_reference { tx.new.conn.ghost_name ≡ tx.old.conn.ghost_name }
     ensures steps { IsStep (IsMaking no_schema) (λ _ new. IsNew new.now) (state S.Store tx.old.conn.now) (state S.Store tx.new.conn.now) result }
 {
@@ -120,7 +120,7 @@ pub fn create_tables<S: Alter>(conn: &mut Connection<S>) -> Result<(), OpenFault
 }
 
 // Makes of the tables of version 1 those of this version.
-fn raise<S: Alter>(tx: &mut Transaction<'_, S>) -> Result<usize, Error>
+fn raise<S: Alter>(tx: &mut Transaction<'_, S>) -> Result<(), Error>
     ensures same_reference { tx.new.conn.ghost_name ≡ tx.old.conn.ghost_name }
     ensures steps { IsStep (IsShapedAs first_ours) (λ old new. Raised old.now.trees new.now) (state S.Store tx.old.conn.now) (state S.Store tx.new.conn.now) result }
 {

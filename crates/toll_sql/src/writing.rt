@@ -76,7 +76,7 @@ fn put_all<S: Alter>(tx: &mut Transaction<'_, S>, changes: &[Change]) -> Result<
 }
 
 // Makes the change.
-fn put_change<S: Alter>(tx: &mut Transaction<'_, S>, change: &Change) -> Result<usize, Error>
+fn put_change<S: Alter>(tx: &mut Transaction<'_, S>, change: &Change) -> Result<(), Error>
     ensures same_reference { tx.new.conn.ghost_name ≡ tx.old.conn.ghost_name }
     ensures writes { IsWriting (MakesPut change.now) (state S.Store tx.old.conn.now) (state S.Store tx.new.conn.now) result }
 {
@@ -90,7 +90,7 @@ fn put_change<S: Alter>(tx: &mut Transaction<'_, S>, change: &Change) -> Result<
 }
 
 // Puts the owner's row.
-fn put_row<S: Alter>(tx: &mut Transaction<'_, S>, owner: &Name, row: &Row) -> Result<usize, Error>
+fn put_row<S: Alter>(tx: &mut Transaction<'_, S>, owner: &Name, row: &Row) -> Result<(), Error>
     ensures same_reference { tx.new.conn.ghost_name ≡ tx.old.conn.ghost_name }
     ensures writes { IsWriting (MakesPut (Put owner.now row.now)) (state S.Store tx.old.conn.now) (state S.Store tx.new.conn.now) result }
 {
@@ -114,7 +114,7 @@ fn put_sublot<S: Alter>(
     tx: &mut Transaction<'_, S>,
     owner: &Name,
     row: &SublotRow,
-) -> Result<usize, Error>
+) -> Result<(), Error>
     ensures same_reference { tx.new.conn.ghost_name ≡ tx.old.conn.ghost_name }
     ensures writes { IsWriting (MakesPut (Put owner.now (Sublot row.now))) (state S.Store tx.old.conn.now) (state S.Store tx.new.conn.now) result }
 {
@@ -129,7 +129,7 @@ fn put_result<S: Alter>(
     tx: &mut Transaction<'_, S>,
     owner: &Name,
     row: &ResultRow,
-) -> Result<usize, Error>
+) -> Result<(), Error>
     ensures same_reference { tx.new.conn.ghost_name ≡ tx.old.conn.ghost_name }
     ensures writes { IsWriting (MakesPut (Put owner.now (ResultOf row.now))) (state S.Store tx.old.conn.now) (state S.Store tx.new.conn.now) result }
 {
@@ -144,9 +144,12 @@ pub fn put<S: Alter>(
     tx: &mut Transaction<'_, S>,
     table: TableKind,
     cells: &[ValueRef<'_>],
-) -> Result<usize, Error>
+) -> Result<(), Error>
     ensures same_reference { tx.new.conn.ghost_name ≡ tx.old.conn.ghost_name }
     ensures writes { fill table (bound cells.now) ≡ true → IsWriting (MakesRow table (bound cells.now)) (state S.Store tx.old.conn.now) (state S.Store tx.new.conn.now) result }
 {
-    tx.execute(table.put_text(), cells)
+    match tx.execute(table.put_text(), cells) {
+        Ok(_) => Ok(()),
+        Err(error) => Err(error),
+    }
 }
