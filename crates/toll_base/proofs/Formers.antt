@@ -1,13 +1,16 @@
 -- What takes a put of a row back does.
-use Rattle.std.proofs.Common.{◌≡◌, true, Option, Some, None, is_some, refl, sym, ap, subst}
+use Rattle.std.proofs.Common.{◌≡◌, true, Option, Some, None, is_some, List, refl, sym, ap, ◌∙◌, subst}
 use mathlib.Core.Bool.{false≢true}
 use Rattle.std.specs.Option.{option_map}
+use Rattle.std.specs.Cmp.{IsTotalOrder}
 use Rattle.std.specs.Cmp.Lexicographic.{nat_list_cmp_total}
+use Rattle.std.specs.declared.cmp.Ordering.{Ordering}
 use Rattle.toll_base.specs.Bytes.{bytes_cmp}
 use Rattle.toll_base.specs.Keys.{pair_cmp, batch_cmp, result_cmp, requirement_cmp}
-use Rattle.toll_base.specs.Slice.{Slice, with_row, row_like}
+use Rattle.toll_base.specs.Slice.{Slice, with_row, without_row, row_like}
 use Rattle.toll_base.specs.SliceRules.{KeepsRules}
-use Rattle.toll_base.specs.Former.{TakesBack}
+use Rattle.toll_base.specs.Table.{row_at, put_row, remove_row}
+use Rattle.toll_base.specs.Former.{can_replace, TakesBack}
 use Rattle.toll_base.specs.declared.former.Former.TheVariants.{Added, Replaced}
 use Rattle.toll_base.specs.declared.movement.MoveRow.{MoveRow}
 use Rattle.toll_base.specs.declared.rows.Row.{Row}
@@ -36,60 +39,51 @@ pub is_mapped : {X Y : Type 0} (f : X → Y) (x : Option X) → is_some (option_
 is_mapped f None h = h
 is_mapped f (Some v) h = refl
 
--- a row that was not there
-pub added_back : (s : Slice) (row : Row) → KeepsRules s → row_like s row ≡ None → TakesBack (Added row) s (with_row s row)
-added_back s (Material row) keeps none = record { there = refl; back = ap (λ rows. record s { materials = rows }) (removed_again bytes_cmp nat_list_cmp_total (λ r. r.material) s.materials row (none_mapped _ _ none)); kept = keeps }
-added_back s (Test row) keeps none = record { there = refl; back = ap (λ rows. record s { tests = rows }) (removed_again pair_cmp pair_cmp_total (λ r. (r.material, r.test)) s.tests row (none_mapped _ _ none)); kept = keeps }
-added_back s (Recipe row) keeps none = record { there = refl; back = ap (λ rows. record s { recipes = rows }) (removed_again bytes_cmp nat_list_cmp_total (λ r. r.recipe) s.recipes row (none_mapped _ _ none)); kept = keeps }
-added_back s (Requirement row) keeps none = record { there = refl; back = ap (λ rows. record s { requirements = rows }) (removed_again requirement_cmp requirement_cmp_total (λ r. (r.recipe, r.segment, r.role, r.source, r.material)) s.requirements row (none_mapped _ _ none)); kept = keeps }
-added_back s (Order row) keeps none = record { there = refl; back = ap (λ rows. record s { orders = rows }) (removed_again bytes_cmp nat_list_cmp_total (λ r. r.order) s.orders row (none_mapped _ _ none)); kept = keeps }
-added_back s (Batch row) keeps none = record { there = refl; back = ap (λ rows. record s { batches = rows }) (removed_again batch_cmp batch_cmp_total (λ r. (r.order, r.number)) s.batches row (none_mapped _ _ none)); kept = keeps }
-added_back s (Lot row) keeps none = record { there = refl; back = ap (λ rows. record s { lots = rows }) (removed_again bytes_cmp nat_list_cmp_total (λ r. r.lot) s.lots row (none_mapped _ _ none)); kept = keeps }
-added_back s (Sublot row) keeps none = record { there = refl; back = ap (λ rows. record s { sublots = rows }) (removed_again pair_cmp pair_cmp_total (λ r. (r.lot, r.sublot)) s.sublots row (none_mapped _ _ none)); kept = keeps }
-added_back s (Move row) keeps none = record { there = refl; back = ap (λ rows. record s { moves = rows }) (removed_again bytes_cmp nat_list_cmp_total (λ r. r.key) s.moves row (none_mapped _ _ none)); kept = keeps }
-added_back s (Result row) keeps none = record { there = refl; back = ap (λ rows. record s { results = rows }) (removed_again result_cmp result_cmp_total (λ r. (r.lot, r.test, r.number)) s.results row (none_mapped _ _ none)); kept = keeps }
-added_back s (Void row) keeps none = record { there = refl; back = ap (λ rows. record s { voids = rows }) (removed_again bytes_cmp nat_list_cmp_total (λ r. r.key) s.voids row (none_mapped _ _ none)); kept = keeps }
+-- what takes a put of this row back: it was not there, or another was in its place
+pub record Back (s : Slice) (row : Row) : Type 0 where
+  pub added : row_like s row ≡ None → TakesBack (Added row) s (with_row s row)
+  pub replaced : (known : Row) → row_like s row ≡ Some known → ((m : MoveRow) → known ≡ Move m → ⊥) → TakesBack (Replaced known) s (with_row s row)
 
--- one in whose place another was
-pub replaced_back : (s : Slice) (row known : Row) → KeepsRules s → row_like s row ≡ Some known → ((m : MoveRow) → known ≡ Move m → ⊥) → TakesBack (Replaced known) s (with_row s row)
-replaced_back s (Material row) known keeps found other =
-    let was = mapped_some _ _ known found in
-    subst (λ (r : Row). TakesBack (Replaced r) s (with_row s (Material row))) was.to
-    (record { there = some_mapped _ _ (found_again bytes_cmp nat_list_cmp_total (λ r. r.material) s.materials row was.from was.is); back = ap (λ rows. record s { materials = rows }) (put_again bytes_cmp nat_list_cmp_total (λ r. r.material) s.materials row was.from was.is); kept = keeps })
-replaced_back s (Test row) known keeps found other =
-    let was = mapped_some _ _ known found in
-    subst (λ (r : Row). TakesBack (Replaced r) s (with_row s (Test row))) was.to
-    (record { there = some_mapped _ _ (found_again pair_cmp pair_cmp_total (λ r. (r.material, r.test)) s.tests row was.from was.is); back = ap (λ rows. record s { tests = rows }) (put_again pair_cmp pair_cmp_total (λ r. (r.material, r.test)) s.tests row was.from was.is); kept = keeps })
-replaced_back s (Recipe row) known keeps found other =
-    let was = mapped_some _ _ known found in
-    subst (λ (r : Row). TakesBack (Replaced r) s (with_row s (Recipe row))) was.to
-    (record { there = some_mapped _ _ (found_again bytes_cmp nat_list_cmp_total (λ r. r.recipe) s.recipes row was.from was.is); back = ap (λ rows. record s { recipes = rows }) (put_again bytes_cmp nat_list_cmp_total (λ r. r.recipe) s.recipes row was.from was.is); kept = keeps })
-replaced_back s (Requirement row) known keeps found other =
-    let was = mapped_some _ _ known found in
-    subst (λ (r : Row). TakesBack (Replaced r) s (with_row s (Requirement row))) was.to
-    (record { there = some_mapped _ _ (found_again requirement_cmp requirement_cmp_total (λ r. (r.recipe, r.segment, r.role, r.source, r.material)) s.requirements row was.from was.is); back = ap (λ rows. record s { requirements = rows }) (put_again requirement_cmp requirement_cmp_total (λ r. (r.recipe, r.segment, r.role, r.source, r.material)) s.requirements row was.from was.is); kept = keeps })
-replaced_back s (Order row) known keeps found other =
-    let was = mapped_some _ _ known found in
-    subst (λ (r : Row). TakesBack (Replaced r) s (with_row s (Order row))) was.to
-    (record { there = some_mapped _ _ (found_again bytes_cmp nat_list_cmp_total (λ r. r.order) s.orders row was.from was.is); back = ap (λ rows. record s { orders = rows }) (put_again bytes_cmp nat_list_cmp_total (λ r. r.order) s.orders row was.from was.is); kept = keeps })
-replaced_back s (Batch row) known keeps found other =
-    let was = mapped_some _ _ known found in
-    subst (λ (r : Row). TakesBack (Replaced r) s (with_row s (Batch row))) was.to
-    (record { there = some_mapped _ _ (found_again batch_cmp batch_cmp_total (λ r. (r.order, r.number)) s.batches row was.from was.is); back = ap (λ rows. record s { batches = rows }) (put_again batch_cmp batch_cmp_total (λ r. (r.order, r.number)) s.batches row was.from was.is); kept = keeps })
-replaced_back s (Lot row) known keeps found other =
-    let was = mapped_some _ _ known found in
-    subst (λ (r : Row). TakesBack (Replaced r) s (with_row s (Lot row))) was.to
-    (record { there = some_mapped _ _ (found_again bytes_cmp nat_list_cmp_total (λ r. r.lot) s.lots row was.from was.is); back = ap (λ rows. record s { lots = rows }) (put_again bytes_cmp nat_list_cmp_total (λ r. r.lot) s.lots row was.from was.is); kept = keeps })
-replaced_back s (Sublot row) known keeps found other =
-    let was = mapped_some _ _ known found in
-    subst (λ (r : Row). TakesBack (Replaced r) s (with_row s (Sublot row))) was.to
-    (record { there = some_mapped _ _ (found_again pair_cmp pair_cmp_total (λ r. (r.lot, r.sublot)) s.sublots row was.from was.is); back = ap (λ rows. record s { sublots = rows }) (put_again pair_cmp pair_cmp_total (λ r. (r.lot, r.sublot)) s.sublots row was.from was.is); kept = keeps })
-replaced_back s (Move row) known keeps found other = let was = mapped_some _ _ known found in absurd (other was.from (sym was.to))
-replaced_back s (Result row) known keeps found other =
-    let was = mapped_some _ _ known found in
-    subst (λ (r : Row). TakesBack (Replaced r) s (with_row s (Result row))) was.to
-    (record { there = some_mapped _ _ (found_again result_cmp result_cmp_total (λ r. (r.lot, r.test, r.number)) s.results row was.from was.is); back = ap (λ rows. record s { results = rows }) (put_again result_cmp result_cmp_total (λ r. (r.lot, r.test, r.number)) s.results row was.from was.is); kept = keeps })
-replaced_back s (Void row) known keeps found other =
-    let was = mapped_some _ _ known found in
-    subst (λ (r : Row). TakesBack (Replaced r) s (with_row s (Void row))) was.to
-    (record { there = some_mapped _ _ (found_again bytes_cmp nat_list_cmp_total (λ r. r.key) s.voids row was.from was.is); back = ap (λ rows. record s { voids = rows }) (put_again bytes_cmp nat_list_cmp_total (λ r. r.key) s.voids row was.from was.is); kept = keeps })
+-- of a kind of rows that stands in one list of the slice
+module _ {K R : Type 0} (cmp : K → K → Ordering) (o : IsTotalOrder cmp) (key : R → K) (as_row : R → Row) (rows : List R) (slice : List R → Slice)
+  (like : (xs : List R) (x : R) → row_like (slice xs) (as_row x) ≡ option_map as_row (row_at cmp key xs (key x)))
+  (with : (xs : List R) (x : R) → with_row (slice xs) (as_row x) ≡ slice (put_row cmp key xs x))
+  (without : (xs : List R) (x : R) → without_row (slice xs) (as_row x) ≡ slice (remove_row cmp key xs (key x))) where
+  added_back : (row : R) → KeepsRules (slice rows) → row_like (slice rows) (as_row row) ≡ None → TakesBack (Added (as_row row)) (slice rows) (with_row (slice rows) (as_row row))
+  added_back row keeps none = record {
+    there = refl;
+    back = ap (λ t. without_row t (as_row row)) (with rows row) ∙ without _ row ∙ ap slice (removed_again cmp o key rows row (none_mapped _ _ (sym (like rows row) ∙ none)));
+    kept = keeps;
+  }
+
+  -- a movement is taken back with its counts
+  module _ (replaceable : (xs : List R) (x : R) → can_replace (slice xs) (as_row x) ≡ is_some (row_like (slice xs) (as_row x))) where
+    replaced_back : (row : R) (known : Row) → KeepsRules (slice rows) → row_like (slice rows) (as_row row) ≡ Some known → TakesBack (Replaced known) (slice rows) (with_row (slice rows) (as_row row))
+    replaced_back row known keeps found =
+        let was = mapped_some _ _ known (sym (like rows row) ∙ found) in
+        let again = found_again cmp o key rows row was.from was.is in
+        subst (λ (r : Row). TakesBack (Replaced r) (slice rows) (with_row (slice rows) (as_row row))) was.to
+        (record {
+          there = ap (λ t. can_replace t (as_row was.from)) (with rows row) ∙ replaceable _ was.from ∙ ap is_some (like _ was.from) ∙ some_mapped _ _ again;
+          back = ap (λ t. with_row t (as_row was.from)) (with rows row) ∙ with _ was.from ∙ ap slice (put_again cmp o key rows row was.from was.is);
+          kept = keeps;
+        })
+
+    back_in : (row : R) → KeepsRules (slice rows) → Back (slice rows) (as_row row)
+    back_in row keeps = record { added = added_back row keeps; replaced = λ known found other. replaced_back row known keeps found }
+
+pub put_back : (s : Slice) (row : Row) → KeepsRules s → Back s row
+put_back s (Material row) keeps = back_in bytes_cmp nat_list_cmp_total (λ r. r.material) (λ r. Material r) s.materials (λ xs. record s { materials = xs }) (λ xs x. refl) (λ xs x. refl) (λ xs x. refl) (λ xs x. refl) row keeps
+put_back s (Test row) keeps = back_in pair_cmp pair_cmp_total (λ r. (r.material, r.test)) (λ r. Test r) s.tests (λ xs. record s { tests = xs }) (λ xs x. refl) (λ xs x. refl) (λ xs x. refl) (λ xs x. refl) row keeps
+put_back s (Recipe row) keeps = back_in bytes_cmp nat_list_cmp_total (λ r. r.recipe) (λ r. Recipe r) s.recipes (λ xs. record s { recipes = xs }) (λ xs x. refl) (λ xs x. refl) (λ xs x. refl) (λ xs x. refl) row keeps
+put_back s (Requirement row) keeps = back_in requirement_cmp requirement_cmp_total (λ r. (r.recipe, r.segment, r.role, r.source, r.material)) (λ r. Requirement r) s.requirements (λ xs. record s { requirements = xs }) (λ xs x. refl) (λ xs x. refl) (λ xs x. refl) (λ xs x. refl) row keeps
+put_back s (Order row) keeps = back_in bytes_cmp nat_list_cmp_total (λ r. r.order) (λ r. Order r) s.orders (λ xs. record s { orders = xs }) (λ xs x. refl) (λ xs x. refl) (λ xs x. refl) (λ xs x. refl) row keeps
+put_back s (Batch row) keeps = back_in batch_cmp batch_cmp_total (λ r. (r.order, r.number)) (λ r. Batch r) s.batches (λ xs. record s { batches = xs }) (λ xs x. refl) (λ xs x. refl) (λ xs x. refl) (λ xs x. refl) row keeps
+put_back s (Lot row) keeps = back_in bytes_cmp nat_list_cmp_total (λ r. r.lot) (λ r. Lot r) s.lots (λ xs. record s { lots = xs }) (λ xs x. refl) (λ xs x. refl) (λ xs x. refl) (λ xs x. refl) row keeps
+put_back s (Sublot row) keeps = back_in pair_cmp pair_cmp_total (λ r. (r.lot, r.sublot)) (λ r. Sublot r) s.sublots (λ xs. record s { sublots = xs }) (λ xs x. refl) (λ xs x. refl) (λ xs x. refl) (λ xs x. refl) row keeps
+put_back s (Move row) keeps = record {
+  added = added_back bytes_cmp nat_list_cmp_total (λ r. r.key) (λ r. Move r) s.moves (λ xs. record s { moves = xs }) (λ xs x. refl) (λ xs x. refl) (λ xs x. refl) row keeps;
+  replaced = λ known found other. let was = mapped_some _ _ known found in absurd (other was.from (sym was.to));
+}
+put_back s (Result row) keeps = back_in result_cmp result_cmp_total (λ r. (r.lot, r.test, r.number)) (λ r. Result r) s.results (λ xs. record s { results = xs }) (λ xs x. refl) (λ xs x. refl) (λ xs x. refl) (λ xs x. refl) row keeps
+put_back s (Void row) keeps = back_in bytes_cmp nat_list_cmp_total (λ r. r.key) (λ r. Void r) s.voids (λ xs. record s { voids = xs }) (λ xs x. refl) (λ xs x. refl) (λ xs x. refl) (λ xs x. refl) row keeps

@@ -30,6 +30,8 @@ pub mod Unmoved
 pub mod OtherSublots
 pub mod Uncancelled
 pub mod Adding
+pub mod Naming
 pub mod Within
 pub mod PutsOwn
+pub mod Owed
 pub mod OwnAmounts

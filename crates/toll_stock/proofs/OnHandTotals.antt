@@ -59,21 +59,13 @@ is_at id sub place = is_some_where (λ p. same_lot id p.0 && same_bytes sub p.1)
 abbrev is_in : LotId → Option Place → Bool
 is_in id place = is_some_where (λ p. same_lot id p.0) place
 
-brings-goes_to : (id : LotId) (sub o : Bytes) (what : Move) → brings_into id sub o what ≡ is_at id sub (goes_to o what)
-brings-goes_to id sub o (Receive material lot sublot) = refl
-brings-goes_to id sub o (Split lot sublot target) = refl
-brings-goes_to id sub o (Ship lot sublot) = refl
-brings-goes_to id sub o (Scrap lot sublot) = refl
-brings-goes_to id sub o (Actual order number segment Consumed material lot sublot) = refl
-brings-goes_to id sub o (Actual order number segment Produced material lot sublot) = refl
-
-takes-comes_from : (id : LotId) (sub o : Bytes) (what : Move) → takes_from id sub o what ≡ is_at id sub (comes_from o what)
-takes-comes_from id sub o (Receive material lot sublot) = refl
-takes-comes_from id sub o (Split lot sublot target) = refl
-takes-comes_from id sub o (Ship lot sublot) = refl
-takes-comes_from id sub o (Scrap lot sublot) = refl
-takes-comes_from id sub o (Actual order number segment Consumed material lot sublot) = refl
-takes-comes_from id sub o (Actual order number segment Produced material lot sublot) = refl
+at_places : (id : LotId) (sub o : Bytes) (what : Move) → (brings_into id sub o what ≡ is_at id sub (goes_to o what)) × (takes_from id sub o what ≡ is_at id sub (comes_from o what))
+at_places id sub o (Receive material lot sublot) = (refl, refl)
+at_places id sub o (Split lot sublot target) = (refl, refl)
+at_places id sub o (Ship lot sublot) = (refl, refl)
+at_places id sub o (Scrap lot sublot) = (refl, refl)
+at_places id sub o (Actual order number segment Consumed material lot sublot) = (refl, refl)
+at_places id sub o (Actual order number segment Produced material lot sublot) = (refl, refl)
 
 -- ---- what holds of each movement holds of those that stand
 
@@ -174,11 +166,11 @@ module _ (H : History) (lawful : IsLawful H) (s : Slice) (there : IsRowsOf H s) 
 
   has_goes_to : (m : Movement) → BringsOwn H m → (place : Option Place) → goes_to m.0 m.1.what ≡ place → HasPlace s.sublots ordered s.owner lot place
   has_goes_to m brings None is = tt
-  has_goes_to m brings (Some p) is = λ here. has_known p.1 (brings id p.1 (brings-goes_to id p.1 m.0 m.1.what ∙ ap (is_at id p.1) is ∙ at_itself p here)).1
+  has_goes_to m brings (Some p) is = λ here. has_known p.1 (brings id p.1 ((at_places id p.1 m.0 m.1.what).0 ∙ ap (is_at id p.1) is ∙ at_itself p here)).1
 
   has_comes_from : (m : Movement) → TakesKnown H m → (place : Option Place) → comes_from m.0 m.1.what ≡ place → HasPlace s.sublots ordered s.owner lot place
   has_comes_from m takes None is = tt
-  has_comes_from m takes (Some p) is = λ here. has_known p.1 (takes id p.1 (takes-comes_from id p.1 m.0 m.1.what ∙ ap (is_at id p.1) is ∙ at_itself p here)).0
+  has_comes_from m takes (Some p) is = λ here. has_known p.1 (takes id p.1 ((at_places id p.1 m.0 m.1.what).1 ∙ ap (is_at id p.1) is ∙ at_itself p here)).0
 
   -- what was brought into the lot's sublots, and what was taken from them
   abbrev all_brought : ℕ
@@ -187,19 +179,20 @@ module _ (H : History) (lawful : IsLawful H) (s : Slice) (there : IsRowsOf H s) 
   abbrev all_taken : ℕ
   all_taken = total (λ row. cond (same_bytes row.lot lot) (taken H (lot_id s.owner row.lot) row.sublot) 0) s.sublots
 
+  -- what movements of such places move in the sublots of the lot
+  moved_is : (touches : LotId → Bytes → Bytes → Move → Bool) (place : Bytes → Move → Option Place) → ((of : LotId) (sub o : Bytes) (what : Move) → touches of sub o what ≡ is_at of sub (place o what)) →
+      AllByRecursion (λ m. HasPlace s.sublots ordered s.owner lot (place m.0 m.1.what)) (standing H) →
+      total (λ row. cond (same_bytes row.lot lot) (total (λ m. cond (touches (lot_id s.owner row.lot) row.sublot m.0 m.1.what) m.1.amount 0) (standing H)) 0) s.sublots ≡ total (λ m. cond (is_in id (place m.0 m.1.what)) m.1.amount 0) (standing H)
+  moved_is touches place at there_all =
+      total-alike _ (λ row. cond (same_bytes row.lot lot) (total (λ m. cond (is_at (lot_id s.owner row.lot) row.sublot (place m.0 m.1.what)) m.1.amount 0) (standing H)) 0) s.sublots
+      (λ row. ap (λ n. cond (same_bytes row.lot lot) n 0) (total-alike _ _ (standing H) (λ m. ap (λ b. cond b m.1.amount 0) (at (lot_id s.owner row.lot) row.sublot m.0 m.1.what))))
+      ∙ moved_in s.sublots ordered s.owner lot (λ m. place m.0 m.1.what) (standing H) there_all
+
   brought_is : all_brought ≡ total (λ m. cond (is_in id (goes_to m.0 m.1.what)) m.1.amount 0) (standing H)
-  brought_is =
-      total-alike _ (λ row. cond (same_bytes row.lot lot) (total (λ m. cond (is_at (lot_id s.owner row.lot) row.sublot (goes_to m.0 m.1.what)) m.1.amount 0) (standing H)) 0) s.sublots
-      (λ row. ap (λ n. cond (same_bytes row.lot lot) n 0) (total-alike _ _ (standing H) (λ m. ap (λ b. cond b m.1.amount 0) (brings-goes_to (lot_id s.owner row.lot) row.sublot m.0 m.1.what))))
-      ∙ moved_in s.sublots ordered s.owner lot (λ m. goes_to m.0 m.1.what) (standing H)
-      (along _ _ (λ m brings. has_goes_to m brings (goes_to m.0 m.1.what) refl) (standing H) (each_standing (BringsOwn H) H (all_bring_own H lawful)))
+  brought_is = moved_is brings_into goes_to (λ of sub o what. (at_places of sub o what).0) (along _ _ (λ m brings. has_goes_to m brings (goes_to m.0 m.1.what) refl) (standing H) (each_standing (BringsOwn H) H (all_bring_own H lawful)))
 
   taken_is : all_taken ≡ total (λ m. cond (is_in id (comes_from m.0 m.1.what)) m.1.amount 0) (standing H)
-  taken_is =
-      total-alike _ (λ row. cond (same_bytes row.lot lot) (total (λ m. cond (is_at (lot_id s.owner row.lot) row.sublot (comes_from m.0 m.1.what)) m.1.amount 0) (standing H)) 0) s.sublots
-      (λ row. ap (λ n. cond (same_bytes row.lot lot) n 0) (total-alike _ _ (standing H) (λ m. ap (λ b. cond b m.1.amount 0) (takes-comes_from (lot_id s.owner row.lot) row.sublot m.0 m.1.what))))
-      ∙ moved_in s.sublots ordered s.owner lot (λ m. comes_from m.0 m.1.what) (standing H)
-      (along _ _ (λ m takes. has_comes_from m takes (comes_from m.0 m.1.what) refl) (standing H) (each_standing (TakesKnown H) H (all_take_known H lawful)))
+  taken_is = moved_is takes_from comes_from (λ of sub o what. (at_places of sub o what).1) (along _ _ (λ m takes. has_comes_from m takes (comes_from m.0 m.1.what) refl) (standing H) (each_standing (TakesKnown H) H (all_take_known H lawful)))
 
   -- what is in a sublot, with what was taken, is what was brought
   left : (b : Bool) (held came went : ℕ) → held ≡ came - went → went ≤ came → cond b held 0 + cond b went 0 ≡ cond b came 0

@@ -22,13 +22,13 @@ use Rattle.toll_base.specs.declared.rows.SublotRow.{SublotRow}
 use Rattle.toll_base.specs.declared.rows.Row.{Row}
 use Rattle.toll_base.specs.declared.rows.Row.TheVariants.{Lot, Sublot, Move}
 use Rattle.toll_history.proofs.Accepted.{none_applies}
-use Rattle.toll_history.proofs.Decided.{verdict_is, Grows, LeavesOthers, decides, keeps_rules}
+use Rattle.toll_history.proofs.Decided.{Grows, LeavesOthers}
 use Rattle.toll_history.proofs.Options.{known_passes}
 use Rattle.toll_history.proofs.Passed.{accepted_passes, move_fits}
 use Rattle.toll_history.proofs.PutMoves.{with_move, with_lot, with_sublot, put_came}
 use Rattle.toll_history.proofs.Recorded.{came_in, tables-untaken}
 use Rattle.toll_history.proofs.Room.{sublot_room, came_fit}
-use Rattle.toll_history.proofs.Within.{within_bounds}
+use Rattle.toll_history.proofs.Within.{bounded_owes}
 use Rattle.toll_base.proofs.Texts.{same_bytes-exact, same_bytes-refl}
 
 module _ (key material lot sublot : Bytes) (amount day : ℕ) where
@@ -70,16 +70,10 @@ module _ (key material lot sublot : Bytes) (amount day : ℕ) where
       (λ i. (same_bytes-refl o i && same_bytes-refl lot i) && same_bytes-refl sublot i) refl
 
   module _ (own : Slice) (d : Decision) (decided : IsDecided (checks (tables_of own) ++ sublot_bounds (tables_of own) lot sublot amount) (Put own.owner (Move receipt) ∷ Put own.owner (Lot received) ∷ Put own.owner (Sublot (holding (tables_of own))) ∷ []) d) where
-    pub receipt_decided : Decides (by own.owner (Record receipt)) own d
-    receipt_decided =
-        decides (Record receipt) rows grows leaves own d _ decided
-        (λ H lawful valid known there.
-        within_bounds (Record receipt) (λ t. sublot_bounds t lot sublot amount) has_room H own (checks (tables_of own)) lawful valid there (verdict_is H own.owner (Record receipt) (tables_of own) _ known there refl))
-
-    pub receipt_keeps : KeepsRules own → DecisionKeepsRules own d
-    receipt_keeps keeps =
-        keeps_rules own (rows (tables_of own)) d _ decided keeps
-        (λ accepted.
+    pub receipt_owes : Decides (by own.owner (Record receipt)) own d × (KeepsRules own → DecisionKeepsRules own d)
+    receipt_owes =
+        bounded_owes (Record receipt) (λ t. sublot_bounds t lot sublot amount) has_room rows grows leaves checks (λ H o t house. refl) own d decided
+        (λ keeps accepted.
         let pass = none_applies (checks (tables_of own) ++ sublot_bounds (tables_of own) lot sublot amount) accepted in
         let full = or_parts _ _ (pass 7) in
         came_fit own receipt received (holding (tables_of own)) refl full.0 refl full.1 (pass 3) (pass 8) (pass 9))

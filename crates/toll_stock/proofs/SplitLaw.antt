@@ -17,12 +17,12 @@ use Rattle.toll_base.specs.declared.rows.SublotRow.{SublotRow}
 use Rattle.toll_base.specs.declared.rows.Row.{Row}
 use Rattle.toll_base.specs.declared.rows.Row.TheVariants.{Sublot, Move}
 use Rattle.toll_history.proofs.Accepted.{none_applies}
-use Rattle.toll_history.proofs.Decided.{verdict_is, Grows, LeavesOthers, decides, keeps_rules}
+use Rattle.toll_history.proofs.Decided.{Grows, LeavesOthers}
 use Rattle.toll_history.proofs.Passed.{accepted_passes, move_fits}
 use Rattle.toll_history.proofs.PutMoves.{with_move, with_sublot, put_went_over}
 use Rattle.toll_history.proofs.Recorded.{went_over, tables-untaken}
 use Rattle.toll_history.proofs.Room.{sublot_room, went_over_fit}
-use Rattle.toll_history.proofs.Within.{within_bounds}
+use Rattle.toll_history.proofs.Within.{bounded_owes}
 use Rattle.toll_base.proofs.Texts.{same_bytes-refl, same_bytes-symm}
 use Rattle.std.proofs.lemmas.Bool.{and_right}
 
@@ -67,15 +67,9 @@ module _ (key lot sublot target : Bytes) (amount day : ℕ) where
       (ap (λ b. (same_bytes o o && same_bytes lot lot) && b) (same_bytes-symm target sublot ∙ move_fits H o parting accepted 0) ∙ and_right (same_bytes o o && same_bytes lot lot) false refl)
 
   module _ (own : Slice) (d : Decision) (decided : IsDecided (checks (tables_of own) ++ sublot_bounds (tables_of own) lot target amount) (Put own.owner (Move parting) ∷ Put own.owner (Sublot (more (tables_of own))) ∷ Put own.owner (Sublot (less (tables_of own))) ∷ []) d) where
-    pub split_decided : Decides (by own.owner (Record parting)) own d
-    split_decided =
-        decides (Record parting) rows grows leaves own d _ decided
-        (λ H lawful valid known there.
-        within_bounds (Record parting) (λ t. sublot_bounds t lot target amount) has_room H own (checks (tables_of own)) lawful valid there (verdict_is H own.owner (Record parting) (tables_of own) _ known there refl))
-
-    pub split_keeps : KeepsRules own → DecisionKeepsRules own d
-    split_keeps keeps =
-        keeps_rules own (rows (tables_of own)) d _ decided keeps
-        (λ accepted.
+    pub split_owes : Decides (by own.owner (Record parting)) own d × (KeepsRules own → DecisionKeepsRules own d)
+    split_owes =
+        bounded_owes (Record parting) (λ t. sublot_bounds t lot target amount) has_room rows grows leaves checks (λ H o t house. refl) own d decided
+        (λ keeps accepted.
         let pass = none_applies (checks (tables_of own) ++ sublot_bounds (tables_of own) lot target amount) accepted in
         went_over_fit own parting lot sublot target (amount_in (tables_of own) lot target + amount) amount keeps (pass 7) refl (pass 4) (pass 5) (pass 8) (pass 9))

@@ -1,12 +1,12 @@
 -- A trace grows by levels: what a level adds, and that the levels end.
-use Rattle.std.proofs.Common.{◌≡◌, ◌⊎◌, ℕ, zero, suc, ◌+◌, ◌<◌, ◌≤◌, Bool, true, false, not, ◌||◌, cond, List, [], ◌∷◌, ◌++◌, map, length, refl, sym, ap, ◌∙◌, subst, inl, inr, arith}
+use Rattle.std.proofs.Common.{◌≡◌, ◌⊎◌, ℕ, zero, suc, ◌+◌, ◌<◌, ◌≤◌, nat_eq, Bool, true, false, not, ◌||◌, cond, List, [], ◌∷◌, ◌++◌, map, length, refl, sym, ap, ◌∙◌, subst, inl, inr, arith}
 use mathlib.Core.Bool.{false≢true}
 use Rattle.std.specs.Prelude.{Contains}
 use Rattle.toll_base.specs.Words.{count}
 use Rattle.std.specs.List.Sorted.{IsStrictlySortedBy}
 use Rattle.std.specs.Ordering.{nat_cmp, is_eq, ordering_then}
 use Rattle.std.specs.declared.cmp.Ordering.TheVariants.{Less}
-use Rattle.std.proofs.lemmas.Bool.{cases_lt, or_cases, or_left, or_right, lt-ltb, not-true, not_from_true, not_from_false, false_from_ne_true}
+use Rattle.std.proofs.lemmas.Bool.{cases_lt, or_cases, or_left, or_right, eqb-false, lt-ltb, not-true, not_from_true, not_from_false, false_from_ne_true}
 use Rattle.std.proofs.lemmas.Cmp.{tied_itself, nat_cmp_total, eq_by_cmp_equiv}
 use Rattle.std.proofs.lemmas.Map.Views.{tells_apart}
 use Rattle.std.proofs.lemmas.List.Elements.{Contains-append_left, Contains-append_right, Contains-append_cases}
@@ -191,3 +191,7 @@ level_of E found lots sorted only enough order = record {
     every : (a b : LotId) → Contains (lots_of found) a → E a b → (t : Bool) → is_found found b ≡ t → Contains sorted b ⊎ Contains (lots_of found) b
     every a b i j true e = inr (found_lot found b e)
     every a b i j false e = inl (kept_in_order lot_cmp lots_exact lots sorted order b (enough a b i j e))
+
+-- a level that isn't empty has lots
+pub some_lots : (count n : ℕ) → count ≡ n → nat_eq count 0 ≡ false → 0 < n
+some_lots count n is some = let z = eqb-false count 0 some in omega arith

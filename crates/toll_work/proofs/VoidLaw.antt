@@ -1,7 +1,9 @@
 -- What a void owes.
 use Rattle.std.proofs.Common.{◌≡◌, ℕ, ◌+◌, ◌-◌, ◌≤◌, Bool, true, false, not, ◌&&◌, ◌||◌, cond, nat_le, nat_lt, Option, Some, None, is_some, is_none, List, [], ◌∷◌, ◌++◌, length, refl, sym, ap, subst, ◌∙◌, arith}
 use mathlib.Core.Bool.{false≢true}
+use Rattle.std.specs.Prelude.{Result, IfOk}
 use Rattle.std.proofs.lemmas.Bool.{or_left}
+use Rattle.std.proofs.lemmas.Result.{IfOk-weaker}
 use Rattle.std.proofs.lemmas.Bool.Decides.{nat_tests}
 use Rattle.toll_base.specs.Bytes.{Bytes, same_bytes, bytes_cmp}
 use Rattle.toll_base.specs.Keys.{pair_cmp}
@@ -24,7 +26,6 @@ use Rattle.toll_base.specs.declared.decision.Change.{Change}
 use Rattle.toll_base.specs.declared.decision.Change.TheVariants.{Put}
 use Rattle.toll_base.specs.declared.decision.Decision.{Decision}
 use Rattle.toll_base.specs.declared.decision.Decision.TheVariants.{Refuse}
-use Rattle.toll_base.specs.declared.refusal.Refusal.{Refusal}
 use Rattle.toll_base.specs.declared.lot.LotId.{LotId}
 use Rattle.toll_base.specs.declared.refusal.Refusal.TheVariants.{UnknownKey, Voided, BatchClosed, NotEnough, LimitReached}
 use Rattle.toll_base.specs.declared.role.Role.{Role}
@@ -127,7 +128,7 @@ checks_at t key known =
 
 -- a key without an actual is refused
 module _ (own house : Slice) (key : Bytes) (none : is_some_where (λ (r : MoveRow). is_actual r.what) (move_at own key) ≡ false) where
-  pub unknown_decided : DecidesWith (by own.owner (Void key)) own house (Refuse UnknownKey)
+  unknown_decided : DecidesWith (by own.owner (Void key)) own house (Refuse UnknownKey)
   unfolding DecidesWith
   unknown_decided H lawful valid known there house_there is_house =
       let is : Refused UnknownKey ≡ verdict H (by own.owner (Void key)) =
@@ -138,9 +139,39 @@ module _ (own house : Slice) (key : Bytes) (none : is_some_where (λ (r : MoveRo
       not_accepted : Refused UnknownKey ≡ Accepted → ⊥
       not_accepted h = (cc)
 
-pub unknown_keeps : (s : Slice) (why : Refusal) → DecisionKeepsRules s (Refuse why)
+refused_keeps : (s : Slice) → DecisionKeepsRules s (Refuse UnknownKey)
 unfolding DecisionKeepsRules
-unknown_keeps s why = tt
+refused_keeps s = tt
+
+pub record IsUnknown (own house : Slice) (key : Bytes) : Type 0 where
+  pub decides : DecidesWith (by own.owner (Void key)) own house (Refuse UnknownKey)
+  pub rules : DecisionKeepsRules own (Refuse UnknownKey)
+  pub house_rules : DecisionKeepsRules house (Refuse UnknownKey)
+
+pub unknown_owes : (own house : Slice) (key : Bytes) → is_some_where (λ (r : MoveRow). is_actual r.what) (move_at own key) ≡ false → IsUnknown own house key
+unknown_owes own house key none = record { decides = unknown_decided own house key none; rules = refused_keeps own; house_rules = refused_keeps house }
+
+-- what a decision owes that voids an actual
+pub record Owes (own house : Slice) (key : Bytes) (d : Decision) : Type 0 where
+  pub decides : DecidesWith (by own.owner (Void key)) own house d
+  pub rules : KeepsRules own → DecisionKeepsRules own d
+  pub house_rules : same_bytes own.owner house.owner ≡ false → KeepsRules house → DecisionKeepsRules house d
+  pub puts : PutsOnlyWith own.owner (actual_sublot (move_at own key)) (changes_of d)
+
+-- where there is one, over rows that keep the rules
+pub record Owed {E : Type 0} (s house : Slice) (key : Bytes) (r : Result Decision E) : Type 0 where
+  pub decides : IfOk r (DecidesWith (by s.owner (Void key)) s house)
+  pub rules : IfOk r (DecisionKeepsRules s)
+  pub house_rules : same_bytes s.owner house.owner ≡ false → IfOk r (DecisionKeepsRules house)
+  pub own : IfOk r (λ d. PutsOnlyWith s.owner (actual_sublot (move_at s key)) (changes_of d))
+
+pub owed : {E : Type 0} {s house : Slice} {key : Bytes} {P : Decision → Type 0} {r : Result Decision E} → IfOk r P → ((d : Decision) → P d → Owes s house key d) → KeepsRules s → KeepsRules house → Owed s house key r
+owed {r = r} plan owes kept house_kept = record {
+  decides = IfOk-weaker r _ _ (λ d p. (owes d p).decides) plan;
+  rules = IfOk-weaker r _ _ (λ d p. (owes d p).rules kept) plan;
+  house_rules = λ other. IfOk-weaker r _ _ (λ d p. (owes d p).house_rules other house_kept) plan;
+  own = IfOk-weaker r _ _ (λ d p. (owes d p).puts) plan;
+}
 
 -- a known sublot is of a lot that is there
 lot_of_known : (s : Slice) → KeepsRules s → (lot sub : Bytes) → is_none (sublot_at s (lot, sub)) ≡ false → is_some (lot_at s lot) ≡ true
@@ -198,6 +229,17 @@ module _ (own house : Slice) (key : Bytes) (row : MoveRow) (found_in : move_at o
   small : (n amount after m : ℕ) → after ≡ m + amount - 0 → n ≡ m → after ≤ 20000000000000 → nat_lt 20000000000000 (n + amount) ≡ false
   small n amount after m is same le = let h : n + amount ≤ 20000000000000 = omega arith in grind (arith, nat_tests)
 
+  -- what it is by its role, and so what it takes and brings
+  its_what : {r : Role} → role ≡ r → said_so.what ≡ Actual order number segment r material lot sublot
+  its_what is = ap (λ r. Actual order number segment r material lot sublot) is
+
+  abbrev Touches : Role → Bytes → Bytes × Bytes → Type 0
+  Touches r p k = (takes_from (lot_id p k.0) k.1 own.owner said_so.what ≡ takes_from (lot_id p k.0) k.1 own.owner (Actual order number segment r material lot sublot))
+      × (brings_into (lot_id p k.0) k.1 own.owner said_so.what ≡ brings_into (lot_id p k.0) k.1 own.owner (Actual order number segment r material lot sublot))
+
+  touches : {r : Role} → role ≡ r → (p : Bytes) (k : Bytes × Bytes) → Touches r p k
+  touches is p k = (ap (takes_from (lot_id p k.0) k.1 own.owner) (its_what is), ap (brings_into (lot_id p k.0) k.1 own.owner) (its_what is))
+
   -- ---- of a consumption
 
   module _ (consumes : role ≡ Consumed) where
@@ -207,19 +249,10 @@ module _ (own house : Slice) (key : Bytes) (row : MoveRow) (found_in : move_at o
     abbrev more_in : Tables → SublotRow
     more_in u = record { lot = lot.lot; sublot = sublot; amount = amount_in u lot.lot sublot + row.amount }
 
-    its_what : said_so.what ≡ Actual order number segment Consumed material lot sublot
-    its_what = ap (λ r. Actual order number segment r material lot sublot) consumes
-
-    takes_at : (o p : Bytes) (k : Bytes × Bytes) → takes_from (lot_id p k.0) k.1 o said_so.what ≡ ((same_bytes p lot.owner && same_bytes k.0 lot.lot) && same_bytes k.1 sublot)
-    takes_at o p k = ap (takes_from (lot_id p k.0) k.1 o) its_what
-
-    brings_none : (o p : Bytes) (k : Bytes × Bytes) → brings_into (lot_id p k.0) k.1 o said_so.what ≡ false
-    brings_none o p k = ap (brings_into (lot_id p k.0) k.1 o) its_what
-
     module _ (H : History) (lawful : IsLawful H) (there : IsRowsOf H own) where
       -- the sublot is known, and of a lot of the owner or HOUSE
       taken_known : (sublot_known H lot sublot ≡ true) × ((same_bytes lot.owner own.owner || same_bytes lot.owner house_name) ≡ true)
-      taken_known = of_found (TakesKnown H) own.owner key said_so H (all_take_known H lawful) (found H there) lot sublot (ap (takes_from lot sublot own.owner) its_what ∙ its_place H there)
+      taken_known = of_found (TakesKnown H) own.owner key said_so H (all_take_known H lawful) (found H there) lot sublot (ap (takes_from lot sublot own.owner) (its_what consumes) ∙ its_place H there)
 
       its_tables : tables_of house ≡ tables_given H house_name → source ≡ tables_given H lot.owner
       its_tables houses = (λ i. tables_for own.owner (there i) (houses i) lot.owner) ∙ tables_for_are H own.owner lot.owner (ap not taken_known.1)
@@ -233,7 +266,7 @@ module _ (own house : Slice) (key : Bytes) (row : MoveRow) (found_in : move_at o
           let u = its_tables houses in
           let after : stock (by own.owner (Void key) ∷ H) lot sublot ≡ stock H lot sublot + row.amount - 0 =
           stock-voided H own.owner key said_so lot sublot lawful (found H there) (stays H there accepted)
-          ∙ (λ i. stock H lot sublot + cond ((ap (takes_from lot sublot own.owner) its_what ∙ its_place H there) i) row.amount 0 - cond (ap (brings_into lot sublot own.owner) its_what i) row.amount 0) in
+          ∙ (λ i. stock H lot sublot + cond ((ap (takes_from lot sublot own.owner) (its_what consumes) ∙ its_place H there) i) row.amount 0 - cond (ap (brings_into lot sublot own.owner) (its_what consumes) i) row.amount 0) in
           ap (λ t. first_of (giving_bounds own.owner t lot sublot row.amount)) u
           ∙ four_pass _ _ _ _ there_at (ap (λ b. b && nat_le 20000 (tables_given H lot.owner).sublots) there_at)
           (small (amount_in (tables_given H lot.owner) lot.lot sublot) row.amount (stock (by own.owner (Void key) ∷ H) lot sublot) (stock H lot sublot) after (held_is H lot.owner lot.lot sublot)
@@ -251,20 +284,20 @@ module _ (own house : Slice) (key : Bytes) (row : MoveRow) (found_in : move_at o
           let e = same_bytes-exact lot.owner p same in
           given_back H own.owner key said_so lawful tt accepted (found H there) (stays H there accepted) p lot.lot sublot
           (ap (λ w. is_none (sublot_row H w (lot.lot, sublot))) (sym e) ∙ there_at)
-          (λ k. brings_none own.owner p k)
-          (λ k. takes_at own.owner p k ∙ ap (λ b. (b && same_bytes k.0 lot.lot) && same_bytes k.1 sublot) (same_bytes-symm p lot.owner ∙ same)) k
+          (λ k. (touches consumes p k).1)
+          (λ k. (touches consumes p k).0 ∙ ap (λ b. (b && same_bytes k.0 lot.lot) && same_bytes k.1 sublot) (same_bytes-symm p lot.owner ∙ same)) k
           ∙ ap (λ u. cond (is_at lot.lot sublot k) (Some (more_in u)) (sublot_row H p k)) (sym (its_tables houses ∙ ap (tables_given H) e)))
           (λ p apart k.
-          stayed_at H own.owner key said_so lawful tt accepted (found H there) (stays H there accepted) p k (brings_none own.owner p k)
-          (takes_at own.owner p k ∙ ap (λ b. (b && same_bytes k.0 lot.lot) && same_bytes k.1 sublot) (same_bytes-symm p lot.owner ∙ apart)))
+          stayed_at H own.owner key said_so lawful tt accepted (found H there) (stays H there accepted) p k ((touches consumes p k).1)
+          ((touches consumes p k).0 ∙ ap (λ b. (b && same_bytes k.0 lot.lot) && same_bytes k.1 sublot) (same_bytes-symm p lot.owner ∙ apart)))
 
       says : owner_known H own.owner ≡ true → tables_of house ≡ tables_given H house_name → first_of (open_checks (tables_of own) key order number) ≡ verdict H (by own.owner (Void key))
       says known houses =
-          ap (λ w. first_of (checks_at (tables_of own) key (Some (record { key = row.key; what = w; amount = row.amount; day = row.day })))) (sym its_what)
+          ap (λ w. first_of (checks_at (tables_of own) key (Some (record { key = row.key; what = w; amount = row.amount; day = row.day })))) (sym (its_what consumes))
           ∙ verdict_at H there known (tables_of house) houses
 
     module _ (d : Decision) (decided : IsDecided (open_checks (tables_of own) key order number ++ giving_bounds own.owner source lot sublot row.amount) (Put own.owner (VoidPut (record { key = key })) ∷ Put lot.owner (Sublot (more_in source)) ∷ []) d) where
-      pub giving_decided : DecidesWith (by own.owner (Void key)) own house d
+      giving_decided : DecidesWith (by own.owner (Void key)) own house d
       unfolding DecidesWith
       giving_decided H lawful valid known there house_there is_house =
           let houses = house_there ∙ ap (tables_given H) is_house in
@@ -276,7 +309,7 @@ module _ (own house : Slice) (key : Bytes) (row : MoveRow) (found_in : move_at o
       source_of : (s : Slice) → KeepsRules s → (u : Tables) → u ≡ tables_of s → is_none (u.sublot (lot.lot, sublot)) ≡ false → nat_lt 20000000000000 (amount_in u lot.lot sublot + row.amount) ≡ false → row_fits s (Sublot (more_in u)) ≡ true
       source_of s keeps u e sub_there amount = known_fits s keeps (more_in u) (ap (λ (t : Tables). is_none (t.sublot (lot.lot, sublot))) (sym e) ∙ sub_there) amount
 
-      pub giving_keeps : KeepsRules own → DecisionKeepsRules own d
+      giving_keeps : KeepsRules own → DecisionKeepsRules own d
       giving_keeps keeps =
           rules_by own (Put own.owner (VoidPut (record { key = key })) ∷ Put lot.owner (Sublot (more_in source)) ∷ []) d _ decided keeps
           (λ accepted.
@@ -292,7 +325,7 @@ module _ (own house : Slice) (key : Bytes) (row : MoveRow) (found_in : move_at o
           ] refl))
 
       -- its changes put rows of the owner, or the sublot of HOUSE that the actual names
-      pub giving_puts : PutsOnlyWith own.owner (actual_sublot (move_at own key)) (changes_of d)
+      giving_puts : PutsOnlyWith own.owner (actual_sublot (move_at own key)) (changes_of d)
       giving_puts =
           subst (λ m. PutsOnlyWith own.owner (actual_sublot m) (changes_of d)) (sym at_key)
           (each_accepted _ (open_checks (tables_of own) key order number ++ giving_bounds own.owner source lot sublot row.amount) (Put own.owner (VoidPut (record { key = key })) ∷ Put lot.owner (Sublot (more_in source)) ∷ []) d
@@ -300,7 +333,7 @@ module _ (own house : Slice) (key : Bytes) (row : MoveRow) (found_in : move_at o
           (or_left _ _ (same_bytes-refl own.owner), puts_consumed own.owner lot sublot (more_in source).amount (none_applies (open_checks (tables_of own) key order number ++ giving_bounds own.owner source lot sublot row.amount) accepted 5)))
           decided)
 
-      pub giving_keeps_house : same_bytes own.owner house.owner ≡ false → KeepsRules house → DecisionKeepsRules house d
+      giving_keeps_house : same_bytes own.owner house.owner ≡ false → KeepsRules house → DecisionKeepsRules house d
       giving_keeps_house other keeps =
           rules_by house (Put own.owner (VoidPut (record { key = key })) ∷ Put lot.owner (Sublot (more_in source)) ∷ []) d _ decided keeps
           (λ accepted.
@@ -315,20 +348,14 @@ module _ (own house : Slice) (key : Bytes) (row : MoveRow) (found_in : move_at o
             | false ↦ λ its. keeps_skip lot.owner (Sublot (more_in source)) [] house its keeps tt
           ] refl))
 
+      pub giving_owes : Owes own house key d
+      giving_owes = record { decides = giving_decided; rules = giving_keeps; house_rules = giving_keeps_house; puts = giving_puts }
+
   -- ---- of a production
 
   module _ (produces : role ≡ Produced) where
     abbrev less_in : Tables → SublotRow
     less_in t = record { lot = lot.lot; sublot = sublot; amount = amount_in t lot.lot sublot - row.amount }
-
-    its_way : said_so.what ≡ Actual order number segment Produced material lot sublot
-    its_way = ap (λ r. Actual order number segment r material lot sublot) produces
-
-    brings_at : (o p : Bytes) (k : Bytes × Bytes) → brings_into (lot_id p k.0) k.1 o said_so.what ≡ ((same_bytes p lot.owner && same_bytes k.0 lot.lot) && same_bytes k.1 sublot)
-    brings_at o p k = ap (brings_into (lot_id p k.0) k.1 o) its_way
-
-    takes_none : (o p : Bytes) (k : Bytes × Bytes) → takes_from (lot_id p k.0) k.1 o said_so.what ≡ false
-    takes_none o p k = ap (takes_from (lot_id p k.0) k.1 o) its_way
 
     abbrev own_checks : Checks
     own_checks = open_checks (tables_of own) key order number ++ (nat_lt (amount_in (tables_of own) lot.lot sublot) row.amount, Some NotEnough) ∷ []
@@ -339,7 +366,7 @@ module _ (own house : Slice) (key : Bytes) (row : MoveRow) (found_in : move_at o
     module _ (H : History) (lawful : IsLawful H) (there : IsRowsOf H own) where
       -- the sublot is known, and of a lot of the owner
       brought_known : (lot.owner ≡ own.owner) × (sublot_known H lot sublot ≡ true)
-      brought_known = of_found (BringsOwn H) own.owner key said_so H (all_bring_own H lawful) (found H there) lot sublot (ap (brings_into lot sublot own.owner) its_way ∙ its_place H there)
+      brought_known = of_found (BringsOwn H) own.owner key said_so H (all_bring_own H lawful) (found H there) lot sublot (ap (brings_into lot sublot own.owner) (its_what produces) ∙ its_place H there)
 
       there_own : is_none (sublot_row H own.owner (lot.lot, sublot)) ≡ false
       there_own = ap (λ w. is_none (sublot_row H w (lot.lot, sublot))) (sym brought_known.0) ∙ sublot_there H there brought_known.1
@@ -354,31 +381,31 @@ module _ (own house : Slice) (key : Bytes) (row : MoveRow) (found_in : move_at o
           let e = same_bytes-exact own.owner p same in
           taken_out H own.owner key said_so lawful tt accepted (found H there) (stays H there accepted) p lot.lot sublot
           (ap (λ w. is_none (sublot_row H w (lot.lot, sublot))) (sym e) ∙ there_own)
-          (λ k. brings_at own.owner p k ∙ ap (λ b. (b && same_bytes k.0 lot.lot) && same_bytes k.1 sublot) (its_owner p ∙ same_bytes-symm p own.owner ∙ same))
-          (λ k. takes_none own.owner p k) k
+          (λ k. (touches produces p k).1 ∙ ap (λ b. (b && same_bytes k.0 lot.lot) && same_bytes k.1 sublot) (its_owner p ∙ same_bytes-symm p own.owner ∙ same))
+          (λ k. (touches produces p k).0) k
           ∙ ap (λ u. cond (is_at lot.lot sublot k) (Some (less_in u)) (sublot_row H p k)) (sym (there ∙ ap (tables_given H) e)))
           (λ p apart k.
           stayed_at H own.owner key said_so lawful tt accepted (found H there) (stays H there accepted) p k
-          (brings_at own.owner p k ∙ ap (λ b. (b && same_bytes k.0 lot.lot) && same_bytes k.1 sublot) (its_owner p ∙ same_bytes-symm p own.owner ∙ apart))
-          (takes_none own.owner p k))
+          ((touches produces p k).1 ∙ ap (λ b. (b && same_bytes k.0 lot.lot) && same_bytes k.1 sublot) (its_owner p ∙ same_bytes-symm p own.owner ∙ apart))
+          ((touches produces p k).0))
 
       own_says : owner_known H own.owner ≡ true → tables_of house ≡ tables_given H house_name → first_of own_checks ≡ verdict H (by own.owner (Void key))
       own_says known houses =
-          ap (λ w. first_of (checks_at (tables_of own) key (Some (record { key = row.key; what = w; amount = row.amount; day = row.day })))) (sym its_way)
+          ap (λ w. first_of (checks_at (tables_of own) key (Some (record { key = row.key; what = w; amount = row.amount; day = row.day })))) (sym (its_what produces))
           ∙ verdict_at H there known (tables_of house) houses
 
       own_room : first_of own_bounds ≡ Accepted
       own_room = ap (λ b. cond b (Refused LimitReached) Accepted) (ap (λ (t : Tables). is_none (t.sublot (lot.lot, sublot))) there ∙ there_own)
 
     module _ (d : Decision) (decided : IsDecided (own_checks ++ own_bounds) (Put own.owner (VoidPut (record { key = key })) ∷ Put own.owner (Sublot (less_in (tables_of own))) ∷ []) d) where
-      pub taking_decided : DecidesWith (by own.owner (Void key)) own house d
+      taking_decided : DecidesWith (by own.owner (Void key)) own house d
       unfolding DecidesWith
       taking_decided H lawful valid known there house_there is_house =
           right_over H (by own.owner (Void key)) d _ _ decided.says decided.makes
           (unbounded own_checks own_bounds (λ passed. own_room H lawful there) ∙ own_says H lawful there known (house_there ∙ ap (tables_given H) is_house))
           (λ accepted. rows_of_all H lawful there accepted)
 
-      pub taking_keeps : KeepsRules own → DecisionKeepsRules own d
+      taking_keeps : KeepsRules own → DecisionKeepsRules own d
       taking_keeps keeps =
           rules_by own (Put own.owner (VoidPut (record { key = key })) ∷ Put own.owner (Sublot (less_in (tables_of own))) ∷ []) d _ decided keeps
           (λ accepted.
@@ -389,14 +416,17 @@ module _ (own house : Slice) (key : Bytes) (row : MoveRow) (found_in : move_at o
           (less_fit own lot.lot sublot row.amount keeps (none_is (lot_at own lot.lot) (lot_of_known own keeps lot.lot sublot sub_there)) sub_there)
           (λ kept. tt)))
 
-      pub taking_puts : PutsOnlyWith own.owner (actual_sublot (move_at own key)) (changes_of d)
+      taking_puts : PutsOnlyWith own.owner (actual_sublot (move_at own key)) (changes_of d)
       taking_puts =
           let mine = same_bytes-refl own.owner in
           puts_with own.owner _ (changes_of d) (each_decided _ _ (Put own.owner (VoidPut (record { key = key })) ∷ Put own.owner (Sublot (less_in (tables_of own))) ∷ []) d (mine, (mine, tt)) decided)
 
-      pub taking_keeps_house : same_bytes own.owner house.owner ≡ false → KeepsRules house → DecisionKeepsRules house d
+      taking_keeps_house : same_bytes own.owner house.owner ≡ false → KeepsRules house → DecisionKeepsRules house d
       taking_keeps_house other keeps =
           rules_by house (Put own.owner (VoidPut (record { key = key })) ∷ Put own.owner (Sublot (less_in (tables_of own))) ∷ []) d _ decided keeps
           (λ accepted.
           keeps_skip own.owner (VoidPut (record { key = key })) (Put own.owner (Sublot (less_in (tables_of own))) ∷ []) house other keeps
           (keeps_skip own.owner (Sublot (less_in (tables_of own))) [] house other keeps tt))
+
+      pub taking_owes : Owes own house key d
+      taking_owes = record { decides = taking_decided; rules = taking_keeps; house_rules = taking_keeps_house; puts = taking_puts }

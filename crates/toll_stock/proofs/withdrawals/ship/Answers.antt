@@ -1,6 +1,5 @@
-use Rattle.std.proofs.lemmas.Result.{IfOk-weaker}
 use Rattle.toll_base.proofs.Texts.{same_bytes-refl}
-use Rattle.toll_history.proofs.PutsOwn.{each_decided}
+use Rattle.toll_history.proofs.Owed.{owed_by}
 use Rattle.toll_history.specs.Tables.{tables_of}
 use Rattle.toll_history.specs.Verdict.{ship_checks}
 use Rattle.toll_stock.proofs.WithdrawalLaw.{shipment_owes}
@@ -10,8 +9,4 @@ pub returns : goal.returns
 returns c =
     let own = c.args.slice.now in let mine = same_bytes-refl own.owner in
     let plan = c.plan_withdrawal.ensures.plan (ship_checks (tables_of own) c.args.lot c.args.sublot c.args.amount) c.check_shipment-checked.ensures in
-    record {
-      decides = IfOk-weaker _ _ _ (λ d decided. (shipment_owes c.args.key c.args.lot c.args.sublot c.args.amount c.args.day own d decided).0) plan;
-      rules = IfOk-weaker _ _ _ (λ d decided. (shipment_owes c.args.key c.args.lot c.args.sublot c.args.amount c.args.day own d decided).1 c.plan_withdrawal.ensures.kept) plan;
-      own = IfOk-weaker _ _ _ (λ d. each_decided _ _ _ d (mine, (mine, tt))) plan;
-    }
+    let o = owed_by plan (shipment_owes c.args.key c.args.lot c.args.sublot c.args.amount c.args.day own) c.plan_withdrawal.ensures.kept (mine, (mine, tt)) in record { decides = o.decides; rules = o.rules; own = o.own }

@@ -1,10 +1,10 @@
 use Rattle.std.proofs.Common.{◌≡◌, ◌+◌, ◌<◌, ◌++◌, [], length, map, ap, ◌∙◌, sym, subst, arith}
 use Rattle.std.proofs.lemmas.List.{nil_from_length, length-append, length-map}
-use Rattle.std.proofs.lemmas.Bool.{eqb-true, eqb-false}
+use Rattle.std.proofs.lemmas.Bool.{eqb-true}
 use Rattle.toll_trace.specs.Chain.{IsJoined, ends}
 use Rattle.toll_trace.specs.Trace.{IsTrace}
 use Rattle.toll_trace.specs.Search.{IsLevel, step_at}
-use Rattle.toll_trace.proofs.Levels.{IsReached, unfound, reached_start, reached_more, trace_done, fewer_unfound}
+use Rattle.toll_trace.proofs.Levels.{IsReached, unfound, reached_start, reached_more, trace_done, fewer_unfound, some_lots}
 use Rattle.toll_trace.proofs.Rounds.{targets_all}
 use Rattle.toll_trace.proofs.plain.plain_trace.Goals as goal
 
@@ -28,18 +28,15 @@ returns c =
 found_are : (c : goal.After-drop-lots-in-rounds) → c.add.new.self ≡ c.rounds.found ++ map (step_at (c.rounds.steps + 1)) c.rounds.lots.items
 found_are c = c.in_ok-add.ensures.added ∙ ap (λ lots. c.rounds.found ++ map (step_at (c.rounds.steps + 1)) lots) c.deref.ensures.value
 
-some_lots : (c : goal.After-drop-lots-in-rounds) → 0 < length c.rounds.lots.items
-some_lots c = let k = c.rounds.lots.ok in let z = eqb-false _ _ (sym c.is_empty.ensures ∙ c.rounds-test.true) in omega arith
-
 pub rounds-smaller : goal.rounds-smaller
 rounds-smaller c =
     subst (λ found. unfound found (map (λ e. (ends c.args.way e).1) c.args.edges.now) < unfound c.rounds.found (map (λ e. (ends c.args.way e).1) c.args.edges.now)) (sym (found_are c))
-    (fewer_unfound (IsJoined c.args.edges.now c.args.way) c.rounds.found (c.rounds.steps + 1) c.rounds.lots.items _ c.rounds.invariant.level (targets_all c.args.edges.now c.args.way) (some_lots c))
+    (fewer_unfound (IsJoined c.args.edges.now c.args.way) c.rounds.found (c.rounds.steps + 1) c.rounds.lots.items _ c.rounds.invariant.level (targets_all c.args.edges.now c.args.way) (some_lots _ _ c.rounds.lots.ok.0 (sym c.is_empty.ensures ∙ c.rounds-test.true)))
 
 pub rounds-preserved : goal.rounds-preserved
 rounds-preserved c = record {
   reached = subst (λ found. IsReached (IsJoined c.args.edges.now c.args.way) c.args.from.now found (c.rounds.steps + 1)) (sym (found_are c)) (reached_more _ _ c.rounds.found c.rounds.steps c.rounds.lots.items c.rounds.invariant.reached c.rounds.invariant.level);
   level = c.in_ok-lots-2.ensures;
-  counted = (let k = c.rounds.invariant.counted in let some = some_lots c in omega (arith, simp (length-append, length-map) at (ap length (found_are c))));
+  counted = (let k = c.rounds.invariant.counted in let some = some_lots _ _ c.rounds.lots.ok.0 (sym c.is_empty.ensures ∙ c.rounds-test.true) in omega (arith, simp (length-append, length-map) at (ap length (found_are c))));
   fits = c.in_ok-add.ensures.fits;
 }

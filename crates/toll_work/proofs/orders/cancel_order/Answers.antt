@@ -1,13 +1,9 @@
-use Rattle.std.proofs.lemmas.Result.{IfOk-weaker}
-use Rattle.toll_history.proofs.PutsOwn.{each_decided, puts_rows}
+use Rattle.toll_history.proofs.PutsOwn.{puts_rows}
+use Rattle.toll_history.proofs.Owed.{owed}
 use Rattle.toll_work.proofs.CancelLaw.{cancel_decided, cancel_keeps}
 use Rattle.toll_work.proofs.orders.cancel_order.Goals as goal
 
-pub returns-clause-decides : goal.returns-clause-decides
-returns-clause-decides c = IfOk-weaker _ _ _ (λ d. cancel_decided _ _ d) c.plan_cancelling.ensures.plan
-
-pub returns-clause-rules : goal.returns-clause-rules
-returns-clause-rules c = IfOk-weaker _ _ _ (λ d decided. cancel_keeps _ _ d decided c.plan_cancelling.ensures.kept) c.plan_cancelling.ensures.plan
-
-pub returns-clause-own : goal.returns-clause-own
-returns-clause-own c = IfOk-weaker _ _ _ (λ d. each_decided _ _ _ d (puts_rows c.args.slice.now.owner _)) c.plan_cancelling.ensures.plan
+pub returns : goal.returns
+returns c =
+    let o = owed c.plan_cancelling.ensures.plan (λ d. cancel_decided _ _ d) (λ d decided. cancel_keeps _ _ d decided c.plan_cancelling.ensures.kept) (puts_rows c.args.slice.now.owner _) in
+    record { decides = o.decides; rules = o.rules; own = o.own }

@@ -1,14 +1,9 @@
-use Rattle.std.proofs.lemmas.Result.{IfOk-weaker}
 use Rattle.toll_base.proofs.Texts.{same_bytes-refl}
-use Rattle.toll_history.proofs.PutsOwn.{each_decided}
-use Rattle.toll_work.proofs.RecipeLaw.{recipe_decided, recipe_keeps}
+use Rattle.toll_history.proofs.Owed.{owed_by}
+use Rattle.toll_work.proofs.RecipeLaw.{recipe_owes}
 use Rattle.toll_work.proofs.recipes.add_recipe.Goals as goal
 
-pub returns-clause-decides : goal.returns-clause-decides
-returns-clause-decides c = IfOk-weaker _ _ _ (λ d. recipe_decided _ _ d) c.plan_recipe.ensures.plan
-
-pub returns-clause-rules : goal.returns-clause-rules
-returns-clause-rules c = IfOk-weaker _ _ _ (λ d decided. recipe_keeps _ _ d decided c.plan_recipe.ensures.kept) c.plan_recipe.ensures.plan
-
-pub returns-clause-own : goal.returns-clause-own
-returns-clause-own c = IfOk-weaker _ _ _ (λ d decided. each_decided _ _ _ d (same_bytes-refl c.args.slice.now.owner, tt) decided) c.plan_recipe.ensures.plan
+pub returns : goal.returns
+returns c =
+    let o = owed_by c.plan_recipe.ensures.plan (recipe_owes _ _) c.plan_recipe.ensures.kept (same_bytes-refl c.args.slice.now.owner, tt) in
+    record { decides = o.decides; rules = o.rules; own = o.own }

@@ -1,6 +1,6 @@
 use Rattle.std.proofs.Common.{◌≡◌, ◌+◌, ◌<◌, ◌++◌, [], ◌∷◌, length, map, ap, ◌∙◌, sym, subst, arith}
 use Rattle.std.proofs.lemmas.List.{nil_from_length, length-append, length-map}
-use Rattle.std.proofs.lemmas.Bool.{eqb-true, eqb-false}
+use Rattle.std.proofs.lemmas.Bool.{eqb-true}
 use Rattle.toll_trace.specs.Chain.{IsJoined}
 use Rattle.toll_trace.specs.InOrder.{IsInOrder}
 use Rattle.toll_trace.specs.Neighbours.{new_neighbours}
@@ -8,7 +8,7 @@ use Rattle.toll_base.specs.Lots.{lot_cmp}
 use Rattle.toll_trace.specs.Search.{IsLevel, step_at}
 use Rattle.toll_trace.specs.Trace.{IsTrace}
 use Rattle.toll_trace.proofs.Fronts.{Leads, level_first, level_next, trace_of_graph}
-use Rattle.toll_trace.proofs.Levels.{IsReached, unfound, reached_start, reached_more, trace_done, fewer_unfound}
+use Rattle.toll_trace.proofs.Levels.{IsReached, unfound, reached_start, reached_more, trace_done, fewer_unfound, some_lots}
 use Rattle.toll_trace.proofs.Members.{Contains-map}
 use Rattle.toll_trace.proofs.graph.Graph.trace.Goals as goal
 
@@ -34,13 +34,10 @@ returns c = λ edges of_edges.
 found_are : (c : goal.After-drop-front-in-levels) → c.add.new.self ≡ c.levels.found ++ map (step_at (c.levels.steps + 1)) c.levels.front.items
 found_are c = c.in_ok-add.ensures.added ∙ ap (λ lots. c.levels.found ++ map (step_at (c.levels.steps + 1)) lots) c.deref.ensures.value
 
-some_lots : (c : goal.After-drop-front-in-levels) → 0 < length c.levels.front.items
-some_lots c = let k = c.levels.front.ok in let z = eqb-false _ _ (sym c.is_empty.ensures ∙ c.levels-test.true) in omega arith
-
 pub levels-smaller : goal.levels-smaller
 levels-smaller c =
     subst (λ found. unfound found (map (λ pair. pair.1) c.index-index.result.now) < unfound c.levels.found (map (λ pair. pair.1) c.index-index.result.now)) (sym (found_are c))
-    (fewer_unfound (Leads c.index-index.result.now) c.levels.found (c.levels.steps + 1) c.levels.front.items _ c.levels.invariant.level (λ a b i. Contains-map (λ pair. pair.1) c.index-index.result.now (a, b) i) (some_lots c))
+    (fewer_unfound (Leads c.index-index.result.now) c.levels.found (c.levels.steps + 1) c.levels.front.items _ c.levels.invariant.level (λ a b i. Contains-map (λ pair. pair.1) c.index-index.result.now (a, b) i) (some_lots _ _ c.levels.front.ok.0 (sym c.is_empty.ensures ∙ c.levels-test.true)))
 
 pub levels-preserved : goal.levels-preserved
 levels-preserved c = record {
@@ -50,6 +47,6 @@ levels-preserved c = record {
       (level_next c.index-index.result.now c.levels.found c.levels.front.items (c.levels.steps + 1) c.in_ok-front-2.front.items c.levels.invariant.level
       (subst (λ found. IsInOrder lot_cmp (new_neighbours c.index-index.result.now found c.levels.front.items) c.in_ok-front-2.front.items) (found_are c)
       (subst (λ front. IsInOrder lot_cmp (new_neighbours c.index-index.result.now c.add.new.self front) c.in_ok-front-2.front.items) c.deref-in-levels.ensures.value c.in_ok-front-2.ensures)));
-  counted = (let k = c.levels.invariant.counted in let some = some_lots c in omega (arith, simp (length-append, length-map) at (ap length (found_are c))));
+  counted = (let k = c.levels.invariant.counted in let some = some_lots _ _ c.levels.front.ok.0 (sym c.is_empty.ensures ∙ c.levels-test.true) in omega (arith, simp (length-append, length-map) at (ap length (found_are c))));
   fits = c.in_ok-add.ensures.fits;
 }
