@@ -4,8 +4,8 @@ ghost use Rattle.toll_base.specs.Bytes.{Bytes, same_bytes};
 ghost use Rattle.toll_base.specs.Values.{house_name};
 ghost use Rattle.toll_history.specs.History.{History, part};
 ghost use Rattle.toll_history.specs.Verdict.{IsLawful};
-ghost use Rattle.toll_answers.specs.Told.{Asked, Told};
 ghost use Rattle.toll_answers.specs.Replies.{IsReply, after_reply};
+ghost use Rattle.toll_answers.specs.Told.{Asked, Told};
 
 /// Over every lawful history, each reply to an owner besides HOUSE is the reply over the owner's own
 /// part of it; and what a request makes of the history, cut to the owner, is what it makes of the

@@ -46,9 +46,9 @@ pub record Back (s : Slice) (row : Row) : Type 0 where
 
 -- of a kind of rows that stands in one list of the slice
 module _ {K R : Type 0} (cmp : K → K → Ordering) (o : IsTotalOrder cmp) (key : R → K) (as_row : R → Row) (rows : List R) (slice : List R → Slice)
-  (like : (xs : List R) (x : R) → row_like (slice xs) (as_row x) ≡ option_map as_row (row_at cmp key xs (key x)))
-  (with : (xs : List R) (x : R) → with_row (slice xs) (as_row x) ≡ slice (put_row cmp key xs x))
-  (without : (xs : List R) (x : R) → without_row (slice xs) (as_row x) ≡ slice (remove_row cmp key xs (key x))) where
+    (like : (xs : List R) (x : R) → row_like (slice xs) (as_row x) ≡ option_map as_row (row_at cmp key xs (key x)))
+    (with : (xs : List R) (x : R) → with_row (slice xs) (as_row x) ≡ slice (put_row cmp key xs x))
+    (without : (xs : List R) (x : R) → without_row (slice xs) (as_row x) ≡ slice (remove_row cmp key xs (key x))) where
   added_back : (row : R) → KeepsRules (slice rows) → row_like (slice rows) (as_row row) ≡ None → TakesBack (Added (as_row row)) (slice rows) (with_row (slice rows) (as_row row))
   added_back row keeps none = record {
     there = refl;

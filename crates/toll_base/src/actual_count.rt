@@ -1,8 +1,8 @@
 //! How many actuals each batch has.
 ghost use Rattle.std.specs.Prelude.{◌≡◌, ℕ, ◌+◌, ◌<◌, ◌≤◌, ◌^◌, if◌then◌else◌, OnOk, OnErr, true, is_some};
+ghost use Rattle.toll_base.specs.ActualCounts.{counted, count_of, HasRowFor, HaveSameBatches};
 ghost use Rattle.toll_base.specs.Bytes.{Bytes};
 ghost use Rattle.toll_base.specs.SliceRules.{is_actual_of};
-ghost use Rattle.toll_base.specs.ActualCounts.{counted, count_of, HasRowFor, HaveSameBatches};
 
 use crate::bounded::BatchNo;
 use crate::movement::Move;

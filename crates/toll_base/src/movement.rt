@@ -54,8 +54,8 @@ pub struct MoveRow {
 
 impl MoveRow {
     ghost use Rattle.std.specs.Prelude.{◌≡◌};
-    ghost use Rattle.toll_base.specs.SliceRules.{is_actual_of};
     ghost use Rattle.toll_base.specs.Moves.{same_movement};
+    ghost use Rattle.toll_base.specs.SliceRules.{is_actual_of};
 
     /// Whether key, kind, fields, amount and day are equal.
     pub fn is_same(&self, other: &MoveRow) -> bool

@@ -2,8 +2,8 @@
 ghost use Rattle.std.specs.Prelude.{◌≡◌, ℕ, ◌+◌, ◌<◌, ◌≤◌, ◌^◌, length, if◌then◌else◌, List, [], OnOk, OnErr, IfOk};
 ghost use Rattle.toll_base.specs.ActualCounts.{count_of, HasRowFor, HasKnown};
 ghost use Rattle.toll_base.specs.Bytes.{Bytes, bytes_cmp};
-ghost use Rattle.toll_base.specs.Table.{row_at, put_row, remove_row, has_room, IsInKeyOrder};
 ghost use Rattle.toll_base.specs.SliceRules.{count_actuals, is_actual_of};
+ghost use Rattle.toll_base.specs.Table.{row_at, put_row, remove_row, has_room, IsInKeyOrder};
 ghost use Rattle.toll_base.specs.Words.{is_some_where};
 
 use crate::actual_count::{ActualCount, add_one, add_row, count_in, take_one};
@@ -33,10 +33,10 @@ impl Drop for Moves {
 
 impl Model for Moves {
     ghost use Rattle.std.specs.Prelude.{List};
-    ghost use Rattle.toll_base.specs.declared.movement.MoveRow.{MoveRow};
     ghost use Rattle.toll_base.specs.ActualCounts.{AreCountsOf};
     ghost use Rattle.toll_base.specs.Bytes.{bytes_cmp};
     ghost use Rattle.toll_base.specs.Table.{IsInKeyOrder};
+    ghost use Rattle.toll_base.specs.declared.movement.MoveRow.{MoveRow};
 
     ghost Value = { List MoveRow };
 

@@ -1,9 +1,9 @@
 //! All rows of one owner, to be changed in place.
 ghost use Rattle.std.specs.Prelude.{◌≡◌, ℕ, ◌≤◌, List, [], ◌↔◌, OnOk, OnErr, IfOk, IsTrue, true, is_some, if◌then◌else◌};
-ghost use Rattle.toll_base.specs.Words.{is_some_where};
+ghost use Rattle.toll_base.specs.Former.{taken_back, can_replace, is_there, TakesBack};
 ghost use Rattle.toll_base.specs.Slice.{empty_slice, with_row, without_row, row_like, move_at};
 ghost use Rattle.toll_base.specs.SliceRules.{KeepsRules, row_fits, batch_has_room, count_actuals, is_actual_of};
-ghost use Rattle.toll_base.specs.Former.{taken_back, can_replace, is_there, TakesBack};
+ghost use Rattle.toll_base.specs.Words.{is_some_where};
 
 use crate::bounded::BatchNo;
 use crate::capacity::{

@@ -1,7 +1,7 @@
 //! What an actual, or a requirement of a recipe, does with a material.
 ghost use Rattle.std.specs.Prelude.{◌≡◌, Some, refl};
-ghost use Rattle.std.specs.Cmp.{partial_equiv_from_equiv, eq_by_cmp_equiv, partial_order_from_total};
 ghost use Rattle.std.proofs.lemmas.Cmp.{nat_cmp_total, on_total};
+ghost use Rattle.std.specs.Cmp.{partial_equiv_from_equiv, eq_by_cmp_equiv, partial_order_from_total};
 ghost use Rattle.toll_base.specs.Roles.{role_rank, role_cmp, same_role};
 
 use std::cmp::Ordering;

@@ -2,9 +2,9 @@
 ghost use Rattle.std.specs.Prelude.{◌≡◌, ℕ, ◌≤◌, List, [], ◌↔◌, OnOk, OnErr, IfOk, IsTrue, is_some, if◌then◌else◌};
 ghost use Rattle.toll_base.specs.Bytes.{bytes_cmp};
 ghost use Rattle.toll_base.specs.Keys.{pair_cmp, batch_cmp, result_cmp, requirement_cmp};
-ghost use Rattle.toll_base.specs.Table.{IsInKeyOrder};
 ghost use Rattle.toll_base.specs.Slice.{empty_slice, with_row, material_at, test_at, recipe_at, requirement_at, order_at, batch_at, lot_at, sublot_at, move_at, result_at, void_at, amount_at};
 ghost use Rattle.toll_base.specs.SliceRules.{KeepsRules, row_fits, batch_has_room, count_actuals, is_actual_of};
+ghost use Rattle.toll_base.specs.Table.{IsInKeyOrder};
 
 use crate::bounded::{BatchNo, Segment};
 use crate::capacity::MOST_STOCK;

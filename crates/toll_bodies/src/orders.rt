@@ -1,8 +1,8 @@
 //! The bodies of an order and of orders.
 ghost use Rattle.std.specs.Prelude.{◌≡◌, IfOk, refl, string_bytes};
 ghost use Rattle.serde_json.specs.Written.{compact_text};
-ghost use Rattle.toll_bodies.specs.ReplyBodies.{order_data, orders_data};
 ghost use Rattle.toll_print.specs.Texts as print;
+ghost use Rattle.toll_bodies.specs.ReplyBodies.{order_data, orders_data};
 
 use crate::listed::list_text;
 use crate::sent::text_of;

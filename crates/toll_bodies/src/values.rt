@@ -2,9 +2,9 @@
 ghost use Rattle.std.specs.Prelude.{◌≡◌, refl};
 ghost use Rattle.serde_json.specs.Data.{boolean, string};
 ghost use Rattle.toll_base.specs.States.{word_of_state};
+ghost use Rattle.toll_print.specs.Texts as print;
 ghost use Rattle.toll_bodies.specs.Exact.{whole_exact};
 ghost use Rattle.toll_bodies.specs.ReplyBodies.{count, whole};
-ghost use Rattle.toll_print.specs.Texts as print;
 
 use crate::told::Told;
 use serde::Serializer;

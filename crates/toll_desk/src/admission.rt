@@ -1,14 +1,14 @@
 //! Who is admitted: an owner that was added, with its key.
 ghost use Rattle.std.specs.Prelude.{◌≡◌, IfOk, IfSome};
 ghost use Rattle.toll_base.specs.Bytes.{bytes_cmp, same_bytes};
-ghost use Rattle.toll_base.specs.Values.{house_name};
 ghost use Rattle.toll_base.specs.Table.{row_at};
+ghost use Rattle.toll_base.specs.Values.{house_name};
 ghost use Rattle.toll_base.specs.Words.{where_so};
 ghost use Rattle.toll_history.specs.History.{History};
+ghost use Rattle.toll_answers.specs.Replies.{has_key};
 ghost use Rattle.toll_keep.specs.Content.{Content};
 ghost use Rattle.toll_keep.specs.Goes.{IsReading};
 ghost use Rattle.toll_keep.specs.Standing.{StandsFor};
-ghost use Rattle.toll_answers.specs.Replies.{has_key};
 ghost use Rattle.toll_desk.specs.Plans.{is_admitted};
 
 use std::alloc::Global;

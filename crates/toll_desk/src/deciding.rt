@@ -2,13 +2,13 @@
 ghost use Rattle.std.specs.Prelude.{◌≡◌, not, is_some, Some, IfOk};
 ghost use Rattle.toll_base.specs.Values.{house_name};
 ghost use Rattle.toll_history.specs.Command.{OpenBatch, by};
-ghost use Rattle.toll_history.specs.Verdict.{IsValid};
 ghost use Rattle.toll_history.specs.Holders.{holder};
+ghost use Rattle.toll_history.specs.Verdict.{IsValid};
+ghost use Rattle.toll_work.specs.Opening.{IsToldOfUnit};
 ghost use Rattle.toll_keep.specs.Content.{Content};
 ghost use Rattle.toll_keep.specs.Goes.{IsReading};
-ghost use Rattle.toll_work.specs.Opening.{IsToldOfUnit};
-ghost use Rattle.toll_desk.specs.PlantForms.{command_in, own_action, shared_action};
 ghost use Rattle.toll_desk.specs.Plans.{IsDeedDecision, IsOwnDecision};
+ghost use Rattle.toll_desk.specs.PlantForms.{command_in, own_action, shared_action};
 ghost use Rattle.toll_desk.specs.Reads.{AreBoth, Over};
 
 use crate::decisions::{decide_own, decide_shared};

@@ -5,8 +5,8 @@ ghost use Rattle.toll_base.specs.Changes.{changes_of};
 ghost use Rattle.toll_history.specs.Command.{by};
 ghost use Rattle.toll_history.specs.Decision.{Decides, DecidesWith, DecisionKeepsRules};
 ghost use Rattle.toll_history.specs.OwnChanges.{PutsOnly};
-ghost use Rattle.toll_desk.specs.PlantForms.{own_action, stock_action, work_action, shared_action};
 ghost use Rattle.toll_desk.specs.Plans.{PutsShared};
+ghost use Rattle.toll_desk.specs.PlantForms.{own_action, stock_action, work_action, shared_action};
 
 use crate::plant_form::{OwnDeed, SharedDeed, StockDeed, WorkDeed};
 use std::alloc::{AllocError, Global};

@@ -1,11 +1,11 @@
 //! What the plant does.
 ghost use Rattle.std.specs.Prelude.{◌≡◌, ◌≢◌, [], false, Err, IfOk, OnErr};
-ghost use Rattle.toll_answers.specs.PlantAnswers.{Judged};
 ghost use Rattle.toll_history.specs.Verdict.{IsValid, grow, verdict};
+ghost use Rattle.toll_answers.specs.PlantAnswers.{Judged};
 ghost use Rattle.toll_keep.specs.Content.{Content, ContentKeepsRules};
 ghost use Rattle.toll_keep.specs.Goes.{Goes, IsReading};
-ghost use Rattle.toll_desk.specs.PlantForms.{command_in};
 ghost use Rattle.toll_desk.specs.Plans.{IsDone, LeadsTo, is_accepted, plant_told};
+ghost use Rattle.toll_desk.specs.PlantForms.{command_in};
 ghost use Rattle.toll_desk.specs.Reads.{Over};
 
 use crate::carrying::carry;

@@ -1,11 +1,11 @@
 //! Owners' requests over a keep.
 ghost use Rattle.std.specs.Prelude.{◌≡◌, ◌≢◌, ℕ, true, false, is_some, [], Err, IfOk, OnErr};
-ghost use Rattle.toll_answers.specs.Replies.{IsReply, after_reply};
-ghost use Rattle.toll_answers.specs.Told.{AskPlace};
 ghost use Rattle.toll_base.specs.Bytes.{Bytes, same_bytes};
 ghost use Rattle.toll_base.specs.Slice.{order_at};
 ghost use Rattle.toll_base.specs.Values.{house_name};
 ghost use Rattle.toll_history.specs.History.{owner_known};
+ghost use Rattle.toll_answers.specs.Replies.{IsReply, after_reply};
+ghost use Rattle.toll_answers.specs.Told.{AskPlace};
 ghost use Rattle.toll_keep.specs.Content.{Content, ContentKeepsRules};
 ghost use Rattle.toll_keep.specs.Goes.{Goes, IsReading};
 ghost use Rattle.toll_desk.specs.Plans.{IsDone, IsPlan, IsPlanFor, asked_of, may_change, told_of};

@@ -1,8 +1,8 @@
 //! The plant's commands and questions over a keep.
 ghost use Rattle.std.specs.Prelude.{◌≡◌, ◌≢◌, false, Ok, Err};
-ghost use Rattle.toll_answers.specs.PlantAnswers.{CannotRead, IsPlantAnswer, Judged, after_plant};
 ghost use Rattle.toll_base.specs.declared.refusal.Refusal.{Refusal};
 ghost use Rattle.toll_history.specs.Verdict.{Refused};
+ghost use Rattle.toll_answers.specs.PlantAnswers.{CannotRead, IsPlantAnswer, Judged, after_plant};
 ghost use Rattle.toll_keep.specs.Content.{Content, ContentKeepsRules};
 ghost use Rattle.toll_desk.specs.Plans.{GoesFor, IsDone, IsValidDeed, asked_by, asks_recall, is_accepted, plant_told};
 ghost use Rattle.toll_desk.specs.Reads.{Over};

@@ -1,11 +1,11 @@
 //! What owners are told of their rows.
 ghost use Rattle.std.specs.Prelude.{◌≡◌, true, IfOk, is_ok};
-ghost use Rattle.toll_answers.specs.Replies.{IsAnswer, IsLotOr, IsOrderOr};
-ghost use Rattle.toll_answers.specs.Told.{AskBatch, AskOrders};
 ghost use Rattle.toll_history.specs.History.{History, acts, owner_known};
 ghost use Rattle.toll_history.specs.Tables.{IsRowsOf, lot_row};
 ghost use Rattle.toll_history.specs.Verdict.{IsLawful};
 ghost use Rattle.toll_history.specs.Work.{order_of};
+ghost use Rattle.toll_answers.specs.Replies.{IsAnswer, IsLotOr, IsOrderOr};
+ghost use Rattle.toll_answers.specs.Told.{AskBatch, AskOrders};
 ghost use Rattle.toll_keep.specs.Goes.{IsReading};
 ghost use Rattle.toll_desk.specs.Forms.{asked_to_read};
 ghost use Rattle.toll_desk.specs.Plans.{told_of};

@@ -2,10 +2,10 @@
 ghost use Rattle.std.specs.Prelude.{◌≡◌, ◌≢◌, ◌++◌, ◌∷◌, [], true, List, Contains, Err, IfOk, OnOk, position};
 ghost use Rattle.std.specs.Option.{option_map};
 ghost use Rattle.toll_base.specs.Slice.{lot_at};
+ghost use Rattle.toll_base.specs.declared.lot.LotId.{LotId};
 ghost use Rattle.toll_history.specs.History.{History};
 ghost use Rattle.toll_history.specs.Tables.{IsRowsOf};
 ghost use Rattle.toll_history.specs.Verdict.{IsLawful};
-ghost use Rattle.toll_base.specs.declared.lot.LotId.{LotId};
 ghost use Rattle.toll_trace.specs.Trace.{IsTrace};
 ghost use Rattle.toll_trace.specs.declared.step.Step.{Step};
 ghost use Rattle.toll_trace.specs.declared.way.Way.TheVariants.{Forward};

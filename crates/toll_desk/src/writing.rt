@@ -1,12 +1,12 @@
 //! Owners' requests that are decided.
 ghost use Rattle.std.specs.Prelude.{◌≡◌, ℕ, true, false, is_some, [], IfOk, is_ok};
-ghost use Rattle.toll_answers.specs.Told.{AskCancel, AskPlace, AskReject, AskRelease, Asked};
 ghost use Rattle.toll_base.specs.Bytes.{Bytes};
 ghost use Rattle.toll_base.specs.Slice.{order_at};
 ghost use Rattle.toll_history.specs.Command.{Action};
 ghost use Rattle.toll_history.specs.History.{History, owner_known};
 ghost use Rattle.toll_history.specs.Tables.{IsRowsOf};
 ghost use Rattle.toll_history.specs.Verdict.{IsLawful};
+ghost use Rattle.toll_answers.specs.Told.{AskCancel, AskPlace, AskReject, AskRelease, Asked};
 ghost use Rattle.toll_keep.specs.Content.{Content};
 ghost use Rattle.toll_keep.specs.Goes.{IsReading};
 ghost use Rattle.toll_desk.specs.Forms.{asked_to_write};

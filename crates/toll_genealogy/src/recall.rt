@@ -2,9 +2,9 @@
 ghost use Rattle.std.specs.Prelude.{◌≡◌, false, List, map, Contains};
 ghost use Rattle.toll_base.specs.Bytes.{Bytes, same_bytes};
 ghost use Rattle.toll_base.specs.Values.{house_name};
+ghost use Rattle.toll_base.specs.declared.lot.LotId.{LotId};
 ghost use Rattle.toll_history.specs.History.{History, part, acts};
 ghost use Rattle.toll_history.specs.Verdict.{IsLawful};
-ghost use Rattle.toll_base.specs.declared.lot.LotId.{LotId};
 ghost use Rattle.toll_genealogy.specs.Joints.{AreJoints};
 ghost use Rattle.toll_genealogy.specs.Recall.{IsRecall};
 ghost use Rattle.toll_genealogy.specs.declared.recall.RecallLine.{RecallLine};

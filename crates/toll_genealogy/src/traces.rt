@@ -1,19 +1,19 @@
 //! Genealogy of an owner, and of the plant, cut to one owner's lots.
 ghost use Rattle.std.specs.Prelude.{◌≡◌, ◌↔◌, ◌⊎◌, true, is_some, List, Contains};
 ghost use Rattle.toll_base.specs.Bytes.{Bytes};
-ghost use Rattle.toll_base.specs.Values.{house_name};
-ghost use Rattle.toll_history.specs.History.{History, acts};
 ghost use Rattle.toll_base.specs.Slice.{Slice};
-ghost use Rattle.toll_history.specs.Movements.{standing};
-ghost use Rattle.toll_history.specs.Tables.{IsRowsOf, lot_row};
-ghost use Rattle.toll_history.specs.Verdict.{IsLawful};
+ghost use Rattle.toll_base.specs.Values.{house_name};
 ghost use Rattle.toll_base.specs.declared.lot.Edge.{Edge};
 ghost use Rattle.toll_base.specs.declared.lot.LotId.{LotId};
 ghost use Rattle.toll_base.specs.declared.movement.MoveRow.{MoveRow};
-ghost use Rattle.toll_trace.specs.declared.way.Way.{Way};
-ghost use Rattle.toll_trace.specs.declared.step.Step.{Step};
+ghost use Rattle.toll_history.specs.History.{History, acts};
+ghost use Rattle.toll_history.specs.Movements.{standing};
+ghost use Rattle.toll_history.specs.Tables.{IsRowsOf, lot_row};
+ghost use Rattle.toll_history.specs.Verdict.{IsLawful};
 ghost use Rattle.toll_trace.specs.Edges.{AreEdges, IsEdge};
 ghost use Rattle.toll_trace.specs.Trace.{IsTrace};
+ghost use Rattle.toll_trace.specs.declared.step.Step.{Step};
+ghost use Rattle.toll_trace.specs.declared.way.Way.{Way};
 ghost use Rattle.toll_genealogy.specs.Edges.{WasDone, IsOwnEdge, IsOwnJoined, IsPlantJoined};
 
 /// A movement of an owner stands, which is that no later command voids it, just where it was recorded

@@ -3,10 +3,10 @@ ghost use Rattle.std.specs.Prelude.{◌≡◌, [], ◌∷◌, codes};
 ghost use Rattle.toll_base.specs.Values.{house_name};
 ghost use Rattle.toll_history.specs.History.{acts};
 ghost use Rattle.toll_history.specs.Worked.{verdicts, all_accepted, acme, one_product};
-ghost use Rattle.toll_trace.specs.declared.way.Way.TheVariants.{Back, Forward};
 ghost use Rattle.toll_trace.specs.Edges.{AreEdges};
 ghost use Rattle.toll_trace.specs.Search.{step_at};
 ghost use Rattle.toll_trace.specs.Trace.{IsTrace};
+ghost use Rattle.toll_trace.specs.declared.way.Way.TheVariants.{Back, Forward};
 ghost use Rattle.toll_genealogy.specs.Edges.{IsOwnEdge, IsOwnJoined};
 ghost use Rattle.toll_genealogy.specs.Worked.{of_acme, of_house, circle, consumed_in_a_circle, house_material, made_of_house_material};
 

@@ -48,7 +48,7 @@ module _ {R : Type 0} (kind : Kind R) (new : R) (a : Action) (row : Row) (unmove
     slice_grows s absent =
         added.in_slice s
         ∙ (λ i. kind.with (λ k. row_at-put_row bytes_cmp nat_list_cmp_total kind.name (kind.rows s) new k i)
-            (length-new bytes_cmp nat_list_cmp_total kind.name (kind.rows s) new (ap (λ f. is_some (f (kind.name new))) (sym (added.known s)) ∙ absent) i) (tables_of s))
+        (length-new bytes_cmp nat_list_cmp_total kind.name (kind.rows s) new (ap (λ f. is_some (f (kind.name new))) (sym (added.known s)) ∙ absent) i) (tables_of s))
         ∙ (λ i. kind.with (λ k. cond (same_bytes k (kind.name new)) (Some new) (sym (added.known s) i k)) (suc (sym (added.counted s) i)) (tables_of s))
 
     history_grows : (H : History) (o : Bytes) → tables_given (by o a ∷ H) o ≡ more (tables_given H o)

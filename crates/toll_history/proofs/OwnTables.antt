@@ -184,18 +184,25 @@ module _ (o : Bytes) where
     -- the tables with these sublots
     tables_with : (sublot sublot' : Bytes × Bytes → Option SublotRow) → sublot ≡ sublot' → record (tables_given (part o H) o) { sublot = sublot } ≡ record (tables_given H o) { sublot = sublot' }
     tables_with sublot sublot' same i = record {
-      material = material_of (acts-part o H i); materials = count_materials (acts-part o H i);
-      test = test_of (acts-part o H i); tests = count_tests (acts-part o H i);
-      recipe = recipe_of (acts-part o H i); recipes = count_recipes (acts-part o H i);
-      requirement = requirement_of (acts-part o H i); requirements = count_requirements (acts-part o H i);
-      order = order_of (acts-part o H i); orders = count_orders (acts-part o H i);
+      material = material_of (acts-part o H i);
+      materials = count_materials (acts-part o H i);
+      test = test_of (acts-part o H i);
+      tests = count_tests (acts-part o H i);
+      recipe = recipe_of (acts-part o H i);
+      recipes = count_recipes (acts-part o H i);
+      requirement = requirement_of (acts-part o H i);
+      requirements = count_requirements (acts-part o H i);
+      order = order_of (acts-part o H i);
+      orders = count_orders (acts-part o H i);
       batch = batch_of (acts-part o H i);
       lot = λ k. lot_row-part k i;
       lots = count_lots-part H lawful i;
       sublot = same i;
       sublots = count_sublots-part H lawful i;
-      movement = movement_of (acts-part o H i); movements = count_movements (acts-part o H i);
-      result = result_of (acts-part o H i); results = count_results (acts-part o H i);
+      movement = movement_of (acts-part o H i);
+      movements = count_movements (acts-part o H i);
+      result = result_of (acts-part o H i);
+      results = count_results (acts-part o H i);
       voided = voided_in (acts-part o H i);
       opened = count_opened (acts-part o H i);
       actuals = count_actuals_of (acts-part o H i);

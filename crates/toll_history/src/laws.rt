@@ -3,23 +3,23 @@
 ghost use Rattle.std.specs.Prelude.{◌≡◌, ℕ, ◌+◌, ◌-◌, ◌*◌, ◌≤◌, true, false, Some, None, is_some, ◌∷◌, if◌then◌else◌};
 ghost use Rattle.std.specs.List.{All};
 ghost use Rattle.toll_base.specs.Bytes.{Bytes, same_bytes};
-ghost use Rattle.toll_base.specs.Words.{total, count, is_some_where};
 ghost use Rattle.toll_base.specs.Keys.{RequirementKey};
-ghost use Rattle.toll_history.specs.Command.{Action, Record, Void, Command};
-ghost use Rattle.toll_history.specs.History.{History, acts, count_owners, count_units};
-ghost use Rattle.toll_history.specs.Work.{material_of, requirement_of, test_of};
 ghost use Rattle.toll_base.specs.Lots.{lot_id};
-ghost use Rattle.toll_history.specs.Movements.{Movement, Made, made_by, brought, taken, stock, count_movements, sublot_known, lot_made, movements, standing, movement_of, voided_in};
-ghost use Rattle.toll_history.specs.Dispositions.{disposition_of, has_open_test, passes};
-ghost use Rattle.toll_history.specs.Tables.{lot_row, sublot_row};
-ghost use Rattle.toll_history.specs.Verdict.{Accepted, IsLawful, is_actual, verdict};
-ghost use Rattle.toll_history.specs.Laws.{IsWithinLimits, IsUntouched, IsUnmoved, BringsOwn, TakesKnown, Agrees, has_this_key, coming, going, is_taken_in, records_or_voids, gives_from, IsCleared};
+ghost use Rattle.toll_base.specs.Words.{total, count, is_some_where};
 ghost use Rattle.toll_base.specs.declared.bounded.TheConstants.{MOST_AMOUNT};
 ghost use Rattle.toll_base.specs.declared.capacity.TheConstants.{MOST_OWNERS, MOST_STOCK, MOST_UNITS};
 ghost use Rattle.toll_base.specs.declared.lot.Disposition.TheVariants.{Quarantined, Released};
 ghost use Rattle.toll_base.specs.declared.lot.LotId.{LotId};
 ghost use Rattle.toll_base.specs.declared.movement.MoveRow.{MoveRow};
 ghost use Rattle.toll_base.specs.declared.rows.TestRow.{TestRow};
+ghost use Rattle.toll_history.specs.Command.{Action, Record, Void, Command};
+ghost use Rattle.toll_history.specs.Dispositions.{disposition_of, has_open_test, passes};
+ghost use Rattle.toll_history.specs.History.{History, acts, count_owners, count_units};
+ghost use Rattle.toll_history.specs.Laws.{IsWithinLimits, IsUntouched, IsUnmoved, BringsOwn, TakesKnown, Agrees, has_this_key, coming, going, is_taken_in, records_or_voids, gives_from, IsCleared};
+ghost use Rattle.toll_history.specs.Movements.{Movement, Made, made_by, brought, taken, stock, count_movements, sublot_known, lot_made, movements, standing, movement_of, voided_in};
+ghost use Rattle.toll_history.specs.Tables.{lot_row, sublot_row};
+ghost use Rattle.toll_history.specs.Verdict.{Accepted, IsLawful, is_actual, verdict};
+ghost use Rattle.toll_history.specs.Work.{material_of, requirement_of, test_of};
 
 /// Of no sublot is more taken than was brought into it.
 pub fn no_stock_is_taken_below_zero()

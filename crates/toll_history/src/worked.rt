@@ -2,21 +2,21 @@
 #![tactic(auto, unfolding(crate::specs::History::part, crate::specs::History::acts, crate::specs::Movements::stock, crate::specs::Movements::sublot_known, crate::specs::Movements::lot_made, crate::specs::Movements::count_lots, crate::specs::Movements::count_sublots, crate::specs::Movements::material_used, crate::specs::Holders::holder, crate::specs::Verdict::checks))]
 
 ghost use Rattle.std.specs.Prelude.{◌≡◌, pos, negsuc, [], ◌∷◌, codes, Some, None};
-ghost use Rattle.toll_base.specs.Values.{house_name};
-ghost use Rattle.toll_history.specs.Command.{AddOwner, AddUnit, AddRecipe, AddTest, PlaceOrder, CancelOrder, OpenBatch, CommandBatch, CloseBatch, RecordResult, Release, Reject, Void, by};
-ghost use Rattle.toll_history.specs.History.{acts};
-ghost use Rattle.toll_history.specs.Work.{state_of, batch_of};
 ghost use Rattle.toll_base.specs.Lots.{lot_id};
-ghost use Rattle.toll_history.specs.Movements.{stock};
-ghost use Rattle.toll_history.specs.Dispositions.{disposition_of};
-ghost use Rattle.toll_history.specs.Verdict.{Accepted, Repeated, Refused};
-ghost use Rattle.toll_history.specs.Worked.{after, verdicts, all_accepted, states, acme, bolt, material, require, receives, moves, actual, setup_one, setup_two, product_consumed, tested_lot, failed_lot, one_batch, one_product, with_two_actuals};
+ghost use Rattle.toll_base.specs.Values.{house_name};
+ghost use Rattle.toll_base.specs.declared.lot.Disposition.TheVariants.{Quarantined, Released, Rejected};
+ghost use Rattle.toll_base.specs.declared.movement.Move.TheVariants.{Receive, Split, Ship, Scrap};
 ghost use Rattle.toll_base.specs.declared.refusal.Refusal.TheVariants.{UnknownOwner, OwnerExists, UnitExists, UnitBusy, MaterialInUse, UnknownRecipe, RecipeInUse, OrderCancelled, OrderStarted, NoMoreBatches, BadState, BatchClosed, UnknownLot, NotReleased, NotEnough, SameSublot, KeyConflict, TestsOpen, CrossOwner, UnknownKey, Voided, Rejected as WasRejected};
 ghost use Rattle.toll_base.specs.declared.role.Role.TheVariants.{Consumed, Produced};
-ghost use Rattle.toll_base.specs.declared.movement.Move.TheVariants.{Receive, Split, Ship, Scrap};
-ghost use Rattle.toll_base.specs.declared.lot.Disposition.TheVariants.{Quarantined, Released, Rejected};
 ghost use Rattle.toll_base.specs.declared.state.State.TheVariants.{Idle, Running, Pausing, Paused, Holding, Held, Restarting, Stopping, Stopped, Complete};
 ghost use Rattle.toll_base.specs.declared.state_command.StateCommand.TheVariants.{Done, Start, Stop, Hold, Restart, Abort, Reset, Pause, Resume};
+ghost use Rattle.toll_history.specs.Command.{AddOwner, AddUnit, AddRecipe, AddTest, PlaceOrder, CancelOrder, OpenBatch, CommandBatch, CloseBatch, RecordResult, Release, Reject, Void, by};
+ghost use Rattle.toll_history.specs.Dispositions.{disposition_of};
+ghost use Rattle.toll_history.specs.History.{acts};
+ghost use Rattle.toll_history.specs.Movements.{stock};
+ghost use Rattle.toll_history.specs.Verdict.{Accepted, Repeated, Refused};
+ghost use Rattle.toll_history.specs.Work.{state_of, batch_of};
+ghost use Rattle.toll_history.specs.Worked.{after, verdicts, all_accepted, states, acme, bolt, material, require, receives, moves, actual, setup_one, setup_two, product_consumed, tested_lot, failed_lot, one_batch, one_product, with_two_actuals};
 
 /// Every command of the two setups is accepted.
 pub fn setups_are_accepted()

@@ -2,12 +2,12 @@
 ghost use Rattle.std.specs.Prelude.{◌≡◌, Option, List, []};
 ghost use Rattle.std.specs.Option.{option_map};
 ghost use Rattle.toll_base.specs.Bytes.{Bytes};
+ghost use Rattle.toll_base.specs.declared.decision.Change.{Change};
 ghost use Rattle.toll_base.specs.declared.lot.Edge.{Edge};
 ghost use Rattle.toll_history.specs.Decision.{ChangesKeepRules};
 ghost use Rattle.toll_history.specs.History.{History, acts, owner_known};
 ghost use Rattle.toll_history.specs.Holders.{OpenedBatch, holder};
 ghost use Rattle.toll_history.specs.Verdict.{IsLawful};
-ghost use Rattle.toll_base.specs.declared.decision.Change.{Change};
 ghost use Rattle.toll_trace.specs.Edges.{IsEdge, AreEdges};
 ghost use Rattle.toll_genealogy.specs.Edges.{IsOwnEdge, IsPlantEdge};
 ghost use Rattle.toll_keep.specs.Content.{Content, nothing, knows, ContentKeepsRules, Fits, PutsToKnown};

@@ -1,8 +1,8 @@
 //! The words, as `clap` takes them.
 ghost use Rattle.std.specs.Prelude.{◌≡◌, ◌<◌, IfOk, Some, true, false, is_some, map, length, drop};
-ghost use Rattle.std.specs.List.{list_all};
 ghost use Rattle.clap.specs.Words.{app_of, first_value, found_of, shape_of};
 ghost use Rattle.clap.specs.declared.builder.command.Command.TheViews.{out-Command};
+ghost use Rattle.std.specs.List.{list_all};
 ghost use Rattle.toll_plant.specs.ClapWords.{are_sound, line_shape, office};
 ghost use Rattle.toll_plant.specs.Lines.{line_of};
 ghost use Rattle.toll_plant.specs.Shown.{shown};

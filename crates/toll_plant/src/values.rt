@@ -1,8 +1,8 @@
 //! The values of a command, read from left to right.
 ghost use Rattle.std.specs.Prelude.{◌≡◌, IfOk, IfErr, IsSome, Some, Ok, map};
 ghost use Rattle.toll_plant.specs.Shown.{shown, shown_argument};
-ghost use Rattle.toll_plant.specs.Words.{command_with, values_read};
 ghost use Rattle.toll_plant.specs.Unread.{IsUnread};
+ghost use Rattle.toll_plant.specs.Words.{command_with, values_read};
 
 use crate::argument::{Argument, Given};
 use crate::command::command_from;

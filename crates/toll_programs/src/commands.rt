@@ -1,6 +1,6 @@
 //! One command or question of the plant, as the program answers it.
-ghost use Rattle.toll_desk.specs.declared.plant_cmd.PlantReply.{PlantReply};
 ghost use Rattle.toll_desk.specs.PlantServed.{IsPlantServed};
+ghost use Rattle.toll_desk.specs.declared.plant_cmd.PlantReply.{PlantReply};
 ghost use Rattle.toll_programs.specs.Printing.{refusal_line};
 ghost use Rattle.toll_programs.specs.Told.{IsReplyTold, IsTold};
 

@@ -1,7 +1,7 @@
 //! The events of a script.
 ghost use Rattle.std.specs.Prelude.{◌≡◌, ◌∷◌, ◌<◌, ◌≤◌, IfOk, IfErr, IfSome, OnOk, Ok, Err, map, length, option_map};
-ghost use Rattle.toll_programs.specs.Script.{AsksFor, script_lines, asked_by, request_asked, command_asked, words_in};
 ghost use Rattle.toll_programs.specs.Asked.{deeds_of, IsFaultOf, GivesEvent, Gives, Adds, lines_in, IsFaultOfScript};
+ghost use Rattle.toll_programs.specs.Script.{AsksFor, script_lines, asked_by, request_asked, command_asked, words_in};
 
 use crate::cutting::cut;
 use crate::request_line::RequestLine;

@@ -1,7 +1,7 @@
 //! The routes of the office.
 ghost use Rattle.std.specs.Prelude.{◌≡◌};
-ghost use Rattle.toll_routes.specs.Places.{IsFoundBy};
 ghost use Rattle.toll_routes.specs.Asking.{ask_of};
+ghost use Rattle.toll_routes.specs.Places.{IsFoundBy};
 ghost use Rattle.toll_routes.specs.Shown.{shown};
 
 use crate::ask::Ask;

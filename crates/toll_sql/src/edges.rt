@@ -2,13 +2,13 @@
 ghost use Rattle.std.specs.Prelude.{◌≡◌, ◌≢◌, Err, map, IfOk};
 ghost use Rattle.sqlite.specs.Held.{state};
 ghost use Rattle.sqlite.specs.State.{HasCleanDisk};
+ghost use Rattle.toll_trace.specs.Edges.{AreEdges, IsEdge};
 ghost use Rattle.toll_keep.specs.Content.{Content};
 ghost use Rattle.toll_keep.specs.Holding.{IsEdgeOfSome};
 ghost use Rattle.toll_sql.specs.Asking.{IsLooking, IsQuerying};
 ghost use Rattle.toll_sql.specs.Cells.{columns_from};
 ghost use Rattle.toll_sql.specs.EdgeRows.{AreReadFrom, HasNoEdge, ShowEdges, edge_cells};
 ghost use Rattle.toll_sql.specs.Stores.{HoldsIn};
-ghost use Rattle.toll_trace.specs.Edges.{AreEdges, IsEdge};
 
 use crate::edge_cells::edge_at;
 use crate::fault::fault_of;

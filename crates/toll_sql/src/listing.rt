@@ -1,8 +1,8 @@
 //! Owners and units, read from the tables.
 ghost use Rattle.std.specs.Prelude.{◌≡◌, ◌≢◌, Err, List, map, IfOk};
-ghost use Rattle.std.specs.List.{AllByRecursion};
 ghost use Rattle.sqlite.specs.Held.{state};
 ghost use Rattle.sqlite.specs.State.{HasCleanDisk};
+ghost use Rattle.std.specs.List.{AllByRecursion};
 ghost use Rattle.toll_keep.specs.Content.{Content};
 ghost use Rattle.toll_sql.specs.Asking.{IsLooking};
 ghost use Rattle.toll_sql.specs.Holds.{HasRows};

@@ -1,8 +1,8 @@
 //! The parts of a movement, each where the table of movements has it.
 ghost use Rattle.std.specs.Prelude.{◌≡◌, [], ℕ, IsTrue};
+ghost use Rattle.toll_base.specs.Values.{is_name};
 ghost use Rattle.toll_sql.specs.Encode as stored;
 ghost use Rattle.toll_sql.specs.Valid.{IsMove, IsLotId, IsStorable};
-ghost use Rattle.toll_base.specs.Values.{is_name};
 
 use toll_base::{Move, Name, Role};
 

@@ -1,7 +1,7 @@
 //! Whether a schema is ours.
 ghost use Rattle.std.specs.Prelude.{◌≡◌, ◌≢◌, ◌↔◌, [], ◌∷◌, false, IsTrue};
-ghost use Rattle.std.specs.List.{AllByRecursion};
 ghost use Rattle.sqlite_value.specs.Keys.{plain};
+ghost use Rattle.std.specs.List.{AllByRecursion};
 ghost use Rattle.toll_sql.specs.First.{first_ours};
 ghost use Rattle.toll_sql.specs.Plain.{no_schema, no_stamps, table_with};
 ghost use Rattle.toll_sql.specs.Plainly.{IsPlainColumn, IsPlainIndex, IsPlainTable};

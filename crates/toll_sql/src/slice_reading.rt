@@ -1,8 +1,8 @@
 //! All rows of an owner, read from the tables.
 ghost use Rattle.std.specs.Prelude.{◌≡◌, ◌≢◌, ◌||◌, [], ◌∷◌, Err, IfOk, IfSome, is_some};
-ghost use Rattle.std.specs.List.{AllByRecursion, list_any};
 ghost use Rattle.sqlite.specs.Held.{state};
 ghost use Rattle.sqlite.specs.State.{HasCleanDisk};
+ghost use Rattle.std.specs.List.{AllByRecursion, list_any};
 ghost use Rattle.toll_base.specs.Bytes.{bytes_cmp, same_bytes};
 ghost use Rattle.toll_base.specs.Table.{row_at};
 ghost use Rattle.toll_base.specs.Values.{house_name};

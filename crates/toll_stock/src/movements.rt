@@ -1,9 +1,9 @@
 //! What the decisions on movements have in common.
 ghost use Rattle.std.specs.Prelude.{◌≡◌, ◌-◌, [], ◌∷◌, ◌++◌, nat_lt, Some, IfOk};
+ghost use Rattle.toll_base.specs.declared.refusal.Refusal.TheVariants as Refusal;
 ghost use Rattle.toll_history.specs.Decision.{IsDecided, said};
 ghost use Rattle.toll_history.specs.Tables.{tables_of};
 ghost use Rattle.toll_history.specs.Verdict.{Checks, first_of, key_checks, scrap_checks, movements_full, amount_in};
-ghost use Rattle.toll_base.specs.declared.refusal.Refusal.TheVariants as Refusal;
 
 use std::alloc::{AllocError, Global};
 use toll_base::{

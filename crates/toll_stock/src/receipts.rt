@@ -1,18 +1,18 @@
 //! Receipts.
 ghost use Rattle.std.specs.Prelude.{◌≡◌, ◌+◌, [], ◌∷◌, ◌++◌, IfOk};
-ghost use Rattle.toll_history.specs.Bounds.{sublot_bounds};
-ghost use Rattle.toll_history.specs.Command.{Record, by};
 ghost use Rattle.toll_base.specs.Changes.{changes_of};
-ghost use Rattle.toll_history.specs.Decision.{IsDecided, Decides, DecisionKeepsRules, said};
-ghost use Rattle.toll_history.specs.OwnChanges.{PutsOnly};
 ghost use Rattle.toll_base.specs.SliceRules.{KeepsRules};
-ghost use Rattle.toll_history.specs.Tables.{tables_of};
-ghost use Rattle.toll_history.specs.Verdict.{first_of, key_checks, receive_checks, amount_in};
 ghost use Rattle.toll_base.specs.declared.decision.Change.TheVariants as Change;
 ghost use Rattle.toll_base.specs.declared.lot.Disposition.TheVariants as Disposition;
 ghost use Rattle.toll_base.specs.declared.lot.Origin.TheVariants as Origin;
 ghost use Rattle.toll_base.specs.declared.movement.Move.TheVariants as Move;
 ghost use Rattle.toll_base.specs.declared.rows.Row.TheVariants as Row;
+ghost use Rattle.toll_history.specs.Bounds.{sublot_bounds};
+ghost use Rattle.toll_history.specs.Command.{Record, by};
+ghost use Rattle.toll_history.specs.Decision.{IsDecided, Decides, DecisionKeepsRules, said};
+ghost use Rattle.toll_history.specs.OwnChanges.{PutsOnly};
+ghost use Rattle.toll_history.specs.Tables.{tables_of};
+ghost use Rattle.toll_history.specs.Verdict.{first_of, key_checks, receive_checks, amount_in};
 
 use crate::movements::decide_movement;
 use std::alloc::{AllocError, Global};

@@ -2,16 +2,16 @@
 ghost use Rattle.std.specs.Prelude.{◌≡◌};
 ghost use Rattle.std.specs.Option.{option_map};
 ghost use Rattle.toll_base.specs.Bytes.{bytes_cmp};
-ghost use Rattle.toll_history.specs.Amounts.{on_hand};
-ghost use Rattle.toll_history.specs.History.{History};
 ghost use Rattle.toll_base.specs.Keys.{pair_cmp};
 ghost use Rattle.toll_base.specs.Lots.{lot_id};
-ghost use Rattle.toll_history.specs.Movements.{sublot_known, stock};
 ghost use Rattle.toll_base.specs.Slice.{sublot_at};
 ghost use Rattle.toll_base.specs.Table.{IsInKeyOrder};
+ghost use Rattle.toll_base.specs.Words.{where_so};
+ghost use Rattle.toll_history.specs.Amounts.{on_hand};
+ghost use Rattle.toll_history.specs.History.{History};
+ghost use Rattle.toll_history.specs.Movements.{sublot_known, stock};
 ghost use Rattle.toll_history.specs.Tables.{IsRowsOf};
 ghost use Rattle.toll_history.specs.Verdict.{IsLawful};
-ghost use Rattle.toll_base.specs.Words.{where_so};
 ghost use Rattle.toll_stock.specs.LotTotals.{totals_in, totals_given, on_hand_in, shipped_in, is_shipment_of};
 
 use crate::lot_rows::sublots_of;

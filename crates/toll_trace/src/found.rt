@@ -18,9 +18,9 @@ pub(crate) struct Found {
 impl Model for Found {
     ghost use Rattle.std.specs.Prelude.{◌≡◌, List};
     ghost use Rattle.std.specs.BTreeSet.{contains};
-    ghost use Rattle.toll_trace.specs.declared.step.Step.{Step};
     ghost use Rattle.toll_base.specs.Lots.{lot_cmp};
     ghost use Rattle.toll_trace.specs.Search.{is_found};
+    ghost use Rattle.toll_trace.specs.declared.step.Step.{Step};
 
     ghost Value = { List Step };
 

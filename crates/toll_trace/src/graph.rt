@@ -1,10 +1,10 @@
 //! Traces over an index of edges.
 ghost use Rattle.std.specs.Prelude.{◌≡◌, ◌++◌, [], ◌∷◌, not, filter, map, List, IfOk, OnOk};
 ghost use Rattle.std.specs.List.Sorted.{IsPermutation};
+ghost use Rattle.toll_base.specs.Lots.{lot_cmp};
 ghost use Rattle.toll_trace.specs.Chain.{ends, IsJoined};
 ghost use Rattle.toll_trace.specs.InOrder.{IsInOrder};
 ghost use Rattle.toll_trace.specs.Neighbours.{new_neighbours};
-ghost use Rattle.toll_base.specs.Lots.{lot_cmp};
 ghost use Rattle.toll_trace.specs.Search.{is_found};
 ghost use Rattle.toll_trace.specs.Trace.{IsTrace};
 

@@ -1,8 +1,8 @@
 //! Laws of runs: whom a run tells what.
 ghost use Rattle.std.specs.Prelude.{◌≡◌, true, false, Some, is_some, List, map};
 ghost use Rattle.toll_base.specs.Bytes.{Bytes, same_bytes};
-ghost use Rattle.toll_base.specs.Values.{house_name};
 ghost use Rattle.toll_base.specs.Lots.{lot_id};
+ghost use Rattle.toll_base.specs.Values.{house_name};
 ghost use Rattle.toll_base.specs.declared.lot.LotId.{LotId};
 ghost use Rattle.toll_history.specs.History.{History, acts, part};
 ghost use Rattle.toll_history.specs.Tables.{lot_row};

@@ -3,8 +3,8 @@ ghost use Rattle.std.specs.Prelude.{◌≡◌, IfOk, Some, None, string_bytes};
 ghost use Rattle.toll_base.specs.Bytes.{Bytes};
 ghost use Rattle.toll_http.specs.Failures.{word_of_failure};
 ghost use Rattle.toll_http.specs.Messages.{reply_text};
-ghost use Rattle.toll_wire.specs.ReplyTexts.{failure_body, refusal_status, text_of_failure, text_of_reply};
 ghost use Rattle.toll_wire.specs.OutTexts.{IsText};
+ghost use Rattle.toll_wire.specs.ReplyTexts.{failure_body, refusal_status, text_of_failure, text_of_reply};
 
 use crate::outgoing::Out;
 use http::StatusCode;

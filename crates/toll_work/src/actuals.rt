@@ -1,18 +1,11 @@
 //! Actuals.
 ghost use Rattle.std.specs.Prelude.{◌≡◌, ◌+◌, ◌-◌, true, false, [], ◌∷◌, ◌++◌, nat_lt, is_none, Some, None, IfOk, IfSome};
-ghost use Rattle.toll_history.specs.Bounds.{lot_bounds};
 ghost use Rattle.toll_base.specs.Bytes.{same_bytes};
 ghost use Rattle.toll_base.specs.Changes.{changes_of};
-ghost use Rattle.toll_history.specs.Command.{Record, by};
-ghost use Rattle.toll_history.specs.Decision.{IsDecided, DecidesWith, DecisionKeepsRules, said};
-ghost use Rattle.toll_history.specs.OwnChanges.{sublot_named, PutsOnlyWith};
 ghost use Rattle.toll_base.specs.Slice.{recipe_at, requirement_at, batch_at};
 ghost use Rattle.toll_base.specs.SliceRules.{KeepsRules};
-ghost use Rattle.toll_history.specs.Tables.{tables_of};
-ghost use Rattle.toll_history.specs.Verdict.{first_of, key_checks, actual_checks, consumed_checks, produced_checks, open_batch_checks, recipe_of_order, tables_for, amount_in, actuals_full, is_actual};
 ghost use Rattle.toll_base.specs.States.{is_idle};
 ghost use Rattle.toll_base.specs.Words.{is_some_where};
-ghost use Rattle.toll_history.specs.Verdict as verdict;
 ghost use Rattle.toll_base.specs.declared.decision.Change.TheVariants as Change;
 ghost use Rattle.toll_base.specs.declared.lot.Disposition.TheVariants as Disposition;
 ghost use Rattle.toll_base.specs.declared.lot.Origin.TheVariants as Origin;
@@ -20,6 +13,13 @@ ghost use Rattle.toll_base.specs.declared.movement.Move.TheVariants as Move;
 ghost use Rattle.toll_base.specs.declared.refusal.Refusal.TheVariants as Refusal;
 ghost use Rattle.toll_base.specs.declared.role.Role.TheVariants as Role;
 ghost use Rattle.toll_base.specs.declared.rows.Row.TheVariants as Row;
+ghost use Rattle.toll_history.specs.Bounds.{lot_bounds};
+ghost use Rattle.toll_history.specs.Command.{Record, by};
+ghost use Rattle.toll_history.specs.Decision.{IsDecided, DecidesWith, DecisionKeepsRules, said};
+ghost use Rattle.toll_history.specs.OwnChanges.{sublot_named, PutsOnlyWith};
+ghost use Rattle.toll_history.specs.Tables.{tables_of};
+ghost use Rattle.toll_history.specs.Verdict.{first_of, key_checks, actual_checks, consumed_checks, produced_checks, open_batch_checks, recipe_of_order, tables_for, amount_in, actuals_full, is_actual};
+ghost use Rattle.toll_history.specs.Verdict as verdict;
 
 use crate::crossing::crosses;
 use std::alloc::{AllocError, Global};

@@ -1,15 +1,15 @@
 //! Batches.
 ghost use Rattle.std.specs.Prelude.{◌≡◌, ◌+◌, nat_le, not, Some, None, if◌then◌else◌, map, IfOk};
-ghost use Rattle.toll_history.specs.Command.{CommandBatch, CloseBatch, by};
 ghost use Rattle.toll_base.specs.Changes.{changes_of};
-ghost use Rattle.toll_history.specs.Decision.{IsDecided, Decides, DecisionKeepsRules, said};
-ghost use Rattle.toll_history.specs.OwnChanges.{PutsOnly};
 ghost use Rattle.toll_base.specs.Slice.{batch_at};
 ghost use Rattle.toll_base.specs.SliceRules.{KeepsRules};
-ghost use Rattle.toll_history.specs.Tables.{tables_of};
-ghost use Rattle.toll_history.specs.Verdict.{first_of, open_checks, open_batch_checks, batch_command_checks, close_checks};
 ghost use Rattle.toll_base.specs.States as states;
 ghost use Rattle.toll_base.specs.declared.decision.Change.TheVariants as Change;
+ghost use Rattle.toll_history.specs.Command.{CommandBatch, CloseBatch, by};
+ghost use Rattle.toll_history.specs.Decision.{IsDecided, Decides, DecisionKeepsRules, said};
+ghost use Rattle.toll_history.specs.OwnChanges.{PutsOnly};
+ghost use Rattle.toll_history.specs.Tables.{tables_of};
+ghost use Rattle.toll_history.specs.Verdict.{first_of, open_checks, open_batch_checks, batch_command_checks, close_checks};
 ghost use Rattle.toll_work.specs.Opening.{DecidesOpening};
 ghost use Rattle.toll_work.specs.Plans.{opened_rows, commanded_row, closed_row, changed_rows};
 

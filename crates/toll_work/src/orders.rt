@@ -1,15 +1,15 @@
 //! Orders.
 ghost use Rattle.std.specs.Prelude.{◌≡◌, true, is_some, Some, [], ◌∷◌, map, IfOk};
-ghost use Rattle.toll_history.specs.Command.{PlaceOrder, CancelOrder, by};
 ghost use Rattle.toll_base.specs.Changes.{changes_of};
-ghost use Rattle.toll_history.specs.Decision.{IsDecided, Decides, DecisionKeepsRules, said};
-ghost use Rattle.toll_history.specs.OwnChanges.{PutsOnly};
 ghost use Rattle.toll_base.specs.Slice.{order_at};
 ghost use Rattle.toll_base.specs.SliceRules.{KeepsRules};
-ghost use Rattle.toll_history.specs.Tables.{tables_of};
-ghost use Rattle.toll_history.specs.Verdict.{first_of, order_checks, standing_order_checks, cancel_checks};
 ghost use Rattle.toll_base.specs.declared.decision.Change.TheVariants as Change;
 ghost use Rattle.toll_base.specs.declared.rows.Row.TheVariants as Row;
+ghost use Rattle.toll_history.specs.Command.{PlaceOrder, CancelOrder, by};
+ghost use Rattle.toll_history.specs.Decision.{IsDecided, Decides, DecisionKeepsRules, said};
+ghost use Rattle.toll_history.specs.OwnChanges.{PutsOnly};
+ghost use Rattle.toll_history.specs.Tables.{tables_of};
+ghost use Rattle.toll_history.specs.Verdict.{first_of, order_checks, standing_order_checks, cancel_checks};
 ghost use Rattle.toll_work.specs.Plans.{cancelled_rows};
 
 use std::alloc::{AllocError, Global};

@@ -3,8 +3,8 @@ ghost use Rattle.std.specs.Prelude.{◌≡◌, ◌≤◌, length, IfOk, if◌the
 ghost use Rattle.toll_base.specs.Bytes.{bytes_cmp};
 ghost use Rattle.toll_base.specs.Keys.{requirement_cmp};
 ghost use Rattle.toll_base.specs.Table.{IsInKeyOrder};
-ghost use Rattle.toll_history.specs.Verdict.{requirement_key};
 ghost use Rattle.toll_history.specs.Amounts as amount;
+ghost use Rattle.toll_history.specs.Verdict.{requirement_key};
 ghost use Rattle.toll_work.specs.BatchView as told;
 
 use std::alloc::{AllocError, Global};
