@@ -6,6 +6,7 @@ mod bounded;
 mod capacity;
 mod decimal;
 mod decision;
+mod double_ended;
 mod former;
 mod limits;
 mod lot;

@@ -5,6 +5,7 @@ ghost use Rattle.std.specs.List.Sorted.{IsPartitionPoint, IsSearchInRange};
 ghost use Rattle.std.specs.declared.cmp.Ordering.TheVariants.{Less, Equal, Greater};
 ghost use Rattle.toll_base.specs.Table.{row_at, put_row, remove_row, IsInKeyOrder, has_room};
 
+use crate::double_ended::DoubleEnded;
 use std::alloc::{AllocError, Global};
 use std::marker::Model;
 
@@ -21,7 +22,7 @@ pub trait Keyed: Copy {
 
 /// The rows of one kind, each key once, in the order of the keys. A look-up is a binary search.
 pub struct Table<R: Keyed> {
-    rows: Vec<R>,
+    rows: DoubleEnded<R>,
 }
 
 /// By hand, since what is derived is written out at every exit of every function that owns rows.
@@ -34,9 +35,9 @@ impl<R: Keyed> Drop for Table<R> {
 impl<R: Keyed> Model for Table<R> {
     ghost Value = { List R };
 
-    ghost view = { λ t. t.rows.items };
+    ghost view = { λ t. t.rows };
 
-    ghost invariant = { λ t. IsInKeyOrder R.Key.cmp R.key_of t.rows.items };
+    ghost invariant = { λ t. IsInKeyOrder R.Key.cmp R.key_of t.rows };
 }
 
 impl<R: Keyed> Table<R> {
@@ -45,7 +46,7 @@ impl<R: Keyed> Table<R> {
         ensures { result ≡ [] }
     {
         Table {
-            rows: Vec::new(alloc),
+            rows: DoubleEnded::new(alloc),
         }
     }
 
@@ -54,7 +55,7 @@ impl<R: Keyed> Table<R> {
         ensures rows { result.now ≡ self.now }
         ensures order { IsInKeyOrder R.Key.cmp R.key_of self.now }
     {
-        &self.rows
+        self.rows.as_slice()
     }
 
     /// The row with this key.
@@ -62,7 +63,7 @@ impl<R: Keyed> Table<R> {
         ensures { result ≡ row_at R.Key.cmp R.key_of self.now key.now }
     {
         match self.search(key) {
-            Ok(at) => Some(self.rows[at]),
+            Ok(at) => Some(self.rows()[at]),
             Err(_) => None,
         }
     }
@@ -71,7 +72,7 @@ impl<R: Keyed> Table<R> {
     pub fn has_room(&self, row: &R, most: usize) -> bool
         ensures { result ≡ has_room R.Key.cmp R.key_of most self.now row.now }
     {
-        self.get(&row.key()).is_some() || self.rows.len() < most
+        self.get(&row.key()).is_some() || self.rows().len() < most
     }
 
     /// Adds the row, or puts it in place of the one with its key.
@@ -80,12 +81,10 @@ impl<R: Keyed> Table<R> {
         ensures err { OnErr result (self.new ≡ self.old) }
     {
         match self.search(&row.key()) {
-            Ok(at) => {
-                self.rows[at] = row;
-                Ok(())
-            }
-            Err(at) => Ok(self.rows.insert(at, row)?),
+            Ok(at) => self.rows.set(at, row),
+            Err(at) => self.rows.insert(at, row)?,
         }
+        Ok(())
     }
 
     /// Puts the row in place of the one with its key, which takes no memory.
@@ -94,7 +93,7 @@ impl<R: Keyed> Table<R> {
         ensures { self.new ≡ put_row R.Key.cmp R.key_of self.old row }
     {
         if let Ok(at) = self.search(&row.key()) {
-            self.rows[at] = row;
+            self.rows.set(at, row);
         }
     }
 
@@ -112,7 +111,7 @@ impl<R: Keyed> Table<R> {
         ensures { IfOk result (λ copied. copied ≡ self.now) }
     {
         Ok(Table {
-            rows: self.rows.iter().copied().collect(alloc)?,
+            rows: DoubleEnded::from_slice(alloc, self.rows())?,
         })
     }
 
@@ -123,6 +122,6 @@ impl<R: Keyed> Table<R> {
             (HoldsAt (λ row. R.Key.cmp (R.key_of row) key.now ≡ Equal) self.now)
             (IsPartitionPoint (λ row. R.Key.cmp (R.key_of row) key.now ≡ Less) (λ row. R.Key.cmp (R.key_of row) key.now ≡ Greater) self.now) }
     {
-        self.rows.binary_search_by_key(key, |row| row.key())
+        self.rows().binary_search_by_key(key, |row| row.key())
     }
 }

@@ -7,13 +7,13 @@ use Rattle.toll_base.proofs.table.Table.remove.Goals as goal
 
 pub invariant_of-self : goal.invariant_of-self
 invariant_of-self g c =
-    let same : remove c.self.inside.rows.items c.in-Ok.at ≡ remove_row g.R.Key.Ord.cmp g.R.Keyed.key_of c.self.inside.rows.items c.args.key.now = remove_row_found g.R.Key.Ord.cmp g.met.R.Key.Ord.total g.R.Keyed.key_of c.self.inside.rows.items c.args.key.now c.in-Ok.at c.self.invariant (rw c.self.view_is c.in-Ok.ensures.bound) (rw c.self.view_is c.in-Ok.ensures.place) in
-    subst (IsInKeyOrder g.R.Key.Ord.cmp g.R.Keyed.key_of) (sym (c.remove.ensures.items ∙ same)) (remove_row_ordered g.R.Key.Ord.cmp g.met.R.Key.Ord.total g.R.Keyed.key_of c.self.inside.rows.items c.args.key.now c.self.invariant)
+    let same : remove c.self.inside.rows c.in-Ok.at ≡ remove_row g.R.Key.Ord.cmp g.R.Keyed.key_of c.self.inside.rows c.args.key.now = remove_row_found g.R.Key.Ord.cmp g.met.R.Key.Ord.total g.R.Keyed.key_of c.self.inside.rows c.args.key.now c.in-Ok.at c.self.invariant (rw c.self.view_is c.in-Ok.ensures.bound) (rw c.self.view_is c.in-Ok.ensures.place) in
+    subst (IsInKeyOrder g.R.Key.Ord.cmp g.R.Keyed.key_of) (sym (c.remove.ensures ∙ same)) (remove_row_ordered g.R.Key.Ord.cmp g.met.R.Key.Ord.total g.R.Keyed.key_of c.self.inside.rows c.args.key.now c.self.invariant)
 
 pub returns-in-Ok : goal.returns-in-Ok
 returns-in-Ok g c =
-    c.remove.ensures.items
-    ∙ remove_row_found g.R.Key.Ord.cmp g.met.R.Key.Ord.total g.R.Keyed.key_of c.self.inside.rows.items c.args.key.now c.in-Ok.at c.self.invariant (rw c.self.view_is c.in-Ok.ensures.bound) (rw c.self.view_is c.in-Ok.ensures.place)
+    c.remove.ensures
+    ∙ remove_row_found g.R.Key.Ord.cmp g.met.R.Key.Ord.total g.R.Keyed.key_of c.self.inside.rows c.args.key.now c.in-Ok.at c.self.invariant (rw c.self.view_is c.in-Ok.ensures.bound) (rw c.self.view_is c.in-Ok.ensures.place)
     ∙ ap (λ rows. remove_row g.R.Key.Ord.cmp g.R.Keyed.key_of rows c.args.key.now) c.self.view_is
 
 pub returns-in_default : goal.returns-in_default

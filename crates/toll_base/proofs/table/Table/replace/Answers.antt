@@ -5,12 +5,12 @@ use Rattle.toll_base.proofs.KeyOrder.{put_at, row_at_gap}
 use Rattle.toll_base.proofs.table.Table.replace.Goals as goal
 
 pub invariant_of-self : goal.invariant_of-self
-invariant_of-self g c = (put_at g.R.Key.Ord.cmp g.met.R.Key.Ord.total g.R.Keyed.key_of c.self.inside.rows.items c.args.row c.key.result c.in-Ok.at c.key.ensures c.self.invariant (rw c.self.view_is c.in-Ok.ensures.bound) (rw c.self.view_is c.in-Ok.ensures.place)).ordered
+invariant_of-self g c = rw c.set.ensures (put_at g.R.Key.Ord.cmp g.met.R.Key.Ord.total g.R.Keyed.key_of c.self.inside.rows c.args.row c.key.result c.in-Ok.at c.key.ensures c.self.invariant (rw c.self.view_is c.in-Ok.ensures.bound) (rw c.self.view_is c.in-Ok.ensures.place)).ordered
 
 pub returns-in-Ok : goal.returns-in-Ok
 returns-in-Ok g c =
-    (put_at g.R.Key.Ord.cmp g.met.R.Key.Ord.total g.R.Keyed.key_of c.self.inside.rows.items c.args.row c.key.result c.in-Ok.at c.key.ensures c.self.invariant (rw c.self.view_is c.in-Ok.ensures.bound) (rw c.self.view_is c.in-Ok.ensures.place)).same
-    ∙ ap (λ rows. put_row g.R.Key.Ord.cmp g.R.Keyed.key_of rows c.args.row) c.self.view_is
+    rw c.set.ensures ((put_at g.R.Key.Ord.cmp g.met.R.Key.Ord.total g.R.Keyed.key_of c.self.inside.rows c.args.row c.key.result c.in-Ok.at c.key.ensures c.self.invariant (rw c.self.view_is c.in-Ok.ensures.bound) (rw c.self.view_is c.in-Ok.ensures.place)).same
+    ∙ ap (λ rows. put_row g.R.Key.Ord.cmp g.R.Keyed.key_of rows c.args.row) c.self.view_is)
 
 -- the row is there, so the search does not end in a gap
 pub returns-in_default : goal.returns-in_default

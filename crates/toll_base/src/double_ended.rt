@@ -1,0 +1,115 @@
+//! Lists in one piece of memory, with room at both ends.
+ghost use Rattle.std.specs.Prelude.{◌≡◌, ◌≢◌, ℕ, ◌+◌, ◌-◌, ◌<◌, ◌≤◌, List, [], length, drop, vec_len, OnOk, OnErr, IfOk};
+ghost use Rattle.std.specs.List.{insert, remove, slice_set};
+
+use std::alloc::{AllocError, Global};
+use std::marker::Model;
+
+/// A double-ended vector: a list in one piece, with room behind it and, once it was needed, in front.
+/// An item goes in by moving those on its shorter side, and so a quarter of them on average.
+pub struct DoubleEnded<T: Copy> {
+    // The items, behind as many others as `front` says.
+    room: Vec<T>,
+    front: usize,
+}
+
+/// By hand, since what is derived is written out at every exit of every function that owns a list.
+impl<T: Copy> Drop for DoubleEnded<T> {
+    fn drop(self) {
+        let DoubleEnded { room: _, front: _ } = self;
+    }
+}
+
+impl<T: Copy> Model for DoubleEnded<T> {
+    ghost use Rattle.std.specs.Prelude.{List, drop, length, ◌≤◌};
+
+    ghost Value = { List T };
+
+    ghost view = { λ d. drop d.front d.room.items };
+
+    ghost invariant = { λ d. d.front ≤ length d.room.items };
+}
+
+impl<T: Copy> DoubleEnded<T> {
+    /// No items. It takes no memory yet.
+    pub fn new(alloc: Global) -> Self
+        ensures { result ≡ [] }
+    {
+        DoubleEnded {
+            room: Vec::new(alloc),
+            front: 0,
+        }
+    }
+
+    /// These items.
+    pub fn from_slice(alloc: Global, items: &[T]) -> Result<Self, AllocError>
+        ensures { IfOk result (λ list. list ≡ items.now) }
+    {
+        let room = Vec::from_slice(alloc, items)?;
+        Ok(DoubleEnded { room, front: 0 })
+    }
+
+    /// The items in order.
+    pub fn as_slice(&self) -> &[T]
+        ensures { result.now ≡ self.now }
+    {
+        &self.room[self.front..]
+    }
+
+    /// Puts the item in the place of the one that is there.
+    pub fn set(&mut self, at: usize, item: T)
+        requires { at < length self.old }
+        ensures { self.new ≡ slice_set self.old at item }
+    {
+        self.room[self.front + at] = item;
+    }
+
+    /// Puts the item in front of the one that is there, or behind all. After want of memory nothing is
+    /// changed.
+    pub fn insert(&mut self, at: usize, item: T) -> Result<(), AllocError>
+        requires { at ≤ length self.old }
+        ensures ok { OnOk result (self.new ≡ insert self.old at item) }
+        ensures err { OnErr result (self.new ≡ self.old) }
+    {
+        if at < self.as_slice().len() / 2 {
+            if self.front == 0 {
+                self.front = open_front(&mut self.room)?;
+            }
+            insert_in_front(&mut self.room, self.front, at, item);
+            self.front -= 1;
+            Ok(())
+        } else {
+            Ok(self.room.insert(self.front + at, item)?)
+        }
+    }
+
+    /// Takes the item out.
+    pub fn remove(&mut self, at: usize)
+        requires { at < length self.old }
+        ensures { self.new ≡ remove self.old at }
+    {
+        self.room.remove(self.front + at);
+    }
+}
+
+// Doubles the items, and tells how many of them are now in front of the same items once more.
+fn open_front<T: Copy>(room: &mut Vec<T>) -> Result<usize, AllocError>
+    ensures items { IfOk result (λ front. drop front room.new.items ≡ room.old.items) }
+    ensures front { IfOk result (λ front. front ≡ vec_len room.old) }
+    ensures err { OnErr result (room.new.items ≡ room.old.items) }
+{
+    let front = room.len();
+    room.extend_from_within(..)?;
+    Ok(front)
+}
+
+// Moves as many items as `at` says one place down, and puts the item behind them.
+fn insert_in_front<T: Copy>(room: &mut [T], front: usize, at: usize, item: T)
+    requires room { 1 ≤ front }
+    requires place { front + at ≤ length room.old }
+    ensures items { drop (front - 1) room.new ≡ insert (drop front room.old) at item }
+    ensures len { length room.new ≡ length room.old }
+{
+    room.copy_within(front..front + at, front - 1);
+    room[front - 1 + at] = item;
+}
