@@ -1,6 +1,6 @@
 -- What an edit behind the front of a list does to the items behind it.
-use Rattle.std.proofs.Common.{◌≡◌, ℕ, zero, suc, ◌+◌, ◌≤◌, ◌<◌, List, [], ◌∷◌, ◌++◌, length, set, take, drop, refl, ap, sym, subst, arith}
-use Rattle.std.specs.List.{insert, remove}
+use Rattle.std.proofs.Common.{◌≡◌, ℕ, zero, suc, ◌+◌, ◌≤◌, List, [], ◌∷◌, ◌++◌, length, set, take, drop, refl, sym, ap, ◌∙◌, subst, arith}
+use Rattle.std.specs.List.{insert}
 use lib.Seq.{paste}
 
 from_zero : (n : ℕ) → zero + n ≡ n
@@ -10,20 +10,14 @@ from_suc : (m n : ℕ) → suc m + n ≡ suc (m + n)
 from_suc m n = omega arith
 
 module _ {T : Type 0} where
-  pub drop_set : (front at : ℕ) (xs : List T) (x : T) → front + at < length xs → drop front (set xs (front + at) x) ≡ set (drop front xs) at x
-  drop_set zero at xs x lt = rw (from_zero at) refl
-  drop_set (suc front) at [] x lt = absurd (omega arith)
-  drop_set (suc front) at (y ∷ ys) x lt = rw (from_suc front at) (drop_set front at ys x (omega arith))
-
-  pub drop_insert : (front at : ℕ) (xs : List T) (x : T) → front ≤ length xs → drop front (insert xs (front + at) x) ≡ insert (drop front xs) at x
-  drop_insert zero at xs x le = rw (from_zero at) refl
-  drop_insert (suc front) at [] x le = absurd (omega arith)
-  drop_insert (suc front) at (y ∷ ys) x le = rw (from_suc front at) (drop_insert front at ys x (omega arith))
-
-  pub drop_remove : (front at : ℕ) (xs : List T) → front ≤ length xs → drop front (remove xs (front + at)) ≡ remove (drop front xs) at
-  drop_remove zero at xs le = rw (from_zero at) refl
-  drop_remove (suc front) at [] le = absurd (omega arith)
-  drop_remove (suc front) at (y ∷ ys) le = rw (from_suc front at) (drop_remove front at ys (omega arith))
+  -- an edit that goes down a list item by item leaves what stands in front of its place
+  pub drop_edit : (edit : ℕ → List T → List T) → ((i : ℕ) (y : T) (ys : List T) → edit (suc i) (y ∷ ys) ≡ y ∷ edit i ys) → (front at : ℕ) (xs : List T) → front ≤ length xs → drop front (edit (front + at) xs) ≡ edit at (drop front xs)
+  drop_edit edit down zero at xs le = ap (λ i. edit i xs) (from_zero at)
+  drop_edit edit down (suc front) at [] le = absurd (omega arith)
+  drop_edit edit down (suc front) at (y ∷ ys) le =
+      ap (λ i. drop (suc front) (edit i (y ∷ ys))) (from_suc front at)
+      ∙ ap (drop (suc front)) (down (front + at) y ys)
+      ∙ drop_edit edit down front at ys (omega arith)
 
   -- items that moved one place down leave their last place to the new one
   moved_down : (x : T) (xs : List T) (at : ℕ) (new : T) → at ≤ length xs → set (take at xs ++ drop at (x ∷ xs)) at new ≡ insert xs at new

@@ -9,4 +9,4 @@ pub mod PutOrNot
 pub mod SliceFits
 pub mod PutTables
 pub mod Formers
-pub mod Fronts
+mod Fronts
