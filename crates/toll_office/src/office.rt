@@ -6,6 +6,7 @@ use std::io::ErrorKind;
 use thiserror::Error;
 use toll_keep::Remembering;
 use toll_sql::{OpenFault, SqlKeep};
+use toll_wire::{Out, answer};
 
 /// The keep of an office on a file.
 pub type FileKeep = Remembering<SqlKeep<FileStore<StoreFile>>>;
@@ -24,17 +25,10 @@ pub enum OfficeFault {
     File(OpenFault),
 }
 
-/// The office on a file that nobody else uses meanwhile.
+/// The office on a file that nobody else uses meanwhile. It can't be dropped: who opens it closes it.
 pub struct Office {
     pub keep: FileKeep,
     lock: File,
-}
-
-/// By hand, since what is derived is written out at every exit of every function that owns an office.
-impl Drop for Office {
-    fn drop(self) {
-        let Office { keep: _, lock: _ } = self;
-    }
 }
 
 impl Office {
@@ -43,19 +37,15 @@ impl Office {
     pub fn open(rt: &HostRuntime, path: &str) -> Result<Self, OfficeFault> {
         let lock = take_lock(rt, path)?;
         match open_keep(rt, path) {
-            Ok(keep) => Ok(Office {
-                keep: Remembering::new(rt.alloc(), keep),
-                lock,
-            }),
+            Ok(keep) => Ok(Office { keep, lock }),
             Err(fault) => Err(OfficeFault::File(fault)),
         }
     }
 
-    /// Closes the file, and then gives back the lock. What was answered stands in the file whether or not
-    /// the closing meets a fault.
+    /// Closes the file, and then gives back the lock.
     pub fn close(self) {
         let Office { keep, lock } = self;
-        let _ = keep.inside().close();
+        close_keep(keep);
         let _ = lock.unlock();
     }
 }
@@ -82,12 +72,23 @@ pub fn take_lock(rt: &HostRuntime, path: &str) -> Result<File, OfficeFault> {
 /// The keep in the file. An office whose making was stopped may have its tables in the log alone, or no
 /// tables in a file that is not empty: so where the file is not as its length says, it is looked at the
 /// other way.
-pub fn open_keep(rt: &HostRuntime, path: &str) -> Result<SqlKeep<FileStore<StoreFile>>, OpenFault> {
+pub fn open_keep(rt: &HostRuntime, path: &str) -> Result<FileKeep, OpenFault> {
     let is_fresh = is_absent_or_empty(rt, path);
-    match SqlKeep::open_from(rt, path, is_fresh, Unknown) {
-        Err(OpenFault::NotOurs) => SqlKeep::open_from(rt, path, !is_fresh, Unknown),
-        opened => opened,
-    }
+    let keep = match SqlKeep::open_from(rt, path, is_fresh, Unknown) {
+        Err(OpenFault::NotOurs) => SqlKeep::open_from(rt, path, !is_fresh, Unknown)?,
+        opened => opened?,
+    };
+    Ok(Remembering::new(rt.alloc(), keep))
+}
+
+/// Closes the file. What was answered stands in it whether or not the closing meets a fault.
+pub fn close_keep(keep: FileKeep) {
+    let _ = keep.inside().close();
+}
+
+/// The answer to a request, over the office in the file, as [`answer`] gives it.
+pub fn answer_from(rt: &HostRuntime, keep: &mut FileKeep, request: &[u8]) -> Out {
+    answer(rt.alloc(), keep, request)
 }
 
 fn is_absent_or_empty(rt: &HostRuntime, path: &str) -> bool {

@@ -1,9 +1,9 @@
 //! Serving owners on a socket.
-use crate::office::Office;
+use crate::office::{Office, answer_from};
 use crate::session::Session;
 use crate::timed::Timed;
 use std::net::{TcpListener, TcpStream};
-use toll_wire::{Out, ReadFault, answer, read_request, write_reply};
+use toll_wire::{Out, ReadFault, read_request, write_reply};
 
 /// What came of one connection.
 #[derive(Clone, Copy, Debug, PartialEq, Eq)]
@@ -85,7 +85,7 @@ fn give(rt: &HostRuntime, socket: &TcpStream, reply: &Out) -> Served {
 fn answer_once(rt: &HostRuntime, path: &str, request: &[u8]) -> Out {
     match Office::open(rt, path) {
         Ok(mut office) => {
-            let reply = answer(rt.alloc(), &mut office.keep, request);
+            let reply = answer_from(rt, &mut office.keep, request);
             office.close();
             reply
         }

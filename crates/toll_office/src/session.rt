@@ -1,9 +1,8 @@
 //! An office that stays open between requests, while others may use its file.
 use crate::lending::Lending;
-use crate::office::{FileKeep, open_keep, take_lock};
+use crate::office::{FileKeep, answer_from, close_keep, open_keep, take_lock};
 use std::io;
-use toll_keep::Remembering;
-use toll_wire::{Out, answer};
+use toll_wire::Out;
 
 /// Serves requests over a file. It is opened for the first one, and stays open as long as nobody else
 /// changes it. What others write between two requests is seen, since the file is opened anew then.
@@ -39,7 +38,7 @@ impl Session {
     }
 
     fn answer_over(&mut self, rt: &HostRuntime, mut opened: Opened, request: &[u8]) -> Out {
-        let reply = answer(rt.alloc(), &mut opened.keep, request);
+        let reply = answer_from(rt, &mut opened.keep, request);
         if let Out::Text(_) = &reply {
             self.opened = opened.lend(rt);
         }
@@ -94,7 +93,7 @@ impl Opened {
     fn at(rt: &HostRuntime, path: &str) -> Option<Self> {
         let keep = open_keep(rt, path).ok()?;
         Some(Opened {
-            keep: Remembering::new(rt.alloc(), keep),
+            keep,
             files: Files::of(rt, path).ok(),
         })
     }
@@ -122,7 +121,7 @@ impl Opened {
 
     fn close(self) {
         let Opened { keep, files: _ } = self;
-        let _ = keep.inside().close();
+        close_keep(keep);
     }
 }
 
