@@ -8,7 +8,7 @@ use crate::rows::{OwnerRow, Row, UnitRow};
 use std::alloc::{AllocError, Global};
 
 /// A change of the rows.
-#[derive(Clone, Copy, Debug, PartialEq, Eq)]
+#[derive(Clone, Copy, PartialEq, Eq)]
 pub enum Change {
     /// The owner is added.
     Owner(OwnerRow),
@@ -19,7 +19,7 @@ pub enum Change {
 }
 
 /// What is decided of a command.
-#[derive(Debug, Drop)]
+#[derive(Drop)]
 pub enum Decision {
     /// It is done by these changes, in order.
     Accept(Vec<Change>),

@@ -5,7 +5,7 @@ use crate::refusal::Refusal;
 use crate::value::Value;
 
 /// What the result of a test must be for a lot to be released: from `low` to `high`, both included.
-#[derive(Clone, Copy, Debug, PartialEq, Eq)]
+#[derive(Clone, Copy, PartialEq, Eq)]
 pub struct Limits {
     /// The least value that passes.
     pub low: Value,

@@ -7,7 +7,7 @@ use crate::name::Name;
 use std::cmp::Ordering;
 
 /// What may be done with a lot (the disposition of a material lot, IEC 62264-2).
-#[derive(Clone, Copy, Debug, PartialEq, Eq)]
+#[derive(Clone, Copy, PartialEq, Eq)]
 pub enum Disposition {
     /// At first, and again after a result out of limits: it takes material, and gives none to a
     /// batch or a shipment.
@@ -19,7 +19,7 @@ pub enum Disposition {
 }
 
 /// Where a lot comes from: receipts, or one batch of its owner, never both.
-#[derive(Clone, Copy, Debug, PartialEq, Eq)]
+#[derive(Clone, Copy, PartialEq, Eq)]
 pub enum Origin {
     Receipts,
     Batch { order: Name, number: BatchNo },

@@ -6,7 +6,7 @@ use crate::role::Role;
 use crate::table::Keyed;
 
 /// What a movement moves.
-#[derive(Clone, Copy, Debug, PartialEq, Eq)]
+#[derive(Clone, Copy, PartialEq, Eq)]
 pub enum Move {
     /// Material comes from outside into a sublot.
     Receive {
@@ -44,7 +44,7 @@ pub enum Move {
 
 /// A movement of material, known by its key. It stands in the rows of the owner that it concerns,
 /// which for an actual is the batch's owner, also where the lot is HOUSE's.
-#[derive(Clone, Copy, Debug, PartialEq, Eq)]
+#[derive(Clone, Copy, PartialEq, Eq)]
 pub struct MoveRow {
     pub key: Name,
     pub what: Move,

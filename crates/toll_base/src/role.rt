@@ -8,7 +8,7 @@ use std::cmp::Ordering;
 
 /// Whether a segment consumes a material or produces it (the use of a material, IEC 62264-2).
 /// Consumed comes before produced.
-#[derive(Clone, Copy, Debug)]
+#[derive(Clone, Copy)]
 pub enum Role {
     Consumed,
     Produced,

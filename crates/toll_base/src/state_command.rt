@@ -6,7 +6,7 @@ ghost use Rattle.toll_base.specs.declared.state_command.StateCommand.{StateComma
 
 /// What is done to a batch, or reported of it: `Done` reports that a transient state, or running,
 /// has ended. The commands are named in the manner of IEC 61512-1.
-#[derive(Clone, Copy, Debug, PartialEq, Eq)]
+#[derive(Clone, Copy, PartialEq, Eq)]
 pub enum StateCommand {
     Done,
     Start,

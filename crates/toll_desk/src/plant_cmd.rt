@@ -17,7 +17,7 @@ use toll_trace::Way;
 ///
 /// Each but [`PlantCmd::OwnerAdd`] and [`PlantCmd::UnitAdd`] is refused as [`Refusal::UnknownOwner`]
 /// where its owner is not known, before all else. Without an owner it concerns HOUSE.
-#[derive(Clone, Copy, Debug, PartialEq, Eq)]
+#[derive(Clone, Copy, PartialEq, Eq)]
 pub enum PlantCmd {
     /// Adds an owner with its key: [`Refusal::OwnerExists`] where there is one of this name, HOUSE
     /// included, then [`Refusal::LimitReached`] at 64 owners besides HOUSE.
@@ -186,7 +186,7 @@ pub enum PlantCmd {
 }
 
 /// The reply to a command of the plant.
-#[derive(Debug, Drop)]
+#[derive(Drop)]
 pub enum PlantReply {
     Accepted,
     Repeated,
@@ -197,7 +197,7 @@ pub enum PlantReply {
 }
 
 /// The reply as it will stand, and what must be applied for it.
-#[derive(Debug, Drop)]
+#[derive(Drop)]
 pub struct PlantPlan {
     pub reply: PlantReply,
     pub changes: Vec<Change>,

@@ -10,7 +10,7 @@ use toll_views::{LotView, StockLine};
 use toll_work::BatchView;
 
 /// What an owner asks for.
-#[derive(Clone, Copy, Debug, PartialEq, Eq)]
+#[derive(Clone, Copy, PartialEq, Eq)]
 pub enum Request {
     /// All orders, by name.
     Orders,
@@ -48,7 +48,7 @@ pub enum Request {
 }
 
 /// The reply to an owner's request.
-#[derive(Debug, Drop)]
+#[derive(Drop)]
 pub enum Reply {
     /// Who asks is no owner with that key.
     Forbidden,
@@ -64,7 +64,7 @@ pub enum Reply {
 }
 
 /// The reply as it will stand, and what must be applied for it.
-#[derive(Debug, Drop)]
+#[derive(Drop)]
 pub struct Planned {
     pub reply: Reply,
     pub changes: Vec<Change>,

@@ -11,14 +11,14 @@ use toll_base::{
 use toll_trace::Way;
 
 /// A value of a command: what it is called, and how it is read.
-#[derive(Clone, Copy, Debug)]
+#[derive(Clone, Copy)]
 pub struct Argument<'a> {
     pub name: &'a str,
     pub reading: Reading,
 }
 
 /// How a value is read.
-#[derive(Clone, Copy, Debug, PartialEq, Eq)]
+#[derive(Clone, Copy, PartialEq, Eq)]
 pub enum Reading {
     Name,
     OwnerKey,
@@ -34,7 +34,7 @@ pub enum Reading {
 }
 
 /// A value that was read.
-#[derive(Clone, Copy, Debug, PartialEq, Eq)]
+#[derive(Clone, Copy, PartialEq, Eq)]
 pub enum Given {
     Name(Name),
     OwnerKey(OwnerKey),

@@ -3,7 +3,7 @@ use crate::argument::{Argument, Reading};
 use crate::command::CommandName;
 
 /// The words of a command: its name, and its values in order.
-#[derive(Clone, Copy, Debug)]
+#[derive(Clone, Copy)]
 pub struct Line<'a> {
     pub name: &'a str,
     pub command: CommandName,

@@ -9,7 +9,7 @@ use toll_desk::PlantReply;
 use toll_keep::KeepFault;
 
 /// What comes of a record of a file of actuals.
-#[derive(Clone, Copy, Debug, PartialEq, Eq)]
+#[derive(Clone, Copy, PartialEq, Eq)]
 pub enum Outcome {
     Accepted,
     Repeated,

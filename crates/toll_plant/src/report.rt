@@ -2,13 +2,13 @@
 use crate::outcome::Outcome;
 
 /// What came of each record of a file, in order, up to the first fault.
-#[derive(Debug, Drop)]
+#[derive(Drop)]
 pub struct ImportReport {
     pub lines: Vec<ImportLine>,
 }
 
 /// What came of a record.
-#[derive(Clone, Copy, Debug, PartialEq, Eq)]
+#[derive(Clone, Copy, PartialEq, Eq)]
 pub struct ImportLine {
     /// The record's number: from 1 for the first one under the header.
     pub number: u64,

@@ -8,7 +8,7 @@ use crate::report::ImportLine;
 use std::fmt;
 
 /// How many of some lines tell each outcome.
-#[derive(Clone, Copy, Debug, PartialEq, Eq)]
+#[derive(Clone, Copy, PartialEq, Eq)]
 pub struct Sums {
     pub accepted: usize,
     pub repeated: usize,

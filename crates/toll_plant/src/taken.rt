@@ -6,7 +6,7 @@ use crate::argument::Given;
 use toll_base::{Amount, Day, LotId, Name, Role};
 
 /// What was used or made in a segment of a batch, and when.
-#[derive(Clone, Copy, Debug, PartialEq, Eq)]
+#[derive(Clone, Copy, PartialEq, Eq)]
 pub struct Taken {
     pub role: Role,
     pub material: Name,

@@ -11,7 +11,7 @@ use toll_http::Verb;
 
 /// A route: the paths that are `front`, then values in its parts, then `back`; and what each method
 /// asks for there, where it is served.
-#[derive(Clone, Copy, Debug)]
+#[derive(Clone, Copy)]
 pub struct Route {
     pub front: &'static str,
     pub parts: Parts,

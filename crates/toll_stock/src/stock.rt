@@ -18,7 +18,7 @@ use crate::lot_rows::sublots_of;
 use toll_base::{Move, MoveRow, Name, Slice};
 
 /// How much of a lot is on hand, and how much was shipped, in the measure of its material.
-#[derive(Clone, Copy, Debug, PartialEq, Eq)]
+#[derive(Clone, Copy, PartialEq, Eq)]
 pub struct Totals {
     /// What was received and produced, less what was consumed, shipped and scrapped. A split keeps
     /// it.

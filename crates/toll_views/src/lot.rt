@@ -14,7 +14,7 @@ use toll_base::{LotRow, Measure, Name, ResultRow, Slice, SublotRow};
 use toll_stock::{results_of, sublots_of};
 
 /// A lot, the measure of its material, its results by test and number, and its sublots by name.
-#[derive(Debug, Drop)]
+#[derive(Drop)]
 pub struct LotView {
     pub row: LotRow,
     pub measure: Measure,

@@ -3,7 +3,7 @@ use crate::outgoing::Out;
 use toll_desk::{PlantCmd, PlantReply};
 
 /// What comes to the office.
-#[derive(Debug, Drop)]
+#[derive(Drop)]
 pub enum Event {
     /// The bytes of an owner's request.
     Owner(Vec<u8>),
@@ -12,7 +12,7 @@ pub enum Event {
 }
 
 /// What an event is answered.
-#[derive(Debug, Drop)]
+#[derive(Drop)]
 pub enum Answer {
     /// The reply to a request.
     Bytes(Out),

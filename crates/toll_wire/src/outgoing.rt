@@ -3,7 +3,7 @@
 use toll_keep::KeepFault;
 
 /// What is sent back to a request.
-#[derive(Debug, Drop)]
+#[derive(Drop)]
 pub enum Out {
     /// A reply.
     Text(Vec<u8>),

@@ -14,14 +14,14 @@ use toll_base::{
 
 /// A requirement of a batch's recipe, and how much of it the batch did: the sum of its standing
 /// actuals of the requirement's segment, role, source and material.
-#[derive(Clone, Copy, Debug, PartialEq, Eq)]
+#[derive(Clone, Copy, PartialEq, Eq)]
 pub struct RequirementLine {
     pub row: RequirementRow,
     pub actual: u64,
 }
 
 /// A batch, and the requirements of its order's recipe in the order of their keys.
-#[derive(Debug, Drop)]
+#[derive(Drop)]
 pub struct BatchView {
     pub row: BatchRow,
     pub lines: Vec<RequirementLine>,
