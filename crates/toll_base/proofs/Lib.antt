@@ -5,7 +5,7 @@ pub mod Texts
 pub mod TakeBack
 pub mod PutRules
 pub mod ActualCountLemmas
-pub mod Kept
+pub mod PutOrNot
 pub mod SliceFits
 pub mod PutTables
 pub mod Formers

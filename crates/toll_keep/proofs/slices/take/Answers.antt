@@ -1,6 +1,6 @@
 use Rattle.std.proofs.Common.{◌≡◌, position, IfOk, get_or, set, sym, ap, subst, ◌∙◌}
 use Rattle.toll_base.specs.Slice.{Slice, empty_slice}
-use Rattle.toll_base.proofs.Kept.{put_or_not}
+use Rattle.toll_base.proofs.PutOrNot.{put_or_not}
 use Rattle.toll_keep.specs.Slices.{is_of, rows_in, IsOneEach}
 use Rattle.toll_keep.proofs.Outcomes.{on_ok}
 use Rattle.toll_keep.proofs.Slicing.{owner-rows_in, found_there, absent_there, set_there, one_each-put, put_none}
