@@ -8,7 +8,7 @@ use crate::rows::{OwnerRow, Row, UnitRow};
 use std::alloc::{AllocError, Global};
 
 /// A change of the rows.
-#[derive(Clone, Copy, PartialEq, Eq)]
+#[derive(Clone, Copy)]
 pub enum Change {
     /// The owner is added.
     Owner(OwnerRow),

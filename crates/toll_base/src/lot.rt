@@ -19,7 +19,7 @@ pub enum Disposition {
 }
 
 /// Where a lot comes from: receipts, or one batch of its owner, never both.
-#[derive(Clone, Copy, PartialEq, Eq)]
+#[derive(Clone, Copy)]
 pub enum Origin {
     Receipts,
     Batch { order: Name, number: BatchNo },

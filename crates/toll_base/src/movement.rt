@@ -44,7 +44,7 @@ pub enum Move {
 
 /// A movement of material, known by its key. It stands in the rows of the owner that it concerns,
 /// which for an actual is the batch's owner, also where the lot is HOUSE's.
-#[derive(Clone, Copy, PartialEq, Eq)]
+#[derive(Clone, Copy)]
 pub struct MoveRow {
     pub key: Name,
     pub what: Move,

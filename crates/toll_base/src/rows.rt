@@ -19,20 +19,20 @@ pub struct OwnerRow {
 }
 
 /// A unit of the plant, on which batches run.
-#[derive(Clone, Copy, PartialEq, Eq)]
+#[derive(Clone, Copy)]
 pub struct UnitRow {
     pub unit: Name,
 }
 
 /// A material definition (IEC 62264-2), and the measure of its amounts.
-#[derive(Clone, Copy, PartialEq, Eq)]
+#[derive(Clone, Copy)]
 pub struct MaterialRow {
     pub material: Name,
     pub measure: Measure,
 }
 
 /// A test of a material, and what its result must be for a lot to be released.
-#[derive(Clone, Copy, PartialEq, Eq)]
+#[derive(Clone, Copy)]
 pub struct TestRow {
     pub material: Name,
     pub test: Name,
@@ -40,7 +40,7 @@ pub struct TestRow {
 }
 
 /// A recipe: a list of segments, numbered from 1 to this number.
-#[derive(Clone, Copy, PartialEq, Eq)]
+#[derive(Clone, Copy)]
 pub struct RecipeRow {
     pub recipe: Name,
     pub segments: Segment,
@@ -59,7 +59,7 @@ pub struct RequirementRow {
 }
 
 /// An order, which is an operations request (IEC 62264-2): that many batches by that recipe.
-#[derive(Clone, Copy, PartialEq, Eq)]
+#[derive(Clone, Copy)]
 pub struct OrderRow {
     pub order: Name,
     pub recipe: Name,
@@ -68,7 +68,7 @@ pub struct OrderRow {
 }
 
 /// A batch, which is a job order (IEC 62264-4), numbered from 1 within its order.
-#[derive(Clone, Copy, PartialEq, Eq)]
+#[derive(Clone, Copy)]
 pub struct BatchRow {
     pub order: Name,
     pub number: BatchNo,
@@ -78,7 +78,7 @@ pub struct BatchRow {
 }
 
 /// A material lot (IEC 62264-2).
-#[derive(Clone, Copy, PartialEq, Eq)]
+#[derive(Clone, Copy)]
 pub struct LotRow {
     pub lot: Name,
     pub material: Name,
@@ -88,7 +88,7 @@ pub struct LotRow {
 
 /// A material sublot (IEC 62264-2) of one lot, and how much is there, in the measure of the lot's
 /// material: 0 to 20,000,000,000,000.
-#[derive(Clone, Copy, PartialEq, Eq)]
+#[derive(Clone, Copy)]
 pub struct SublotRow {
     pub lot: Name,
     pub sublot: Name,
@@ -96,7 +96,7 @@ pub struct SublotRow {
 }
 
 /// A result of a test of a lot, numbered from 1 within the lot and the test.
-#[derive(Clone, Copy, PartialEq, Eq)]
+#[derive(Clone, Copy)]
 pub struct ResultRow {
     pub lot: Name,
     pub test: Name,
@@ -106,13 +106,13 @@ pub struct ResultRow {
 }
 
 /// The movement with this key, an actual, is voided.
-#[derive(Clone, Copy, PartialEq, Eq)]
+#[derive(Clone, Copy)]
 pub struct VoidRow {
     pub key: Name,
 }
 
 /// A row of an owner, of any kind.
-#[derive(Clone, Copy, PartialEq, Eq)]
+#[derive(Clone, Copy)]
 pub enum Row {
     Material(MaterialRow),
     Test(TestRow),

@@ -8,7 +8,7 @@ use std::alloc::{AllocError, Global};
 use toll_base::{BatchNo, Name};
 
 /// An order that is asked for.
-#[derive(Clone, Copy, PartialEq, Eq)]
+#[derive(Clone, Copy)]
 pub struct Placing {
     pub order: Name,
     pub recipe: Name,

@@ -10,7 +10,7 @@ use toll_views::{LotView, StockLine};
 use toll_work::BatchView;
 
 /// What an owner asks for.
-#[derive(Clone, Copy, PartialEq, Eq)]
+#[derive(Clone, Copy)]
 pub enum Request {
     /// All orders, by name.
     Orders,

@@ -15,7 +15,7 @@ use toll_trace::Step;
 
 /// A lot of a recall: its step from the lot that is recalled, its disposition, and how much of it is
 /// on hand and was shipped.
-#[derive(Clone, Copy, PartialEq, Eq)]
+#[derive(Clone, Copy)]
 pub struct RecallLine {
     pub step: Step,
     pub disposition: Disposition,

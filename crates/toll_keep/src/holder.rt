@@ -5,7 +5,7 @@ use toll_base::{BatchNo, Name, Slice};
 
 /// The batch that holds a unit: it was opened on the unit and isn't closed. A unit is held by one
 /// batch at most, of any owner.
-#[derive(Clone, Copy, PartialEq, Eq)]
+#[derive(Clone, Copy)]
 pub struct Holder {
     pub owner: Name,
     pub order: Name,

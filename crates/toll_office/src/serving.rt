@@ -6,7 +6,7 @@ use std::net::{TcpListener, TcpStream};
 use toll_wire::{Out, ReadFault, read_request, write_reply};
 
 /// What came of one connection.
-#[derive(Clone, Copy, PartialEq, Eq)]
+#[derive(Clone, Copy)]
 pub enum Served {
     /// A reply was written, which may be that the office is unavailable.
     Answered,

@@ -18,7 +18,7 @@ pub struct Argument<'a> {
 }
 
 /// How a value is read.
-#[derive(Clone, Copy, PartialEq, Eq)]
+#[derive(Clone, Copy)]
 pub enum Reading {
     Name,
     OwnerKey,
@@ -34,7 +34,7 @@ pub enum Reading {
 }
 
 /// A value that was read.
-#[derive(Clone, Copy, PartialEq, Eq)]
+#[derive(Clone, Copy)]
 pub enum Given {
     Name(Name),
     OwnerKey(OwnerKey),

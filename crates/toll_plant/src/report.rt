@@ -8,7 +8,7 @@ pub struct ImportReport {
 }
 
 /// What came of a record.
-#[derive(Clone, Copy, PartialEq, Eq)]
+#[derive(Clone, Copy)]
 pub struct ImportLine {
     /// The record's number: from 1 for the first one under the header.
     pub number: u64,

@@ -8,7 +8,7 @@ use crate::report::ImportLine;
 use std::fmt;
 
 /// How many of some lines tell each outcome.
-#[derive(Clone, Copy, PartialEq, Eq)]
+#[derive(Clone, Copy)]
 pub struct Sums {
     pub accepted: usize,
     pub repeated: usize,

@@ -6,7 +6,7 @@ use crate::argument::Given;
 use toll_base::{Amount, Day, LotId, Name, Role};
 
 /// What was used or made in a segment of a batch, and when.
-#[derive(Clone, Copy, PartialEq, Eq)]
+#[derive(Clone, Copy)]
 pub struct Taken {
     pub role: Role,
     pub material: Name,

@@ -6,7 +6,7 @@ use crate::values::Values;
 use toll_desk::Request;
 
 /// What a method asks for at a route: which of the owners' requests.
-#[derive(Clone, Copy, PartialEq, Eq)]
+#[derive(Clone, Copy)]
 pub enum Ask {
     Orders,
     Order,

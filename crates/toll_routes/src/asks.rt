@@ -11,7 +11,7 @@ use toll_desk::Request;
 use toll_http::{Failure, Verb};
 
 /// What is asked for, once the key is right.
-#[derive(Clone, Copy, PartialEq, Eq)]
+#[derive(Clone, Copy)]
 pub enum Asks {
     /// Nothing that is served: a check that comes after the key's fails.
     Failing(Failure),

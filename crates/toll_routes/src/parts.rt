@@ -6,7 +6,7 @@ use crate::values::Values;
 use toll_base::{BatchNo, Name, number};
 
 /// Which parts stand in the paths of a route.
-#[derive(Clone, Copy, PartialEq, Eq)]
+#[derive(Clone, Copy)]
 pub enum Parts {
     /// None: the paths are one.
     Nothing,

@@ -2,7 +2,7 @@
 use toll_base::{BatchNo, Name};
 
 /// The values that a path has in its parts.
-#[derive(Clone, Copy, PartialEq, Eq)]
+#[derive(Clone, Copy)]
 pub enum Values {
     /// None.
     Nothing,

@@ -17,7 +17,7 @@ use std::cmp::Ordering;
 use toll_base::{LotRow, Measure, Name, Slice, SublotRow};
 
 /// A lot, the measure of its material, and how much of it is on hand: the sum of its sublots.
-#[derive(Clone, Copy, PartialEq, Eq)]
+#[derive(Clone, Copy)]
 pub struct StockLine {
     pub row: LotRow,
     pub measure: Measure,

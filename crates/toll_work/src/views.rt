@@ -14,7 +14,7 @@ use toll_base::{
 
 /// A requirement of a batch's recipe, and how much of it the batch did: the sum of its standing
 /// actuals of the requirement's segment, role, source and material.
-#[derive(Clone, Copy, PartialEq, Eq)]
+#[derive(Clone, Copy)]
 pub struct RequirementLine {
     pub row: RequirementRow,
     pub actual: u64,
