@@ -1,5 +1,5 @@
-//! What the contracts of the crates that work on slices do not show: worked examples, stories of what is
-//! decided over an owner's rows and what is said to it, and that ample memory meets no refusal.
+//! What the contracts of the crates that work on slices do not show: worked examples, and that ample memory
+//! meets no refusal.
 #![tactic(auto)]
 
 #[cfg(test)]
@@ -7,12 +7,10 @@ mod print;
 #[cfg(test)]
 mod rows;
 #[cfg(test)]
-mod stock;
+mod states;
 #[cfg(test)]
 mod trace;
 #[cfg(test)]
 mod values;
 #[cfg(test)]
 mod views;
-#[cfg(test)]
-mod work;

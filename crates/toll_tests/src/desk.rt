@@ -3,6 +3,7 @@
 
 mod batches;
 mod genealogy;
+mod limits;
 mod lines;
 mod lots;
 mod movements;

@@ -26,6 +26,10 @@ const HELD_AND_STOPPED: &[Line] = &[
     ("do ACME O 1 stop", "accepted"),
     ("do ACME O 1 done", "accepted"),
     ("do ACME O 1 reset", "accepted"),
+    (
+        "actual K9 ACME O 1 1 consumed M ACME A S1 1 11",
+        "refused 25",
+    ),
     ("do ACME O 1 start", "accepted"),
     ("close ACME O 1", "refused 23"),
     ("do ACME O 1 done", "accepted"),

@@ -9,7 +9,10 @@ const TESTED: &[Line] = &[
     ("material-add ACME M kg", "accepted"),
     ("test-add ACME M PH 8 M5", "refused 2"),
     ("test-add ACME M PH M5 8", "accepted"),
+    ("test-add ACME M PH M5 8", "refused 11"),
     ("receive ACME K1 M A S 10 1", "accepted"),
+    ("receive ACME K1 M A S 10 1", "repeated"),
+    ("receive ACME K1 M A S 9 1", "refused 35"),
     ("> ACME ACMEKEY1 release A", "refused 36"),
     ("result ACME A PH 8 1", "accepted"),
     (
@@ -24,6 +27,7 @@ const OUT_OF_LIMITS: &[Line] = &[
         "> ACME ACMEKEY1 lot A",
         "lot A M kg receipts quarantined, PH 8 on 1, PH 9 on 2, S 10",
     ),
+    ("> ACME ACMEKEY1 release A", "refused 36"),
     ("ship ACME K9 A S 1 3", "refused 31"),
     ("test-add ACME M PH2 0 1", "refused 10"),
     (

@@ -39,6 +39,15 @@ const PRODUCT_CONSUMED: &[Line] = &[
         "actual K2 ACME O 1 2 consumed P ACME P1 S1 1 11",
         "refused 31",
     ),
+    ("receive ACME K9 P P1 S1 1 11", "refused 30"),
+    (
+        "actual K9 ACME O 1 1 produced P ACME A S1 1 11",
+        "refused 30",
+    ),
+    (
+        "actual K9 ACME O 1 3 consumed M ACME A S1 1 11",
+        "refused 15",
+    ),
     (
         "actual K3 ACME O 1 1 produced P ACME P1 S1 30 11",
         "repeated",
@@ -78,6 +87,10 @@ const SPLIT_AND_SHIPPED: &[Line] = &[
         "A                S1               M                released                70 kg\nA                S2               M                released                 0 kg\n",
     ),
     ("ship ACME K7 A S1 70 12", "accepted"),
+    (
+        "recall ACME A",
+        " steps owner            lot              disposition        on-hand        shipped\n     0 ACME             A                released                 0             70\n",
+    ),
     ("ship ACME K8 A S1 1 12", "refused 33"),
     ("ship ACME K8 A S3 1 12", "refused 28"),
     (

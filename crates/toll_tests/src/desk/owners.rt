@@ -1,7 +1,6 @@
 //! Stories of owners and the plant, over a list keep and over one that once has no memory.
 use crate::desk::lines::Asked;
-use crate::stories::{Line, Teller, check_said, check_said_over};
-use std::alloc::{AllocError, Global};
+use crate::stories::{Line, check_said, check_said_over};
 use std::test::Fail;
 use toll_keep::{MemKeep, Refusing};
 
@@ -98,32 +97,4 @@ const NOT_ADDED_WITHOUT_MEMORY: &[Line] = &[
 fn an_owner_without_memory_is_not_added(rt: HostRuntime) -> Result<(), Fail> {
     let mut keep = Refusing::new(MemKeep::new(rt.alloc()));
     check_said_over::<Asked, _>(rt.alloc(), &mut keep, &[NOT_ADDED_WITHOUT_MEMORY])
-}
-
-// How many of the numbers from 0 are accepted between these words, over an empty keep, and what is
-// said to the next.
-fn fill(alloc: Global, before: &str, behind: &str) -> Result<String, AllocError> {
-    let mut keep = MemKeep::new(alloc);
-    for number in 0..1_000 {
-        let line = format!(in alloc; "{before}{number}{behind}")?;
-        let said = Asked::say(alloc, &mut keep, &line)?;
-        if said.as_str() != "accepted" {
-            return format!(in alloc; "{number}, {said}");
-        }
-    }
-    format!(in alloc; "all")
-}
-
-#[test]
-fn there_are_64_owners_at_most(rt: HostRuntime) -> Result<(), Fail> {
-    let owners = fill(rt.alloc(), "owner-add W-", " OWNERKEY1")?;
-    assert!(rt; owners.as_str() == "64, refused 39", "{owners}");
-    Ok(())
-}
-
-#[test]
-fn there_are_200_units_at_most(rt: HostRuntime) -> Result<(), Fail> {
-    let units = fill(rt.alloc(), "unit-add U-", "")?;
-    assert!(rt; units.as_str() == "200, refused 39", "{units}");
-    Ok(())
 }

@@ -1,0 +1,185 @@
+//! Stories of how many rows there may be.
+use crate::desk::lines::Asked;
+use crate::desk::setups::WITH_BATCH;
+use crate::stories::{Line, Teller, WITH_RECIPE, check_said_over, plant_said};
+use std::alloc::{AllocError, Global};
+use std::test::Fail;
+use toll_base::{Amount, Day, Name};
+use toll_desk::{PlantCmd, plant_do};
+use toll_keep::MemKeep;
+
+// The pieces, with the number between them.
+fn line_of(alloc: Global, pieces: &[&str], number: u64) -> Result<String, AllocError> {
+    let mut line = String::new(alloc);
+    let [first, rest @ ..] = pieces else {
+        return Ok(line);
+    };
+    line.push_str(first)?;
+    for piece in rest {
+        line.push_str(&format!(in alloc; "{number}{piece}")?)?;
+    }
+    Ok(line)
+}
+
+// How many of the numbers from 0 are accepted between these pieces, and what is said to the next.
+fn fill(alloc: Global, keep: &mut MemKeep, pieces: &[&str]) -> Result<String, AllocError> {
+    for number in 0..100_000 {
+        let line = line_of(alloc, pieces, number)?;
+        let said = Asked::say(alloc, keep, &line)?;
+        if said.as_str() != "accepted" {
+            return format!(in alloc; "{number}, {said}");
+        }
+    }
+    format!(in alloc; "all")
+}
+
+// Fails where another number of them is accepted, or another thing is said to the next.
+fn check_filled(
+    alloc: Global,
+    keep: &mut MemKeep,
+    pieces: &[&str],
+    wanted: &str,
+) -> Result<(), Fail> {
+    let filled = fill(alloc, keep, pieces)?;
+    if filled.as_str() == wanted {
+        return Ok(());
+    }
+    Err(filled.into())
+}
+
+#[test]
+fn there_are_64_owners_at_most(rt: HostRuntime) -> Result<(), Fail> {
+    let mut keep = MemKeep::new(rt.alloc());
+    check_filled(
+        rt.alloc(),
+        &mut keep,
+        &["owner-add W-", " OWNERKEY1"],
+        "64, refused 39",
+    )
+}
+
+#[test]
+fn there_are_200_units_at_most(rt: HostRuntime) -> Result<(), Fail> {
+    let mut keep = MemKeep::new(rt.alloc());
+    check_filled(
+        rt.alloc(),
+        &mut keep,
+        &["unit-add U-", ""],
+        "200, refused 39",
+    )
+}
+
+// A receipt with this number in its key, into this lot. It is no line, since reading one takes most of the
+// time where there are many.
+fn receipt(alloc: Global, number: u64, lot: Name) -> Result<PlantCmd, Fail> {
+    let key = format!(in alloc; "K{number}")?;
+    Ok(PlantCmd::Receive {
+        owner: Name::parse(b"ACME")?,
+        key: Name::parse(key.as_bytes())?,
+        material: Name::parse(b"M")?,
+        lot,
+        sublot: Name::parse(b"S1")?,
+        amount: Amount::new(1)?,
+        day: Day::new(10)?,
+    })
+}
+
+// The lot with this number.
+fn lot_of(alloc: Global, number: u64) -> Result<Name, Fail> {
+    let lot = format!(in alloc; "L{number}")?;
+    Ok(Name::parse(lot.as_bytes())?)
+}
+
+// What is said to as many receipts, each into a lot of its own where they are spread: to the last one.
+fn receive_all(
+    alloc: Global,
+    keep: &mut MemKeep,
+    most: u64,
+    are_spread: bool,
+) -> Result<String, Fail> {
+    let mut said = String::new(alloc);
+    for number in 0..most {
+        let lot = lot_of(alloc, if are_spread { number } else { 0 })?;
+        let command = receipt(alloc, number, lot)?;
+        said = plant_said(alloc, &plant_do(alloc, keep, &command))?;
+    }
+    Ok(said)
+}
+
+const ONE_LOT_MORE: &[Line] = &[
+    ("receive ACME K M L5000 S1 1 10", "refused 39"),
+    ("receive ACME K M L0 S1 1 10", "accepted"),
+];
+
+#[test]
+fn an_owner_has_5000_lots(rt: HostRuntime) -> Result<(), Fail> {
+    let mut keep = MemKeep::new(rt.alloc());
+    check_said_over::<Asked, _>(rt.alloc(), &mut keep, &[WITH_RECIPE])?;
+    let last = receive_all(rt.alloc(), &mut keep, 5_000, true)?;
+    assert!(rt; last.as_str() == "accepted", "{last}");
+    check_said_over::<Asked, _>(rt.alloc(), &mut keep, &[ONE_LOT_MORE])
+}
+
+const ONE_MOVEMENT_MORE: &[Line] = &[
+    ("receive ACME K M L0 S1 1 10", "refused 39"),
+    ("receive ACME K19999 M L0 S1 1 10", "repeated"),
+];
+
+#[test]
+fn an_owner_has_20000_movements(rt: HostRuntime) -> Result<(), Fail> {
+    let mut keep = MemKeep::new(rt.alloc());
+    check_said_over::<Asked, _>(rt.alloc(), &mut keep, &[WITH_RECIPE])?;
+    let last = receive_all(rt.alloc(), &mut keep, 20_000, false)?;
+    assert!(rt; last.as_str() == "accepted", "{last}");
+    check_said_over::<Asked, _>(rt.alloc(), &mut keep, &[ONE_MOVEMENT_MORE])
+}
+
+const WITH_99_BATCHES: &[Line] = &[("> ACME ACMEKEY1 place O R 99", "order O R 99 open")];
+
+#[test]
+fn an_order_has_its_batches_and_no_more(rt: HostRuntime) -> Result<(), Fail> {
+    let mut keep = MemKeep::new(rt.alloc());
+    check_said_over::<Asked, _>(rt.alloc(), &mut keep, &[WITH_RECIPE, WITH_99_BATCHES])?;
+    check_filled(
+        rt.alloc(),
+        &mut keep,
+        &["unit-add U-", ""],
+        "199, refused 39",
+    )?;
+    check_filled(
+        rt.alloc(),
+        &mut keep,
+        &["open ACME O U-", ""],
+        "99, refused 21",
+    )
+}
+
+// A voided actual counts as before.
+const VOIDED: &[Line] = &[
+    ("void ACME N7", "accepted"),
+    (
+        "actual N200 ACME O 1 1 produced P ACME P1 S1 1 11",
+        "refused 39",
+    ),
+    (
+        "actual N8 ACME O 1 1 produced P ACME P1 S1 1 11",
+        "repeated",
+    ),
+    (
+        "batch ACME O 1",
+        "O/1 running U1 open\n 1 consumed ACME             M                       100              0\n 1 produced ACME             P                        90            199\n",
+    ),
+];
+
+#[test]
+fn a_batch_has_200_actuals(rt: HostRuntime) -> Result<(), Fail> {
+    let mut keep = MemKeep::new(rt.alloc());
+    check_said_over::<Asked, _>(rt.alloc(), &mut keep, &[WITH_RECIPE, WITH_BATCH])?;
+    check_filled(
+        rt.alloc(),
+        &mut keep,
+        &["actual N", " ACME O 1 1 produced P ACME P1 S1 1 11"],
+        "200, refused 39",
+    )?;
+    check_said_over::<Asked, _>(rt.alloc(), &mut keep, &[VOIDED])
+}
