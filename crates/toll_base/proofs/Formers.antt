@@ -1,5 +1,5 @@
 -- What takes a put of a row back does.
-use Rattle.std.proofs.Common.{◌≡◌, true, Option, Some, None, is_some, List, refl, sym, ap, ◌∙◌, subst}
+use Rattle.std.proofs.Common.{◌≡◌, Bool, true, false, Option, Some, None, is_some, List, refl, sym, ap, ◌∙◌, subst}
 use mathlib.Core.Bool.{false≢true}
 use Rattle.std.specs.Option.{option_map}
 use Rattle.std.specs.Cmp.{IsTotalOrder}
@@ -11,7 +11,7 @@ use Rattle.toll_base.specs.Slice.{Slice, with_row, without_row, row_like}
 use Rattle.toll_base.specs.SliceRules.{KeepsRules}
 use Rattle.toll_base.specs.Table.{row_at, put_row, remove_row}
 use Rattle.toll_base.specs.Former.{can_replace, TakesBack}
-use Rattle.toll_base.specs.declared.former.Former.TheVariants.{Added, Replaced}
+use Rattle.toll_base.specs.declared.former.Former.TheVariants.{Added, Replaced, Moves}
 use Rattle.toll_base.specs.declared.movement.MoveRow.{MoveRow}
 use Rattle.toll_base.specs.declared.rows.Row.{Row}
 use Rattle.toll_base.specs.declared.rows.Row.TheVariants.{Material, Test, Recipe, Requirement, Order, Batch, Lot, Sublot, Move, Result, Void}
@@ -39,10 +39,16 @@ pub is_mapped : {X Y : Type 0} (f : X → Y) (x : Option X) → is_some (option_
 is_mapped f None h = h
 is_mapped f (Some v) h = refl
 
--- what takes a put of this row back: it was not there, or another was in its place
+-- a row of a movement
+abbrev is_move : Row → Bool
+is_move (Move m) = true
+is_move _ = false
+
+-- what takes a put of this row back: it was not there, or another was in its place, which may be a movement
 pub record Back (s : Slice) (row : Row) : Type 0 where
   pub added : row_like s row ≡ None → TakesBack (Added row) s (with_row s row)
   pub replaced : (known : Row) → row_like s row ≡ Some known → ((m : MoveRow) → known ≡ Move m → ⊥) → TakesBack (Replaced known) s (with_row s row)
+  pub moved : (known : Row) → row_like s row ≡ Some known → (m : MoveRow) → known ≡ Move m → TakesBack (Moves s.moves) s (with_row s row)
 
 -- of a kind of rows that stands in one list of the slice
 module _ {K R : Type 0} (cmp : K → K → Ordering) (o : IsTotalOrder cmp) (key : R → K) (as_row : R → Row) (rows : List R) (slice : List R → Slice)
@@ -69,21 +75,27 @@ module _ {K R : Type 0} (cmp : K → K → Ordering) (o : IsTotalOrder cmp) (key
           kept = keeps;
         })
 
-    back_in : (row : R) → KeepsRules (slice rows) → Back (slice rows) (as_row row)
-    back_in row keeps = record { added = added_back row keeps; replaced = λ known found other. replaced_back row known keeps found }
+    module _ (no_move : (x : R) → is_move (as_row x) ≡ false) where
+      back_in : (row : R) → KeepsRules (slice rows) → Back (slice rows) (as_row row)
+      back_in row keeps = record {
+        added = added_back row keeps;
+        replaced = λ known found other. replaced_back row known keeps found;
+        moved = λ known found m is. let was = mapped_some _ _ known (sym (like rows row) ∙ found) in absurd (false≢true (sym (no_move was.from) ∙ ap is_move (was.to ∙ is)));
+      }
 
 pub put_back : (s : Slice) (row : Row) → KeepsRules s → Back s row
-put_back s (Material row) keeps = back_in bytes_cmp nat_list_cmp_total (λ r. r.material) (λ r. Material r) s.materials (λ xs. record s { materials = xs }) (λ xs x. refl) (λ xs x. refl) (λ xs x. refl) (λ xs x. refl) row keeps
-put_back s (Test row) keeps = back_in pair_cmp pair_cmp_total (λ r. (r.material, r.test)) (λ r. Test r) s.tests (λ xs. record s { tests = xs }) (λ xs x. refl) (λ xs x. refl) (λ xs x. refl) (λ xs x. refl) row keeps
-put_back s (Recipe row) keeps = back_in bytes_cmp nat_list_cmp_total (λ r. r.recipe) (λ r. Recipe r) s.recipes (λ xs. record s { recipes = xs }) (λ xs x. refl) (λ xs x. refl) (λ xs x. refl) (λ xs x. refl) row keeps
-put_back s (Requirement row) keeps = back_in requirement_cmp requirement_cmp_total (λ r. (r.recipe, r.segment, r.role, r.source, r.material)) (λ r. Requirement r) s.requirements (λ xs. record s { requirements = xs }) (λ xs x. refl) (λ xs x. refl) (λ xs x. refl) (λ xs x. refl) row keeps
-put_back s (Order row) keeps = back_in bytes_cmp nat_list_cmp_total (λ r. r.order) (λ r. Order r) s.orders (λ xs. record s { orders = xs }) (λ xs x. refl) (λ xs x. refl) (λ xs x. refl) (λ xs x. refl) row keeps
-put_back s (Batch row) keeps = back_in batch_cmp batch_cmp_total (λ r. (r.order, r.number)) (λ r. Batch r) s.batches (λ xs. record s { batches = xs }) (λ xs x. refl) (λ xs x. refl) (λ xs x. refl) (λ xs x. refl) row keeps
-put_back s (Lot row) keeps = back_in bytes_cmp nat_list_cmp_total (λ r. r.lot) (λ r. Lot r) s.lots (λ xs. record s { lots = xs }) (λ xs x. refl) (λ xs x. refl) (λ xs x. refl) (λ xs x. refl) row keeps
-put_back s (Sublot row) keeps = back_in pair_cmp pair_cmp_total (λ r. (r.lot, r.sublot)) (λ r. Sublot r) s.sublots (λ xs. record s { sublots = xs }) (λ xs x. refl) (λ xs x. refl) (λ xs x. refl) (λ xs x. refl) row keeps
+put_back s (Material row) keeps = back_in bytes_cmp nat_list_cmp_total (λ r. r.material) (λ r. Material r) s.materials (λ xs. record s { materials = xs }) (λ xs x. refl) (λ xs x. refl) (λ xs x. refl) (λ xs x. refl) (λ x. refl) row keeps
+put_back s (Test row) keeps = back_in pair_cmp pair_cmp_total (λ r. (r.material, r.test)) (λ r. Test r) s.tests (λ xs. record s { tests = xs }) (λ xs x. refl) (λ xs x. refl) (λ xs x. refl) (λ xs x. refl) (λ x. refl) row keeps
+put_back s (Recipe row) keeps = back_in bytes_cmp nat_list_cmp_total (λ r. r.recipe) (λ r. Recipe r) s.recipes (λ xs. record s { recipes = xs }) (λ xs x. refl) (λ xs x. refl) (λ xs x. refl) (λ xs x. refl) (λ x. refl) row keeps
+put_back s (Requirement row) keeps = back_in requirement_cmp requirement_cmp_total (λ r. (r.recipe, r.segment, r.role, r.source, r.material)) (λ r. Requirement r) s.requirements (λ xs. record s { requirements = xs }) (λ xs x. refl) (λ xs x. refl) (λ xs x. refl) (λ xs x. refl) (λ x. refl) row keeps
+put_back s (Order row) keeps = back_in bytes_cmp nat_list_cmp_total (λ r. r.order) (λ r. Order r) s.orders (λ xs. record s { orders = xs }) (λ xs x. refl) (λ xs x. refl) (λ xs x. refl) (λ xs x. refl) (λ x. refl) row keeps
+put_back s (Batch row) keeps = back_in batch_cmp batch_cmp_total (λ r. (r.order, r.number)) (λ r. Batch r) s.batches (λ xs. record s { batches = xs }) (λ xs x. refl) (λ xs x. refl) (λ xs x. refl) (λ xs x. refl) (λ x. refl) row keeps
+put_back s (Lot row) keeps = back_in bytes_cmp nat_list_cmp_total (λ r. r.lot) (λ r. Lot r) s.lots (λ xs. record s { lots = xs }) (λ xs x. refl) (λ xs x. refl) (λ xs x. refl) (λ xs x. refl) (λ x. refl) row keeps
+put_back s (Sublot row) keeps = back_in pair_cmp pair_cmp_total (λ r. (r.lot, r.sublot)) (λ r. Sublot r) s.sublots (λ xs. record s { sublots = xs }) (λ xs x. refl) (λ xs x. refl) (λ xs x. refl) (λ xs x. refl) (λ x. refl) row keeps
 put_back s (Move row) keeps = record {
   added = added_back bytes_cmp nat_list_cmp_total (λ r. r.key) (λ r. Move r) s.moves (λ xs. record s { moves = xs }) (λ xs x. refl) (λ xs x. refl) (λ xs x. refl) row keeps;
   replaced = λ known found other. let was = mapped_some _ _ known found in absurd (other was.from (sym was.to));
+  moved = λ known found m is. record { there = refl; back = refl; kept = keeps };
 }
-put_back s (Result row) keeps = back_in result_cmp result_cmp_total (λ r. (r.lot, r.test, r.number)) (λ r. Result r) s.results (λ xs. record s { results = xs }) (λ xs x. refl) (λ xs x. refl) (λ xs x. refl) (λ xs x. refl) row keeps
-put_back s (Void row) keeps = back_in bytes_cmp nat_list_cmp_total (λ r. r.key) (λ r. Void r) s.voids (λ xs. record s { voids = xs }) (λ xs x. refl) (λ xs x. refl) (λ xs x. refl) (λ xs x. refl) row keeps
+put_back s (Result row) keeps = back_in result_cmp result_cmp_total (λ r. (r.lot, r.test, r.number)) (λ r. Result r) s.results (λ xs. record s { results = xs }) (λ xs x. refl) (λ xs x. refl) (λ xs x. refl) (λ xs x. refl) (λ x. refl) row keeps
+put_back s (Void row) keeps = back_in bytes_cmp nat_list_cmp_total (λ r. r.key) (λ r. Void r) s.voids (λ xs. record s { voids = xs }) (λ xs x. refl) (λ xs x. refl) (λ xs x. refl) (λ xs x. refl) (λ x. refl) row keeps

@@ -9,4 +9,5 @@ pub mod PutOrNot
 pub mod SliceFits
 pub mod PutTables
 pub mod Formers
+pub mod RowKinds
 mod Fronts

@@ -1,6 +1,6 @@
 -- What is seen of the rows of a slice.
 use Rattle.toll_base.specs.Slice.{Slice}
-use Rattle.toll_base.specs.declared.open_slice.OpenSlice.TheInside.{Inside}
+use Rattle.toll_base.specs.declared.tables.Tables.TheInside.{Inside}
 
 abbrev pub shown : Inside → Slice
 shown s = record {

@@ -23,6 +23,7 @@ mod slice;
 mod state;
 mod state_command;
 mod table;
+mod tables;
 mod text;
 mod value;
 

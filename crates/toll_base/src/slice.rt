@@ -16,6 +16,7 @@ use crate::rows::{
     BatchRow, LotRow, MaterialRow, OrderRow, RecipeRow, RequirementRow, ResultRow, Row, SublotRow,
     TestRow, VoidRow,
 };
+use crate::tables::Tables;
 use std::alloc::{AllocError, Global};
 use std::marker::Model;
 use std::mem;
@@ -70,7 +71,7 @@ impl Slice {
         ensures owner { result.now ≡ self.now.owner }
         ensures kept { KeepsRules self.now }
     {
-        self.rows().owner()
+        self.open_slice().owner()
     }
 
     /// Adds the row, or puts it in place of the one with its key. After want of memory nothing is
@@ -95,7 +96,7 @@ impl Slice {
     pub fn fits(&self, row: &Row) -> bool
         ensures { IsTrue result ↔ KeepsRules (with_row self.now row.now) }
     {
-        self.rows().fits(row)
+        self.open_slice().fits(row)
     }
 
     /// How many actuals the batch has, voided ones included.
@@ -105,8 +106,15 @@ impl Slice {
         self.rows().moves.count_actuals(order, number)
     }
 
+    // The rows in their tables.
+    fn rows(&self) -> &Tables
+        ensures { result.now ≡ self.now }
+    {
+        &self.open_slice().tables
+    }
+
     // The rows, wherever they are.
-    fn rows(&self) -> &OpenSlice
+    fn open_slice(&self) -> &OpenSlice
         ensures { result.now ≡ self.now }
     {
         match &self.rows {

@@ -68,6 +68,13 @@ impl<R: Keyed> Table<R> {
         }
     }
 
+    /// The row with this one's key.
+    pub(crate) fn get_like(&self, row: &R) -> Option<R>
+        ensures { result ≡ row_at R.Key.cmp R.key_of self.now (R.key_of row.now) }
+    {
+        self.get(&row.key())
+    }
+
     /// Whether the row's key is there, or there are less rows than this.
     pub fn has_room(&self, row: &R, most: usize) -> bool
         ensures { result ≡ has_room R.Key.cmp R.key_of most self.now row.now }
@@ -104,6 +111,13 @@ impl<R: Keyed> Table<R> {
         if let Ok(at) = self.search(key) {
             self.rows.remove(at);
         }
+    }
+
+    /// Takes out the row with this one's key, if there is one.
+    pub(crate) fn remove_like(&mut self, row: &R)
+        ensures { self.new ≡ remove_row R.Key.cmp R.key_of self.old (R.key_of row.now) }
+    {
+        self.remove(&row.key());
     }
 
     /// The same rows once more.

@@ -6,5 +6,5 @@ use Rattle.toll_base.proofs.open_slice.OpenSlice.fits.Goals as goal
 
 pub returns : goal.returns
 returns c =
-    subst (λ b. IsTrue b ↔ KeepsRules (with_row c.args.self.now c.args.row.now)) (sym c.row_fits.ensures)
-    (fits_exact c.args.self.now c.args.row.now (subst KeepsRules c.self.view_is c.self.invariant))
+    subst (λ s. IsTrue c.fits.result ↔ KeepsRules (with_row s c.args.row.now)) c.self.view_is
+    (subst (λ b. IsTrue b ↔ KeepsRules (with_row c.self.inside.tables c.args.row.now)) (sym c.fits.ensures) (fits_exact c.self.inside.tables c.args.row.now c.self.invariant))

@@ -2,4 +2,4 @@ use Rattle.toll_base.proofs.SliceFits.{empty_keeps}
 use Rattle.toll_base.proofs.open_slice.OpenSlice.new.Goals as goal
 
 pub invariant_of-result : goal.invariant_of-result
-invariant_of-result c = rw (c.new.ensures, c.new-2.ensures, c.new-3.ensures, c.new-4.ensures, c.new-5.ensures, c.new-6.ensures, c.new-7.ensures, c.new-8.ensures, c.new-9.ensures, c.new-10.ensures, c.new-11.ensures) (empty_keeps c.args.owner)
+invariant_of-result c = rw c.new.ensures (empty_keeps c.args.owner)
