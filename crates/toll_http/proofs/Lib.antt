@@ -1,4 +1,5 @@
 pub mod FieldLemmas
+pub mod HeadLemmas
 pub mod Fronts
 pub mod StreamLemmas
 pub mod ReadLemmas
