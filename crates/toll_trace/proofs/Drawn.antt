@@ -30,7 +30,7 @@ use Rattle.toll_trace.specs.InOrder.{IsInOrder}
 use Rattle.toll_base.specs.Lots.{edge_cmp}
 use Rattle.toll_trace.specs.Edges.{IsActual, IsDrawn, Stands, IsEdge, AreEdges}
 use Rattle.toll_trace.specs.Uses.{Batch, use_as, standing_use, uses, is_not_above, edge_between, edges_from}
-use Rattle.toll_trace.proofs.Members.{Contains-none, Contains-here, Contains-later, Contains-cases, Contains-map, Contains-from_map, Contains-filter, Contains-from_filter, Contains-filter_map, Contains-from_filter_map, Contains-flat_map, Contains-from_flat_map, member_of_all, kept_in_order}
+use Rattle.toll_trace.proofs.Members.{Contains-none, Contains-here, Contains-later, Contains-cases, Contains-map, Contains-from_map, Contains-filter, Contains-from_filter, Contains-filter_map, Contains-from_filter_map, Contains-flat_map, Contains-from_flat_map, member_of_all, kept_in_order, some_of}
 use Rattle.toll_trace.proofs.Orders.{edges_exact}
 
 -- ==== rows by their key
@@ -70,10 +70,6 @@ batches_total = then_total (on_total (λ (b : Batch). b.0) nat_list_cmp_total) (
 
 exact_batches : CmpEqualImpliesEq batch_cmp
 exact_batches = exact_pairs bytes_cmp nat_cmp exact_bytes exact_unsigned
-
-some_of : {X : Type 0} (b : Bool) (x y : X) → (if b then Some x else None) ≡ Some y → (b ≡ true) × (x ≡ y)
-some_of true x y h = (refl, (cc))
-some_of false x y h = absurd (cc)
 
 pub used_is : (role : Role) (row : MoveRow) (what : Move) (u : Batch × Use) → row.what ≡ what → use_as role what ≡ Some u → IsActual u.0.0 u.0.1 u.1.segment role u.1.lot row
 used_is role row (Actual order number segment recorded material lot sublot) u is h =

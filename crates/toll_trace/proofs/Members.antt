@@ -180,3 +180,8 @@ count-lt p q (y ∷ xs) h x i np nq = go (p y) (q y) refl refl (h y) (Contains-c
     go false true ep eq k w le ih = omega arith
     go false false ep eq k (inl e) le ih = absurd (false≢true (sym eq ∙ ap q e ∙ nq))
     go false false ep eq k (inr j) le ih = let lt = ih j in omega arith
+
+-- what is there only by a test
+pub some_of : {X : Type 0} (b : Bool) (x y : X) → (if b then Some x else None) ≡ Some y → (b ≡ true) × (x ≡ y)
+some_of true x y h = (refl, (cc))
+some_of false x y h = absurd (cc)

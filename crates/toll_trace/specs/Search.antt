@@ -1,11 +1,14 @@
 -- How a search for a trace goes: level by level, a level being the lots of one number of steps.
-use Rattle.std.specs.Prelude.{◌⊎◌, ℕ, Bool, List, Contains}
+use Rattle.std.specs.Prelude.{◌⊎◌, ◌&&◌, ℕ, Bool, not, Option, Some, None, List, Contains, if◌then◌else◌}
 use Rattle.std.specs.List.{list_any}
 use Rattle.std.specs.List.Sorted.{IsStrictlySortedBy}
 use Rattle.std.specs.Ordering.{is_eq}
 use Rattle.toll_base.specs.declared.lot.LotId.{LotId}
+use Rattle.toll_base.specs.declared.lot.Edge.{Edge}
 use Rattle.toll_trace.specs.declared.step.Step.{Step}
+use Rattle.toll_trace.specs.declared.way.Way.{Way}
 use Rattle.toll_base.specs.Lots.{lot_cmp}
+use Rattle.toll_trace.specs.Chain.{ends}
 use Rattle.toll_trace.specs.Trace.{lots_of}
 
 -- the lot, after so many steps
@@ -15,6 +18,10 @@ step_at n lot = record { steps = n; lot = lot }
 -- the lot is that of a step
 abbrev pub is_found : List Step → LotId → Bool
 is_found found lot = list_any (λ s. is_eq (lot_cmp lot s.lot)) found
+
+-- the lot that the edge leads to from one found, where it is not found
+abbrev pub next_lot : Way → List Step → Edge → Option LotId
+next_lot way found e = if is_found found (ends way e).0 && not (is_found found (ends way e).1) then Some (ends way e).1 else None
 
 -- the lots that one edge leads to from a lot found, and that are not found, in order
 pub record IsLevel (E : LotId → LotId → Type 0) (found : List Step) (lots : List LotId) : Type 0 where

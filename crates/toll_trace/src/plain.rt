@@ -1,7 +1,7 @@
 //! A trace by rounds over the whole list of edges.
-ghost use Rattle.std.specs.Prelude.{IfOk};
+ghost use Rattle.std.specs.Prelude.{◌≡◌, IfOk};
 ghost use Rattle.toll_trace.specs.Chain.{IsJoined};
-ghost use Rattle.toll_trace.specs.Search.{IsLevel};
+ghost use Rattle.toll_trace.specs.Search.{IsLevel, next_lot};
 ghost use Rattle.toll_trace.specs.Trace.{IsTrace};
 
 use crate::found::Found;
@@ -45,13 +45,21 @@ fn next_lots(
 ) -> Result<Vec<LotId>, AllocError>
     ensures { IfOk result (λ lots. IsLevel (IsJoined edges.now way) found.now lots.items) }
 {
-    let mut lots = Vec::new(alloc);
-    for edge in edges {
-        let (from, to) = way.ends(edge);
-        if found.has(&from) && !found.has(&to) {
-            lots.push(to)?;
-        }
-    }
+    let mut lots: Vec<LotId> = edges
+        .iter()
+        .filter_map(|edge| next_lot(edge, way, found))
+        .collect(alloc)?;
     put_in_order(&mut lots);
     Ok(lots)
+}
+
+/// The lot that the edge leads to from one found, where it is not found yet.
+fn next_lot(edge: &Edge, way: Way, found: &Found) -> Option<LotId>
+    ensures { result ≡ next_lot way found.now edge.now }
+{
+    let (from, to) = way.ends(edge);
+    if found.has(&from) && !found.has(&to) {
+        return Some(to);
+    }
+    None
 }

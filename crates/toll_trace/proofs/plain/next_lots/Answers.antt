@@ -1,12 +1,19 @@
-use Rattle.std.proofs.Common.{ap, ◌∙◌, subst}
-use Rattle.std.proofs.lemmas.List.{take_all}
+use Rattle.std.proofs.Common.{◌≡◌, Ok, subst, rules, tests}
+use Rattle.std.specs.declared.alloc.AllocError.{AllocError}
+use Rattle.std.specs.List.{filter_map}
+use Rattle.std.proofs.lemmas.Iterator.{YieldsList-from_slice, items_from_collect}
+use Rattle.std.proofs.lemmas.Iterator.Consumers.{YieldsList-from_filter_map}
 use Rattle.toll_trace.specs.InOrder.{IsInOrder}
 use Rattle.toll_base.specs.Lots.{lot_cmp}
-use Rattle.toll_trace.proofs.Rounds.{led_to, level_by_edges}
+use Rattle.toll_trace.specs.Search.{next_lot}
+use Rattle.toll_trace.proofs.Rounds.{level_by_edges}
 use Rattle.toll_trace.proofs.plain.next_lots.Goals as goal
 
 pub returns : goal.returns
 returns c =
-    let all = c.loop-edge.invariant ∙ ap (λ edges. led_to edges c.args.way c.args.found.now) (take_all c.loop-edge.edge-index c.args.edges.now c.loop-edge-test.false) in
+    let next = next_lot c.args.way c.args.found.now in
+    let led_to : c.in_ok-lots.lots.items ≡ filter_map next c.args.edges.now =
+    items_from_collect {E = AllocError} {s = c.filter_map.result} (Ok c.in_ok-lots.lots) c.in_ok-lots.ensures.ran
+    (YieldsList-from_filter_map _ next (YieldsList-from_slice c.args.edges.now cc) c.filter_map.ensures.closure (λ x r q k. search (rules, tests))) in
     level_by_edges c.args.edges.now c.args.way c.args.found.now c.put_in_order.new.items.items
-    (subst (λ lots. IsInOrder lot_cmp lots c.put_in_order.new.items.items) all c.put_in_order.ensures)
+    (subst (λ lots. IsInOrder lot_cmp lots c.put_in_order.new.items.items) led_to c.put_in_order.ensures)
