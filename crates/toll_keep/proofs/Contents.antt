@@ -1,13 +1,31 @@
 -- Contents with the same rows are one, and a content among some is one of them.
-use Rattle.std.proofs.Common.{◌≡◌, List, [], ◌∷◌, sym, inl, inr, subst}
+use Rattle.std.proofs.Common.{◌≡◌, true, Some, None, cond, List, [], ◌∷◌, Vec, Global, length, sym, ap, ◌∙◌, inl, inr, subst}
 use Rattle.std.specs.Prelude.{Contains}
+use Rattle.std.specs.Vec.{with_items}
+use Rattle.std.proofs.lemmas.List.{with_items_is}
 use Rattle.toll_base.specs.Bytes.{Bytes}
+use Rattle.toll_base.specs.Slice.{Slice}
+use Rattle.toll_base.specs.declared.rows.OwnerRow.{OwnerRow}
+use Rattle.toll_base.specs.declared.rows.UnitRow.{UnitRow}
 use Rattle.toll_trace.proofs.Members.{Contains-none, Contains-here, Contains-later, Contains-cases}
-use Rattle.toll_keep.specs.Content.{Content}
+use Rattle.toll_keep.specs.Content.{Content, knows, slice_of}
 use Rattle.toll_keep.specs.Goes.{IsAmong}
+use Rattle.toll_keep.specs.Slices.{Kept}
 
 pub same_content : (a b : Content) → a.owners ≡ b.owners → a.units ≡ b.units → ((o : Bytes) → a.rows o ≡ b.rows o) → a ≡ b
 same_content a b owners units rows = λ i. record { owners = owners i; units = units i; rows = λ o. rows o i }
+
+-- what is written back is there, where it is what was there
+pub written_back : {X : Type 0} (v : Vec X Global) (xs : List X) → xs ≡ v.items → (with_items v xs).items ≡ v.items
+written_back v xs same = with_items_is v xs (ap length same ∙ sym v.ok.0) ∙ same
+
+-- the same slices written back leave a keep as it was
+pub kept_still : (owners : List OwnerRow) (units : List UnitRow) (v : Vec Slice Global) (slices : List Slice) → slices ≡ v.items → ◌≡◌ {A = Kept} (record { owners = owners; units = units; slices = (with_items v slices).items }) (record { owners = owners; units = units; slices = v.items })
+kept_still owners units v slices same = ap (λ s. record { owners = owners; units = units; slices = s }) (written_back v slices same)
+
+-- the rows of an owner that is known are its slice
+pub known_slice : (c : Content) (o : Bytes) (s : Slice) → knows c o ≡ true → s ≡ c.rows o → Some s ≡ slice_of c o
+known_slice c o s known is = subst (λ b. Some s ≡ cond b (Some (c.rows o)) None) (sym known) (ap (λ rows. Some rows) is)
 
 pub among_contains : (a : Content) (cs : List Content) → IsAmong (λ c. a ≡ c) cs → Contains cs a
 among_contains a [] h = absurd h

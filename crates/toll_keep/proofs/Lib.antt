@@ -13,3 +13,4 @@ pub mod OneHolder
 pub mod UnitHolders
 pub mod Undoing
 pub mod RememberedLemmas
+pub mod Around

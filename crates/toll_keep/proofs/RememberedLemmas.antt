@@ -1,7 +1,5 @@
 -- Slices that are remembered: looked up, added, and after changes.
-use Rattle.std.proofs.Common.{◌≡◌, ◌≢◌, ℕ, Bool, true, false, cond, map, Some, None, Ok, List, [], ◌∷◌, ◌++◌, get_or, refl, sym, ap, subst, ◌∙◌}
-use mathlib.Core.Bool.{false≢true}
-use Rattle.std.proofs.Math.Logic.{∥∥₁_elim}
+use Rattle.std.proofs.Common.{◌≡◌, ℕ, Bool, true, false, cond, map, Some, None, List, [], ◌∷◌, ◌++◌, get_or, refl, sym, ap, subst, ◌∙◌}
 use Rattle.std.specs.Prelude.{position}
 use Rattle.std.proofs.lemmas.List.Elements.{All-get_or, All-push, All-weaker, All-map}
 use Rattle.std.proofs.lemmas.List.Quantifiers.{position-Some}
@@ -12,7 +10,6 @@ use Rattle.toll_base.specs.declared.decision.Change.{Change}
 use Rattle.toll_base.specs.declared.decision.Change.TheVariants.{Owner, Unit as UnitAdded, Put}
 use Rattle.toll_base.proofs.Texts.{same_bytes-exact}
 use Rattle.toll_keep.specs.Content.{Content, knows, slice_of, after}
-use Rattle.toll_keep.specs.Goes.{IsReading}
 use Rattle.toll_keep.specs.Remembered.{AreOf}
 use Rattle.toll_keep.specs.Slices.{is_of}
 use Rattle.toll_keep.proofs.Fitting.{own_after, known_after}
@@ -56,28 +53,3 @@ pub all_after : (changes : List Change) (c : Content) (slices : List Slice) → 
 all_after changes c slices all =
     All-map (λ s. slice_of (after changes c) s.owner ≡ Some s) (after_changes changes) slices
     (All-weaker (λ s. slice_of c s.owner ≡ Some s) (λ s. slice_of (after changes c) (after_changes changes s).owner ≡ Some (after_changes changes s)) (after_each changes c) slices all)
-
--- ---- what is answered with no call of the keep inside
-
--- where a slice is remembered the keep inside is open, and while it is honest it lives
-pub idle_reading : {S T X : Type 0} (inside : S → T) (slices : S → List Slice) (is_honest is_live : T → Type 0) (is_closed : T → Bool) (has_cause : T → T → Type 0) (leaves : T → List Content → Type 0) (holds : T → Content → Type 0) → ((k : T) (c : Content) → is_honest k → is_live k → holds k c → leaves k (c ∷ [])) → ((k : T) (a b : is_live k) → a ≡ b) → (old new : S) (x : X) → inside new ≡ inside old → slices new ≡ slices old → (slices old ≢ [] → is_closed (inside old) ≡ false) → (slices old ≢ [] → is_honest (inside old) → ∥ is_live (inside old) ∥₁) → slices old ≢ [] → IsReading (λ r. is_honest (inside r)) (λ r. is_live (inside r)) (λ r. is_closed (inside r)) (λ r s. has_cause (inside r) (inside s)) (λ r cs. leaves (inside r) cs) (λ r c. holds (inside r) c × AreOf c (slices r)) old new (Ok x)
-idle_reading inside slices is_honest is_live is_closed has_cause leaves holds settled once old new x same kept unclosed living some =
-    let open_there = unclosed some in
-    let live : is_honest (inside old) → is_live (inside old) = λ honest. ∥∥₁_elim (living some honest) (once (inside old)) (λ there. there) in
-    record {
-      goes = record {
-        honest = subst is_honest same;
-        closed = (λ e. absurd (cc e), λ closed. absurd (false≢true (sym open_there ∙ closed)));
-        closes = ap is_closed same ∙ open_there;
-        live = λ honest. subst is_live same;
-        shown = λ honest. subst is_live (sym same) (live (subst is_honest same honest));
-        cause = λ honest e. absurd (cc e);
-        since = λ honest later. subst (λ k. has_cause k (inside later)) same;
-        stays = λ closed. absurd (false≢true (sym open_there ∙ closed));
-      };
-      keeps = λ honest. record {
-        content = λ c held. (subst (λ k. holds k c) (sym same) held.0, subst (AreOf c) (sym kept) held.1);
-        crash = λ lives c held. subst (λ k. leaves k (c ∷ [])) (sym same) (settled (inside old) c (subst is_honest same honest) lives held.0);
-      };
-      whole = λ honest c held rules e. absurd (cc e);
-    }

@@ -12,7 +12,7 @@ use crate::fault::KeepFault;
 use crate::holder::{Holder, holder_among};
 use crate::keep::Keep;
 use crate::opening::open_touched;
-use crate::slices::{copy_of, install, place_of, share};
+use crate::slices::{install, place_of, shared_of};
 use std::alloc::{AllocError, Global};
 use std::marker::Model;
 use std::mem;
@@ -73,8 +73,7 @@ impl MemKeep {
         if !self.knows(owner) {
             return Ok(None);
         }
-        share(alloc, &mut self.slices, owner)?;
-        Ok(Some(copy_of(alloc, &self.slices, owner)?))
+        Ok(Some(shared_of(alloc, &mut self.slices, owner)?))
     }
 
     fn owners_edges(&self, alloc: Global, owner: &Name) -> Result<Vec<Edge>, AllocError>

@@ -6,7 +6,7 @@ ghost use Rattle.toll_keep.specs.Content.{Content, slice_of};
 ghost use Rattle.toll_keep.specs.Remembered.{AreOf};
 ghost use Rattle.toll_keep.specs.Slices.{is_of};
 
-use crate::slices::place_of;
+use crate::slices::{place_of, shared};
 use std::alloc::{AllocError, Global};
 use toll_base::{Change, Name, Row, Slice};
 
@@ -39,15 +39,6 @@ pub fn remember(
     };
     let _ = slices.push(copied);
     Some(slice)
-}
-
-// A copy that shares the slice's rows.
-fn shared(alloc: Global, slice: &mut Slice) -> Result<Slice, AllocError>
-    ensures copied { IfOk result (λ copied. copied ≡ slice.old) }
-    ensures same { slice.new ≡ slice.old }
-{
-    slice.share(alloc)?;
-    slice.copy(alloc)
 }
 
 /// Makes the changes in all of these slices, each in place where no other copy has its rows. Where

@@ -14,23 +14,23 @@ pub fn place_of(slices: &[Slice], owner: &Name) -> Option<usize>
     slices.iter().position(|slice| *slice.owner() == *owner)
 }
 
-/// A copy of the owner's slice, empty where there is none.
-pub fn copy_of(alloc: Global, slices: &[Slice], owner: &Name) -> Result<Slice, AllocError>
-    ensures { IfOk result (λ slice. slice ≡ rows_in slices.now owner.now) }
+/// A copy that shares the slice's rows.
+pub fn shared(alloc: Global, slice: &mut Slice) -> Result<Slice, AllocError>
+    ensures copied { IfOk result (λ copied. copied ≡ slice.old) }
+    ensures same { slice.new ≡ slice.old }
 {
-    match place_of(slices, owner) {
-        Some(at) => slices[at].copy(alloc),
-        None => Ok(Slice::new(alloc, *owner)),
-    }
+    slice.share(alloc)?;
+    slice.copy(alloc)
 }
 
-/// Lets copies of the owner's slice share its rows.
-pub fn share(alloc: Global, slices: &mut [Slice], owner: &Name) -> Result<(), AllocError>
-    ensures { slices.new ≡ slices.old }
+/// A copy of the owner's slice, that shares its rows: empty where there is none.
+pub fn shared_of(alloc: Global, slices: &mut [Slice], owner: &Name) -> Result<Slice, AllocError>
+    ensures copied { IfOk result (λ slice. slice ≡ rows_in slices.old owner.now) }
+    ensures same { slices.new ≡ slices.old }
 {
     match place_of(slices, owner) {
-        Some(at) => slices[at].share(alloc),
-        None => Ok(()),
+        Some(at) => shared(alloc, &mut slices[at]),
+        None => Ok(Slice::new(alloc, *owner)),
     }
 }
 

@@ -1,0 +1,17 @@
+use Rattle.std.proofs.Common.{◌≡◌, Err, rules, sym, ◌∙◌}
+use Rattle.toll_keep.proofs.Around.{none_stand, any_stand, reads_forgetting, reads_keeping}
+use Rattle.toll_keep.proofs.remembering.RememberingKeep.units.Goals as goal
+
+pub invariant_of-self : goal.invariant_of-self
+invariant_of-self g c = none_stand g.K.Keep _ _ _ c.replace-slices.ensures.after c.new.ensures.items
+
+pub returns-in_err-rows-clause-reading : goal.returns-in_err-rows-clause-reading
+returns-in_err-rows-clause-reading g c =
+    let is : c.from_residual.result ≡ Err c.in_err-rows.field-0.0 = search rules in
+    reads_forgetting g.K.Keep c.args.self.now _ c.units.result c.from_residual.result (is ∙ sym c.in_err-rows.was) _ c.replace-slices.ensures.after c.new.ensures.items c.units.ensures.reading
+
+pub invariant_of-self-2 : goal.invariant_of-self-2
+invariant_of-self-2 g c = any_stand g.K.Keep c.args.self.now.keep _ _ c.units.result _ c.in_ok-rows.was c.units.ensures.reading.goes
+
+pub returns-clause-reading : goal.returns-clause-reading
+returns-clause-reading g c = reads_keeping g.K.Keep c.args.self.now _ c.units.result _ (sym c.in_ok-rows.was) c.replace-slices.ensures.value c.units.ensures.reading
