@@ -1,5 +1,5 @@
 -- What a text asks for that compiles to one whole statement.
-use Rattle.std.proofs.Common.{◌≡◌, ◌-◌, ℕ, true, false, List, [], length, take_all, le-leb, None, Ok, if◌then◌else◌, refl, sym, ap, subst, ◌∙◌, arith}
+use Rattle.std.proofs.Common.{◌≡◌, ◌-◌, ℕ, false, List, [], length, take_all, le-leb, None, Ok, if◌then◌else◌, refl, sym, ap, subst, ◌∙◌, arith}
 use Rattle.sqlite.proofs.Callers.{IsPlain, command_of, statement_of}
 use Rattle.sqlite.specs.Command.{Command}
 use Rattle.sqlite.specs.Listing.{understood, reads_listing, misses_table, if_select, listing_schema}

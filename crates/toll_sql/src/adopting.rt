@@ -1,5 +1,5 @@
 //! Tables found.
-ghost use Rattle.std.specs.Prelude.{◌≡◌, ◌≢◌, ◌⊎◌, false, None, Some, Err, IsTrue, IfOk, IfErr};
+ghost use Rattle.std.specs.Prelude.{◌≡◌, ◌≢◌, ◌⊎◌, false, None, Some, Ok, Err, IsTrue, IfOk, IfErr};
 ghost use Rattle.sqlite.specs.Held.{state};
 ghost use Rattle.sqlite.specs.State.{HasCleanDisk};
 ghost use Rattle.sqlite.specs.Steps.{over_memory};
@@ -16,6 +16,7 @@ use crate::open_fault::{OpenFault, open_fault_of};
 use crate::ours::{Layout, layout_of};
 use crate::version::{find_version, read_first_version, read_version};
 use sqlite::{Alter, Connection, Error, ErrorCode, MemStore};
+use sqlite_schema::schema::Schema;
 use std::alloc::Global;
 
 /// The version of these tables.
@@ -36,14 +37,24 @@ pub fn adopt_tables<S: Alter>(alloc: Global, conn: &mut Connection<S>) -> Result
     if !conn.is_autocommit() {
         return Err(OpenFault::NotOurs);
     }
-    let office = match new_office(alloc) {
-        Ok(office) => office,
-        Err(_) => return Err(OpenFault::Memory),
-    };
-    match layout_of(conn.schema(), office.schema()) {
-        Layout::Ours => adopt_ours(conn),
-        Layout::First => adopt_first(conn),
-        Layout::Other => adopt_other(conn),
+    match layout_in(alloc, conn.schema()) {
+        Ok(Layout::Ours) => adopt_ours(conn),
+        Ok(Layout::First) => adopt_first(conn),
+        Ok(Layout::Other) => adopt_other(conn),
+        Err(fault) => Err(fault),
+    }
+}
+
+// Which tables these are. Memory where there is none to make the office's beside them.
+fn layout_in(alloc: Global, schema: &Schema) -> Result<Layout, OpenFault>
+    ensures ours { result ≡ Ok Layout.Ours → schema.now ≡ ours }
+    ensures first { result ≡ Ok Layout.First → schema.now ≡ first_ours }
+    ensures other { result ≡ Ok Layout.Other → (schema.now ≢ ours) × (schema.now ≢ first_ours) }
+    ensures fault { IfErr result (λ fault. fault ≡ OpenFault.Memory) }
+{
+    match new_office(alloc) {
+        Ok(office) => Ok(layout_of(schema, office.schema())),
+        Err(fault) => Err(fault),
     }
 }
 

@@ -83,13 +83,7 @@ impl<D: Disk + Drop> SqlKeep<FileStore<D>> {
         ensures copied { OnOk result (IsLeftIn self.conn) }
         ensures unclosed { IfErr result (λ fault. (last : _) × IsUnclosed self.conn last fault) }
     {
-        match self.into_connection().close_files() {
-            Ok(_) => Ok(()),
-            Err((error, store)) => {
-                drop(store.close());
-                Err(fault_of(error))
-            },
-        }
+        close_connection(self.into_connection())
     }
 }
 
@@ -107,8 +101,24 @@ impl<S: Start> SqlKeep<FileStore<FileFrom<S>>> {
         ensures made { IfOk result (λ keep. IsKeptFrom fresh (image_at S.Start) keep.conn × (keep.closed ≡ false)) }
         ensures refused { IfErr result (IsRefusedFrom ⟦<FileFrom<S> as Disk>⟧ fresh (image_at S.Start)) }
     {
-        let conn = connect(rt, path, start)?;
-        keep_of(rt.alloc(), conn, fresh)
+        match connect(rt, path, start) {
+            Ok(conn) => keep_of(rt.alloc(), conn, fresh),
+            Err(fault) => Err(fault),
+        }
+    }
+}
+
+// Closes the files of a connection, after what was committed was copied into the database file.
+fn close_connection<D: Disk + Drop>(conn: Connection<FileStore<D>>) -> Result<(), KeepFault>
+    ensures copied { OnOk result (IsLeftIn conn) }
+    ensures unclosed { IfErr result (λ fault. (last : _) × IsUnclosed conn last fault) }
+{
+    match conn.close_files() {
+        Ok(_) => Ok(()),
+        Err((error, store)) => {
+            drop(store.close());
+            Err(fault_of(error))
+        },
     }
 }
 

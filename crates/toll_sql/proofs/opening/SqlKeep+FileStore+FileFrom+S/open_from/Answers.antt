@@ -9,8 +9,8 @@ err_of : {T E : Type 0} {P Q : E → Type 0} → ((e : E) → P e → Q e) → (
 err_of so (Ok x) h = tt
 err_of so (Err e) h = so e h
 
-pub returns-clause-made : goal.returns-clause-made
-returns-clause-made g c = ok_of (λ keep it. ((c.in_ok-conn.conn, c.in_ok-conn.ensures.opened, it.0), it.1)) c.keep_of.result c.keep_of.ensures.made
+pub returns-in-Ok-clause-made : goal.returns-in-Ok-clause-made
+returns-in-Ok-clause-made g c = ok_of (λ keep it. ((c.in-Ok.conn, c.in-Ok.ensures.opened, it.0), it.1)) c.keep_of.result c.keep_of.ensures.made
 
-pub returns-clause-refused : goal.returns-clause-refused
-returns-clause-refused g c = err_of (λ fault it. inr (c.in_ok-conn.conn, c.in_ok-conn.ensures.opened, it)) c.keep_of.result c.keep_of.ensures.refused
+pub returns-in-Ok-clause-refused : goal.returns-in-Ok-clause-refused
+returns-in-Ok-clause-refused g c = err_of (λ fault it. inr (c.in-Ok.conn, c.in-Ok.ensures.opened, it)) c.keep_of.result c.keep_of.ensures.refused
