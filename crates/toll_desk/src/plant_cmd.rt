@@ -17,7 +17,7 @@ use toll_trace::Way;
 ///
 /// Each but [`PlantCmd::OwnerAdd`] and [`PlantCmd::UnitAdd`] is refused as [`Refusal::UnknownOwner`]
 /// where its owner is not known, before all else. Without an owner it concerns HOUSE.
-#[derive(Clone, Copy, PartialEq, Eq)]
+#[derive(Clone, Copy)]
 pub enum PlantCmd {
     /// Adds an owner with its key: [`Refusal::OwnerExists`] where there is one of this name, HOUSE
     /// included, then [`Refusal::LimitReached`] at 64 owners besides HOUSE.

@@ -5,7 +5,7 @@ use Rattle.std.proofs.lemmas.List.{append-nil, map_more, take_all, length-map}
 use Rattle.clap.specs.Walk.{Rule, Text}
 use Rattle.clap.specs.Simple.{App, Shape, new_shape, with_rule, with_subcommand}
 use Rattle.toll_plant.specs.Lines.{Argument, Line}
-use Rattle.toll_plant.specs.ClapWords.{line_shape, office, value_rule}
+use Rattle.toll_plant.specs.ClapWords.{line_shape, office, start, value_rule}
 
 -- ---- a line, value by value
 
@@ -34,9 +34,6 @@ values_added h name xs i app past inv =
     ap (λ (a : App). a.top) (inv ∙ ap (λ t. with_values name (map h t)) (take_all i xs past))
 
 -- ---- the office, line by line
-
-abbrev pub start : App
-start = record (office []) { top = record ((office []).top) { is_leaf = true } }
 
 abbrev pub adds : App → Line → App
 adds a l = with_subcommand a (line_shape l)

@@ -27,6 +27,10 @@ office lines = record {
   subs = map line_shape lines;
 }
 
+-- the same before any line is added, when it has no subcommands
+abbrev pub start : App
+start = record (office []) { top = record ((office []).top) { is_leaf = true } }
+
 -- the names differ from one another and from those that were seen
 abbrev pub are_new : List Bytes → List Bytes → Bool
 are_new seen [] = true

@@ -3,7 +3,7 @@ ghost use Rattle.std.specs.Prelude.{◌≡◌, ◌<◌, IfOk, Some, true, false,
 ghost use Rattle.clap.specs.Words.{app_of, first_value, found_of, shape_of};
 ghost use Rattle.clap.specs.declared.builder.command.Command.TheViews.{out-Command};
 ghost use Rattle.std.specs.List.{list_all};
-ghost use Rattle.toll_plant.specs.ClapWords.{are_sound, line_shape, office};
+ghost use Rattle.toll_plant.specs.ClapWords.{are_sound, line_shape, office, start};
 ghost use Rattle.toll_plant.specs.Lines.{line_of};
 ghost use Rattle.toll_plant.specs.Shown.{shown};
 ghost use Rattle.toll_plant.specs.Words.{IsUsageOnlyOf};
@@ -77,10 +77,21 @@ fn usage_text<'a>(
 ) -> Result<String, AllocError>
     requires { 0 < length lines.now }
 {
-    match office(alloc, lines)?.try_get_matches_from(words) {
-        Ok(_matches) => office(alloc, lines)?.render_usage(),
-        Err(why) => text_of(alloc, &why),
+    match error_of(alloc, lines, words)? {
+        Some(why) => text_of(alloc, &why),
+        None => office(alloc, lines)?.render_usage(),
     }
+}
+
+// What `clap` finds wrong with the words, if anything.
+fn error_of<'a>(
+    alloc: Global,
+    lines: &'a [Line<'a>],
+    words: &'a [&'a str],
+) -> Result<Option<Error>, AllocError>
+    requires { 0 < length lines.now }
+{
+    Ok(office(alloc, lines)?.try_get_matches_from(words).err())
 }
 
 fn text_of(alloc: Global, why: &Error) -> Result<String, AllocError> {
@@ -95,14 +106,21 @@ fn office<'a>(alloc: Global, lines: &'a [Line<'a>]) -> Result<Command<'a>, Alloc
     requires { 0 < length lines.now }
     ensures { IfOk result (λ c. app_of c ≡ office (map shown lines.now)) }
 {
-    let mut office = Command::new(alloc, "toll")
-        .no_binary_name(true)
-        .disable_help_flag(true)
-        .disable_help_subcommand(true);
+    let mut office = without_commands(alloc);
     for line in lines {
         office = office.subcommand(line_command(alloc, line)?)?;
     }
     Ok(office)
+}
+
+// The program, before its commands are added.
+fn without_commands<'a>(alloc: Global) -> Command<'a>
+    ensures { app_of result ≡ start }
+{
+    Command::new(alloc, "toll")
+        .no_binary_name(true)
+        .disable_help_flag(true)
+        .disable_help_subcommand(true)
 }
 
 // One command, whose values are required.

@@ -11,7 +11,7 @@ use crate::questions::{batch, orders, recall, stock, trace};
 use toll_desk::PlantCmd;
 
 /// The commands that words can ask for.
-#[derive(Clone, Copy, PartialEq, Eq)]
+#[derive(Clone, Copy)]
 pub enum CommandName {
     OwnerAdd,
     UnitAdd,

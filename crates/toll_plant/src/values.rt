@@ -9,18 +9,15 @@ use crate::command::command_from;
 use crate::line::Line;
 use std::alloc::{AllocError, Global};
 use std::convert::AsSlice;
-use thiserror::Error;
 use toll_base::Refusal;
 use toll_desk::PlantCmd;
 
 /// Why values were not read.
-#[derive(Clone, Copy, Debug, PartialEq, Eq, Drop, Error)]
+#[derive(Clone, Copy)]
 pub enum Unread {
     /// There was no memory.
-    #[error("Memory")]
     Memory,
     /// The first value that can't be read is refused so.
-    #[error("{0}")]
     Refused(Refusal),
 }
 

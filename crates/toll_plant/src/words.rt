@@ -24,12 +24,13 @@ pub fn command_of(alloc: Global, words: &[&str]) -> Result<PlantCmd, WordsFault>
     ensures command { IfOk result (λ command. command_of_words (map (λ w. w.now) words.entry.now) ≡ Some command) }
     ensures usage { IfErr result (IsUsageOnlyOf (map (λ w. w.now) words.entry.now)) }
 {
-    match fitting(&LINES, words) {
+    let lines = &LINES;
+    match fitting(lines, words) {
         Some(line) => {
-            let values = values_of(alloc, &LINES, line, words)?;
+            let values = values_of(alloc, lines, line, words)?;
             Ok(read(alloc, line, values.as_slice())?)
         }
-        None => Err(usage_of(alloc, &LINES, words)),
+        None => Err(usage_of(alloc, lines, words)),
     }
 }
 

@@ -6,27 +6,22 @@ ghost use Rattle.toll_programs.specs.Script.{AsksFor, script_lines, asked_by, re
 use crate::cutting::cut;
 use crate::request_line::RequestLine;
 use std::alloc::{AllocError, Global};
-use thiserror::Error;
 use toll_plant::{WordsFault, command_of};
 use toll_wire::Event;
 
 /// Why a script gave no events.
-#[derive(Clone, Copy, Debug, PartialEq, Eq, Drop, Error)]
+#[derive(Clone, Copy)]
 pub enum ScriptFault {
     /// There was no memory.
-    #[error("Memory")]
     Memory,
     /// The line of this number, counted from 1, is the first that is bad.
-    #[error("bad line {0}")]
     BadLine(u64),
 }
 
 /// Why a line gave no event.
-#[derive(Clone, Copy, Debug, PartialEq, Eq, Drop, Error)]
+#[derive(Clone, Copy)]
 enum LineFault {
-    #[error("Memory")]
     Memory,
-    #[error("bad line")]
     Bad,
 }
 

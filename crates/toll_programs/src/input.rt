@@ -13,16 +13,13 @@ use toll_wire::{Source, read_behind};
 const TEXT_LIMIT: usize = 1_048_576;
 
 /// Why a script was not read.
-#[derive(Clone, Copy, Debug, PartialEq, Eq, Drop, Error)]
+#[derive(Clone, Copy)]
 pub enum InputFault {
     /// There was no memory.
-    #[error("Memory")]
     Memory,
     /// The input has more bytes than a script may have. One byte more than that was read.
-    #[error("too long")]
     TooLong,
     /// A read failed.
-    #[error("Read")]
     Read,
 }
 

@@ -6,7 +6,7 @@ ghost use Rattle.toll_programs.specs.Tasks.{asked_for, asked_of_office, asked_of
 use toll_base::number;
 
 /// What the program is asked for.
-#[derive(Clone, Copy, Debug, PartialEq, Eq)]
+#[derive(Clone, Copy, PartialEq, Eq)]
 pub enum Task<'a> {
     /// A script, from standard input.
     Script,

@@ -2,8 +2,9 @@
 use Rattle.std.proofs.Common.{◌≡◌, map, take}
 use Rattle.std.specs.Prelude.{fold}
 use Rattle.clap.specs.Words.{app_of}
+use Rattle.toll_plant.specs.ClapWords.{start}
 use Rattle.toll_plant.specs.Shown.{shown}
-use Rattle.toll_plant.proofs.GrowthLemmas.{adds, start}
+use Rattle.toll_plant.proofs.GrowthLemmas.{adds}
 use Rattle.toll_plant.proofs.clap_words.office.Given as goal
 
 abbrev pub invariant-loop-line : goal.invariant-loop-line
