@@ -12,5 +12,3 @@ mod states;
 mod trace;
 #[cfg(test)]
 mod values;
-#[cfg(test)]
-mod views;

@@ -6,21 +6,35 @@ use toll_base::{
     Segment, Slice, Value, number,
 };
 
+// Names as they may be written, and what the others are refused as.
+const NAMES: &[(&[u8], Option<Refusal>)] = &[
+    (b"HOUSE", None),
+    (b"ABCDEFGHIJKLMN-9", None),
+    (b"", Some(Refusal::BadName)),
+    (b"-A", Some(Refusal::BadName)),
+    (b"a", Some(Refusal::BadName)),
+    (b"A B", Some(Refusal::BadName)),
+    (b"ABCDEFGHIJKLMNOPQ", Some(Refusal::BadName)),
+];
+
 #[test]
 fn names_are_read(rt: HostRuntime) {
-    assert_eq!(rt; Name::parse(b"HOUSE"), Ok(Name::house()));
-    assert!(rt; Name::parse(b"ABCDEFGHIJKLMN-9").is_ok());
-    for bad in [b"".as_slice(), b"-A", b"a", b"A B", b"ABCDEFGHIJKLMNOPQ"] {
-        assert_eq!(rt; Name::parse(bad), Err(Refusal::BadName));
+    for line in NAMES {
+        let (text, refused) = *line;
+        assert_eq!(rt; Name::parse(text).err(), refused);
     }
 }
 
 #[test]
 fn keys_and_measures_are_read(rt: HostRuntime) {
-    assert!(rt; OwnerKey::parse(b"ACMEKEY1").is_ok());
-    assert_eq!(rt; OwnerKey::parse(b"ACMEKEY"), Err(Refusal::BadName));
-    assert!(rt; Measure::parse(b"kg").is_ok());
-    assert_eq!(rt; Measure::parse(b"kg1"), Err(Refusal::BadName));
+    let read = (
+        OwnerKey::parse(b"ACMEKEY1").err(),
+        OwnerKey::parse(b"ACMEKEY").err(),
+        Measure::parse(b"kg").err(),
+        Measure::parse(b"kg1").err(),
+    );
+    let bad = Some(Refusal::BadName);
+    assert_eq!(rt; read, (None, bad, None, bad));
 }
 
 #[test]
@@ -41,21 +55,26 @@ fn numbers_are_read(rt: HostRuntime) {
 
 #[test]
 fn values_have_bounds(rt: HostRuntime) {
-    assert_eq!(rt; Amount::new(0), Err(Refusal::BadAmount));
-    assert!(rt; Amount::new(1_000_000_000).is_ok());
-    assert_eq!(rt; Amount::new(1_000_000_001), Err(Refusal::BadAmount));
-    assert!(rt; Day::new(9_999_999).is_ok());
-    assert_eq!(rt; Day::new(10_000_000), Err(Refusal::BadAmount));
-    assert_eq!(rt; Segment::new(51), Err(Refusal::BadAmount));
-    assert_eq!(rt; BatchNo::new(100), Err(Refusal::BadAmount));
-    assert_eq!(rt; Value::new(-1_000_000_001), Err(Refusal::BadAmount));
+    let inside = (Amount::new(1_000_000_000).err(), Day::new(9_999_999).err());
+    let outside = (
+        Amount::new(0).err(),
+        Amount::new(1_000_000_001).err(),
+        Day::new(10_000_000).err(),
+        Segment::new(51).err(),
+        BatchNo::new(100).err(),
+        Value::new(-1_000_000_001).err(),
+    );
+    let bad = Some(Refusal::BadAmount);
+    assert_eq!(rt; inside, (None, None));
+    assert_eq!(rt; outside, (bad, bad, bad, bad, bad, bad));
 }
 
 #[test]
 fn refusals_are_told(rt: HostRuntime) -> Result<(), Fail> {
-    assert_eq!(rt; Refusal::LimitReached.code(), 39);
-    assert_eq!(rt; Refusal::LimitReached.title(), "LimitReached");
-    assert_eq!(rt; Refusal::Voided.to_string(rt.alloc())?.as_str(), "Voided");
+    let last = Refusal::LimitReached;
+    let shown = Refusal::Voided.to_string(rt.alloc())?;
+    let told = (last.code(), last.title(), shown.as_str());
+    assert_eq!(rt; told, (39, "LimitReached", "Voided"));
     Ok(())
 }
 

@@ -70,16 +70,14 @@ fn is_lot(lot: &LotId, named: Named) -> bool {
     lot.owner.as_bytes() == owner.as_bytes() && lot.lot.as_bytes() == name.as_bytes()
 }
 
+fn leads_to_p1(edge: &Edge, from: Named) -> bool {
+    is_lot(&edge.from, from) && is_lot(&edge.to, ("ACME", "P1"))
+}
+
 /// Whether these are edges from these lots to P1, one of each.
 fn lead_to_p1(edges: &[Edge], from: &[Named]) -> bool {
-    if edges.len() != from.len() {
-        return false;
-    }
-    let mut all = true;
-    for (edge, named) in edges.iter().zip(from) {
-        all = all && is_lot(&edge.from, *named) && is_lot(&edge.to, ("ACME", "P1"));
-    }
-    all
+    let mut pairs = edges.iter().zip(from);
+    edges.len() == from.len() && pairs.all(|(edge, named)| leads_to_p1(edge, *named))
 }
 
 /// Whether the actuals, with these keys voided, draw the edges from these lots to P1.
