@@ -4,11 +4,11 @@
 mod batches;
 mod genealogy;
 mod limits;
-mod lines;
+pub(crate) mod lines;
 mod lots;
 mod movements;
 mod owners;
 mod request_words;
 mod said;
-mod setups;
+pub(crate) mod setups;
 mod voids;

@@ -5,5 +5,4 @@ mod cuts;
 mod files;
 mod imports;
 mod lines;
-mod setups;
 mod tests;

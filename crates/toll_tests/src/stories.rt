@@ -2,6 +2,7 @@
 //! tables; owners' lines as requests, the plant's as commands, what is replied said as text, and how several
 //! stories begin.
 
+mod checks;
 mod commands;
 mod http;
 mod keeps;
@@ -9,12 +10,13 @@ mod lines;
 mod said;
 mod setups;
 
+pub use checks::check;
 pub use commands::plant_cmd;
 pub use http::{reply_said, request_of};
 pub use keeps::{TableKeep, empty_tables, taken_over};
 pub use lines::{
     Line, Teller, are_said, check_lines, check_said, check_said_over, check_said_over_lists,
-    say_to_plant,
+    say_to_file, say_to_plant,
 };
 pub use said::{plant_said, said_fault, said_refusal, said_text, text_of};
 pub use setups::{

@@ -57,9 +57,10 @@ const CANCELLED: &[Line] = &[
     ("> ACME ACMEKEY1 place O-1 R 2", "order O-1 R 2 cancelled"),
     ("> ACME ACMEKEY1 cancel O-1", "refused 19"),
     ("open ACME O-1 U1", "refused 19"),
+    ("> ACME ACMEKEY1 place B R 99", "order B R 99 open"),
     (
         "orders ACME",
-        "O                R                 1 open\nO-1              R                 2 cancelled\n",
+        "B                R                99 open\nO                R                 1 open\nO-1              R                 2 cancelled\n",
     ),
 ];
 

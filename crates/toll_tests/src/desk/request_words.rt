@@ -5,11 +5,19 @@ use toll_desk::Request;
 /// The request of these words; `None` where one can't be read.
 pub(crate) fn request(words: &[&str]) -> Option<Request> {
     match words {
-        ["orders"] => Some(Request::Orders),
-        ["stock"] => Some(Request::Stock),
-        ["place", order, recipe, batches] => placing(order, recipe, batches),
-        ["batch", order, number] => batch(order, number),
+        [what] => alone(what),
         [what, of] => about(what, of),
+        ["batch", order, number] => batch(order, number),
+        ["place", order, recipe, batches] => placing(order, recipe, batches),
+        _ => None,
+    }
+}
+
+// A request of one word.
+fn alone(what: &str) -> Option<Request> {
+    match what {
+        "orders" => Some(Request::Orders),
+        "stock" => Some(Request::Stock),
         _ => None,
     }
 }

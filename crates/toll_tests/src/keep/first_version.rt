@@ -1,9 +1,10 @@
 //! Stores of version 1, made by its statements: adopted with their rows, and refused where the version is
 //! another one.
-use crate::keep::tables::{adopted, assert_refused, assert_told};
+use crate::keep::tables::{adopted, check_refused};
+use crate::keep::told::check_all;
+use crate::stories::check;
 use sqlite::{Connection, MemStore};
 use std::alloc::Global;
-use std::process::Abort;
 use std::test::Fail;
 use toll_sql::OpenFault;
 
@@ -58,53 +59,49 @@ fn number(conn: &mut Connection<MemStore>, statement: &str) -> Result<i64, Fail>
 #[test]
 fn a_store_of_version_1_is_adopted_with_its_rows(rt: HostRuntime) -> Result<(), Fail> {
     let conn = first_store(rt.alloc())?;
-    assert_told(&rt, &mut adopted(rt.alloc(), conn)?)
+    check_all(rt.alloc(), &mut adopted(rt.alloc(), conn)?)
 }
 
 #[test]
 fn an_adopted_store_has_version_2_and_voids(rt: HostRuntime) -> Result<(), Fail> {
     let conn = first_store(rt.alloc())?;
     let mut conn = adopted(rt.alloc(), conn)?.into_connection();
-    assert_eq!(rt;
-        number(&mut conn, "SELECT value FROM meta WHERE name = 'toll'")?,
-        2
-    );
-    assert_eq!(rt; number(&mut conn, "SELECT COUNT(*) FROM meta")?, 1);
-    assert_eq!(rt; number(&mut conn, "SELECT COUNT(*) FROM voids")?, 0);
-    Ok(())
+    let version = number(&mut conn, "SELECT value FROM meta WHERE name = 'toll'")?;
+    let rows = number(&mut conn, "SELECT COUNT(*) FROM meta")?;
+    let voids = number(&mut conn, "SELECT COUNT(*) FROM voids")?;
+    check((version, rows, voids) == (2, 1, 0), "another version")
 }
 
 #[test]
 fn an_adopted_store_is_adopted_again(rt: HostRuntime) -> Result<(), Fail> {
     let conn = first_store(rt.alloc())?;
     let conn = adopted(rt.alloc(), conn)?.into_connection();
-    assert_told(&rt, &mut adopted(rt.alloc(), conn)?)
+    check_all(rt.alloc(), &mut adopted(rt.alloc(), conn)?)
 }
 
-// Asserts that the tables of version 1 are refused so after this statement.
-fn assert_first_refused(
-    rt: &(impl Abort + AllocGlobal),
-    statement: &str,
-    wanted: OpenFault,
-) -> Result<(), Fail> {
-    let conn = first_store(rt.alloc())?;
-    assert_refused(rt, conn, statement, wanted)
+// Fails where the tables of version 1 are not refused so after this statement.
+fn check_first_refused(alloc: Global, statement: &str, wanted: OpenFault) -> Result<(), Fail> {
+    check_refused(alloc, first_store(alloc)?, statement, wanted)
 }
 
 #[test]
 fn tables_of_version_1_with_another_version_are_not_ours(rt: HostRuntime) -> Result<(), Fail> {
-    assert_first_refused(&rt, "UPDATE meta SET value = 0", OpenFault::NotOurs)?;
-    assert_first_refused(&rt, "UPDATE meta SET value = 3", OpenFault::NotOurs)?;
-    assert_first_refused(&rt, "UPDATE meta SET value = -1", OpenFault::NotOurs)?;
-    assert_first_refused(&rt, "UPDATE meta SET name = 'till'", OpenFault::NotOurs)
+    check_first_refused(rt.alloc(), "UPDATE meta SET value = 0", OpenFault::NotOurs)?;
+    check_first_refused(rt.alloc(), "UPDATE meta SET value = 3", OpenFault::NotOurs)?;
+    check_first_refused(rt.alloc(), "UPDATE meta SET value = -1", OpenFault::NotOurs)?;
+    check_first_refused(
+        rt.alloc(),
+        "UPDATE meta SET name = 'till'",
+        OpenFault::NotOurs,
+    )
 }
 
 #[test]
 fn tables_of_version_1_that_tell_version_2_are_damage(rt: HostRuntime) -> Result<(), Fail> {
-    assert_first_refused(&rt, "UPDATE meta SET value = 2", OpenFault::Damaged)
+    check_first_refused(rt.alloc(), "UPDATE meta SET value = 2", OpenFault::Damaged)
 }
 
 #[test]
 fn a_missing_table_of_version_1_is_damage(rt: HostRuntime) -> Result<(), Fail> {
-    assert_first_refused(&rt, "DROP TABLE results", OpenFault::Damaged)
+    check_first_refused(rt.alloc(), "DROP TABLE results", OpenFault::Damaged)
 }

@@ -1,11 +1,9 @@
 //! Rows in SQLite: told as those in memory, found again, and damaged ones never taken as true.
-use crate::keep::rows::{acme, batch, counts, fill_all};
-use crate::keep::told::{
-    assert_edges_told, assert_holder_told, assert_owners_told, assert_rows_told,
-};
+use crate::keep::rows::{acme, batch, fill_all};
+use crate::keep::told::{check_all, check_counts};
+use crate::stories::check;
 use sqlite::{Connection, MemStore};
 use std::alloc::Global;
-use std::process::Abort;
 use std::test::Fail;
 use toll_keep::{Keep, KeepFault, Remembering};
 use toll_sql::{OpenFault, SqlKeep};
@@ -27,78 +25,74 @@ pub(crate) fn adopted(
     }
 }
 
-/// Asserts that all rows that were put are told.
-pub(crate) fn assert_told<K: Keep>(
-    rt: &(impl Abort + AllocGlobal),
-    keep: &mut K,
-) -> Result<(), Fail> {
-    assert_owners_told(rt, keep)?;
-    assert_rows_told(rt, keep)?;
-    assert_holder_told(rt, keep)?;
-    assert_edges_told(rt, keep)
-}
-
 #[test]
 fn tables_are_told_as_lists_are(rt: HostRuntime) -> Result<(), Fail> {
-    assert_told(&rt, &mut filled(rt.alloc())?)
+    check_all(rt.alloc(), &mut filled(rt.alloc())?)
 }
 
 #[test]
 fn tables_are_told_by_a_keep_that_remembers(rt: HostRuntime) -> Result<(), Fail> {
-    assert_told(&rt, &mut Remembering::new(rt.alloc(), filled(rt.alloc())?))
+    check_all(
+        rt.alloc(),
+        &mut Remembering::new(rt.alloc(), filled(rt.alloc())?),
+    )
 }
 
 #[test]
 fn a_store_that_is_adopted_has_its_rows(rt: HostRuntime) -> Result<(), Fail> {
     let conn = filled(rt.alloc())?.into_connection();
-    assert_told(&rt, &mut adopted(rt.alloc(), conn)?)
+    check_all(rt.alloc(), &mut adopted(rt.alloc(), conn)?)
 }
 
 #[test]
 fn tables_are_made_once(rt: HostRuntime) -> Result<(), Fail> {
     let conn = filled(rt.alloc())?.into_connection();
     let Some((fault, conn)) = SqlKeep::create(conn).err() else {
-        panic!(rt; "made over tables");
+        return Err("made over tables".into());
     };
-    assert_eq!(rt; fault, OpenFault::NotOurs);
-    assert_told(&rt, &mut adopted(rt.alloc(), conn)?)
+    check(fault == OpenFault::NotOurs, "refused otherwise")?;
+    check_all(rt.alloc(), &mut adopted(rt.alloc(), conn)?)
 }
 
-/// Asserts that a store is refused so after this statement.
-pub(crate) fn assert_refused(
-    rt: &(impl Abort + AllocGlobal),
+/// Fails where a store is not refused so after this statement.
+pub(crate) fn check_refused(
+    alloc: Global,
     mut conn: Connection<MemStore>,
     statement: &str,
     wanted: OpenFault,
 ) -> Result<(), Fail> {
     conn.execute(statement, &[])?;
-    let refused = SqlKeep::adopt(rt.alloc(), conn)
-        .err()
-        .map(|(fault, _)| fault);
-    assert_eq!(rt; refused, Some(wanted), "{statement}");
-    Ok(())
+    match SqlKeep::adopt(alloc, conn) {
+        Err((fault, _)) if fault == wanted => Ok(()),
+        _ => Err(statement.into()),
+    }
 }
 
 #[test]
 fn a_store_of_others_is_not_ours(rt: HostRuntime) -> Result<(), Fail> {
     let foreign = Connection::open_in_memory(rt.alloc())?;
-    assert_refused(
-        &rt,
+    check_refused(
+        rt.alloc(),
         foreign,
         "CREATE TABLE notes (note TEXT)",
         OpenFault::NotOurs,
     )?;
     let later = filled(rt.alloc())?.into_connection();
-    assert_refused(&rt, later, "UPDATE meta SET value = 3", OpenFault::NotOurs)?;
+    check_refused(
+        rt.alloc(),
+        later,
+        "UPDATE meta SET value = 3",
+        OpenFault::NotOurs,
+    )?;
     let emptied = filled(rt.alloc())?.into_connection();
-    assert_refused(&rt, emptied, "DELETE FROM meta", OpenFault::NotOurs)
+    check_refused(rt.alloc(), emptied, "DELETE FROM meta", OpenFault::NotOurs)
 }
 
 #[test]
 fn a_missing_table_is_damage(rt: HostRuntime) -> Result<(), Fail> {
     for drop in ["DROP TABLE voids", "DROP TABLE results"] {
         let conn = filled(rt.alloc())?.into_connection();
-        assert_refused(&rt, conn, drop, OpenFault::Damaged)?;
+        check_refused(rt.alloc(), conn, drop, OpenFault::Damaged)?;
     }
     Ok(())
 }
@@ -106,7 +100,12 @@ fn a_missing_table_is_damage(rt: HostRuntime) -> Result<(), Fail> {
 #[test]
 fn tables_that_tell_version_1_are_damage(rt: HostRuntime) -> Result<(), Fail> {
     let conn = filled(rt.alloc())?.into_connection();
-    assert_refused(&rt, conn, "UPDATE meta SET value = 1", OpenFault::Damaged)
+    check_refused(
+        rt.alloc(),
+        conn,
+        "UPDATE meta SET value = 1",
+        OpenFault::Damaged,
+    )
 }
 
 // Statements that leave rows which nobody may take as true.
@@ -135,57 +134,47 @@ fn damaged(alloc: Global, damage: &str) -> Result<Connection<MemStore>, Fail> {
     Ok(conn)
 }
 
-// Asserts that the calls that tell and change rows answer Closed.
-fn assert_rows_closed<K: Keep>(
-    rt: &(impl Abort + AllocGlobal),
-    keep: &mut K,
-    damage: &str,
-) -> Result<(), Fail> {
-    let alloc = rt.alloc();
+// Whether the calls that tell and change rows answer Closed.
+fn are_rows_closed<K: Keep>(alloc: Global, keep: &mut K) -> Result<bool, Fail> {
     let closed = Some(KeepFault::Closed);
-    assert_eq!(rt; keep.slice(alloc, &acme()?.owner).err(), closed, "{damage}");
-    assert_eq!(rt; keep.owners(alloc).err(), closed, "{damage}");
-    assert_eq!(rt; keep.units(alloc).err(), closed, "{damage}");
-    assert_eq!(rt; keep.apply(alloc, &[]).err(), closed, "{damage}");
-    Ok(())
+    Ok(
+        keep.slice(alloc, &acme()?.owner).err() == closed
+            && keep.owners(alloc).err() == closed
+            && keep.units(alloc).err() == closed
+            && keep.apply(alloc, &[]).err() == closed,
+    )
 }
 
-// Asserts that the calls that tell who holds a unit, and edges, answer Closed.
-fn assert_genealogy_closed<K: Keep>(
-    rt: &(impl Abort + AllocGlobal),
-    keep: &mut K,
-    damage: &str,
-) -> Result<(), Fail> {
-    let alloc = rt.alloc();
+// Whether the calls that tell who holds a unit, and edges, answer Closed.
+fn is_genealogy_closed<K: Keep>(alloc: Global, keep: &mut K) -> Result<bool, Fail> {
     let closed = Some(KeepFault::Closed);
-    assert_eq!(rt;
-        keep.holder(alloc, &batch()?.unit).err(),
-        closed,
-        "{damage}"
-    );
-    assert_eq!(rt; keep.edges(alloc, &acme()?.owner).err(), closed, "{damage}");
-    assert_eq!(rt; keep.all_edges(alloc).err(), closed, "{damage}");
-    Ok(())
+    Ok(
+        keep.holder(alloc, &batch()?.unit).err() == closed
+            && keep.edges(alloc, &acme()?.owner).err() == closed
+            && keep.all_edges(alloc).err() == closed,
+    )
 }
 
-// Asserts that the damage is found when the rows are read, and that the keep is closed then.
-fn assert_damage_found(rt: &(impl Abort + AllocGlobal), damage: &str) -> Result<(), Fail> {
-    let alloc = rt.alloc();
+// Whether damage is found when the rows are read, and the keep is closed then.
+fn is_damaged<K: Keep>(alloc: Global, keep: &mut K) -> Result<bool, Fail> {
+    let found = keep.slice(alloc, &acme()?.owner).err();
+    Ok(
+        found == Some(KeepFault::Damaged)
+            && are_rows_closed(alloc, keep)?
+            && is_genealogy_closed(alloc, keep)?,
+    )
+}
+
+// Fails where the damage is not found.
+fn check_damage(alloc: Global, damage: &str) -> Result<(), Fail> {
     let mut keep = adopted(alloc, damaged(alloc, damage)?)?;
-    let owner = acme()?.owner;
-    assert_eq!(rt;
-        keep.slice(alloc, &owner).err(),
-        Some(KeepFault::Damaged),
-        "{damage}"
-    );
-    assert_rows_closed(rt, &mut keep, damage)?;
-    assert_genealogy_closed(rt, &mut keep, damage)
+    check(is_damaged(alloc, &mut keep)?, damage)
 }
 
 #[test]
 fn damaged_rows_are_found_and_close_the_keep(rt: HostRuntime) -> Result<(), Fail> {
     for damage in DAMAGES {
-        assert_damage_found(&rt, damage)?;
+        check_damage(rt.alloc(), damage)?;
     }
     Ok(())
 }
@@ -194,11 +183,7 @@ fn damaged_rows_are_found_and_close_the_keep(rt: HostRuntime) -> Result<(), Fail
 fn rows_within_the_bounds_are_no_damage(rt: HostRuntime) -> Result<(), Fail> {
     let alloc = rt.alloc();
     let mut keep = adopted(alloc, damaged(alloc, BOUNDS)?)?;
-    assert_eq!(rt;
-        counts(alloc, &mut keep, &acme()?.owner)?,
-        Some((1, 20_000))
-    );
-    Ok(())
+    check_counts(alloc, &mut keep, &acme()?.owner, Some((1, 20_000)))
 }
 
 #[test]
@@ -210,6 +195,5 @@ fn another_owners_damage_is_no_harm(rt: HostRuntime) -> Result<(), Fail> {
         &[],
     )?;
     let mut keep = adopted(alloc, conn)?;
-    assert_eq!(rt; counts(alloc, &mut keep, &acme()?.owner)?, Some((1, 2)));
-    Ok(())
+    check_counts(alloc, &mut keep, &acme()?.owner, Some((1, 2)))
 }

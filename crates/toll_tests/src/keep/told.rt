@@ -1,55 +1,62 @@
 //! What every keep tells of the rows that were put.
 use crate::keep::rows::{acme, batch, counts, edge};
-use std::process::Abort;
+use crate::stories::check;
+use std::alloc::Global;
 use std::test::Fail;
 use toll_base::Name;
 use toll_keep::Keep;
 
-/// Asserts that ACME and one unit are told.
-pub(crate) fn assert_owners_told<K: Keep>(
-    rt: &(impl Abort + AllocGlobal),
-    keep: &mut K,
-) -> Result<(), Fail> {
-    let owners = keep.owners(rt.alloc())?;
-    assert_eq!(rt; owners.as_slice(), [acme()?].as_slice());
-    assert_eq!(rt; keep.units(rt.alloc())?.len(), 1);
-    Ok(())
+/// Fails where not ACME alone and one unit are told.
+pub(crate) fn check_owners<K: Keep>(alloc: Global, keep: &mut K) -> Result<(), Fail> {
+    let owners = keep.owners(alloc)?;
+    let units = keep.units(alloc)?;
+    let is_told = owners.as_slice() == [acme()?].as_slice() && units.len() == 1;
+    check(is_told, "other owners or units are told")
 }
 
-/// Asserts that ACME has its rows, HOUSE none, and that nobody else is known.
-pub(crate) fn assert_rows_told<K: Keep>(
-    rt: &(impl Abort + AllocGlobal),
+/// Fails where the owner has not so many batches and movements, or none where it is not known.
+pub(crate) fn check_counts<K: Keep>(
+    alloc: Global,
     keep: &mut K,
+    owner: &Name,
+    wanted: Option<(usize, usize)>,
 ) -> Result<(), Fail> {
-    let alloc = rt.alloc();
-    assert_eq!(rt; counts(alloc, keep, &acme()?.owner)?, Some((1, 2)));
-    assert_eq!(rt; counts(alloc, keep, &Name::house())?, Some((0, 0)));
-    assert_eq!(rt; counts(alloc, keep, &batch()?.unit)?, None);
-    Ok(())
+    let is_told = counts(alloc, keep, owner)? == wanted;
+    check(is_told, "other batches or movements are told")
 }
 
-/// Asserts that ACME's batch holds its unit, and nobody another one.
-pub(crate) fn assert_holder_told<K: Keep>(
-    rt: &(impl Abort + AllocGlobal),
-    keep: &mut K,
-) -> Result<(), Fail> {
+/// Fails where ACME has not its rows, or HOUSE any, or somebody else is known.
+pub(crate) fn check_rows<K: Keep>(alloc: Global, keep: &mut K) -> Result<(), Fail> {
+    check_counts(alloc, keep, &acme()?.owner, Some((1, 2)))?;
+    check_counts(alloc, keep, &Name::house(), Some((0, 0)))?;
+    check_counts(alloc, keep, &batch()?.unit, None)
+}
+
+/// Fails where ACME's batch holds not its unit, or somebody another one.
+pub(crate) fn check_holder<K: Keep>(alloc: Global, keep: &mut K) -> Result<(), Fail> {
     let acme = acme()?;
-    let held = keep.holder(rt.alloc(), &batch()?.unit)?;
-    assert!(rt; held.is_some_and(|holder| holder.owner == acme.owner));
-    assert!(rt; keep.holder(rt.alloc(), &acme.owner)?.is_none());
-    Ok(())
+    let held = keep.holder(alloc, &batch()?.unit)?;
+    let other = keep.holder(alloc, &acme.owner)?;
+    let is_told = held.is_some_and(|holder| holder.owner == acme.owner) && other.is_none();
+    check(is_told, "another holder is told")
 }
 
-/// Asserts that ACME's edge is told, as its own and among all, and none of HOUSE.
-pub(crate) fn assert_edges_told<K: Keep>(
-    rt: &(impl Abort + AllocGlobal),
-    keep: &mut K,
-) -> Result<(), Fail> {
-    let alloc = rt.alloc();
-    let edges = keep.edges(alloc, &acme()?.owner)?;
-    assert_eq!(rt; edges.as_slice(), [edge()?].as_slice());
-    let edges = keep.all_edges(alloc)?;
-    assert_eq!(rt; edges.as_slice(), [edge()?].as_slice());
-    assert!(rt; keep.edges(alloc, &Name::house())?.is_empty());
-    Ok(())
+/// Fails where not ACME's edge alone is told, as its own and among all, or one of HOUSE.
+pub(crate) fn check_edges<K: Keep>(alloc: Global, keep: &mut K) -> Result<(), Fail> {
+    let edge = edge()?;
+    let own = keep.edges(alloc, &acme()?.owner)?;
+    let all = keep.all_edges(alloc)?;
+    let houses = keep.edges(alloc, &Name::house())?;
+    let is_told = own.as_slice() == [edge].as_slice()
+        && all.as_slice() == [edge].as_slice()
+        && houses.is_empty();
+    check(is_told, "other edges are told")
+}
+
+/// Fails where not all rows that were put are told.
+pub(crate) fn check_all<K: Keep>(alloc: Global, keep: &mut K) -> Result<(), Fail> {
+    check_owners(alloc, keep)?;
+    check_rows(alloc, keep)?;
+    check_holder(alloc, keep)?;
+    check_edges(alloc, keep)
 }

@@ -1,4 +1,5 @@
 //! Connections to an office in a file.
+use crate::stories::check;
 use std::fs;
 use std::fs::File;
 use std::io::{Read, Write};
@@ -20,6 +21,12 @@ const ASKED: &[u8] =
 
 const TOLD: &[u8] =
     b"HTTP/1.1 200 OK\r\ncontent-type: application/json\r\ncontent-length: 71\r\nconnection: close\r\n\r\n{\"orders\":[{\"batches\":2,\"order\":\"O-1\",\"recipe\":\"R-1\",\"status\":\"open\"}]}";
+
+const BAD_REQUEST: &[u8] =
+    b"HTTP/1.1 400 Bad Request\r\ncontent-type: application/json\r\ncontent-length: 22\r\nconnection: close\r\n\r\n{\"error\":\"BadRequest\"}";
+
+const UNAVAILABLE: &[u8] =
+    b"HTTP/1.1 503 Service Unavailable\r\ncontent-type: application/json\r\ncontent-length: 23\r\nconnection: close\r\n\r\n{\"error\":\"Unavailable\"}";
 
 // Takes a file away, and what lies beside it.
 fn remove(rt: &HostRuntime, path: &str) -> Result<(), Fail> {
@@ -68,41 +75,40 @@ fn exchange(rt: &HostRuntime, path: &str, bytes: &[u8]) -> Result<(Served, Vec<u
     Ok((served, reply))
 }
 
+// Whether these bytes are answered by those.
+fn is_told(rt: &HostRuntime, path: &str, bytes: &[u8], wanted: &[u8]) -> Result<bool, Fail> {
+    let (served, reply) = exchange(rt, path, bytes)?;
+    Ok(served == Served::Answered && reply.as_slice() == wanted)
+}
+
+// Fails where these bytes are answered by others, once an order was placed.
+fn check_told(rt: &HostRuntime, path: &str, bytes: &[u8], wanted: &[u8]) -> Result<(), Fail> {
+    remove(rt, path)?;
+    let is_told = is_made(rt, path)? && is_told(rt, path, bytes, wanted)?;
+    remove(rt, path)?;
+    check(is_told, "told otherwise")
+}
+
 #[test]
 fn a_peer_is_served_from_a_file(rt: HostRuntime) -> Result<(), Fail> {
-    let path = "a_peer_is_served.db";
-    remove(&rt, path)?;
-    assert!(&rt; is_made(&rt, path)?);
-    let (served, reply) = exchange(&rt, path, ASKED)?;
-    assert!(&rt; served == Served::Answered);
-    assert_eq!(&rt; reply.as_slice(), TOLD);
-    remove(&rt, path)
+    check_told(&rt, "a_peer_is_served.db", ASKED, TOLD)
 }
 
 #[test]
 fn half_a_head_is_a_bad_request(rt: HostRuntime) -> Result<(), Fail> {
-    let path = "half_a_head.db";
-    remove(&rt, path)?;
-    assert!(&rt; is_made(&rt, path)?);
-    let (served, reply) = exchange(&rt, path, b"GET /orders HTTP/1.1\r\nhost")?;
-    assert!(&rt; served == Served::Answered);
-    assert!(&rt; reply.starts_with(b"HTTP/1.1 400 Bad Request\r\n"));
-    remove(&rt, path)
+    let half = b"GET /orders HTTP/1.1\r\nhost";
+    check_told(&rt, "half_a_head.db", half, BAD_REQUEST)
 }
 
 #[test]
 fn a_file_that_another_uses_is_unavailable(rt: HostRuntime) -> Result<(), Fail> {
     let path = "another_uses.db";
     remove(&rt, path)?;
-    assert!(&rt; is_made(&rt, path)?);
-    let Ok(lock) = take_lock(&rt, path) else {
-        panic!(&rt; "the lock was not got");
-    };
-    let (served, reply) = exchange(&rt, path, ASKED)?;
-    assert!(&rt; served == Served::Answered);
-    assert!(&rt; reply.starts_with(b"HTTP/1.1 503 Service Unavailable\r\n"));
+    check(is_made(&rt, path)?, "not made")?;
+    let lock = take_lock(&rt, path)?;
+    let is_unavailable = is_told(&rt, path, ASKED, UNAVAILABLE)?;
     lock.unlock()?;
-    let (_, reply) = exchange(&rt, path, ASKED)?;
-    assert_eq!(&rt; reply.as_slice(), TOLD);
-    remove(&rt, path)
+    let is_there = is_told(&rt, path, ASKED, TOLD)?;
+    remove(&rt, path)?;
+    check(is_unavailable && is_there, "told otherwise")
 }

@@ -1,7 +1,6 @@
 //! Files that are cut.
 use csv::{ByteRecord, Error, ReaderBuilder};
 use std::alloc::Global;
-use std::process::Abort;
 use std::test::Fail;
 use toll_keep::MemKeep;
 use toll_plant::{ImportFault, ImportReport, Outcome, import_actuals};
@@ -28,40 +27,33 @@ fn field_counts(alloc: Global, file: &[u8]) -> Result<Vec<usize>, Error> {
     Ok(counts)
 }
 
-// Asserts that there is a line for each record under the header, bad where it hasn't twelve fields.
-fn assert_lines(rt: &impl Abort, report: &ImportReport, counts: &[usize]) {
-    assert!(rt; report.lines.len() + 1 == counts.len(), "{counts:?}");
-    for (line, count) in report.lines.iter().zip(&counts[1..]) {
-        assert!(rt;
-            (line.outcome == Outcome::BadRecord) == (*count != 12),
-            "{counts:?}"
-        );
-    }
+// Whether there is a line for each record under the header, bad where it hasn't twelve fields.
+fn has_lines(report: &ImportReport, counts: &[usize]) -> bool {
+    let [_header, counts @ ..] = counts else {
+        return false;
+    };
+    let mut records = report.lines.iter().zip(counts);
+    report.lines.len() == counts.len()
+        && records.all(|(line, count)| (line.outcome == Outcome::BadRecord) == (*count != 12))
 }
 
-fn assert_cut(rt: &(impl Abort + AllocGlobal), file: &[u8]) -> Result<(), Fail> {
-    let Ok(counts) = field_counts(rt.alloc(), file) else {
-        panic!(rt; "no memory");
-    };
-    match import_actuals(rt.alloc(), &mut MemKeep::new(rt.alloc()), file) {
-        Ok(report) => {
-            assert!(rt; file.len() >= HEADER_LEN, "{counts:?}");
-            assert_lines(rt, &report, &counts);
-        }
-        Err(fault) => {
-            assert!(rt;
-                fault == ImportFault::BadHeader && file.len() < HEADER_LEN,
-                "{counts:?}"
-            );
-        }
-    }
-    Ok(())
+// Whether the file is refused within its header, and else has a line for each of its records.
+fn is_imported(alloc: Global, file: &[u8]) -> Result<bool, Fail> {
+    let counts = field_counts(alloc, file)?;
+    let has_header = file.len() >= HEADER_LEN;
+    Ok(
+        match import_actuals(alloc, &mut MemKeep::new(alloc), file) {
+            Ok(report) => has_header && has_lines(&report, &counts),
+            Err(fault) => !has_header && fault == ImportFault::BadHeader,
+        },
+    )
 }
 
 #[test]
 fn a_cut_file_has_lines_for_its_own_records_alone(rt: HostRuntime) -> Result<(), Fail> {
     for size in 0..FILE.len() + 1 {
-        assert_cut(&rt, &FILE[..size])?;
+        let is_imported = is_imported(rt.alloc(), &FILE[..size])?;
+        assert!(rt; is_imported, "cut at {size}");
     }
     Ok(())
 }

@@ -1,7 +1,7 @@
 //! How files are read.
-use crate::plant::lines::{Asked, HEADER, say_to_file};
-use crate::plant::setups::WITH_BATCH;
-use crate::stories::{Line, WITH_RECIPE, check_said_over_lists};
+use crate::desk::setups::WITH_BATCH;
+use crate::plant::lines::{Asked, HEADER};
+use crate::stories::{Line, WITH_RECIPE, check_said_over_lists, say_to_file};
 use std::alloc::{AllocError, Global};
 use std::test::Fail;
 use toll_keep::MemKeep;
@@ -107,18 +107,25 @@ fn lines_of_size(alloc: Global, size: usize) -> Result<Vec<u8>, AllocError> {
     Ok(file)
 }
 
+// What is said to a file of this size.
+fn say_to_size(alloc: Global, size: usize) -> Result<String, AllocError> {
+    let file = lines_of_size(alloc, size)?;
+    say_to_file(alloc, &mut MemKeep::new(alloc), &file)
+}
+
+const SIZES: &[(usize, &str)] = &[
+    (
+        MOST_FILE_BYTES,
+        "accepted 0 repeated 0 refused 0 bad 0 fault 0\n",
+    ),
+    (1_048_577, "TooLong"),
+];
+
 #[test]
 fn a_file_has_a_limit(rt: HostRuntime) -> Result<(), Fail> {
-    let rows = [
-        (
-            MOST_FILE_BYTES,
-            "accepted 0 repeated 0 refused 0 bad 0 fault 0\n",
-        ),
-        (1_048_577, "TooLong"),
-    ];
-    for (size, wanted) in rows {
-        let file = lines_of_size(rt.alloc(), size)?;
-        let said = say_to_file(rt.alloc(), &mut MemKeep::new(rt.alloc()), &file)?;
+    for line in SIZES {
+        let (size, wanted) = *line;
+        let said = say_to_size(rt.alloc(), size)?;
         assert!(&rt; said.as_str() == wanted, "{size}: {said}");
     }
     Ok(())

@@ -1,6 +1,6 @@
 //! Stories of files that are imported.
+use crate::desk::setups::WITH_BATCH;
 use crate::plant::lines::Asked;
-use crate::plant::setups::WITH_BATCH;
 use crate::stories::{Line, WITH_RECIPE, check_said_over, check_said_over_lists};
 use std::test::Fail;
 use toll_keep::{MemKeep, Refusing};
@@ -63,7 +63,10 @@ const REFUSED_AND_LATER_ACCEPTED: &[Line] = &[
         "records K2,ACME,O,1,2,consumed,P,ACME,P1,S1,1,11\nK3,ACME,O,1,1,produced,P,ACME,P1,S1,30,11\n",
         "     1 refused 31 NotReleased\n     2 repeated\naccepted 0 repeated 1 refused 1 bad 0 fault 0\n",
     ),
-    ("> release P1", "lot"),
+    (
+        "> ACME ACMEKEY1 release P1",
+        "lot P1 P kg O/1 released, S1 30",
+    ),
     (
         "records K2,ACME,O,1,2,consumed,P,ACME,P1,S1,1,11\nK3,ACME,O,1,1,produced,P,ACME,P1,S1,30,11\n",
         "     1 accepted\n     2 repeated\naccepted 1 repeated 1 refused 0 bad 0 fault 0\n",

@@ -1,6 +1,7 @@
 //! Scripts of orders and their batches.
 use crate::programs::office::BEGUN;
-use crate::programs::prints::assert_prints;
+use crate::programs::prints::check_prints;
+use std::test::Fail;
 
 const BUSY: (&str, &str) = (
     "recipe-add BOLT R 1
@@ -16,8 +17,8 @@ refused 7 UnitBusy
 );
 
 #[test]
-fn a_unit_that_is_held_is_busy_for_others(rt: HostRuntime) {
-    assert_prints(&rt, &[BEGUN, BUSY]);
+fn a_unit_that_is_held_is_busy_for_others(rt: HostRuntime) -> Result<(), Fail> {
+    check_prints(rt.alloc(), &[BEGUN, BUSY])
 }
 
 const HELD: (&str, &str) = (
@@ -104,8 +105,8 @@ O/1 complete U1 closed
 );
 
 #[test]
-fn a_batch_is_shown_in_each_state(rt: HostRuntime) {
-    assert_prints(&rt, &[BEGUN, HELD, STOPPED, CLOSED]);
+fn a_batch_is_shown_in_each_state(rt: HostRuntime) -> Result<(), Fail> {
+    check_prints(rt.alloc(), &[BEGUN, HELD, STOPPED, CLOSED])
 }
 
 const CANCELLED: (&str, &str) = (
@@ -137,7 +138,7 @@ const STARTED: (&str, &str) = (
 );
 
 #[test]
-fn an_order_is_cancelled_before_its_first_batch(rt: HostRuntime) {
-    assert_prints(&rt, &[CANCELLED]);
-    assert_prints(&rt, &[BEGUN, STARTED]);
+fn an_order_is_cancelled_before_its_first_batch(rt: HostRuntime) -> Result<(), Fail> {
+    check_prints(rt.alloc(), &[CANCELLED])?;
+    check_prints(rt.alloc(), &[BEGUN, STARTED])
 }

@@ -1,5 +1,6 @@
 //! The day in the plant that `docs/day.toll` tells, and what `docs/day.out` says that it prints.
-use crate::programs::prints::assert_prints;
+use crate::programs::prints::check_prints;
+use std::test::Fail;
 
 /// Owners, their material, and what they order.
 pub const MORNING: (&str, &str) = (
@@ -275,6 +276,6 @@ refused 31 NotReleased
 );
 
 #[test]
-fn a_day_in_the_plant_is_printed(rt: HostRuntime) {
-    assert_prints(&rt, &[MORNING, NOON, EVENING]);
+fn a_day_in_the_plant_is_printed(rt: HostRuntime) -> Result<(), Fail> {
+    check_prints(rt.alloc(), &[MORNING, NOON, EVENING])
 }

@@ -1,12 +1,11 @@
 //! Files of actuals, and scripts before and behind them.
 use crate::programs::day::MORNING;
 use crate::programs::office::BEGUN;
-use crate::programs::prints::assert_prints_over;
-use crate::stories::empty_tables;
-use std::process::Abort;
+use crate::programs::prints::check_prints_over;
+use crate::stories::{check, empty_tables, say_to_file};
+use std::alloc::Global;
 use std::test::Fail;
 use toll_keep::{Keep, MemKeep};
-use toll_plant::{import_actuals, import_text};
 
 // Scripts with what they print, and then files with what is shown of their imports and a script that is
 // run behind each.
@@ -18,44 +17,26 @@ struct Story<'a> {
 }
 
 impl Story<'_> {
-    // Asserts that it goes so, over lists and over tables.
-    fn assert(&self, rt: &(impl Abort + AllocGlobal)) -> Result<(), Fail> {
-        self.assert_over(rt, &mut MemKeep::new(rt.alloc()))?;
-        match empty_tables(rt.alloc()) {
-            Ok(mut keep) => self.assert_over(rt, &mut keep),
-            Err(fault) => panic!(rt; "{fault}"),
-        }
+    // Fails where it goes otherwise, over lists or over tables.
+    fn check(&self, alloc: Global) -> Result<(), Fail> {
+        self.check_over(alloc, &mut MemKeep::new(alloc))?;
+        self.check_over(alloc, &mut empty_tables(alloc)?)
     }
 
-    fn assert_over<K: Keep>(
-        &self,
-        rt: &(impl Abort + AllocGlobal),
-        keep: &mut K,
-    ) -> Result<(), Fail> {
-        assert_prints_over(rt, keep, self.scripts);
+    fn check_over<K: Keep>(&self, alloc: Global, keep: &mut K) -> Result<(), Fail> {
+        check_prints_over(alloc, keep, self.scripts)?;
         for (file, wanted) in self.files {
-            assert_imports(rt, keep, file, wanted)?;
-            assert_prints_over(rt, keep, self.behind);
+            check_shown(alloc, keep, file, wanted)?;
+            check_prints_over(alloc, keep, self.behind)?;
         }
         Ok(())
     }
 }
 
-// Asserts what is shown of the import of a file.
-fn assert_imports<K: Keep>(
-    rt: &(impl Abort + AllocGlobal),
-    keep: &mut K,
-    file: &str,
-    wanted: &str,
-) -> Result<(), Fail> {
-    match import_actuals(rt.alloc(), keep, file.as_bytes()) {
-        Ok(report) => {
-            let text = import_text(rt.alloc(), &report)?;
-            assert_eq!(rt; text.as_slice(), wanted.as_bytes(), "at {file}");
-        }
-        Err(fault) => panic!(rt; "{fault} at {file}"),
-    }
-    Ok(())
+// Fails where another thing is shown of the import of a file.
+fn check_shown<K: Keep>(alloc: Global, keep: &mut K, file: &str, wanted: &str) -> Result<(), Fail> {
+    let said = say_to_file(alloc, keep, file.as_bytes())?;
+    check(said.as_str() == wanted, file)
 }
 
 const FILE: &str = "key,owner,order,batch,segment,use,material,lot_owner,lot,sublot,amount,day
@@ -88,7 +69,7 @@ fn a_file_counts_once(rt: HostRuntime) -> Result<(), Fail> {
         files: &[(FILE, IMPORTED), (FILE, IMPORTED_AGAIN)],
         behind: &[STOCK],
     };
-    story.assert(&rt)
+    story.check(rt.alloc())
 }
 
 const BAD_FIRST: &str = "key,owner,order,batch,segment,use,material,lot_owner,lot,sublot,amount,day
@@ -112,7 +93,7 @@ fn a_bad_record_stops_no_other(rt: HostRuntime) -> Result<(), Fail> {
         files: &[(BAD_FIRST, BAD_FIRST_IMPORTED)],
         behind: &[STOCK],
     };
-    story.assert(&rt)
+    story.check(rt.alloc())
 }
 
 const STARTED: (&str, &str) = (
@@ -150,5 +131,5 @@ fn a_file_may_have_bad_and_refused_records(rt: HostRuntime) -> Result<(), Fail> 
         files: &[(SHOWN, SHOWN_IMPORTED)],
         behind: &[],
     };
-    story.assert(&rt)
+    story.check(rt.alloc())
 }

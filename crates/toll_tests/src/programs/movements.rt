@@ -1,6 +1,7 @@
 //! Scripts of what batches take and make.
 use crate::programs::office::BEGUN;
-use crate::programs::prints::assert_prints;
+use crate::programs::prints::check_prints;
+use std::test::Fail;
 
 const CONSUMED: (&str, &str) = (
     "actual K2 ACME O 1 1 consumed M ACME A S1 100 11
@@ -20,8 +21,8 @@ refused 33 NotEnough
 );
 
 #[test]
-fn a_batch_takes_what_there_is(rt: HostRuntime) {
-    assert_prints(&rt, &[BEGUN, CONSUMED]);
+fn a_batch_takes_what_there_is(rt: HostRuntime) -> Result<(), Fail> {
+    check_prints(rt.alloc(), &[BEGUN, CONSUMED])
 }
 
 const VOIDED: (&str, &str) = (
@@ -76,8 +77,8 @@ refused 41 Voided
 );
 
 #[test]
-fn an_actual_is_taken_back(rt: HostRuntime) {
-    assert_prints(&rt, &[BEGUN, VOIDED, KEYS_STAY_TAKEN]);
+fn an_actual_is_taken_back(rt: HostRuntime) -> Result<(), Fail> {
+    check_prints(rt.alloc(), &[BEGUN, VOIDED, KEYS_STAY_TAKEN])
 }
 
 const TESTED: (&str, &str) = (
@@ -116,6 +117,6 @@ refused 10 MaterialInUse
 );
 
 #[test]
-fn a_lot_is_tested_and_decided_on(rt: HostRuntime) {
-    assert_prints(&rt, &[TESTED]);
+fn a_lot_is_tested_and_decided_on(rt: HostRuntime) -> Result<(), Fail> {
+    check_prints(rt.alloc(), &[TESTED])
 }

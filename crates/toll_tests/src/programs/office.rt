@@ -1,5 +1,6 @@
 //! Scripts of the whole office, and what they print.
-use crate::programs::prints::assert_prints;
+use crate::programs::prints::check_prints;
+use std::test::Fail;
 
 /// ACME with a recipe, a released lot and a batch that runs.
 pub const BEGUN: (&str, &str) = (
@@ -56,8 +57,8 @@ O                R                 1 open
 );
 
 #[test]
-fn what_is_moved_is_shown(rt: HostRuntime) {
-    assert_prints(&rt, &[BEGUN, MOVED]);
+fn what_is_moved_is_shown(rt: HostRuntime) -> Result<(), Fail> {
+    check_prints(rt.alloc(), &[BEGUN, MOVED])
 }
 
 const REFUSED: (&str, &str) = (
@@ -102,8 +103,8 @@ refused 40 UnknownKey
 );
 
 #[test]
-fn what_is_refused_is_told_by_number_and_word(rt: HostRuntime) {
-    assert_prints(&rt, &[BEGUN, REFUSED]);
+fn what_is_refused_is_told_by_number_and_word(rt: HostRuntime) -> Result<(), Fail> {
+    check_prints(rt.alloc(), &[BEGUN, REFUSED])
 }
 
 // A batch of HOUSE makes H-2 of H-1, and a batch of ACME makes P1 of H-2.
@@ -181,6 +182,6 @@ trace ACME P1 back
 );
 
 #[test]
-fn a_recall_goes_on_from_house_to_owners(rt: HostRuntime) {
-    assert_prints(&rt, &[HOUSE_TO_ACME, RECALLED]);
+fn a_recall_goes_on_from_house_to_owners(rt: HostRuntime) -> Result<(), Fail> {
+    check_prints(rt.alloc(), &[HOUSE_TO_ACME, RECALLED])
 }

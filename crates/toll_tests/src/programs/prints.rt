@@ -1,29 +1,36 @@
 //! What scripts print.
 use crate::programs::fakes::run;
-use crate::stories::empty_tables;
-use std::process::Abort;
+use crate::stories::{empty_tables, text_of};
+use std::alloc::Global;
+use std::test::Fail;
 use toll_keep::{Keep, MemKeep};
 use toll_programs::ScriptEnd;
 
-/// Asserts that each script, one after another over an empty keep, runs and prints this: over lists, and
-/// over the tables as the program has them.
-pub fn assert_prints(rt: &(impl Abort + AllocGlobal), rows: &[(&str, &str)]) {
-    assert_prints_over(rt, &mut MemKeep::new(rt.alloc()), rows);
-    match empty_tables(rt.alloc()) {
-        Ok(mut keep) => assert_prints_over(rt, &mut keep, rows),
-        Err(fault) => panic!(rt; "{fault}"),
-    }
+/// Fails where one of these scripts, one after another over an empty keep, ends early or prints another
+/// thing: over lists, and over the tables as the program has them.
+pub fn check_prints(alloc: Global, rows: &[(&str, &str)]) -> Result<(), Fail> {
+    check_prints_over(alloc, &mut MemKeep::new(alloc), rows)?;
+    check_prints_over(alloc, &mut empty_tables(alloc)?, rows)
 }
 
 /// The same over this keep.
-pub fn assert_prints_over<K: Keep>(
-    rt: &(impl Abort + AllocGlobal),
+pub fn check_prints_over<K: Keep>(
+    alloc: Global,
     keep: &mut K,
     rows: &[(&str, &str)],
-) {
+) -> Result<(), Fail> {
     for (text, wanted) in rows {
-        let (end, printed) = run(rt.alloc(), keep, text.as_bytes());
-        assert!(rt; end == ScriptEnd::Done, "{end:?} at {text}");
-        assert_eq!(rt; printed.as_slice(), wanted.as_bytes(), "at {text}");
+        check_print(alloc, keep, text, wanted)?;
     }
+    Ok(())
+}
+
+// Fails with what the script prints, where that is another thing.
+fn check_print<K: Keep>(alloc: Global, keep: &mut K, text: &str, wanted: &str) -> Result<(), Fail> {
+    let (end, printed) = run(alloc, keep, text.as_bytes());
+    let said = text_of(&printed);
+    if end == ScriptEnd::Done && said == wanted {
+        return Ok(());
+    }
+    Err(format!(in alloc; "{end:?} at {text}: {said}")?.into())
 }

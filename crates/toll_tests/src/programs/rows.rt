@@ -1,5 +1,6 @@
 //! Scripts of orders.
-use crate::programs::prints::assert_prints;
+use crate::programs::prints::check_prints;
+use std::test::Fail;
 
 const PLACE: &str = "owner-add ACME ACMEKEY1
 recipe-add ACME R-1 2
@@ -14,14 +15,14 @@ accepted
 ";
 
 #[test]
-fn an_order_is_placed_and_listed(rt: HostRuntime) {
-    assert_prints(&rt, &[(PLACE, PLACED)]);
+fn an_order_is_placed_and_listed(rt: HostRuntime) -> Result<(), Fail> {
+    check_prints(rt.alloc(), &[(PLACE, PLACED)])
 }
 
 #[test]
-fn an_owner_without_orders_has_an_empty_list(rt: HostRuntime) {
-    assert_prints(
-        &rt,
+fn an_owner_without_orders_has_an_empty_list(rt: HostRuntime) -> Result<(), Fail> {
+    check_prints(
+        rt.alloc(),
         &[
             ("", ""),
             (
@@ -29,13 +30,13 @@ fn an_owner_without_orders_has_an_empty_list(rt: HostRuntime) {
                 "accepted\n200 {\"orders\":[]}\n",
             ),
         ],
-    );
+    )
 }
 
 #[test]
-fn an_order_is_placed_once(rt: HostRuntime) {
-    assert_prints(
-        &rt,
+fn an_order_is_placed_once(rt: HostRuntime) -> Result<(), Fail> {
+    check_prints(
+        rt.alloc(),
         &[
             (PLACE, PLACED),
             (
@@ -47,13 +48,13 @@ fn an_order_is_placed_once(rt: HostRuntime) {
                 "409 {\"code\":17,\"error\":\"OrderExists\"}\n",
             ),
         ],
-    );
+    )
 }
 
 #[test]
-fn an_owner_sees_its_own_orders_alone(rt: HostRuntime) {
-    assert_prints(
-        &rt,
+fn an_owner_sees_its_own_orders_alone(rt: HostRuntime) -> Result<(), Fail> {
+    check_prints(
+        rt.alloc(),
         &[
             (PLACE, PLACED),
             (
@@ -69,15 +70,15 @@ accepted
 ",
             ),
         ],
-    );
+    )
 }
 
 const FORBIDDEN: &str = "403 {\"error\":\"Forbidden\"}\n";
 
 #[test]
-fn who_has_not_the_key_is_told_nothing(rt: HostRuntime) {
-    assert_prints(
-        &rt,
+fn who_has_not_the_key_is_told_nothing(rt: HostRuntime) -> Result<(), Fail> {
+    check_prints(
+        rt.alloc(),
         &[
             (PLACE, PLACED),
             ("> NOBODY ACMEKEY1 GET /orders", FORBIDDEN),
@@ -94,13 +95,13 @@ fn who_has_not_the_key_is_told_nothing(rt: HostRuntime) {
                 "200 {\"orders\":[{\"batches\":2,\"order\":\"O-1\",\"recipe\":\"R-1\",\"status\":\"open\"}]}\n",
             ),
         ],
-    );
+    )
 }
 
 #[test]
-fn other_replies_and_answers_are_printed(rt: HostRuntime) {
-    assert_prints(
-        &rt,
+fn other_replies_and_answers_are_printed(rt: HostRuntime) -> Result<(), Fail> {
+    check_prints(
+        rt.alloc(),
         &[
             (PLACE, PLACED),
             (
@@ -128,5 +129,5 @@ fn other_replies_and_answers_are_printed(rt: HostRuntime) {
             ("recipe-add ACME R-1 M5", "refused 2 BadAmount\n"),
             ("recipe-add NOBODY R-1 1", "refused 3 UnknownOwner\n"),
         ],
-    );
+    )
 }

@@ -45,7 +45,7 @@ const ASKED: &[(&[&str], Task<'static>)] = &[
 fn words_ask_for_one_of_four_things(rt: HostRuntime) {
     for row in ASKED {
         let (words, task) = *row;
-        assert!(rt; task_of(words) == Some(task), "{task:?}");
+        assert!(rt; task_of(words) == Some(task), "at {words:?}");
     }
 }
 

@@ -2,14 +2,20 @@
 use crate::stories::said::text_of;
 use std::alloc::{AllocError, Global};
 
+// The owner, its key, the method, the target and the body of an owner's line.
+fn parts_of(line: &str) -> Option<(&str, &str, &str, &str, &str)> {
+    let (owner, rest) = line.strip_prefix("> ")?.split_once(' ')?;
+    let (key, rest) = rest.split_once(' ')?;
+    let (method, rest) = rest.split_once(' ')?;
+    let (target, body) = rest.split_once(' ').unwrap_or((rest, ""));
+    Some((owner, key, method, target, body))
+}
+
 /// The request of an owner's line: `>`, its name and its key, the method, the target and, where there is
 /// one, the body. `None` for every other line. An `Err` means that there was no memory.
 pub fn request_of(alloc: Global, line: &str) -> Result<Option<Vec<u8>>, AllocError> {
-    let words: Vec<&str> = line.split(' ').collect(alloc)?;
-    let (owner, key, method, target, body) = match words.as_slice() {
-        [">", owner, key, method, target] => (owner, key, method, target, ""),
-        [">", owner, key, method, target, body] => (owner, key, method, target, *body),
-        _ => return Ok(None),
+    let Some((owner, key, method, target, body)) = parts_of(line) else {
+        return Ok(None);
     };
     let len = body.len();
     let text = format!(in alloc;

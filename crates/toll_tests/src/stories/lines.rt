@@ -1,11 +1,12 @@
 //! Lines of what is asked, and what is said to each.
 use crate::stories::commands::plant_cmd;
 use crate::stories::keeps::{TableKeep, empty_tables, taken_over};
-use crate::stories::said::plant_said;
+use crate::stories::said::{plant_said, said_text};
 use std::alloc::{AllocError, Global};
 use std::test::Fail;
 use toll_desk::plant_do;
 use toll_keep::{Keep, MemKeep};
+use toll_plant::{import_actuals, import_text};
 
 /// What is asked, and what is said to it.
 pub type Line = (&'static str, &'static str);
@@ -25,6 +26,21 @@ pub fn say_to_plant<K: Keep>(
     match plant_cmd(alloc, asked)? {
         Some(command) => plant_said(alloc, &plant_do(alloc, keep, &command)),
         None => String::from_str(alloc, "unread"),
+    }
+}
+
+/// What is said to a file of actuals: the text of its import, or the word of the fault.
+pub fn say_to_file<K: Keep>(
+    alloc: Global,
+    keep: &mut K,
+    file: &[u8],
+) -> Result<String, AllocError> {
+    match import_actuals(alloc, keep, file) {
+        Ok(report) => {
+            let text = import_text(alloc, &report)?;
+            said_text(alloc, &text)
+        }
+        Err(fault) => format!(in alloc; "{fault}"),
     }
 }
 

@@ -1,12 +1,13 @@
 //! Requests and what they are answered.
+use crate::stories::{check, check_lines};
+use crate::wire::lines::{Asked, events_of};
 use crate::wire::requests::{keyed, reply, request};
+use crate::wire::setups::WITH_ACME;
 use std::alloc::{AllocError, Global};
-use std::process::Abort;
 use std::test::Fail;
-use toll_base::{Name, OwnerKey, Refusal, Segment};
-use toll_desk::{PlantCmd, PlantReply, plant_do};
-use toll_keep::{MemKeep, Refusing};
-use toll_wire::{Answer, Event, answer, run_events};
+use toll_desk::PlantReply;
+use toll_keep::{Keep, MemKeep, Refusing};
+use toll_wire::{Answer, answer, run_events};
 
 pub const PLACE: &str = "{\"order\":\"O-1\",\"recipe\":\"R-1\",\"batches\":2}";
 
@@ -31,103 +32,67 @@ const FORBIDDEN: &[u8] =
 const UNAVAILABLE: &[u8] =
     b"HTTP/1.1 503 Service Unavailable\r\ncontent-type: application/json\r\ncontent-length: 23\r\nconnection: close\r\n\r\n{\"error\":\"Unavailable\"}";
 
-fn add_acme() -> Result<PlantCmd, Refusal> {
-    let owner = Name::parse(b"ACME")?;
-    let key = OwnerKey::parse(b"ACMEKEY1")?;
-    Ok(PlantCmd::OwnerAdd { owner, key })
-}
-
-fn add_recipe() -> Result<PlantCmd, Refusal> {
-    let owner = Name::parse(b"ACME")?;
-    let recipe = Name::parse(b"R-1")?;
-    let segments = Segment::new(2)?;
-    Ok(PlantCmd::RecipeAdd {
-        owner,
-        recipe,
-        segments,
-    })
-}
-
-fn do_it(rt: &impl Abort, alloc: Global, keep: &mut MemKeep, command: Result<PlantCmd, Refusal>) {
-    let command = command.expect(rt, "a command");
-    let done = plant_do(alloc, keep, &command);
-    assert!(rt; matches!(&done, PlantReply::Accepted));
-}
+const NONE: &[u8] =
+    b"HTTP/1.1 200 OK\r\ncontent-type: application/json\r\ncontent-length: 13\r\nconnection: close\r\n\r\n{\"orders\":[]}";
 
 /// ACME with a recipe.
-pub fn office(rt: &impl Abort, alloc: Global) -> MemKeep {
+pub fn office(alloc: Global) -> Result<MemKeep, Fail> {
     let mut keep = MemKeep::new(alloc);
-    do_it(rt, alloc, &mut keep, add_acme());
-    do_it(rt, alloc, &mut keep, add_recipe());
-    keep
+    check_lines::<Asked, _>(alloc, &mut keep, WITH_ACME)?;
+    Ok(keep)
 }
 
 /// A request of ACME and its reply: method and target, body, status, body.
 type Row = [&'static str; 4];
 
-fn expect_reply(
-    rt: &impl Abort,
-    alloc: Global,
-    keep: &mut MemKeep,
-    row: &Row,
-) -> Result<(), AllocError> {
+fn check_reply(alloc: Global, keep: &mut MemKeep, row: &Row) -> Result<(), Fail> {
     let [line, body, status, told] = *row;
     let bytes = request(alloc, line, body)?;
-    let want = reply(alloc, status, told)?;
+    let wanted = reply(alloc, status, told)?;
     let out = answer(alloc, keep, &bytes);
-    assert_eq!(rt; out.bytes(), want.as_slice(), "{line} {body}");
-    Ok(())
+    check(out.bytes() == wanted.as_slice(), line)
 }
 
-/// Each of the requests, one after another, gets its reply.
-fn expect_all(
-    rt: &impl Abort,
-    alloc: Global,
-    keep: &mut MemKeep,
-    rows: &[Row],
-) -> Result<(), AllocError> {
+/// Fails where one of the requests, one after another, gets another reply.
+fn check_replies(alloc: Global, keep: &mut MemKeep, rows: &[Row]) -> Result<(), Fail> {
     for row in rows {
-        expect_reply(rt, alloc, keep, row)?;
+        check_reply(alloc, keep, row)?;
     }
     Ok(())
 }
 
-#[test]
-fn an_order_is_placed_and_listed(rt: HostRuntime) -> Result<(), Fail> {
-    let alloc = rt.alloc();
-    let mut keep = MemKeep::new(alloc);
-    let events = [
-        Event::Plant(add_acme()?),
-        Event::Plant(add_recipe()?),
-        Event::Owner(request(alloc, "POST /orders", PLACE)?),
-        Event::Owner(request(alloc, "GET /orders", "")?),
-    ];
-    let answers = run_events(alloc, &mut keep, &events)?;
-    check_run(&rt, answers.as_slice());
-    Ok(())
-}
+const PLACED_AND_LISTED: &[&str] = &[
+    "owner-add ACME ACMEKEY1",
+    "recipe-add ACME R-1 2",
+    "> ACME ACMEKEY1 POST /orders {\"order\":\"O-1\",\"recipe\":\"R-1\",\"batches\":2}",
+    "> ACME ACMEKEY1 GET /orders",
+];
 
-fn check_run(rt: &impl Abort, answers: &[Answer]) {
+// Whether the plant is told that both its commands are accepted, and ACME its order and the list of it.
+fn are_placed_and_listed(answers: &[Answer]) -> bool {
     match answers {
         [
             Answer::Plant(PlantReply::Accepted),
             Answer::Plant(PlantReply::Accepted),
             Answer::Bytes(placed),
             Answer::Bytes(listed),
-        ] => {
-            assert_eq!(rt; placed.bytes(), PLACED);
-            assert_eq!(rt; listed.bytes(), LISTED);
-        }
-        _ => panic!(rt; "other answers"),
+        ] => placed.bytes() == PLACED && listed.bytes() == LISTED,
+        _ => false,
     }
+}
+
+#[test]
+fn an_order_is_placed_and_listed(rt: HostRuntime) -> Result<(), Fail> {
+    let events = events_of(rt.alloc(), PLACED_AND_LISTED)?;
+    let answers = run_events(rt.alloc(), &mut MemKeep::new(rt.alloc()), &events)?;
+    check(are_placed_and_listed(&answers), "other answers")
 }
 
 const NO_ORDERS: &[Row] = &[["GET /orders", "", "200 OK", "{\"orders\":[]}"]];
 
 #[test]
 fn an_owner_without_orders_has_none(rt: HostRuntime) -> Result<(), Fail> {
-    let mut keep = office(&rt, rt.alloc());
-    Ok(expect_all(&rt, rt.alloc(), &mut keep, NO_ORDERS)?)
+    check_replies(rt.alloc(), &mut office(rt.alloc())?, NO_ORDERS)
 }
 
 const WITH_3_BATCHES: &str = "{\"order\":\"O-1\",\"recipe\":\"R-1\",\"batches\":3}";
@@ -157,8 +122,7 @@ const REPLIES: &[Row] = &[
 
 #[test]
 fn requests_get_their_replies(rt: HostRuntime) -> Result<(), Fail> {
-    let mut keep = office(&rt, rt.alloc());
-    Ok(expect_all(&rt, rt.alloc(), &mut keep, REPLIES)?)
+    check_replies(rt.alloc(), &mut office(rt.alloc())?, REPLIES)
 }
 
 const PLACING: &[Row] = &[["POST /orders", PLACE, "200 OK", ORDER]];
@@ -183,72 +147,86 @@ const ASKED_BY_STRANGERS: &[&str] = &[
     "POST /orders/O-1",
 ];
 
-/// With these fields all is forbidden.
-fn expect_forbidden(
-    rt: &impl Abort,
+// Whether what is asked with these fields is forbidden.
+fn is_forbidden(
     alloc: Global,
     keep: &mut MemKeep,
+    line: &str,
     fields: &str,
-) -> Result<(), AllocError> {
+) -> Result<bool, AllocError> {
+    let bytes = keyed(alloc, line, fields, ANOTHER_ORDER)?;
+    Ok(answer(alloc, keep, &bytes).bytes() == FORBIDDEN)
+}
+
+/// Fails where anything is not forbidden with these fields.
+fn check_forbidden(alloc: Global, keep: &mut MemKeep, fields: &str) -> Result<(), Fail> {
     for line in ASKED_BY_STRANGERS {
-        let bytes = keyed(alloc, line, fields, ANOTHER_ORDER)?;
-        let out = answer(alloc, keep, &bytes);
-        assert_eq!(rt; out.bytes(), FORBIDDEN, "{line} {fields}");
+        check(is_forbidden(alloc, keep, line, fields)?, line)?;
     }
     Ok(())
 }
 
-fn forbid_strangers(rt: &impl Abort, alloc: Global, keep: &mut MemKeep) -> Result<(), AllocError> {
-    expect_all(rt, alloc, keep, PLACING)?;
+fn check_strangers(alloc: Global, keep: &mut MemKeep) -> Result<(), Fail> {
+    check_replies(alloc, keep, PLACING)?;
     for fields in STRANGERS {
-        expect_forbidden(rt, alloc, keep, fields)?;
+        check_forbidden(alloc, keep, fields)?;
     }
-    expect_all(rt, alloc, keep, LISTING)
+    check_replies(alloc, keep, LISTING)
 }
 
 #[test]
 fn who_has_no_key_is_forbidden(rt: HostRuntime) -> Result<(), Fail> {
-    let mut keep = office(&rt, rt.alloc());
-    Ok(forbid_strangers(&rt, rt.alloc(), &mut keep)?)
+    check_strangers(rt.alloc(), &mut office(rt.alloc())?)
 }
+
+/// A request of ACME: method and target, and body.
+pub type Request = (&'static str, &'static str);
+
+/// Fails where ACME's request gets other bytes.
+pub fn check_bytes<K: Keep>(
+    alloc: Global,
+    keep: &mut K,
+    asked: Request,
+    wanted: &[u8],
+) -> Result<(), Fail> {
+    let (line, body) = asked;
+    let bytes = request(alloc, line, body)?;
+    let out = answer(alloc, keep, &bytes);
+    check(out.bytes() == wanted, line)
+}
+
+// Where the first change finds no memory.
+const PLACED_AT_LAST: &[(Request, &[u8])] = &[
+    (("POST /orders", PLACE), UNAVAILABLE),
+    (("GET /orders", ""), NONE),
+    (("POST /orders", PLACE), PLACED),
+    (("GET /orders", ""), LISTED),
+];
 
 #[test]
 fn an_order_that_is_not_kept_is_not_placed(rt: HostRuntime) -> Result<(), Fail> {
-    let mut keep = Refusing::new(office(&rt, rt.alloc()));
-    let placing = request(rt.alloc(), "POST /orders", PLACE)?;
-    let listing = request(rt.alloc(), "GET /orders", "")?;
-    let none = reply(rt.alloc(), "200 OK", "{\"orders\":[]}")?;
-    let wanted = [
-        (&placing, UNAVAILABLE),
-        (&listing, none.as_slice()),
-        (&placing, PLACED),
-        (&listing, LISTED),
-    ];
-    for (bytes, want) in wanted {
-        let out = answer(rt.alloc(), &mut keep, bytes);
-        assert_eq!(rt; out.bytes(), want);
+    let mut keep = Refusing::new(office(rt.alloc())?);
+    for row in PLACED_AT_LAST {
+        let (asked, wanted) = *row;
+        check_bytes(rt.alloc(), &mut keep, asked, wanted)?;
     }
     Ok(())
 }
 
-fn expect_for_each_front(
-    rt: &impl Abort,
-    alloc: Global,
-    keep: &mut MemKeep,
-    whole: &[u8],
-    want: &[u8],
-) {
-    for n in 0..whole.len() {
-        let out = answer(alloc, keep, &whole[..n]);
-        assert_eq!(rt; out.bytes(), want, "{n}");
+// How long the first front is that is answered otherwise.
+fn other_front(alloc: Global, keep: &mut MemKeep, whole: &[u8], wanted: &[u8]) -> Option<usize> {
+    for len in 0..whole.len() {
+        if answer(alloc, keep, &whole[..len]).bytes() != wanted {
+            return Some(len);
+        }
     }
+    None
 }
 
 #[test]
 fn each_front_of_a_request_is_a_bad_one(rt: HostRuntime) -> Result<(), Fail> {
     let whole = request(rt.alloc(), "POST /orders", PLACE)?;
-    let want = reply(rt.alloc(), "400 Bad Request", BAD_REQUEST)?;
-    let mut keep = office(&rt, rt.alloc());
-    expect_for_each_front(&rt, rt.alloc(), &mut keep, &whole, &want);
-    Ok(())
+    let wanted = reply(rt.alloc(), "400 Bad Request", BAD_REQUEST)?;
+    let other = other_front(rt.alloc(), &mut office(rt.alloc())?, &whole, &wanted);
+    check(other.is_none(), "a front is answered otherwise")
 }

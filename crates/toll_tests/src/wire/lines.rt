@@ -20,6 +20,17 @@ pub fn event_of(alloc: Global, line: &str) -> Result<Option<Event>, AllocError> 
     Ok(plant_cmd(alloc, &words)?.map(Event::Plant))
 }
 
+/// What comes to the office with these lines.
+pub fn events_of(alloc: Global, lines: &[&str]) -> Result<Vec<Event>, AllocError> {
+    let mut events = Vec::new(alloc);
+    for line in lines {
+        if let Some(event) = event_of(alloc, line)? {
+            events.push(event)?;
+        }
+    }
+    Ok(events)
+}
+
 impl Teller for Asked {
     fn say<K: Keep>(alloc: Global, keep: &mut K, line: &str) -> Result<String, AllocError> {
         match event_of(alloc, line)? {

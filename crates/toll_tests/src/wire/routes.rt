@@ -1,14 +1,9 @@
 //! What leads nowhere, and methods that are not served.
 use crate::stories::{Line, check_said_over_lists};
-use crate::wire::answers::office;
+use crate::wire::answers::{check_bytes, office};
 use crate::wire::lines::Asked;
-use crate::wire::requests::request;
 use crate::wire::setups::{WITH_ACME, WITH_ORDER};
-use std::alloc::{AllocError, Global};
-use std::process::Abort;
 use std::test::Fail;
-use toll_keep::MemKeep;
-use toll_wire::answer;
 
 const NOWHERE: &[Line] = &[
     (
@@ -119,25 +114,12 @@ const OTHER_METHODS: &[(&str, &str)] = &[
     ),
 ];
 
-fn expect_text(
-    rt: &impl Abort,
-    alloc: Global,
-    keep: &mut MemKeep,
-    line: &str,
-    want: &str,
-) -> Result<(), AllocError> {
-    let bytes = request(alloc, line, "")?;
-    let out = answer(alloc, keep, &bytes);
-    assert_eq!(rt; out.bytes(), want.as_bytes(), "{line}");
-    Ok(())
-}
-
 #[test]
 fn another_method_is_told(rt: HostRuntime) -> Result<(), Fail> {
-    let mut keep = office(&rt, rt.alloc());
+    let mut keep = office(rt.alloc())?;
     for row in OTHER_METHODS {
-        let (line, want) = *row;
-        expect_text(&rt, rt.alloc(), &mut keep, line, want)?;
+        let (line, wanted) = *row;
+        check_bytes(rt.alloc(), &mut keep, (line, ""), wanted.as_bytes())?;
     }
     Ok(())
 }

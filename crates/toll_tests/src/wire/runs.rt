@@ -1,9 +1,10 @@
 //! Runs of events, as bytes.
-use crate::wire::lines::event_of;
+use crate::stories::check;
+use crate::wire::lines::events_of;
 use std::alloc::{AllocError, Global};
 use std::test::Fail;
 use toll_keep::MemKeep;
-use toll_wire::{Answer, Event, run_events};
+use toll_wire::{Answer, run_events};
 
 const BY_THEMSELVES: &[&str] = &[
     "owner-add ACME ACMEKEY1",
@@ -42,16 +43,6 @@ const BESIDE_BOLT: &[&str] = &[
     "> ACME ACMEKEY1 GET /orders",
 ];
 
-fn events_of(alloc: Global, lines: &[&str]) -> Result<Vec<Event>, AllocError> {
-    let mut events = Vec::new(alloc);
-    for line in lines {
-        if let Some(event) = event_of(alloc, line)? {
-            events.push(event)?;
-        }
-    }
-    Ok(events)
-}
-
 // The replies to the lines of ACME with its key, one after another.
 fn told_to_acme(alloc: Global, lines: &[&str]) -> Result<Vec<u8>, AllocError> {
     let events = events_of(alloc, lines)?;
@@ -71,7 +62,9 @@ fn told_to_acme(alloc: Global, lines: &[&str]) -> Result<Vec<u8>, AllocError> {
 fn an_owner_is_told_the_same_beside_others(rt: HostRuntime) -> Result<(), Fail> {
     let told = told_to_acme(rt.alloc(), BY_THEMSELVES)?;
     let beside = told_to_acme(rt.alloc(), BESIDE_BOLT)?;
-    assert!(rt; told.starts_with(b"HTTP/1.1 200 OK\r\n"));
-    assert_eq!(rt; told.as_slice(), beside.as_slice());
-    Ok(())
+    let is_same = told.as_slice() == beside.as_slice();
+    check(
+        is_same && told.starts_with(b"HTTP/1.1 200 OK\r\n"),
+        "told otherwise",
+    )
 }

@@ -1,49 +1,37 @@
 //! Requests that come in pieces, and streams that fail.
+use crate::stories::check;
 use crate::wire::answers::{PLACE, PLACED, office};
 use crate::wire::fakes::{Sink, read_pieces};
 use crate::wire::requests::{repeated, request, with_fields};
-use std::alloc::{AllocError, Global};
-use std::process::Abort;
+use std::alloc::Global;
 use std::test::Fail;
 use toll_keep::MemKeep;
 use toll_wire::{ReadFault, WriteFault, answer, write_reply};
 
-fn expect_answer(
-    rt: &impl Abort,
+// Whether a request is answered with this status.
+fn is_answered(alloc: Global, keep: &mut MemKeep, bytes: &[u8], status: &str) -> bool {
+    answer(alloc, keep, bytes).bytes().get(9..12) == Some(status.as_bytes())
+}
+
+// The same of one that comes in pieces of so many bytes.
+fn is_answered_in_pieces(
     alloc: Global,
     keep: &mut MemKeep,
     bytes: &[u8],
+    piece: usize,
     status: &str,
-    how: &str,
-) {
-    let out = answer(alloc, keep, bytes);
-    assert_eq!(rt; out.bytes().get(9..12), Some(status.as_bytes()), "{how}");
+) -> Result<bool, ReadFault> {
+    let came = read_pieces(alloc, bytes, piece, false)?;
+    Ok(is_answered(alloc, keep, &came, status))
 }
 
-fn expect_in_pieces(
-    rt: &impl Abort,
-    alloc: Global,
-    keep: &mut MemKeep,
-    bytes: &[u8],
-    status: &str,
-) -> Result<(), ReadFault> {
-    expect_answer(rt, alloc, keep, bytes, status, "as it stands");
-    let whole = read_pieces(alloc, bytes, bytes.len(), false)?;
-    expect_answer(rt, alloc, keep, &whole, status, "in one piece");
-    let pieced = read_pieces(alloc, bytes, 1, false)?;
-    expect_answer(rt, alloc, keep, &pieced, status, "byte by byte");
-    Ok(())
-}
-
-/// A request is answered with this status, as it stands and however it comes.
-fn expect_status(
-    rt: &impl Abort,
-    alloc: Global,
-    bytes: &[u8],
-    status: &str,
-) -> Result<(), ReadFault> {
-    let mut keep = office(rt, alloc);
-    expect_in_pieces(rt, alloc, &mut keep, bytes, status)
+/// Fails where a request is answered with another status, as it stands or however it comes.
+fn check_status(alloc: Global, bytes: &[u8], status: &str) -> Result<(), Fail> {
+    let mut keep = office(alloc)?;
+    let is_so = is_answered(alloc, &mut keep, bytes, status)
+        && is_answered_in_pieces(alloc, &mut keep, bytes, bytes.len(), status)?
+        && is_answered_in_pieces(alloc, &mut keep, bytes, 1, status)?;
+    check(is_so, status)
 }
 
 /// A front, a part so many times, and an end of a head's fields, and the status.
@@ -54,130 +42,143 @@ const HEADS: &[(&str, &str, usize, &str, &str)] = &[
     ("", "x: y\r\n", 30, "", "400"),
 ];
 
+fn check_head(alloc: Global, fields: &str, status: &str) -> Result<(), Fail> {
+    let bytes = with_fields(alloc, "GET /stock HTTP/1.1", fields, "")?;
+    check_status(alloc, &bytes, status)
+}
+
 #[test]
 fn a_head_has_limits(rt: HostRuntime) -> Result<(), Fail> {
-    let alloc = rt.alloc();
     for row in HEADS {
         let (front, part, count, end, status) = *row;
-        let fields = repeated(alloc, front, part, count, end)?;
-        let bytes = with_fields(alloc, "GET /stock HTTP/1.1", fields.as_str(), "")?;
-        expect_status(&rt, alloc, &bytes, status)?;
+        let fields = repeated(rt.alloc(), front, part, count, end)?;
+        check_head(rt.alloc(), fields.as_str(), status)?;
     }
     Ok(())
 }
+
+/// How many blanks stand before the body, what its head claims, the body, and the status.
+const BODIES: &[(usize, &str, &str, &str)] = &[
+    (4096 - PLACE.len(), "content-length: 4096\r\n", PLACE, "200"),
+    (4096 - PLACE.len(), "content-length: 4097\r\n", PLACE, "413"),
+    (0, "content-length: 10\r\n", "123456789", "400"),
+    (0, "content-length: 5000\r\n", "1234567890", "413"),
+];
 
 #[test]
 fn a_body_has_a_limit(rt: HostRuntime) -> Result<(), Fail> {
-    let alloc = rt.alloc();
-    let body = repeated(alloc, "", " ", 4096 - PLACE.len(), PLACE)?;
-    let rows = [
-        ("content-length: 4096\r\n", body.as_str(), "200"),
-        ("content-length: 4097\r\n", body.as_str(), "413"),
-        ("content-length: 10\r\n", "123456789", "400"),
-        ("content-length: 5000\r\n", "1234567890", "413"),
-    ];
-    for (fields, body, status) in rows {
-        let bytes = with_fields(alloc, "POST /orders HTTP/1.1", fields, body)?;
-        expect_status(&rt, alloc, &bytes, status)?;
+    for row in BODIES {
+        let (blanks, fields, end, status) = *row;
+        let body = repeated(rt.alloc(), "", " ", blanks, end)?;
+        let bytes = with_fields(rt.alloc(), "POST /orders HTTP/1.1", fields, body.as_str())?;
+        check_status(rt.alloc(), &bytes, status)?;
     }
     Ok(())
 }
+
+const FIELDS: &[(&str, &str)] = &[
+    ("host: 127.0.0.1\r\n", "400"),
+    ("transfer-encoding: chunked\r\n", "501"),
+    ("content-length: +5\r\n", "400"),
+    ("content-length: 0\r\ncontent-length: 0\r\n", "400"),
+    ("content-length: 999999999999999999999999999999\r\n", "413"),
+];
 
 #[test]
 fn fields_are_checked(rt: HostRuntime) -> Result<(), Fail> {
-    let rows = [
-        ("host: 127.0.0.1\r\n", "400"),
-        ("transfer-encoding: chunked\r\n", "501"),
-        ("content-length: +5\r\n", "400"),
-        ("content-length: 0\r\ncontent-length: 0\r\n", "400"),
-        ("content-length: 999999999999999999999999999999\r\n", "413"),
-    ];
-    for (fields, status) in rows {
-        let bytes = with_fields(rt.alloc(), "GET /stock HTTP/1.1", fields, "")?;
-        expect_status(&rt, rt.alloc(), &bytes, status)?;
+    for row in FIELDS {
+        let (fields, status) = *row;
+        check_head(rt.alloc(), fields, status)?;
     }
     Ok(())
 }
 
+const FORMS: &[(&str, &str)] = &[
+    (
+        "GET /stock HTTP/1.0\r\ntoll-owner: ACME\r\ntoll-key: ACMEKEY1\r\n\r\n",
+        "200",
+    ),
+    (
+        "GET /stock HTTP/1.1\r\nhost: h\r\nTOLL-OWNER: ACME\r\ntoll-key: ACMEKEY1\r\n\r\n",
+        "200",
+    ),
+    (
+        "GET /stock HTTP/1.1\nhost: h\ntoll-owner: ACME\ntoll-key: ACMEKEY1\n\n",
+        "400",
+    ),
+    (
+        "GET /stock HTTP/1.1\r\ntoll-owner: ACME\r\ntoll-key: ACMEKEY1\r\n\r\n",
+        "400",
+    ),
+    (
+        "GET /stock HTTP/1.1\r\nhost: h\r\ntoll-owner: ACME\r\n\r\n",
+        "403",
+    ),
+    (
+        "GET /stock?x=1 HTTP/1.1\r\nhost: h\r\ntoll-owner: ACME\r\ntoll-key: ACMEKEY1\r\n\r\n",
+        "200",
+    ),
+    (
+        "GET http://127.0.0.1/stock HTTP/1.1\r\nhost: h\r\ntoll-owner: ACME\r\ntoll-key: ACMEKEY1\r\n\r\n",
+        "404",
+    ),
+];
+
 #[test]
 fn forms_of_heads_are_told_apart(rt: HostRuntime) -> Result<(), Fail> {
-    let rows = [
-        (
-            "GET /stock HTTP/1.0\r\ntoll-owner: ACME\r\ntoll-key: ACMEKEY1\r\n\r\n",
-            "200",
-        ),
-        (
-            "GET /stock HTTP/1.1\r\nhost: h\r\nTOLL-OWNER: ACME\r\ntoll-key: ACMEKEY1\r\n\r\n",
-            "200",
-        ),
-        (
-            "GET /stock HTTP/1.1\nhost: h\ntoll-owner: ACME\ntoll-key: ACMEKEY1\n\n",
-            "400",
-        ),
-        (
-            "GET /stock HTTP/1.1\r\ntoll-owner: ACME\r\ntoll-key: ACMEKEY1\r\n\r\n",
-            "400",
-        ),
-        (
-            "GET /stock HTTP/1.1\r\nhost: h\r\ntoll-owner: ACME\r\n\r\n",
-            "403",
-        ),
-        (
-            "GET /stock?x=1 HTTP/1.1\r\nhost: h\r\ntoll-owner: ACME\r\ntoll-key: ACMEKEY1\r\n\r\n",
-            "200",
-        ),
-        (
-            "GET http://127.0.0.1/stock HTTP/1.1\r\nhost: h\r\ntoll-owner: ACME\r\ntoll-key: ACMEKEY1\r\n\r\n",
-            "404",
-        ),
-    ];
-    for (text, status) in rows {
-        expect_status(&rt, rt.alloc(), text.as_bytes(), status)?;
+    for row in FORMS {
+        let (text, status) = *row;
+        check_status(rt.alloc(), text.as_bytes(), status)?;
     }
     Ok(())
+}
+
+// Whether these bytes are read of a stream that gives them in pieces, and then fails.
+fn is_read(alloc: Global, bytes: &[u8]) -> bool {
+    match read_pieces(alloc, bytes, 100, true) {
+        Ok(came) => came.as_slice() == bytes,
+        Err(_) => false,
+    }
+}
+
+// Whether the failure is told where the last of these bytes is missing.
+fn is_cut_short(alloc: Global, bytes: &[u8]) -> bool {
+    match bytes.split_last() {
+        Some((_, early)) => matches!(read_pieces(alloc, early, 100, true), Err(ReadFault::Io)),
+        None => false,
+    }
 }
 
 #[test]
 fn a_request_that_came_is_enough(rt: HostRuntime) -> Result<(), Fail> {
     let whole = request(rt.alloc(), "POST /orders", PLACE)?;
-    let came = read_pieces(rt.alloc(), &whole, 100, true);
-    assert_eq!(rt; came.ok().as_deref(), Some(whole.as_slice()));
-    let Some((_, early)) = whole.split_last() else {
-        panic!(rt; "an empty request");
-    };
-    assert!(rt;
-        matches!(
-            &read_pieces(rt.alloc(), early, 100, true),
-            Err(ReadFault::Io)
-        )
-    );
-    Ok(())
+    let is_enough = is_read(rt.alloc(), &whole) && is_cut_short(rt.alloc(), &whole);
+    check(is_enough, "read otherwise")
 }
 
-#[test]
-fn a_writer_that_fails_is_told(rt: HostRuntime) -> Result<(), Fail> {
-    for room in 0..PLACED.len() {
-        let (wrote, taken) = write_to(rt.alloc(), PLACED.len(), room);
-        assert_eq!(rt;
-            wrote,
-            Err(WriteFault {
-                written: room as u64
-            })
-        );
-        assert_eq!(rt; taken.as_slice(), &PLACED[..room]);
-    }
-    let (wrote, taken) = write_to(rt.alloc(), 1, PLACED.len());
-    assert_eq!(rt; wrote, Ok(()));
-    assert_eq!(rt; taken.as_slice(), PLACED);
-    Ok(())
-}
-
-fn write_to(alloc: Global, piece: usize, room: usize) -> (Result<(), WriteFault>, Vec<u8>) {
+// What comes of writing the reply to a stream that takes so many bytes with each write, and has room for
+// so many; and how many it took, where these are a front of the reply.
+fn write_to(alloc: Global, piece: usize, room: usize) -> (Result<(), WriteFault>, Option<usize>) {
     let mut sink = Sink {
         taken: Vec::new(alloc),
         piece,
         room,
     };
     let wrote = write_reply(&mut sink, PLACED);
-    (wrote, sink.taken)
+    let is_front = PLACED.starts_with(&sink.taken);
+    (wrote, is_front.then_some(sink.taken.len()))
+}
+
+#[test]
+fn a_writer_that_fails_is_told(rt: HostRuntime) {
+    for room in 0..PLACED.len() {
+        let written = room as u64;
+        let told = write_to(rt.alloc(), PLACED.len(), room);
+        assert!(rt;
+            told == (Err(WriteFault { written }), Some(room)),
+            "at {room}"
+        );
+    }
+    let told = write_to(rt.alloc(), 1, PLACED.len());
+    assert!(rt; told == (Ok(()), Some(PLACED.len())));
 }
