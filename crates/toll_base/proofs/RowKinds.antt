@@ -1,5 +1,5 @@
 -- From the arm of a row's kind to any row.
-use Rattle.std.proofs.Common.{◌≡◌, Result, Ok, Err, OnOk, sym, ap, subst, ◌∙◌}
+use Rattle.std.proofs.Common.{◌≡◌, sym, ap, subst, ◌∙◌}
 use Rattle.toll_base.specs.Slice.{Slice}
 use Rattle.toll_base.specs.declared.rows.Row.{Row}
 
@@ -10,8 +10,3 @@ of_kind f {rows} {slice} {known} {row} view is made = made ∙ ap (λ s. f s kno
 -- and what is so of those is so in the arm
 pub in_kind : (P : Slice → Row → Type 0) {rows slice : Slice} {known row : Row} → rows ≡ slice → row ≡ known → P slice row → P rows known
 in_kind P {rows} {slice} {known} {row} view is h = subst (λ s. P s known) (sym view) (subst (P slice) is h)
-
--- the same of what is so only after a success
-pub of_kind_on_ok : {A T E X : Type 0} (f : Slice → Row → A) (made : X → A) (r : Result T E) (new : X) {done : X} {rows slice : Slice} {known row : Row} → rows ≡ slice → row ≡ known → OnOk r (new ≡ done) → made done ≡ f rows known → OnOk r (made new ≡ f slice row)
-of_kind_on_ok f made (Ok t) new view is put so = ap made put ∙ of_kind f view is so
-of_kind_on_ok f made (Err e) new view is put so = put

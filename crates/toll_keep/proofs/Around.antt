@@ -1,5 +1,6 @@
 -- A keep that remembers, around another one: what is so of it by what is so of the one inside.
-use Rattle.std.proofs.Common.{◌≡◌, ◌≢◌, false, Some, Result, Ok, Err, OnOk, List, [], ◌∷◌, Vec, Global, refl, sym, ap, subst, ◌∙◌}
+use Rattle.std.proofs.Common.{◌≡◌, ◌≢◌, false, Some, Result, Ok, Err, OnOk, OnErr, List, [], ◌∷◌, Vec, Global, refl, sym, ap, subst, ◌∙◌}
+use Rattle.std.specs.Result.{result_or}
 use mathlib.Core.Bool.{false≢true}
 use Rattle.std.proofs.Math.Logic.{∥∥₁_elim}
 use Rattle.std.proofs.lemmas.List.Elements.{All-nil}
@@ -30,6 +31,16 @@ told_is_quiet x = record { open_still = refl; only_memory = λ fault e. absurd (
 
 pub memory_is_quiet : {X : Type 0} (answer : Result X KeepFault) → answer ≡ Err Memory → IsQuiet answer
 memory_is_quiet answer is = subst IsQuiet (sym is) (record { open_still = refl; only_memory = λ fault e. cc e })
+
+-- what is told, or that there was no memory
+pub or_memory_is_quiet : {X E : Type 0} (told : Result X E) (answer : Result X KeepFault) → answer ≡ result_or told (Err Memory) → IsQuiet answer
+or_memory_is_quiet (Ok x) answer is = subst IsQuiet (sym is) (told_is_quiet x)
+or_memory_is_quiet (Err e) answer is = memory_is_quiet answer is
+
+-- slices that were forgotten at a fault, and else kept, are those of any content that they were of
+pub or_forgotten : {X : Type 0} (c : Content) (told : Result X KeepFault) (old new : Vec Slice Global) → OnOk told (new ≡ old) → OnErr told (new.items ≡ []) → AreOf c old.items → AreOf c new.items
+or_forgotten c (Ok x) old new kept forgotten all = subst (λ v. AreOf c v.items) (sym kept) all
+or_forgotten c (Err e) old new kept forgotten all = subst (AreOf c) (sym forgotten) (All-nil (λ s. slice_of c s.owner ≡ Some s))
 
 on_any : {X P : Type 0} (answer : Result X KeepFault) → P → OnOk answer P
 on_any (Ok x) p = p
@@ -98,10 +109,6 @@ module _ {T : Type 0} (K : Ghosts T) where
   -- as where none are left
   pub reads_forgetting : {X : Type 0} (old new : Remembering T K) (told answer : Result X KeepFault) → answer ≡ told → (taken : Vec Slice Global) → new.slices ≡ taken → taken.items ≡ [] → ReadsInside old.keep new.keep told → ReadsAround old new answer
   reads_forgetting old new told answer same taken left none reads = reads_around old new told answer same (λ _ c _ _. are_none c new.slices taken left none) reads
-
-  -- and where they are those from before
-  pub reads_keeping : {X : Type 0} (old new : Remembering T K) (told answer : Result X KeepFault) → answer ≡ told → new.slices ≡ old.slices → ReadsInside old.keep new.keep told → ReadsAround old new answer
-  reads_keeping old new told answer same kept reads = reads_around old new told answer same (λ _ c _. subst (λ slices. AreOf c slices.items) (sym kept)) reads
 
   -- ---- what is answered with no call of the keep inside
 

@@ -1,5 +1,5 @@
 //! A keep that remembers the slices that it read.
-ghost use Rattle.std.specs.Prelude.{◌≡◌, ◌≢◌, ◌↔◌, false, []};
+ghost use Rattle.std.specs.Prelude.{◌≡◌, ◌≢◌, ◌↔◌, OnErr, OnOk, false, []};
 ghost use Rattle.toll_keep.specs.Content.{Content};
 ghost use Rattle.toll_keep.specs.Remembered.{AreOf};
 
@@ -49,7 +49,23 @@ impl<K: Keep> Remembering<K> {
     }
 }
 
-// Each call takes the slices out, and puts them back where all went well.
+// What was told; where that is a fault the slices are forgotten.
+fn or_forget<T>(
+    alloc: Global,
+    slices: &mut Vec<Slice>,
+    told: Result<T, KeepFault>,
+) -> Result<T, KeepFault>
+    ensures same { result ≡ told }
+    ensures kept { OnOk told (slices.new ≡ slices.old) }
+    ensures forgotten { OnErr told (slices.new.items ≡ []) }
+{
+    if told.is_err() {
+        *slices = Vec::new(alloc);
+    }
+    told
+}
+
+// What changes the slices takes them out, and puts them back where all went well.
 impl<K: Keep> Keep for Remembering<K> {
     ghost holds = { λ r c. K.holds r.keep c × AreOf c r.slices.items };
 
@@ -77,43 +93,34 @@ impl<K: Keep> Keep for Remembering<K> {
     }
 
     fn owners(&mut self, alloc: Global) -> Result<Vec<OwnerRow>, KeepFault> {
-        let slices = mem::replace(&mut self.slices, Vec::new(alloc));
-        let rows = self.keep.owners(alloc)?;
-        self.slices = slices;
-        Ok(rows)
+        let Remembering { keep, slices } = self;
+        or_forget(alloc, slices, keep.owners(alloc))
     }
 
     fn units(&mut self, alloc: Global) -> Result<Vec<UnitRow>, KeepFault> {
-        let slices = mem::replace(&mut self.slices, Vec::new(alloc));
-        let rows = self.keep.units(alloc)?;
-        self.slices = slices;
-        Ok(rows)
+        let Remembering { keep, slices } = self;
+        or_forget(alloc, slices, keep.units(alloc))
     }
 
     fn holder(&mut self, alloc: Global, unit: &Name) -> Result<Option<Holder>, KeepFault> {
-        let slices = mem::replace(&mut self.slices, Vec::new(alloc));
-        let holder = self.keep.holder(alloc, unit)?;
-        self.slices = slices;
-        Ok(holder)
+        let Remembering { keep, slices } = self;
+        or_forget(alloc, slices, keep.holder(alloc, unit))
     }
 
     fn edges(&mut self, alloc: Global, owner: &Name) -> Result<Vec<Edge>, KeepFault> {
-        let slices = mem::replace(&mut self.slices, Vec::new(alloc));
-        if let Some(slice) = remembered(&slices, owner) {
-            let edges = edges_of(alloc, slice)?;
-            self.slices = slices;
-            return Ok(edges);
+        let Remembering { keep, slices } = self;
+        match remembered(slices, owner) {
+            Some(slice) => {
+                let told = edges_of(alloc, slice).or(Err(KeepFault::Memory));
+                or_forget(alloc, slices, told)
+            }
+            None => or_forget(alloc, slices, keep.edges(alloc, owner)),
         }
-        let edges = self.keep.edges(alloc, owner)?;
-        self.slices = slices;
-        Ok(edges)
     }
 
     fn all_edges(&mut self, alloc: Global) -> Result<Vec<Edge>, KeepFault> {
-        let slices = mem::replace(&mut self.slices, Vec::new(alloc));
-        let edges = self.keep.all_edges(alloc)?;
-        self.slices = slices;
-        Ok(edges)
+        let Remembering { keep, slices } = self;
+        or_forget(alloc, slices, keep.all_edges(alloc))
     }
 
     // The keep inside makes the changes first: it alone can refuse them.
