@@ -9,6 +9,7 @@ use toll_desk::PlantReply;
 use toll_keep::{Keep, MemKeep, Refusing};
 use toll_wire::{Answer, answer, run_events};
 
+/// The body that asks for order O-1, of two batches by recipe R-1.
 pub const PLACE: &str = "{\"order\":\"O-1\",\"recipe\":\"R-1\",\"batches\":2}";
 
 const ORDER: &str = "{\"batches\":2,\"order\":\"O-1\",\"recipe\":\"R-1\",\"status\":\"open\"}";
@@ -20,6 +21,7 @@ const NO_ROUTE: &str = "{\"error\":\"NoRoute\"}";
 
 const BAD_REQUEST: &str = "{\"error\":\"BadRequest\"}";
 
+/// The reply to it, byte for byte.
 pub const PLACED: &[u8] =
     b"HTTP/1.1 200 OK\r\ncontent-type: application/json\r\ncontent-length: 58\r\nconnection: close\r\n\r\n{\"batches\":2,\"order\":\"O-1\",\"recipe\":\"R-1\",\"status\":\"open\"}";
 
