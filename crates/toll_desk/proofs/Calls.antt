@@ -2,17 +2,18 @@
 use Rattle.std.proofs.Common.{◌≡◌, Bool, List, Result, Ok, Err, refl, subst, ◌∙◌}
 use Rattle.std.specs.Prelude.{◌≢◌, IsTrue}
 use mathlib.Core.Bool.{false≢true}
+use Rattle.toll_keep.specs.Meaning.{Meaning}
 use Rattle.toll_keep.specs.Content.{Content, ContentKeepsRules}
 use Rattle.toll_keep.specs.Goes.{Goes, Keeps, IsReading, closes}
 use Rattle.toll_keep.specs.declared.fault.KeepFault.{KeepFault}
 use Rattle.toll_keep.specs.declared.fault.KeepFault.TheVariants.{Memory, Disk, Damaged, Closed}
 
-module _ {K : Type 0} (is_honest is_live : K → Type 0) (is_closed : K → Bool) (has_cause : K → K → Type 0) (leaves : K → List Content → Type 0) (holds : K → Content → Type 0) where
+module _ {K : Type 0} (meaning : Meaning K) where
   abbrev GoesTo : {X : Type 0} → K → K → Result X KeepFault → Type 0
-  GoesTo old new r = Goes is_honest is_live is_closed has_cause leaves old new r
+  GoesTo old new r = Goes meaning old new r
 
   abbrev ReadsTo : {X : Type 0} → K → K → Result X KeepFault → Type 0
-  ReadsTo old new r = IsReading is_honest is_live is_closed has_cause leaves holds old new r
+  ReadsTo old new r = IsReading meaning old new r
 
   abbrev answered : {X : Type 0} → X → Result X KeepFault
   answered x = Ok x
@@ -21,7 +22,7 @@ module _ {K : Type 0} (is_honest is_live : K → Type 0) (is_closed : K → Bool
   failed fault = Err fault
 
   -- a call that answered was of a keep that was not closed
-  open_before : {X : Type 0} (old new : K) (x : X) → GoesTo old new (answered x) → IsTrue (is_closed old) → ⊥
+  open_before : {X : Type 0} (old new : K) (x : X) → GoesTo old new (answered x) → IsTrue (meaning.is_closed old) → ⊥
   open_before old new x goes was = let e : answered x ≡ Err Closed = goes.closed.1 was in (cc)
 
   -- after a call that answered, another
@@ -91,10 +92,10 @@ module _ {K : Type 0} (is_honest is_live : K → Type 0) (is_closed : K → Bool
   }
 
   abbrev KeepsTo : K → K → Type 0
-  KeepsTo old new = is_honest new → Keeps holds is_live leaves old new
+  KeepsTo old new = meaning.is_honest new → Keeps meaning old new
 
   abbrev IsWhole : {X : Type 0} → K → K → Result X KeepFault → Type 0
-  IsWhole old new r = is_honest new → (c : Content) → holds old c → ContentKeepsRules c → r ≢ Err Damaged
+  IsWhole old new r = meaning.is_honest new → (c : Content) → meaning.holds old c → ContentKeepsRules c → r ≢ Err Damaged
 
   pub read_ok : {X Y : Type 0} (old new : K) (x : X) (y : Y) → GoesTo old new (answered x) → KeepsTo old new → ReadsTo old new (answered y)
   read_ok old new x y goes keeps = record { goes = goes_as old new x y goes; keeps = keeps; whole = λ now c held rules is. (cc) }

@@ -3,6 +3,7 @@ use Rattle.std.proofs.Common.{◌≡◌, ◌==◌, Bool, true, false, List, [], 
 use Rattle.toll_history.specs.History.{History}
 use Rattle.toll_base.specs.declared.decision.Change.{Change}
 use Rattle.toll_base.proofs.Texts.{nat_eq-exact}
+use Rattle.toll_keep.specs.Meaning.{Meaning}
 use Rattle.toll_keep.specs.Content.{Content, after, Fits}
 use Rattle.toll_keep.specs.Goes.{Goes}
 use Rattle.toll_keep.specs.declared.fault.KeepFault.{KeepFault}
@@ -13,22 +14,22 @@ pub no_changes : (changes : List Change) → (length changes == 0) ≡ true → 
 no_changes [] e = refl
 no_changes (change ∷ changes) e = let none : length (change ∷ changes) ≡ 0 = nat_eq-exact (length (change ∷ changes)) 0 e in absurd (omega arith)
 
-module _ {K : Type 0} (holds : K → Content → Type 0) (is_live : K → Type 0) (leaves : K → List Content → Type 0) where
+module _ {K : Type 0} (meaning : Meaning K) where
   -- what is so of a content after changes were made of it, or not
   pub record IsCarried (old new : K) (changes : List Change) (c : Content) (result : Result (Unit {0}) KeepFault) : Type 0 where
     pub idle : changes ≡ [] → (new ≡ old) × (result ≡ Ok tt)
-    pub all : Fits c changes → OnOk result (holds new (after changes c))
-    pub none : OnErr result (holds new c)
-    pub crash : is_live old → Fits c changes → leaves new (c ∷ after changes c ∷ [])
+    pub all : Fits c changes → OnOk result (meaning.holds new (after changes c))
+    pub none : OnErr result (meaning.holds new c)
+    pub crash : meaning.is_live old → Fits c changes → meaning.leaves new (c ∷ after changes c ∷ [])
 
-  module _ {X : Type 0} (old middle new : K) (result : Result (Unit {0}) KeepFault) (c : Content) (G : History) (IsTold : X → Type 0) (changes : List Change) (carried : IsCarried middle new changes c result) (held : holds middle c) where
+  module _ {X : Type 0} (old middle new : K) (result : Result (Unit {0}) KeepFault) (c : Content) (G : History) (IsTold : X → Type 0) (changes : List Change) (carried : IsCarried middle new changes c result) (held : meaning.holds middle c) where
     abbrev failed : KeepFault → Result X KeepFault
     failed fault = Err fault
 
     abbrev Done : Result X KeepFault → Type 0
-    Done outcome = IsDone (holds new) (is_live old) (leaves new) c G outcome IsTold
+    Done outcome = IsDone (meaning.holds new) (meaning.is_live old) (meaning.leaves new) c G outcome IsTold
 
-    done_by : (x : X) (r : Result (Unit {0}) KeepFault) → IsTold x → LeadsTo c changes G → OnOk r (holds new (after changes c)) → OnErr r (holds new c) → (is_live old → is_live middle) → Done (finished (Ok x) r)
+    done_by : (x : X) (r : Result (Unit {0}) KeepFault) → IsTold x → LeadsTo c changes G → OnOk r (meaning.holds new (after changes c)) → OnErr r (meaning.holds new c) → (meaning.is_live old → meaning.is_live middle) → Done (finished (Ok x) r)
     done_by x (Ok done) told leads all none live = record {
       told = told;
       done = record { content = after changes c; held = all; stands = leads.stands };
@@ -43,45 +44,45 @@ module _ {K : Type 0} (holds : K → Content → Type 0) (is_live : K → Type 0
     }
 
     -- after a fault of the plan nothing is done
-    undone_by : (fault : KeepFault) → changes ≡ [] → (is_live old → leaves middle (c ∷ [])) → Done (finished (Err fault) result)
+    undone_by : (fault : KeepFault) → changes ≡ [] → (meaning.is_live old → meaning.leaves middle (c ∷ [])) → Done (finished (Err fault) result)
     undone_by fault none stop =
         let idle = carried.idle none in
         subst (λ r. Done (finished (Err fault) r)) (sym idle.1)
-        (subst (λ k. IsDone (holds k) (is_live old) (leaves k) c G (failed fault) IsTold) (sym idle.0) (record {
+        (subst (λ k. IsDone (meaning.holds k) (meaning.is_live old) (meaning.leaves k) c G (failed fault) IsTold) (sym idle.0) (record {
           told = tt;
           done = tt;
           undone = held;
           crash = λ was. record { others = []; stand = tt; left = stop was };
         }))
 
-    pub carried_done : (planned : Result X KeepFault) → OnErr planned (changes ≡ []) → IfOk planned (λ x. IsTold x × LeadsTo c changes G) → OnOk planned (is_live old → is_live middle) → (is_live old → leaves middle (c ∷ [])) → Done (finished planned result)
+    pub carried_done : (planned : Result X KeepFault) → OnErr planned (changes ≡ []) → IfOk planned (λ x. IsTold x × LeadsTo c changes G) → OnOk planned (meaning.is_live old → meaning.is_live middle) → (meaning.is_live old → meaning.leaves middle (c ∷ [])) → Done (finished planned result)
     carried_done (Ok x) none plan live stop = done_by x result plan.0 plan.1 (carried.all plan.1.fits) carried.none live
     carried_done (Err fault) none plan live stop = undone_by fault none stop
 
   -- the same where the changes are read through a reference, and the outcome is what another call makes of the two
-  pub done_of : {X : Type 0} (old middle new : K) (result : Result (Unit {0}) KeepFault) (c : Content) (G : History) (IsTold : X → Type 0) (changes made : List Change) → made ≡ changes → IsCarried middle new made c result → holds middle c →
-      (planned : Result X KeepFault) → OnErr planned (changes ≡ []) → IfOk planned (λ x. IsTold x × LeadsTo c changes G) → OnOk planned (is_live old → is_live middle) → (is_live old → leaves middle (c ∷ [])) →
-      (outcome : Result X KeepFault) → outcome ≡ finished planned result → IsDone (holds new) (is_live old) (leaves new) c G outcome IsTold
+  pub done_of : {X : Type 0} (old middle new : K) (result : Result (Unit {0}) KeepFault) (c : Content) (G : History) (IsTold : X → Type 0) (changes made : List Change) → made ≡ changes → IsCarried middle new made c result → meaning.holds middle c →
+      (planned : Result X KeepFault) → OnErr planned (changes ≡ []) → IfOk planned (λ x. IsTold x × LeadsTo c changes G) → OnOk planned (meaning.is_live old → meaning.is_live middle) → (meaning.is_live old → meaning.leaves middle (c ∷ [])) →
+      (outcome : Result X KeepFault) → outcome ≡ finished planned result → IsDone (meaning.holds new) (meaning.is_live old) (meaning.leaves new) c G outcome IsTold
   done_of old middle new result c G IsTold changes made same carried held planned none plan live stop outcome is =
-      subst (λ r. IsDone (holds new) (is_live old) (leaves new) c G r IsTold) (sym is)
+      subst (λ r. IsDone (meaning.holds new) (meaning.is_live old) (meaning.leaves new) c G r IsTold) (sym is)
       (carried_done old middle new result c G IsTold changes (subst (λ changes. IsCarried middle new changes c result) same carried) held planned none plan live stop)
 
   -- where nothing was granted, what was held is held
-  pub quiet_of : {X : Type 0} (middle new : K) (result : Result (Unit {0}) KeepFault) (c : Content) (changes made : List Change) → made ≡ changes → IsCarried middle new made c result → holds middle c →
-      (grants : Result X KeepFault → Bool) (planned : Result X KeepFault) → (grants planned ≡ false → changes ≡ []) → (outcome : Result X KeepFault) → outcome ≡ finished planned result → grants outcome ≡ false → holds new c
+  pub quiet_of : {X : Type 0} (middle new : K) (result : Result (Unit {0}) KeepFault) (c : Content) (changes made : List Change) → made ≡ changes → IsCarried middle new made c result → meaning.holds middle c →
+      (grants : Result X KeepFault → Bool) (planned : Result X KeepFault) → (grants planned ≡ false → changes ≡ []) → (outcome : Result X KeepFault) → outcome ≡ finished planned result → grants outcome ≡ false → meaning.holds new c
   quiet_of middle new (Ok done) c changes made same carried held grants planned quiet outcome is none =
-      subst (λ k. holds k c) (sym (carried.idle (same ∙ quiet (ap grants (sym is) ∙ none))).0) held
+      subst (λ k. meaning.holds k c) (sym (carried.idle (same ∙ quiet (ap grants (sym is) ∙ none))).0) held
   quiet_of middle new (Err fault) c changes made same carried held grants planned quiet outcome is none = carried.none
 
-module _ {K : Type 0} {X : Type 0} (is_honest is_live : K → Type 0) (is_closed : K → Bool) (has_cause : K → K → Type 0) (leaves : K → List Content → Type 0) (holds : K → Content → Type 0) (old middle new : K) where
+module _ {K : Type 0} {X : Type 0} (meaning : Meaning K) (old middle new : K) where
   -- a plan, and its changes after it
-  pub goes_on : (planned : Result X KeepFault) (changes : List Change) (r : Result (Unit {0}) KeepFault) → Goes is_honest is_live is_closed has_cause leaves old middle planned → OnErr planned (changes ≡ []) →
-      (changes ≡ [] → (new ≡ middle) × (r ≡ Ok tt)) → ((changes ≡ [] → ⊥) → Goes is_honest is_live is_closed has_cause leaves middle new r) → Goes is_honest is_live is_closed has_cause leaves old new (finished planned r)
+  pub goes_on : (planned : Result X KeepFault) (changes : List Change) (r : Result (Unit {0}) KeepFault) → Goes meaning old middle planned → OnErr planned (changes ≡ []) →
+      (changes ≡ [] → (new ≡ middle) × (r ≡ Ok tt)) → ((changes ≡ [] → ⊥) → Goes meaning middle new r) → Goes meaning old new (finished planned r)
   goes_on planned [] r first none idle on =
       let same = idle refl in
-      subst (λ r. Goes is_honest is_live is_closed has_cause leaves old new (finished planned r)) (sym same.1) (subst (λ k. Goes is_honest is_live is_closed has_cause leaves old k planned) (sym same.0) first)
+      subst (λ r. Goes meaning old new (finished planned r)) (sym same.1) (subst (λ k. Goes meaning old k planned) (sym same.0) first)
   goes_on (Ok x) (change ∷ changes) (Ok done) first none idle on =
-      goes_as is_honest is_live is_closed has_cause leaves holds old new tt x (goes_then is_honest is_live is_closed has_cause leaves holds old middle new x (Ok done) first (on (λ e. (cc))))
+      goes_as meaning old new tt x (goes_then meaning old middle new x (Ok done) first (on (λ e. (cc))))
   goes_on (Ok x) (change ∷ changes) (Err fault) first none idle on =
-      goes_fault is_honest is_live is_closed has_cause leaves holds old new fault (goes_then is_honest is_live is_closed has_cause leaves holds old middle new x (Err fault) first (on (λ e. (cc))))
+      goes_fault meaning old new fault (goes_then meaning old middle new x (Err fault) first (on (λ e. (cc))))
   goes_on (Err fault) (change ∷ changes) r first none idle on = (cc)

@@ -1,5 +1,6 @@
 -- How a recall goes: reading calls that were answered, and then one more, or damage that is told.
 use Rattle.std.proofs.Common.{◌≡◌, Bool, List, Result, Ok, Err, inl, inr}
+use Rattle.toll_keep.specs.Meaning.{Meaning}
 use Rattle.toll_keep.specs.Content.{Content}
 use Rattle.toll_keep.specs.Goes.{IsReading}
 use Rattle.toll_keep.specs.declared.fault.KeepFault.{KeepFault}
@@ -7,12 +8,12 @@ use Rattle.toll_keep.specs.declared.fault.KeepFault.TheVariants.{Damaged}
 use Rattle.toll_desk.specs.Questions.{IsGoing}
 use Rattle.toll_desk.proofs.Calls.{reads_then, read_ok, read_fault}
 
-module _ {K : Type 0} (is_honest is_live : K → Type 0) (is_closed : K → Bool) (has_cause : K → K → Type 0) (leaves : K → List Content → Type 0) (holds : K → Content → Type 0) (old new : K) where
+module _ {K : Type 0} (meaning : Meaning K) (old new : K) where
   abbrev ReadsTo : {X : Type 0} → K → K → Result X KeepFault → Type 0
-  ReadsTo a b r = IsReading is_honest is_live is_closed has_cause leaves holds a b r
+  ReadsTo a b r = IsReading meaning a b r
 
   abbrev GoesOn : {X : Type 0} → K → K → Result X KeepFault → Type 0
-  GoesOn a b r = IsGoing is_honest is_live is_closed has_cause leaves holds a b r
+  GoesOn a b r = IsGoing meaning a b r
 
   abbrev told : {X : Type 0} → X → Result X KeepFault
   told x = Ok x
@@ -22,10 +23,10 @@ module _ {K : Type 0} (is_honest is_live : K → Type 0) (is_closed : K → Bool
 
   -- what was answered may be told in another way, and so may a fault
   pub reads_as : {X Y : Type 0} (x : X) (y : Y) → ReadsTo old new (told x) → ReadsTo old new (told y)
-  reads_as x y reads = read_ok is_honest is_live is_closed has_cause leaves holds old new x y reads.goes reads.keeps
+  reads_as x y reads = read_ok meaning old new x y reads.goes reads.keeps
 
   pub fault_as : {X Y : Type 0} (fault : KeepFault) → ReadsTo {X = X} old new (fails fault) → ReadsTo {X = Y} old new (fails fault)
-  fault_as fault reads = read_fault is_honest is_live is_closed has_cause leaves holds old new fault reads.goes reads.keeps reads.whole
+  fault_as fault reads = read_fault meaning old new fault reads.goes reads.keeps reads.whole
 
   pub going_fault_as : {X Y : Type 0} (fault : KeepFault) → GoesOn {X = X} old new (fails fault) → GoesOn {X = Y} old new (fails fault)
   going_fault_as fault (inl reads) = inl (fault_as fault reads)
@@ -39,9 +40,9 @@ module _ {K : Type 0} (is_honest is_live : K → Type 0) (is_closed : K → Bool
   going_ok_as x y (inr damaged) = let e = damaged.0 in (cc)
 
   pub going_then : {X Y : Type 0} (first : K) (x : X) (r : Result Y KeepFault) → ReadsTo first old (told x) → GoesOn old new r → GoesOn first new r
-  going_then first x r before (inl reads) = inl (reads_then is_honest is_live is_closed has_cause leaves holds first old new x r before reads)
-  going_then first x r before (inr damaged) = inr (damaged.0, reads_then is_honest is_live is_closed has_cause leaves holds first old new x _ before damaged.1)
+  going_then first x r before (inl reads) = inl (reads_then meaning first old new x r before reads)
+  going_then first x r before (inr damaged) = inr (damaged.0, reads_then meaning first old new x _ before damaged.1)
 
-  pub going_honest : {X : Type 0} (r : Result X KeepFault) → GoesOn old new r → is_honest new → is_honest old
+  pub going_honest : {X : Type 0} (r : Result X KeepFault) → GoesOn old new r → meaning.is_honest new → meaning.is_honest old
   going_honest r (inl reads) = reads.goes.honest
   going_honest r (inr damaged) = damaged.1.goes.honest

@@ -3,6 +3,7 @@ use Rattle.std.proofs.Common.{◌≡◌, Bool, false, List, [], Result, Ok, Err,
 use Rattle.toll_base.specs.declared.refusal.Refusal.{Refusal}
 use Rattle.toll_history.specs.History.{History}
 use Rattle.toll_answers.specs.PlantAnswers.{CannotRead, PlantTold, after_plant}
+use Rattle.toll_keep.specs.Meaning.{Meaning}
 use Rattle.toll_keep.specs.Content.{Content}
 use Rattle.toll_keep.specs.Goes.{Keeps, IsReading}
 use Rattle.toll_keep.specs.Standing.{StandsFor}
@@ -30,9 +31,9 @@ question_read (question.Rows owner (shown.Batch order number)) why e = (cc)
 question_read (question.Trace lot way) why e = (cc)
 question_read (question.Recall lot) why e = (cc)
 
-module _ {K : Type 0} (is_honest is_live : K → Type 0) (is_closed : K → Bool) (has_cause : K → K → Type 0) (leaves : K → List Content → Type 0) (holds : K → Content → Type 0) (old new : K) (outcome : Result PlantTold KeepFault) where
-  pub question_goes : (q : Question) → IsGoing is_honest is_live is_closed has_cause leaves holds old new outcome → (asks_recall (asked_by_question q) ≡ false → IsReading is_honest is_live is_closed has_cause leaves holds old new outcome) →
-      GoesFor is_honest is_live is_closed has_cause leaves old new (asked_by_question q) outcome
+module _ {K : Type 0} (meaning : Meaning K) (old new : K) (outcome : Result PlantTold KeepFault) where
+  pub question_goes : (q : Question) → IsGoing meaning old new outcome → (asks_recall (asked_by_question q) ≡ false → IsReading meaning old new outcome) →
+      GoesFor meaning old new (asked_by_question q) outcome
   question_goes (question.Rows owner shown.Orders) going reads = (reads refl).goes
   question_goes (question.Rows owner shown.Stock) going reads = (reads refl).goes
   question_goes (question.Rows owner (shown.Batch order number)) going reads = (reads refl).goes
@@ -40,24 +41,24 @@ module _ {K : Type 0} (is_honest is_live : K → Type 0) (is_closed : K → Bool
   question_goes (question.Recall lot) (inl reads) more = inl reads.goes
   question_goes (question.Recall lot) (inr damaged) more = inr (damaged.0, damaged.1.goes)
 
-  pub question_honest : IsGoing is_honest is_live is_closed has_cause leaves holds old new outcome → is_honest new → is_honest old
+  pub question_honest : IsGoing meaning old new outcome → meaning.is_honest new → meaning.is_honest old
   question_honest (inl reads) now = reads.goes.honest now
   question_honest (inr damaged) now = damaged.1.goes.honest now
 
   -- a question is done where its answer is so
-  pub question_done : (c : Content) (H : History) (q : Question) (IsTold : PlantTold → Type 0) → StandsFor c H → holds old c → Keeps holds is_live leaves old new → IfOk outcome IsTold → IsDone (holds new) (is_live old) (leaves new) c (after_plant H (asked_by_question q)) outcome IsTold
+  pub question_done : (c : Content) (H : History) (q : Question) (IsTold : PlantTold → Type 0) → StandsFor c H → meaning.holds old c → Keeps meaning old new → IfOk outcome IsTold → IsDone (meaning.holds new) (meaning.is_live old) (meaning.leaves new) c (after_plant H (asked_by_question q)) outcome IsTold
   question_done c H q IsTold stands held keeps told =
-      subst (λ G. IsDone (holds new) (is_live old) (leaves new) c G outcome IsTold) (sym (question_stays H q)) (record {
+      subst (λ G. IsDone (meaning.holds new) (meaning.is_live old) (meaning.leaves new) c G outcome IsTold) (sym (question_stays H q)) (record {
         told = told;
         done = held_for outcome;
         undone = held_still outcome;
         crash = λ live. record { others = []; stand = tt; left = keeps.crash live c held };
       })
     where
-      held_for : (r : Result PlantTold KeepFault) → OnOk r (HoldsFor (holds new) H)
+      held_for : (r : Result PlantTold KeepFault) → OnOk r (HoldsFor (meaning.holds new) H)
       held_for (Ok x) = record { content = c; held = keeps.content c held; stands = stands }
       held_for (Err fault) = tt
 
-      held_still : (r : Result PlantTold KeepFault) → OnErr r (holds new c)
+      held_still : (r : Result PlantTold KeepFault) → OnErr r (meaning.holds new c)
       held_still (Ok x) = tt
       held_still (Err fault) = keeps.content c held

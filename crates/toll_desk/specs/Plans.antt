@@ -25,6 +25,7 @@ use Rattle.toll_base.specs.declared.decision.Decision.{Decision}
 use Rattle.toll_base.specs.declared.movement.Move.{Move}
 use Rattle.toll_base.specs.declared.movement.Move.TheVariants as move
 use Rattle.toll_base.specs.declared.refusal.Refusal.TheVariants.{OwnerExists, UnitExists, LimitReached}
+use Rattle.toll_keep.specs.Meaning.{Meaning}
 use Rattle.toll_keep.specs.Content.{Content, after, Fits}
 use Rattle.toll_keep.specs.Goes.{Goes}
 use Rattle.toll_keep.specs.Standing.{StandsFor}
@@ -205,10 +206,10 @@ asks_recall (AsksRecall lot) = true
 asks_recall _ = false
 
 -- how the calls of the keep go: where the command couldn't be read there are none; a recall that finds a lot without a row is told Damaged, each call having been answered
-abbrev pub GoesFor : {K : Type 0} → (is_honest is_live : K → Type 0) → (is_closed : K → Bool) → (has_cause : K → K → Type 0) → (leaves : K → List Content → Type 0) → (old new : K) → PlantAsked → Result PlantTold KeepFault → Type 0
-GoesFor is_honest is_live is_closed has_cause leaves old new (CannotRead why) outcome = Unit {0}
-GoesFor is_honest is_live is_closed has_cause leaves old new (AsksRecall lot) outcome = Goes is_honest is_live is_closed has_cause leaves old new outcome ⊎ ((outcome ≡ Err Damaged) × Goes {X = Unit {0}} is_honest is_live is_closed has_cause leaves old new (Ok tt))
-GoesFor is_honest is_live is_closed has_cause leaves old new _ outcome = Goes is_honest is_live is_closed has_cause leaves old new outcome
+abbrev pub GoesFor : {K : Type 0} → (meaning : Meaning K) → (old new : K) → PlantAsked → Result PlantTold KeepFault → Type 0
+GoesFor meaning old new (CannotRead why) outcome = Unit {0}
+GoesFor meaning old new (AsksRecall lot) outcome = Goes meaning old new outcome ⊎ ((outcome ≡ Err Damaged) × Goes {X = Unit {0}} meaning old new (Ok tt))
+GoesFor meaning old new _ outcome = Goes meaning old new outcome
 
 -- the checks of an owner to be added, over those that were
 abbrev pub owner_row_checks : List OwnerRow → OwnerRow → Checks

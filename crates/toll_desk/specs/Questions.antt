@@ -12,6 +12,7 @@ use Rattle.toll_trace.specs.declared.step.Step.{Step}
 use Rattle.toll_genealogy.specs.Recall.{IsRecall, recall_line}
 use Rattle.toll_genealogy.specs.declared.recall.RecallLine.{RecallLine}
 use Rattle.toll_views.specs.Views.{has_consumed}
+use Rattle.toll_keep.specs.Meaning.{Meaning}
 use Rattle.toll_keep.specs.Content.{Content}
 use Rattle.toll_keep.specs.Goes.{IsReading}
 use Rattle.toll_keep.specs.Slices.{has_slice}
@@ -30,18 +31,18 @@ may_trace H o (HouseForward lot) = has_consumed (acts o H) (lot_id house_name lo
 
 -- ---- how a recall goes
 
-module _ {K : Type 0} (is_honest is_live : K → Type 0) (is_closed : K → Bool) (has_cause : K → K → Type 0) (leaves : K → List Content → Type 0) (holds : K → Content → Type 0) (old new : K) where
+module _ {K : Type 0} (meaning : Meaning K) (old new : K) where
   -- reading calls led from the one to the other, and each was answered
   abbrev pub HaveRead : Type 0
-  HaveRead = IsReading {X = Unit {0}} is_honest is_live is_closed has_cause leaves holds old new (Ok tt)
+  HaveRead = IsReading {X = Unit {0}} meaning old new (Ok tt)
 
   -- it goes as a reading call; or each call was answered, and what was read is told to be damaged
   abbrev pub IsGoing : {X : Type 0} → Result X KeepFault → Type 0
-  IsGoing result = IsReading is_honest is_live is_closed has_cause leaves holds old new result ⊎ ((result ≡ Err Damaged) × HaveRead)
+  IsGoing result = IsReading meaning old new result ⊎ ((result ≡ Err Damaged) × HaveRead)
 
 -- a keep that is honest now was so, and holds what it held
-abbrev pub IsKept : {K : Type 0} → (is_honest : K → Type 0) → (holds : K → Content → Type 0) → (old new : K) → Type 0
-IsKept is_honest holds old new = is_honest new → is_honest old × ((c : Content) → holds old c → holds new c)
+abbrev pub IsKept : {K : Type 0} → (meaning : Meaning K) → (old new : K) → Type 0
+IsKept meaning old new = meaning.is_honest new → meaning.is_honest old × ((c : Content) → meaning.holds old c → meaning.holds new c)
 
 -- ---- what a recall looks at
 

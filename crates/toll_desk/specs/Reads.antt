@@ -4,13 +4,14 @@ use Rattle.toll_history.specs.History.{History}
 use Rattle.toll_history.specs.Verdict.{IsLawful}
 use Rattle.toll_base.specs.Bytes.{Bytes}
 use Rattle.toll_base.specs.Values.{house_name}
+use Rattle.toll_keep.specs.Meaning.{Meaning}
 use Rattle.toll_keep.specs.Content.{Content, slice_of}
 use Rattle.toll_keep.specs.Standing.{StandsFor}
 use Rattle.toll_desk.specs.declared.deciding.Both.{Both}
 
 -- whatever lawful history the content that was held stands for, this is so of the two
-abbrev pub Over : {K : Type 0} → (is_honest : K → Type 0) → (holds : K → Content → Type 0) → (old new : K) → (Content → History → Type 0) → Type 0
-Over is_honest holds old new P = is_honest new → (c : Content) (H : History) → holds old c → StandsFor c H → IsLawful H → P c H
+abbrev pub Over : {K : Type 0} → (meaning : Meaning K) → (old new : K) → (Content → History → Type 0) → Type 0
+Over meaning old new P = meaning.is_honest new → (c : Content) (H : History) → meaning.holds old c → StandsFor c H → IsLawful H → P c H
 
 -- the rows of an owner and of HOUSE, as the content has them; none of an owner that it does not know
 abbrev pub AreBoth : Content → Bytes → Option Both → Type 0

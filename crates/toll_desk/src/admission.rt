@@ -64,9 +64,9 @@ pub fn admit<K: Keep>(
     owner: &[u8],
     key: &[u8],
 ) -> Result<Option<Name>, KeepFault>
-    ensures reads { IsReading K.is_honest K.is_live K.is_closed K.has_cause K.leaves K.holds keep.old keep.new result }
+    ensures reads { IsReading K.meaning keep.old keep.new result }
     ensures named { IfOk result (λ found. IfSome found (λ name. name ≡ owner.now)) }
-    ensures found { K.is_honest keep.new → (c : Content) (H : History) → K.holds keep.old c → StandsFor c H → IfOk result (λ found. found ≡ where_so (has_key owner.now key.now H) owner.now) }
+    ensures found { K.meaning.is_honest keep.new → (c : Content) (H : History) → K.meaning.holds keep.old c → StandsFor c H → IfOk result (λ found. found ≡ where_so (has_key owner.now key.now H) owner.now) }
 {
     match keep.owners(alloc) {
         Ok(rows) => Ok(admitted(&rows, owner, key)),

@@ -23,8 +23,8 @@ use toll_work::open_batch;
 /// of owners and units.
 pub fn decide<K: Keep>(alloc: Global, keep: &mut K, deed: &Deed) -> Result<Decision, KeepFault>
     requires { IsValid (command_in deed.now).action }
-    ensures reads { IsReading K.is_honest K.is_live K.is_closed K.has_cause K.leaves K.holds keep.old keep.new result }
-    ensures over { Over K.is_honest K.holds keep.old keep.new (λ c H. IfOk result (IsDeedDecision c H (command_in deed.now))) }
+    ensures reads { IsReading K.meaning keep.old keep.new result }
+    ensures over { Over K.meaning keep.old keep.new (λ c H. IfOk result (IsDeedDecision c H (command_in deed.now))) }
 {
     match deed {
         Deed::AddOwner { owner, key } => decide_owner(alloc, keep, *owner, *key),
@@ -43,8 +43,8 @@ fn decide_over<K: Keep>(
     deed: &OwnDeed,
 ) -> Result<Decision, KeepFault>
     requires { IsValid (own_action deed.now) }
-    ensures reads { IsReading K.is_honest K.is_live K.is_closed K.has_cause K.leaves K.holds keep.old keep.new result }
-    ensures over { Over K.is_honest K.holds keep.old keep.new (λ c H. IfOk result (IsDeedDecision c H (by owner.now (own_action deed.now)))) }
+    ensures reads { IsReading K.meaning keep.old keep.new result }
+    ensures over { Over K.meaning keep.old keep.new (λ c H. IfOk result (IsDeedDecision c H (by owner.now (own_action deed.now)))) }
 {
     match keep.slice(alloc, owner) {
         Ok(Some(slice)) => match decide_own(alloc, &slice, deed) {
@@ -79,8 +79,8 @@ fn decide_both<K: Keep>(
     deed: &SharedDeed,
 ) -> Result<Decision, KeepFault>
     requires { IsValid (shared_action deed.now) }
-    ensures reads { IsReading K.is_honest K.is_live K.is_closed K.has_cause K.leaves K.holds keep.old keep.new result }
-    ensures over { Over K.is_honest K.holds keep.old keep.new (λ c H. IfOk result (IsDeedDecision c H (by owner.now (shared_action deed.now)))) }
+    ensures reads { IsReading K.meaning keep.old keep.new result }
+    ensures over { Over K.meaning keep.old keep.new (λ c H. IfOk result (IsDeedDecision c H (by owner.now (shared_action deed.now)))) }
 {
     match both_of(alloc, keep, owner) {
         Ok(Some(both)) => match decide_shared(alloc, &both.own, &both.house, deed) {
@@ -94,8 +94,8 @@ fn decide_both<K: Keep>(
 
 // The rows of the owner, where it is known, and HOUSE's.
 fn both_of<K: Keep>(alloc: Global, keep: &mut K, owner: &Name) -> Result<Option<Both>, KeepFault>
-    ensures reads { IsReading K.is_honest K.is_live K.is_closed K.has_cause K.leaves K.holds keep.old keep.new result }
-    ensures both { K.is_honest keep.new → (c : Content) → K.holds keep.old c → IfOk result (AreBoth c owner.now) }
+    ensures reads { IsReading K.meaning keep.old keep.new result }
+    ensures both { K.meaning.is_honest keep.new → (c : Content) → K.meaning.holds keep.old c → IfOk result (AreBoth c owner.now) }
 {
     match keep.slice(alloc, owner) {
         Ok(Some(own)) => with_house(alloc, keep, own),
@@ -106,8 +106,8 @@ fn both_of<K: Keep>(alloc: Global, keep: &mut K, owner: &Name) -> Result<Option<
 
 // These rows, and HOUSE's, which is always known.
 fn with_house<K: Keep>(alloc: Global, keep: &mut K, own: Slice) -> Result<Option<Both>, KeepFault>
-    ensures reads { IsReading K.is_honest K.is_live K.is_closed K.has_cause K.leaves K.holds keep.old keep.new result }
-    ensures both { K.is_honest keep.new → (c : Content) → K.holds keep.old c → IfOk result (λ both. both ≡ Some (record { own = own; house = c.rows house_name })) }
+    ensures reads { IsReading K.meaning keep.old keep.new result }
+    ensures both { K.meaning.is_honest keep.new → (c : Content) → K.meaning.holds keep.old c → IfOk result (λ both. both ≡ Some (record { own = own; house = c.rows house_name })) }
 {
     match keep.slice(alloc, &Name::house()) {
         Ok(Some(house)) => Ok(Some(Both { own, house })),
@@ -133,8 +133,8 @@ fn decide_opening<K: Keep>(
     order: Name,
     unit: Name,
 ) -> Result<Decision, KeepFault>
-    ensures reads { IsReading K.is_honest K.is_live K.is_closed K.has_cause K.leaves K.holds keep.old keep.new result }
-    ensures over { Over K.is_honest K.holds keep.old keep.new (λ c H. IfOk result (IsDeedDecision c H (by owner.now (OpenBatch order unit)))) }
+    ensures reads { IsReading K.meaning keep.old keep.new result }
+    ensures over { Over K.meaning keep.old keep.new (λ c H. IfOk result (IsDeedDecision c H (by owner.now (OpenBatch order unit)))) }
 {
     match keep.slice(alloc, owner) {
         Ok(Some(slice)) => open_on(alloc, keep, &slice, order, unit),
@@ -151,8 +151,8 @@ fn open_on<K: Keep>(
     order: Name,
     unit: Name,
 ) -> Result<Decision, KeepFault>
-    ensures reads { IsReading K.is_honest K.is_live K.is_closed K.has_cause K.leaves K.holds keep.old keep.new result }
-    ensures over { Over K.is_honest K.holds keep.old keep.new (λ c H. IfOk result (IsOwnDecision H slice.now (OpenBatch order unit))) }
+    ensures reads { IsReading K.meaning keep.old keep.new result }
+    ensures over { Over K.meaning keep.old keep.new (λ c H. IfOk result (IsOwnDecision H slice.now (OpenBatch order unit))) }
 {
     match unit_state(alloc, keep, &unit) {
         Ok(state) => match open_batch(alloc, slice, order, unit, state.known, state.free) {
@@ -164,8 +164,8 @@ fn open_on<K: Keep>(
 }
 
 fn unit_state<K: Keep>(alloc: Global, keep: &mut K, unit: &Name) -> Result<UnitState, KeepFault>
-    ensures reads { IsReading K.is_honest K.is_live K.is_closed K.has_cause K.leaves K.holds keep.old keep.new result }
-    ensures over { Over K.is_honest K.holds keep.old keep.new (λ c H. IfOk result (λ state. IsToldOfUnit H unit.now state.known state.free)) }
+    ensures reads { IsReading K.meaning keep.old keep.new result }
+    ensures over { Over K.meaning keep.old keep.new (λ c H. IfOk result (λ state. IsToldOfUnit H unit.now state.known state.free)) }
 {
     match keep.units(alloc) {
         Ok(rows) => holding(
@@ -185,8 +185,8 @@ fn holding<K: Keep>(
     unit: &Name,
     known: bool,
 ) -> Result<UnitState, KeepFault>
-    ensures reads { IsReading K.is_honest K.is_live K.is_closed K.has_cause K.leaves K.holds keep.old keep.new result }
-    ensures over { Over K.is_honest K.holds keep.old keep.new (λ c H. IfOk result (λ state. (state.known ≡ known) × (state.free ≡ not (is_some (holder H unit.now))))) }
+    ensures reads { IsReading K.meaning keep.old keep.new result }
+    ensures over { Over K.meaning keep.old keep.new (λ c H. IfOk result (λ state. (state.known ≡ known) × (state.free ≡ not (is_some (holder H unit.now))))) }
 {
     match keep.holder(alloc, unit) {
         Ok(held) => Ok(UnitState {

@@ -18,10 +18,10 @@ use toll_keep::{Keep, KeepFault};
 /// Does what a command of the plant says, where it is accepted.
 pub fn do_deed<K: Keep>(alloc: Global, keep: &mut K, deed: &Deed) -> PlantReply
     requires { IsValid (command_in deed.now).action }
-    ensures goes { Goes K.is_honest K.is_live K.is_closed K.has_cause K.leaves keep.old keep.new (plant_told result) }
-    ensures whole { K.is_honest keep.new → (c : Content) → K.holds keep.old c → ContentKeepsRules c → plant_told result ≢ Err KeepFault.Damaged }
-    ensures quiet { K.is_honest keep.new → (c : Content) → K.holds keep.old c → is_accepted (plant_told result) ≡ false → K.holds keep.new c }
-    ensures done { Over K.is_honest K.holds keep.old keep.new (λ c H. IsDone (K.holds keep.new) (K.is_live keep.old) (K.leaves keep.new) c (grow H (command_in deed.now)) (plant_told result) (λ told. told ≡ Judged (verdict H (command_in deed.now)))) }
+    ensures goes { Goes K.meaning keep.old keep.new (plant_told result) }
+    ensures whole { K.meaning.is_honest keep.new → (c : Content) → K.meaning.holds keep.old c → ContentKeepsRules c → plant_told result ≢ Err KeepFault.Damaged }
+    ensures quiet { K.meaning.is_honest keep.new → (c : Content) → K.meaning.holds keep.old c → is_accepted (plant_told result) ≡ false → K.meaning.holds keep.new c }
+    ensures done { Over K.meaning keep.old keep.new (λ c H. IsDone (K.meaning.holds keep.new) (K.meaning.is_live keep.old) (K.meaning.leaves keep.new) c (grow H (command_in deed.now)) (plant_told result) (λ told. told ≡ Judged (verdict H (command_in deed.now)))) }
 {
     let planned = plan(alloc, keep, deed);
     let made = carry(alloc, keep, &planned.changes);
@@ -31,10 +31,10 @@ pub fn do_deed<K: Keep>(alloc: Global, keep: &mut K, deed: &Deed) -> PlantReply
 // The reply as it will stand, and what must be applied for it. Nothing is changed.
 fn plan<K: Keep>(alloc: Global, keep: &mut K, deed: &Deed) -> PlantPlan
     requires { IsValid (command_in deed.now).action }
-    ensures reads { IsReading K.is_honest K.is_live K.is_closed K.has_cause K.leaves K.holds keep.old keep.new (plant_told result.reply) }
+    ensures reads { IsReading K.meaning keep.old keep.new (plant_told result.reply) }
     ensures none { OnErr (plant_told result.reply) (result.changes.items ≡ []) }
     ensures quiet { is_accepted (plant_told result.reply) ≡ false → result.changes.items ≡ [] }
-    ensures plan { Over K.is_honest K.holds keep.old keep.new (λ c H. IfOk (plant_told result.reply) (λ told. (told ≡ Judged (verdict H (command_in deed.now))) × LeadsTo c result.changes.items (grow H (command_in deed.now)))) }
+    ensures plan { Over K.meaning keep.old keep.new (λ c H. IfOk (plant_told result.reply) (λ told. (told ≡ Judged (verdict H (command_in deed.now))) × LeadsTo c result.changes.items (grow H (command_in deed.now)))) }
 {
     match decide(alloc, keep, deed) {
         Ok(decision) => PlantPlan::of(alloc, decision),

@@ -32,11 +32,11 @@ pub fn owner_plan<K: Keep>(
     key: &[u8],
     request: &Request,
 ) -> Planned
-    ensures reads { IsReading K.is_honest K.is_live K.is_closed K.has_cause K.leaves K.holds keep.old keep.new (told_of result.reply) }
+    ensures reads { IsReading K.meaning keep.old keep.new (told_of result.reply) }
     ensures none { OnErr (told_of result.reply) (result.changes.items ≡ []) }
     ensures quiet { may_change (asked_of request.now) (told_of result.reply) ≡ false → result.changes.items ≡ [] }
-    ensures once { K.is_honest keep.new → (c : Content) → K.holds keep.old c → (order recipe : Bytes) (batches : ℕ) → asked_of request.now ≡ AskPlace order recipe batches → is_some (order_at (c.rows owner.now) order) ≡ true → result.changes.items ≡ [] }
-    ensures plan { Over K.is_honest K.holds keep.old keep.new (λ c H. IfOk (told_of result.reply) (λ told. IsPlan c H owner.now key.now (asked_of request.now) told result.changes.items)) }
+    ensures once { K.meaning.is_honest keep.new → (c : Content) → K.meaning.holds keep.old c → (order recipe : Bytes) (batches : ℕ) → asked_of request.now ≡ AskPlace order recipe batches → is_some (order_at (c.rows owner.now) order) ≡ true → result.changes.items ≡ [] }
+    ensures plan { Over K.meaning keep.old keep.new (λ c H. IfOk (told_of result.reply) (λ told. IsPlan c H owner.now key.now (asked_of request.now) told result.changes.items)) }
 {
     match admit(alloc, keep, owner, key) {
         Ok(Some(owner)) => plan_for(alloc, keep, &owner, request),
@@ -47,11 +47,11 @@ pub fn owner_plan<K: Keep>(
 
 // The same for an owner that was admitted.
 fn plan_for<K: Keep>(alloc: Global, keep: &mut K, owner: &Name, request: &Request) -> Planned
-    ensures reads { IsReading K.is_honest K.is_live K.is_closed K.has_cause K.leaves K.holds keep.old keep.new (told_of result.reply) }
+    ensures reads { IsReading K.meaning keep.old keep.new (told_of result.reply) }
     ensures none { OnErr (told_of result.reply) (result.changes.items ≡ []) }
     ensures quiet { may_change (asked_of request.now) (told_of result.reply) ≡ false → result.changes.items ≡ [] }
-    ensures once { K.is_honest keep.new → (c : Content) → K.holds keep.old c → (order recipe : Bytes) (batches : ℕ) → asked_of request.now ≡ AskPlace order recipe batches → is_some (order_at (c.rows owner.now) order) ≡ true → result.changes.items ≡ [] }
-    ensures plan { Over K.is_honest K.holds keep.old keep.new (λ c H. owner_known H owner.now ≡ true → same_bytes owner.now house_name ≡ false → IfOk (told_of result.reply) (λ told. IsPlanFor c H owner.now (asked_of request.now) told result.changes.items)) }
+    ensures once { K.meaning.is_honest keep.new → (c : Content) → K.meaning.holds keep.old c → (order recipe : Bytes) (batches : ℕ) → asked_of request.now ≡ AskPlace order recipe batches → is_some (order_at (c.rows owner.now) order) ≡ true → result.changes.items ≡ [] }
+    ensures plan { Over K.meaning keep.old keep.new (λ c H. owner_known H owner.now ≡ true → same_bytes owner.now house_name ≡ false → IfOk (told_of result.reply) (λ told. IsPlanFor c H owner.now (asked_of request.now) told result.changes.items)) }
 {
     match form_of(request) {
         Form::Read(reading) => {
@@ -72,11 +72,11 @@ pub fn owner_do<K: Keep>(
     key: &[u8],
     request: &Request,
 ) -> Reply
-    ensures goes { Goes K.is_honest K.is_live K.is_closed K.has_cause K.leaves keep.old keep.new (told_of result) }
-    ensures whole { K.is_honest keep.new → (c : Content) → K.holds keep.old c → ContentKeepsRules c → told_of result ≢ Err KeepFault.Damaged }
-    ensures quiet { K.is_honest keep.new → (c : Content) → K.holds keep.old c → may_change (asked_of request.now) (told_of result) ≡ false → K.holds keep.new c }
-    ensures once { K.is_honest keep.new → (c : Content) → K.holds keep.old c → (order recipe : Bytes) (batches : ℕ) → asked_of request.now ≡ AskPlace order recipe batches → is_some (order_at (c.rows owner.now) order) ≡ true → K.holds keep.new c }
-    ensures done { Over K.is_honest K.holds keep.old keep.new (λ c H. IsDone (K.holds keep.new) (K.is_live keep.old) (K.leaves keep.new) c (after_reply owner.now key.now H (asked_of request.now)) (told_of result) (IsReply owner.now key.now H (asked_of request.now))) }
+    ensures goes { Goes K.meaning keep.old keep.new (told_of result) }
+    ensures whole { K.meaning.is_honest keep.new → (c : Content) → K.meaning.holds keep.old c → ContentKeepsRules c → told_of result ≢ Err KeepFault.Damaged }
+    ensures quiet { K.meaning.is_honest keep.new → (c : Content) → K.meaning.holds keep.old c → may_change (asked_of request.now) (told_of result) ≡ false → K.meaning.holds keep.new c }
+    ensures once { K.meaning.is_honest keep.new → (c : Content) → K.meaning.holds keep.old c → (order recipe : Bytes) (batches : ℕ) → asked_of request.now ≡ AskPlace order recipe batches → is_some (order_at (c.rows owner.now) order) ≡ true → K.meaning.holds keep.new c }
+    ensures done { Over K.meaning keep.old keep.new (λ c H. IsDone (K.meaning.holds keep.new) (K.meaning.is_live keep.old) (K.meaning.leaves keep.new) c (after_reply owner.now key.now H (asked_of request.now)) (told_of result) (IsReply owner.now key.now H (asked_of request.now))) }
 {
     let planned = owner_plan(alloc, keep, owner, key, request);
     let made = carry(alloc, keep, &planned.changes);

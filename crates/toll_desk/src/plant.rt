@@ -19,14 +19,14 @@ use toll_keep::{Keep, KeepFault};
 /// Only an accepted command changes rows. A recall is answered [`KeepFault::Damaged`] too where one of
 /// its lots has no row, which no history has; the keep goes on after that.
 pub fn plant_do<K: Keep>(alloc: Global, keep: &mut K, command: &PlantCmd) -> PlantReply
-    ensures honest { K.is_honest keep.new → K.is_honest keep.old }
+    ensures honest { K.meaning.is_honest keep.new → K.meaning.is_honest keep.old }
     ensures unread { (why : Refusal) → asked_by command.now ≡ CannotRead why → (plant_told result ≡ Ok (Judged (Refused why))) × (keep.new ≡ keep.old) }
-    ensures goes { GoesFor K.is_honest K.is_live K.is_closed K.has_cause K.leaves keep.old keep.new (asked_by command.now) (plant_told result) }
-    ensures whole { asks_recall (asked_by command.now) ≡ false → K.is_honest keep.new → (c : Content) → K.holds keep.old c → ContentKeepsRules c → plant_told result ≢ Err KeepFault.Damaged }
-    ensures undamaged { Over K.is_honest K.holds keep.old keep.new (λ c H. plant_told result ≢ Err KeepFault.Damaged) }
+    ensures goes { GoesFor K.meaning keep.old keep.new (asked_by command.now) (plant_told result) }
+    ensures whole { asks_recall (asked_by command.now) ≡ false → K.meaning.is_honest keep.new → (c : Content) → K.meaning.holds keep.old c → ContentKeepsRules c → plant_told result ≢ Err KeepFault.Damaged }
+    ensures undamaged { Over K.meaning keep.old keep.new (λ c H. plant_told result ≢ Err KeepFault.Damaged) }
     ensures valid { IsValidDeed (asked_by command.now) }
-    ensures quiet { K.is_honest keep.new → (c : Content) → K.holds keep.old c → is_accepted (plant_told result) ≡ false → K.holds keep.new c }
-    ensures done { Over K.is_honest K.holds keep.old keep.new (λ c H. IsDone (K.holds keep.new) (K.is_live keep.old) (K.leaves keep.new) c (after_plant H (asked_by command.now)) (plant_told result) (IsPlantAnswer H (asked_by command.now))) }
+    ensures quiet { K.meaning.is_honest keep.new → (c : Content) → K.meaning.holds keep.old c → is_accepted (plant_told result) ≡ false → K.meaning.holds keep.new c }
+    ensures done { Over K.meaning keep.old keep.new (λ c H. IsDone (K.meaning.holds keep.new) (K.meaning.is_live keep.old) (K.meaning.leaves keep.new) c (after_plant H (asked_by command.now)) (plant_told result) (IsPlantAnswer H (asked_by command.now))) }
 {
     match form_of(command) {
         PlantForm::Do(deed) => do_deed(alloc, keep, &deed),

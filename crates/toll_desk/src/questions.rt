@@ -28,12 +28,12 @@ use toll_work::batch_view;
 /// [`Refusal::UnknownLot`]. A recall answers [`KeepFault::Damaged`] where a lot of it has no row, and
 /// the keep goes on then.
 pub fn ask<K: Keep>(alloc: Global, keep: &mut K, question: &Question) -> PlantReply
-    ensures going { IsGoing K.is_honest K.is_live K.is_closed K.has_cause K.leaves K.holds keep.old keep.new (plant_told result) }
-    ensures reads { asks_recall (asked_by_question question.now) ≡ false → IsReading K.is_honest K.is_live K.is_closed K.has_cause K.leaves K.holds keep.old keep.new (plant_told result) }
-    ensures whole { Over K.is_honest K.holds keep.old keep.new (λ c H. plant_told result ≢ Err KeepFault.Damaged) }
-    ensures keeps { K.is_honest keep.new → Keeps K.holds K.is_live K.leaves keep.old keep.new }
+    ensures going { IsGoing K.meaning keep.old keep.new (plant_told result) }
+    ensures reads { asks_recall (asked_by_question question.now) ≡ false → IsReading K.meaning keep.old keep.new (plant_told result) }
+    ensures whole { Over K.meaning keep.old keep.new (λ c H. plant_told result ≢ Err KeepFault.Damaged) }
+    ensures keeps { K.meaning.is_honest keep.new → Keeps K.meaning keep.old keep.new }
     ensures shown { is_accepted (plant_told result) ≡ false }
-    ensures over { Over K.is_honest K.holds keep.old keep.new (λ c H. IfOk (plant_told result) (IsPlantAnswer H (asked_by_question question.now))) }
+    ensures over { Over K.meaning keep.old keep.new (λ c H. IfOk (plant_told result) (IsPlantAnswer H (asked_by_question question.now))) }
 {
     match question {
         Question::Rows(owner, shown) => ask_rows(alloc, keep, owner, shown),
@@ -47,9 +47,9 @@ pub fn ask<K: Keep>(alloc: Global, keep: &mut K, question: &Question) -> PlantRe
 // The text of an owner's rows: [`Refusal::UnknownOwner`]; of a batch [`Refusal::UnknownOrder`], then
 // [`Refusal::UnknownBatch`].
 fn ask_rows<K: Keep>(alloc: Global, keep: &mut K, owner: &Name, shown: &Shown) -> PlantReply
-    ensures reads { IsReading K.is_honest K.is_live K.is_closed K.has_cause K.leaves K.holds keep.old keep.new (plant_told result) }
+    ensures reads { IsReading K.meaning keep.old keep.new (plant_told result) }
     ensures shown { is_accepted (plant_told result) ≡ false }
-    ensures over { Over K.is_honest K.holds keep.old keep.new (λ c H. IfOk (plant_told result) (IsPlantAnswer H (asked_of_rows owner.now shown.now))) }
+    ensures over { Over K.meaning keep.old keep.new (λ c H. IfOk (plant_told result) (IsPlantAnswer H (asked_of_rows owner.now shown.now))) }
 {
     match keep.slice(alloc, owner) {
         Ok(Some(slice)) => match show(alloc, &slice, shown) {
@@ -106,9 +106,9 @@ fn show_batch(
 
 // The text of a trace: [`Refusal::UnknownOwner`], then [`Refusal::UnknownLot`].
 fn ask_trace<K: Keep>(alloc: Global, keep: &mut K, lot: &LotId, way: Way) -> PlantReply
-    ensures reads { IsReading K.is_honest K.is_live K.is_closed K.has_cause K.leaves K.holds keep.old keep.new (plant_told result) }
+    ensures reads { IsReading K.meaning keep.old keep.new (plant_told result) }
     ensures shown { is_accepted (plant_told result) ≡ false }
-    ensures over { Over K.is_honest K.holds keep.old keep.new (λ c H. IfOk (plant_told result) (IsPlantAnswer H (AsksTrace lot.now way))) }
+    ensures over { Over K.meaning keep.old keep.new (λ c H. IfOk (plant_told result) (IsPlantAnswer H (AsksTrace lot.now way))) }
 {
     match keep.all_edges(alloc) {
         Ok(edges) => {
@@ -132,9 +132,9 @@ fn trace_alone<K: Keep>(
     lot: &LotId,
     way: Way,
 ) -> PlantReply
-    ensures reads { IsReading K.is_honest K.is_live K.is_closed K.has_cause K.leaves K.holds keep.old keep.new (plant_told result) }
+    ensures reads { IsReading K.meaning keep.old keep.new (plant_told result) }
     ensures shown { is_accepted (plant_told result) ≡ false }
-    ensures over { Over K.is_honest K.holds keep.old keep.new (λ c H. AreEdges (IsPlantEdge H) edges.now → IfOk (plant_told result) (IsPlantAnswer H (AsksTrace lot.now way))) }
+    ensures over { Over K.meaning keep.old keep.new (λ c H. AreEdges (IsPlantEdge H) edges.now → IfOk (plant_told result) (IsPlantAnswer H (AsksTrace lot.now way))) }
 {
     match keep.slice(alloc, &lot.owner) {
         Ok(Some(slice)) => {
@@ -166,10 +166,10 @@ fn text_of_trace(
 
 // The text of a recall: [`Refusal::UnknownOwner`], then [`Refusal::UnknownLot`].
 fn ask_recall<K: Keep>(alloc: Global, keep: &mut K, lot: &LotId) -> PlantReply
-    ensures going { IsGoing K.is_honest K.is_live K.is_closed K.has_cause K.leaves K.holds keep.old keep.new (plant_told result) }
-    ensures whole { Over K.is_honest K.holds keep.old keep.new (λ c H. plant_told result ≢ Err KeepFault.Damaged) }
+    ensures going { IsGoing K.meaning keep.old keep.new (plant_told result) }
+    ensures whole { Over K.meaning keep.old keep.new (λ c H. plant_told result ≢ Err KeepFault.Damaged) }
     ensures shown { is_accepted (plant_told result) ≡ false }
-    ensures over { Over K.is_honest K.holds keep.old keep.new (λ c H. IfOk (plant_told result) (IsPlantAnswer H (AsksRecall lot.now))) }
+    ensures over { Over K.meaning keep.old keep.new (λ c H. IfOk (plant_told result) (IsPlantAnswer H (AsksRecall lot.now))) }
 {
     match recall(alloc, keep, lot) {
         Ok(Some(lines)) => match recall_text(alloc, &lines) {
@@ -183,9 +183,9 @@ fn ask_recall<K: Keep>(alloc: Global, keep: &mut K, lot: &LotId) -> PlantReply
 
 // What a lot that is not known is refused for.
 fn refuse_lot<K: Keep>(alloc: Global, keep: &mut K, lot: &LotId) -> PlantReply
-    ensures reads { IsReading K.is_honest K.is_live K.is_closed K.has_cause K.leaves K.holds keep.old keep.new (plant_told result) }
+    ensures reads { IsReading K.meaning keep.old keep.new (plant_told result) }
     ensures shown { is_accepted (plant_told result) ≡ false }
-    ensures over { Over K.is_honest K.holds keep.old keep.new (λ c H. is_known_lot H lot.now ≡ false → IfOk (plant_told result) (IsPlantAnswer H (AsksRecall lot.now))) }
+    ensures over { Over K.meaning keep.old keep.new (λ c H. is_known_lot H lot.now ≡ false → IfOk (plant_told result) (IsPlantAnswer H (AsksRecall lot.now))) }
 {
     match keep.slice(alloc, &lot.owner) {
         Ok(Some(_)) => PlantReply::Refused(Refusal::UnknownLot),

@@ -21,8 +21,8 @@ use toll_work::batch_view;
 
 /// What an owner is told of its rows.
 pub fn read_rows<K: Keep>(alloc: Global, keep: &mut K, owner: &Name, reading: &Reading) -> Reply
-    ensures reads { IsReading K.is_honest K.is_live K.is_closed K.has_cause K.leaves K.holds keep.old keep.new (told_of result) }
-    ensures over { Over K.is_honest K.holds keep.old keep.new (λ c H. owner_known H owner.now ≡ true → IfOk (told_of result) (IsAnswer owner.now H (asked_to_read reading.now))) }
+    ensures reads { IsReading K.meaning keep.old keep.new (told_of result) }
+    ensures over { Over K.meaning keep.old keep.new (λ c H. owner_known H owner.now ≡ true → IfOk (told_of result) (IsAnswer owner.now H (asked_to_read reading.now))) }
 {
     match keep.slice(alloc, owner) {
         Ok(Some(slice)) => match read_over(alloc, &slice, reading) {

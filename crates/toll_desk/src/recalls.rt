@@ -32,9 +32,9 @@ pub fn recall<K: Keep>(
     keep: &mut K,
     lot: &LotId,
 ) -> Result<Option<Vec<RecallLine>>, KeepFault>
-    ensures going { IsGoing K.is_honest K.is_live K.is_closed K.has_cause K.leaves K.holds keep.old keep.new result }
-    ensures whole { Over K.is_honest K.holds keep.old keep.new (λ c H. result ≢ Err KeepFault.Damaged) }
-    ensures over { Over K.is_honest K.holds keep.old keep.new (λ c H. IfOk result (IsRecallOf H lot.now)) }
+    ensures going { IsGoing K.meaning keep.old keep.new result }
+    ensures whole { Over K.meaning keep.old keep.new (λ c H. result ≢ Err KeepFault.Damaged) }
+    ensures over { Over K.meaning keep.old keep.new (λ c H. IfOk result (IsRecallOf H lot.now)) }
 {
     match keep.slice(alloc, &lot.owner) {
         Ok(Some(slice)) => {
@@ -58,9 +58,9 @@ fn recall_known<K: Keep>(
     lot: &LotId,
     own: Slice,
 ) -> Result<Vec<RecallLine>, KeepFault>
-    ensures going { IsGoing K.is_honest K.is_live K.is_closed K.has_cause K.leaves K.holds keep.old keep.new result }
-    ensures whole { Over K.is_honest K.holds keep.old keep.new (λ c H. IsRowsOf H own → is_known_lot H lot.now ≡ true → result ≢ Err KeepFault.Damaged) }
-    ensures over { Over K.is_honest K.holds keep.old keep.new (λ c H. IsRowsOf H own → IfOk result (λ lines. IsRecall H lot.now lines.items)) }
+    ensures going { IsGoing K.meaning keep.old keep.new result }
+    ensures whole { Over K.meaning keep.old keep.new (λ c H. IsRowsOf H own → is_known_lot H lot.now ≡ true → result ≢ Err KeepFault.Damaged) }
+    ensures over { Over K.meaning keep.old keep.new (λ c H. IsRowsOf H own → IfOk result (λ lines. IsRecall H lot.now lines.items)) }
 {
     match keep.all_edges(alloc) {
         Ok(edges) => match trace_over(alloc, &edges, lot, Way::Forward) {
@@ -78,10 +78,10 @@ fn recall_steps<K: Keep>(
     steps: &[Step],
     own: Slice,
 ) -> Result<Vec<RecallLine>, KeepFault>
-    ensures going { (first : K) → HaveRead K.is_honest K.is_live K.is_closed K.has_cause K.leaves K.holds first keep.old → IsGoing K.is_honest K.is_live K.is_closed K.has_cause K.leaves K.holds first keep.new result }
-    ensures kept { IsKept K.is_honest K.holds keep.old keep.new }
-    ensures whole { (first : K) → HaveRead K.is_honest K.is_live K.is_closed K.has_cause K.leaves K.holds first keep.old → Over K.is_honest K.holds first keep.new (λ c H. (lot : LotId) → IsRowsOf H own → is_known_lot H lot ≡ true → IsTrace (IsPlantJoined H Forward) lot steps.now → result ≢ Err KeepFault.Damaged) }
-    ensures over { (first : K) → HaveRead K.is_honest K.is_live K.is_closed K.has_cause K.leaves K.holds first keep.old → Over K.is_honest K.holds first keep.new (λ c H. (lot : LotId) → IsRowsOf H own → IsTrace (IsPlantJoined H Forward) lot steps.now → IfOk result (λ lines. IsRecall H lot lines.items)) }
+    ensures going { (first : K) → HaveRead K.meaning first keep.old → IsGoing K.meaning first keep.new result }
+    ensures kept { IsKept K.meaning keep.old keep.new }
+    ensures whole { (first : K) → HaveRead K.meaning first keep.old → Over K.meaning first keep.new (λ c H. (lot : LotId) → IsRowsOf H own → is_known_lot H lot ≡ true → IsTrace (IsPlantJoined H Forward) lot steps.now → result ≢ Err KeepFault.Damaged) }
+    ensures over { (first : K) → HaveRead K.meaning first keep.old → Over K.meaning first keep.new (λ c H. (lot : LotId) → IsRowsOf H own → IsTrace (IsPlantJoined H Forward) lot steps.now → IfOk result (λ lines. IsRecall H lot lines.items)) }
 {
     match slices_of(alloc, keep, steps, own) {
         Ok(slices) => match lines_of(alloc, &slices, steps) {
@@ -102,9 +102,9 @@ fn slices_of<K: Keep>(
     steps: &[Step],
     own: Slice,
 ) -> Result<Vec<Slice>, KeepFault>
-    ensures reads { (first : K) → HaveRead K.is_honest K.is_live K.is_closed K.has_cause K.leaves K.holds first keep.old → IsReading K.is_honest K.is_live K.is_closed K.has_cause K.leaves K.holds first keep.new result }
-    ensures kept { IsKept K.is_honest K.holds keep.old keep.new }
-    ensures over { Over K.is_honest K.holds keep.old keep.new (λ c H. IsRowsOf H own → IfOk result (λ slices. AreSlicesFor H steps.now slices.items)) }
+    ensures reads { (first : K) → HaveRead K.meaning first keep.old → IsReading K.meaning first keep.new result }
+    ensures kept { IsKept K.meaning keep.old keep.new }
+    ensures over { Over K.meaning keep.old keep.new (λ c H. IsRowsOf H own → IfOk result (λ slices. AreSlicesFor H steps.now slices.items)) }
 {
     let mut slices = Vec::new(alloc);
     if slices.push(own).is_err() {
@@ -123,9 +123,9 @@ fn add_slice<K: Keep>(
     slices: &mut Vec<Slice>,
     step: &Step,
 ) -> Result<(), KeepFault>
-    ensures reads { (first : K) → HaveRead K.is_honest K.is_live K.is_closed K.has_cause K.leaves K.holds first keep.old → IsReading K.is_honest K.is_live K.is_closed K.has_cause K.leaves K.holds first keep.new result }
-    ensures kept { IsKept K.is_honest K.holds keep.old keep.new }
-    ensures over { Over K.is_honest K.holds keep.old keep.new (λ c H. (before : List Step) → AreSlicesFor H before slices.old.items → OnOk result (AreSlicesFor H (before ++ step.now ∷ []) slices.new.items)) }
+    ensures reads { (first : K) → HaveRead K.meaning first keep.old → IsReading K.meaning first keep.new result }
+    ensures kept { IsKept K.meaning keep.old keep.new }
+    ensures over { Over K.meaning keep.old keep.new (λ c H. (before : List Step) → AreSlicesFor H before slices.old.items → OnOk result (AreSlicesFor H (before ++ step.now ∷ []) slices.new.items)) }
 {
     if place_of(slices, &step.lot.owner).is_some() {
         return Ok(());

@@ -29,8 +29,8 @@ use toll_views::has_consumed;
 /// The trace of an owner that was admitted, over the edges of its own batches. [`Refusal::UnknownLot`]
 /// where the owner has no such lot; of a lot of HOUSE, where no batch of the owner consumed it.
 pub fn trace_own<K: Keep>(alloc: Global, keep: &mut K, owner: &Name, tracing: &Tracing) -> Reply
-    ensures reads { IsReading K.is_honest K.is_live K.is_closed K.has_cause K.leaves K.holds keep.old keep.new (told_of result) }
-    ensures over { Over K.is_honest K.holds keep.old keep.new (λ c H. owner_known H owner.now ≡ true → same_bytes owner.now house_name ≡ false → IfOk (told_of result) (IsAnswer owner.now H (asked_to_trace tracing.now))) }
+    ensures reads { IsReading K.meaning keep.old keep.new (told_of result) }
+    ensures over { Over K.meaning keep.old keep.new (λ c H. owner_known H owner.now ≡ true → same_bytes owner.now house_name ≡ false → IfOk (told_of result) (IsAnswer owner.now H (asked_to_trace tracing.now))) }
 {
     let lot = traced_from(owner, tracing);
     match keep.edges(alloc, owner) {
@@ -53,8 +53,8 @@ fn trace_apart<K: Keep>(
     tracing: &Tracing,
     edges: &[Edge],
 ) -> Reply
-    ensures reads { IsReading K.is_honest K.is_live K.is_closed K.has_cause K.leaves K.holds keep.old keep.new (told_of result) }
-    ensures over { Over K.is_honest K.holds keep.old keep.new (λ c H. owner_known H owner.now ≡ true → AreEdges (IsOwnEdge (acts owner.now H)) edges.now → IfOk (told_of result) (IsAnswer owner.now H (asked_to_trace tracing.now))) }
+    ensures reads { IsReading K.meaning keep.old keep.new (told_of result) }
+    ensures over { Over K.meaning keep.old keep.new (λ c H. owner_known H owner.now ≡ true → AreEdges (IsOwnEdge (acts owner.now H)) edges.now → IfOk (told_of result) (IsAnswer owner.now H (asked_to_trace tracing.now))) }
 {
     match keep.slice(alloc, owner) {
         Ok(Some(slice)) => {

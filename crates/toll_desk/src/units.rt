@@ -24,8 +24,8 @@ pub fn decide_owner<K: Keep>(
     owner: Name,
     key: OwnerKey,
 ) -> Result<Decision, KeepFault>
-    ensures reads { IsReading K.is_honest K.is_live K.is_closed K.has_cause K.leaves K.holds keep.old keep.new result }
-    ensures over { Over K.is_honest K.holds keep.old keep.new (λ c H. IfOk result (IsDeedDecision c H (by owner (AddOwner key)))) }
+    ensures reads { IsReading K.meaning keep.old keep.new result }
+    ensures over { Over K.meaning keep.old keep.new (λ c H. IfOk result (IsDeedDecision c H (by owner (AddOwner key)))) }
 {
     match keep.owners(alloc) {
         Ok(rows) => match judge_owner(alloc, &rows, OwnerRow { owner, key }) {
@@ -53,8 +53,8 @@ fn judge_owner(alloc: Global, rows: &[OwnerRow], row: OwnerRow) -> Result<Decisi
 
 /// The decision on a unit to be added.
 pub fn decide_unit<K: Keep>(alloc: Global, keep: &mut K, unit: Name) -> Result<Decision, KeepFault>
-    ensures reads { IsReading K.is_honest K.is_live K.is_closed K.has_cause K.leaves K.holds keep.old keep.new result }
-    ensures over { Over K.is_honest K.holds keep.old keep.new (λ c H. IfOk result (IsDeedDecision c H (by house_name (AddUnit unit)))) }
+    ensures reads { IsReading K.meaning keep.old keep.new result }
+    ensures over { Over K.meaning keep.old keep.new (λ c H. IfOk result (IsDeedDecision c H (by house_name (AddUnit unit)))) }
 {
     match keep.units(alloc) {
         Ok(rows) => match judge_unit(alloc, &rows, UnitRow { unit }) {

@@ -25,10 +25,10 @@ use toll_work::{cancel_order, place_order};
 
 /// The reply to an owner as it will stand, and what must be applied for it. Nothing is changed.
 pub fn plan_write<K: Keep>(alloc: Global, keep: &mut K, owner: &Name, writing: &Writing) -> Planned
-    ensures reads { IsReading K.is_honest K.is_live K.is_closed K.has_cause K.leaves K.holds keep.old keep.new (told_of result.reply) }
+    ensures reads { IsReading K.meaning keep.old keep.new (told_of result.reply) }
     ensures quiet { is_granted (told_of result.reply) ≡ false → result.changes.items ≡ [] }
-    ensures once { K.is_honest keep.new → (c : Content) → K.holds keep.old c → (order recipe : Bytes) (batches : ℕ) → asked_to_write writing.now ≡ AskPlace order recipe batches → is_some (order_at (c.rows owner.now) order) ≡ true → result.changes.items ≡ [] }
-    ensures plan { Over K.is_honest K.holds keep.old keep.new (λ c H. owner_known H owner.now ≡ true → IfOk (told_of result.reply) (λ told. IsPlanFor c H owner.now (asked_to_write writing.now) told result.changes.items)) }
+    ensures once { K.meaning.is_honest keep.new → (c : Content) → K.meaning.holds keep.old c → (order recipe : Bytes) (batches : ℕ) → asked_to_write writing.now ≡ AskPlace order recipe batches → is_some (order_at (c.rows owner.now) order) ≡ true → result.changes.items ≡ [] }
+    ensures plan { Over K.meaning keep.old keep.new (λ c H. owner_known H owner.now ≡ true → IfOk (told_of result.reply) (λ told. IsPlanFor c H owner.now (asked_to_write writing.now) told result.changes.items)) }
 {
     match keep.slice(alloc, owner) {
         Ok(Some(slice)) => match write_over(alloc, &slice, writing) {

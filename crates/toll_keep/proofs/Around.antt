@@ -7,6 +7,7 @@ use Rattle.std.proofs.lemmas.List.Elements.{All-nil}
 use Rattle.toll_base.specs.Slice.{Slice}
 use Rattle.toll_keep.specs.Content.{Content, ContentKeepsRules, slice_of}
 use Rattle.toll_keep.specs.Goes.{Goes, IsReading, closes}
+use Rattle.toll_keep.specs.Meaning.{Meaning, meaning_of}
 use Rattle.toll_keep.specs.Remembered.{AreOf}
 use Rattle.toll_keep.specs.declared.fault.KeepFault.{KeepFault}
 use Rattle.toll_keep.specs.declared.fault.KeepFault.TheVariants.{Memory, Damaged}
@@ -49,22 +50,26 @@ on_any (Err e) p = tt
 module _ {T : Type 0} (K : Ghosts T) where
   -- ---- what is said of the two
 
+  -- what a keep that remembers means, around one of this meaning
+  abbrev pub remembers : Meaning (Remembering T K)
+  remembers = record (meaning_of (λ r. r.keep) K.meaning) { holds = λ r c. K.meaning.holds r.keep c × AreOf c r.slices.items }
+
   abbrev pub GoesInside : {X : Type 0} → T → T → Result X KeepFault → Type 0
-  GoesInside before now answer = Goes K.is_honest K.is_live K.is_closed K.has_cause K.leaves before now answer
+  GoesInside before now answer = Goes K.meaning before now answer
 
   abbrev pub GoesAround : {X : Type 0} → Remembering T K → Remembering T K → Result X KeepFault → Type 0
-  GoesAround old new answer = Goes (λ r. K.is_honest r.keep) (λ r. K.is_live r.keep) (λ r. K.is_closed r.keep) (λ r s. K.has_cause r.keep s.keep) (λ r cs. K.leaves r.keep cs) old new answer
+  GoesAround old new answer = Goes remembers old new answer
 
   abbrev pub ReadsInside : {X : Type 0} → T → T → Result X KeepFault → Type 0
-  ReadsInside before now answer = IsReading K.is_honest K.is_live K.is_closed K.has_cause K.leaves K.holds before now answer
+  ReadsInside before now answer = IsReading K.meaning before now answer
 
   abbrev pub ReadsAround : {X : Type 0} → Remembering T K → Remembering T K → Result X KeepFault → Type 0
-  ReadsAround old new answer = IsReading (λ r. K.is_honest r.keep) (λ r. K.is_live r.keep) (λ r. K.is_closed r.keep) (λ r s. K.has_cause r.keep s.keep) (λ r cs. K.leaves r.keep cs) (λ r c. K.holds r.keep c × AreOf c r.slices.items) old new answer
+  ReadsAround old new answer = IsReading remembers old new answer
 
   -- ---- which slices may stand beside the keep inside
 
   abbrev pub MayStand : T → List Slice → Type 0
-  MayStand keep slices = record { unclosed : slices ≢ [] → K.is_closed keep ≡ false; live : slices ≢ [] → K.is_honest keep → ∥ K.is_live keep ∥₁ }
+  MayStand keep slices = record { unclosed : slices ≢ [] → K.meaning.is_closed keep ≡ false; live : slices ≢ [] → K.meaning.is_honest keep → ∥ K.meaning.is_live keep ∥₁ }
 
   -- none, beside any
   pub none_stand : (keep : T) (left taken : Vec Slice Global) → left ≡ taken → taken.items ≡ [] → MayStand keep left.items
@@ -95,7 +100,7 @@ module _ {T : Type 0} (K : Ghosts T) where
       }
 
   -- where the slices that stand by it now are the content's
-  pub reads_around : {X : Type 0} (old new : Remembering T K) (told answer : Result X KeepFault) → answer ≡ told → (K.is_honest new.keep → (c : Content) → K.holds old.keep c → AreOf c old.slices.items → AreOf c new.slices.items) → ReadsInside old.keep new.keep told → ReadsAround old new answer
+  pub reads_around : {X : Type 0} (old new : Remembering T K) (told answer : Result X KeepFault) → answer ≡ told → (K.meaning.is_honest new.keep → (c : Content) → K.meaning.holds old.keep c → AreOf c old.slices.items → AreOf c new.slices.items) → ReadsInside old.keep new.keep told → ReadsAround old new answer
   reads_around old new told answer same kept reads =
       record {
         goes = goes_around old new told answer same reads.goes;
@@ -113,24 +118,24 @@ module _ {T : Type 0} (K : Ghosts T) where
   -- ---- what is answered with no call of the keep inside
 
   -- where a slice is remembered the keep inside is open, and while it is honest it lives
-  pub reads_idle : {X : Type 0} → ((k : T) (c : Content) → K.is_honest k → K.is_live k → K.holds k c → K.leaves k (c ∷ [])) → ((k : T) (a b : K.is_live k) → a ≡ b) → (old new : Remembering T K) (answer : Result X KeepFault) → new.keep ≡ old.keep → IsQuiet answer → ((c : Content) → AreOf c old.slices.items → AreOf c new.slices.items) → old.slices.items ≢ [] → ReadsAround old new answer
+  pub reads_idle : {X : Type 0} → ((k : T) (c : Content) → K.meaning.is_honest k → K.meaning.is_live k → K.meaning.holds k c → K.meaning.leaves k (c ∷ [])) → ((k : T) (a b : K.meaning.is_live k) → a ≡ b) → (old new : Remembering T K) (answer : Result X KeepFault) → new.keep ≡ old.keep → IsQuiet answer → ((c : Content) → AreOf c old.slices.items → AreOf c new.slices.items) → old.slices.items ≢ [] → ReadsAround old new answer
   reads_idle settled once old new answer same quiet kept some =
       let open_there = old.unclosed some in
-      let live : K.is_honest old.keep → K.is_live old.keep = λ honest. ∥∥₁_elim (old.live some honest) (once old.keep) (λ there. there) in
+      let live : K.meaning.is_honest old.keep → K.meaning.is_live old.keep = λ honest. ∥∥₁_elim (old.live some honest) (once old.keep) (λ there. there) in
       record {
         goes = record {
-          honest = subst K.is_honest same;
+          honest = subst K.meaning.is_honest same;
           closed = (λ e. absurd (cc (quiet.only_memory _ e)), λ closed. absurd (false≢true (sym open_there ∙ closed)));
-          closes = ap K.is_closed same ∙ open_there ∙ sym quiet.open_still;
-          live = λ honest. subst K.is_live same;
-          shown = λ honest. on_any answer (subst K.is_live (sym same) (live (subst K.is_honest same honest)));
+          closes = ap K.meaning.is_closed same ∙ open_there ∙ sym quiet.open_still;
+          live = λ honest. subst K.meaning.is_live same;
+          shown = λ honest. on_any answer (subst K.meaning.is_live (sym same) (live (subst K.meaning.is_honest same honest)));
           cause = λ honest e. absurd (cc (quiet.only_memory _ e));
-          since = λ honest later. subst (λ k. K.has_cause k later.keep) same;
+          since = λ honest later. subst (λ k. K.meaning.has_cause k later.keep) same;
           stays = λ closed. absurd (false≢true (sym open_there ∙ closed));
         };
         keeps = λ honest. record {
-          content = λ c held. (subst (λ k. K.holds k c) (sym same) held.0, kept c held.1);
-          crash = λ lives c held. subst (λ k. K.leaves k (c ∷ [])) (sym same) (settled old.keep c (subst K.is_honest same honest) lives held.0);
+          content = λ c held. (subst (λ k. K.meaning.holds k c) (sym same) held.0, kept c held.1);
+          crash = λ lives c held. subst (λ k. K.meaning.leaves k (c ∷ [])) (sym same) (settled old.keep c (subst K.meaning.is_honest same honest) lives held.0);
         };
         whole = λ honest c held rules e. absurd (cc (quiet.only_memory _ e));
       }

@@ -2,6 +2,7 @@ pub mod Content
 pub mod Standing
 pub mod Fault
 pub mod Goes
+pub mod Meaning
 pub mod Holding
 pub mod Slices
 pub mod Drafts

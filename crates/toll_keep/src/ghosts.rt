@@ -13,45 +13,45 @@ use crate::remembering::Remembering;
 
 /// A keep in memory is always honest and live, never closed, and meets no cause of Disk.
 pub fn a_keep_in_memory_is_always_open()
-    ensures honest { (k : Kept) → ⟦<MemKeep as Keep>⟧.is_honest k }
-    ensures live { (k : Kept) → ⟦<MemKeep as Keep>⟧.is_live k }
-    ensures not_closed { (k : Kept) → ⟦<MemKeep as Keep>⟧.is_closed k ≡ false }
-    ensures no_cause { (old new : Kept) → ⟦<MemKeep as Keep>⟧.has_cause old new → ⊥ }
+    ensures honest { (k : Kept) → ⟦<MemKeep as Keep>⟧.meaning.is_honest k }
+    ensures live { (k : Kept) → ⟦<MemKeep as Keep>⟧.meaning.is_live k }
+    ensures not_closed { (k : Kept) → ⟦<MemKeep as Keep>⟧.meaning.is_closed k ≡ false }
+    ensures no_cause { (old new : Kept) → ⟦<MemKeep as Keep>⟧.meaning.has_cause old new → ⊥ }
 {}
 
 /// A keep in memory holds its own content and no other, and that is what a stop leaves.
 pub fn a_keep_in_memory_has_its_content()
-    ensures holds { (k : Kept) (c : Content) → ⟦<MemKeep as Keep>⟧.holds k c ↔ (content_of k ≡ c) }
-    ensures leaves { (k : Kept) (cs : List Content) → ⟦<MemKeep as Keep>⟧.leaves k cs ↔ Contains cs (content_of k) }
+    ensures holds { (k : Kept) (c : Content) → ⟦<MemKeep as Keep>⟧.meaning.holds k c ↔ (content_of k ≡ c) }
+    ensures leaves { (k : Kept) (cs : List Content) → ⟦<MemKeep as Keep>⟧.meaning.leaves k cs ↔ Contains cs (content_of k) }
 {}
 
 /// A keep that refuses is honest, live and closed just where the keep inside is, and meets the causes
 /// of Disk that it meets.
 pub fn a_refusing_keep_is_as_open_as_the_one_inside<K: Keep>()
-    ensures honest { (r : Refusing K) → ⟦<Refusing<K> as Keep>⟧.is_honest r ↔ K.is_honest r.keep }
-    ensures live { (r : Refusing K) → ⟦<Refusing<K> as Keep>⟧.is_live r ↔ K.is_live r.keep }
-    ensures closed { (r : Refusing K) → ⟦<Refusing<K> as Keep>⟧.is_closed r ≡ K.is_closed r.keep }
-    ensures cause { (old new : Refusing K) → ⟦<Refusing<K> as Keep>⟧.has_cause old new ↔ K.has_cause old.keep new.keep }
+    ensures honest { (r : Refusing K) → ⟦<Refusing<K> as Keep>⟧.meaning.is_honest r ↔ K.meaning.is_honest r.keep }
+    ensures live { (r : Refusing K) → ⟦<Refusing<K> as Keep>⟧.meaning.is_live r ↔ K.meaning.is_live r.keep }
+    ensures closed { (r : Refusing K) → ⟦<Refusing<K> as Keep>⟧.meaning.is_closed r ≡ K.meaning.is_closed r.keep }
+    ensures cause { (old new : Refusing K) → ⟦<Refusing<K> as Keep>⟧.meaning.has_cause old new ↔ K.meaning.has_cause old.keep new.keep }
 {}
 
 /// A keep that refuses holds what the keep inside holds, and a stop leaves what it leaves.
 pub fn a_refusing_keep_has_the_content_inside<K: Keep>()
-    ensures holds { (r : Refusing K) (c : Content) → ⟦<Refusing<K> as Keep>⟧.holds r c ↔ K.holds r.keep c }
-    ensures leaves { (r : Refusing K) (cs : List Content) → ⟦<Refusing<K> as Keep>⟧.leaves r cs ↔ K.leaves r.keep cs }
+    ensures holds { (r : Refusing K) (c : Content) → ⟦<Refusing<K> as Keep>⟧.meaning.holds r c ↔ K.meaning.holds r.keep c }
+    ensures leaves { (r : Refusing K) (cs : List Content) → ⟦<Refusing<K> as Keep>⟧.meaning.leaves r cs ↔ K.meaning.leaves r.keep cs }
 {}
 
 /// A keep that remembers is honest, live and closed just where the keep inside is, and meets the causes
 /// of Disk that it meets.
 pub fn a_remembering_keep_is_as_open_as_the_one_inside<K: Keep>()
-    ensures honest { (r : Remembering K ⟦<K as Keep>⟧) → ⟦<Remembering<K> as Keep>⟧.is_honest r ↔ K.is_honest r.keep }
-    ensures live { (r : Remembering K ⟦<K as Keep>⟧) → ⟦<Remembering<K> as Keep>⟧.is_live r ↔ K.is_live r.keep }
-    ensures closed { (r : Remembering K ⟦<K as Keep>⟧) → ⟦<Remembering<K> as Keep>⟧.is_closed r ≡ K.is_closed r.keep }
-    ensures cause { (old new : Remembering K ⟦<K as Keep>⟧) → ⟦<Remembering<K> as Keep>⟧.has_cause old new ↔ K.has_cause old.keep new.keep }
+    ensures honest { (r : Remembering K ⟦<K as Keep>⟧) → ⟦<Remembering<K> as Keep>⟧.meaning.is_honest r ↔ K.meaning.is_honest r.keep }
+    ensures live { (r : Remembering K ⟦<K as Keep>⟧) → ⟦<Remembering<K> as Keep>⟧.meaning.is_live r ↔ K.meaning.is_live r.keep }
+    ensures closed { (r : Remembering K ⟦<K as Keep>⟧) → ⟦<Remembering<K> as Keep>⟧.meaning.is_closed r ≡ K.meaning.is_closed r.keep }
+    ensures cause { (old new : Remembering K ⟦<K as Keep>⟧) → ⟦<Remembering<K> as Keep>⟧.meaning.has_cause old new ↔ K.meaning.has_cause old.keep new.keep }
 {}
 
 /// A keep that remembers holds what the keep inside holds, where each slice that it remembers is its
 /// owner's of that. A stop leaves what the keep inside leaves.
 pub fn a_remembering_keep_has_the_content_inside<K: Keep>()
-    ensures holds { (r : Remembering K ⟦<K as Keep>⟧) (c : Content) → ⟦<Remembering<K> as Keep>⟧.holds r c ↔ (K.holds r.keep c × AreOf c r.slices.items) }
-    ensures leaves { (r : Remembering K ⟦<K as Keep>⟧) (cs : List Content) → ⟦<Remembering<K> as Keep>⟧.leaves r cs ↔ K.leaves r.keep cs }
+    ensures holds { (r : Remembering K ⟦<K as Keep>⟧) (c : Content) → ⟦<Remembering<K> as Keep>⟧.meaning.holds r c ↔ (K.meaning.holds r.keep c × AreOf c r.slices.items) }
+    ensures leaves { (r : Remembering K ⟦<K as Keep>⟧) (cs : List Content) → ⟦<Remembering<K> as Keep>⟧.meaning.leaves r cs ↔ K.meaning.leaves r.keep cs }
 {}

@@ -4,6 +4,7 @@ ghost use Rattle.toll_trace.specs.Edges.{AreEdges, IsEdge};
 ghost use Rattle.toll_keep.specs.Content.{Content, slice_of, after, Fits, ContentKeepsRules};
 ghost use Rattle.toll_keep.specs.Goes.{Goes, IsReading};
 ghost use Rattle.toll_keep.specs.Holding.{IsHolder, IsEdgeOfSome};
+ghost use Rattle.toll_keep.specs.Meaning.{Meaning};
 
 use crate::fault::KeepFault;
 use crate::holder::Holder;
@@ -17,53 +18,38 @@ use toll_base::{Change, Edge, Name, OwnerRow, Slice, UnitRow};
 /// is said to hold the rows from before the call that failed; what its store has when it is opened
 /// again is said by `leaves`.
 pub trait Keep {
-    // It has the rows of this content.
-    ghost holds: { Self → Content → Type 0 };
-
-    // No wrong answer of its store was taken as true so far.
-    ghost is_honest: { Self → Type 0 };
-
-    // It answered Disk or Damaged, and from then on answers Closed.
-    ghost is_closed: { Self → Bool };
-
-    // Its store has not shut itself.
-    ghost is_live: { Self → Type 0 };
-
-    // What its store met between the one and the other is a cause of Disk.
-    ghost has_cause: { Self → Self → Type 0 };
-
-    // A stop at this moment leaves one of these contents.
-    ghost leaves: { Self → List Content → Type 0 };
+    // What a keep of this type means: what it holds, when it is honest, live and closed, what a stop leaves.
+    ghost meaning: { Meaning Self };
 
     /// All rows of an owner: `None` for an unknown one. HOUSE is always known.
     fn slice(&mut self, alloc: Global, owner: &Name) -> Result<Option<Slice>, KeepFault>
-        ensures reading { IsReading is_honest is_live is_closed has_cause leaves holds self.old self.new result }
-        ensures reads { is_honest self.new → (c : Content) → holds self.old c → IfOk result (λ slice. slice ≡ slice_of c owner.now) };
+        ensures reading { IsReading meaning self.old self.new result }
+        ensures reads { meaning.is_honest self.new → (c : Content) → meaning.holds self.old c → IfOk result (λ slice. slice ≡ slice_of c owner.now) };
 
     /// The owners besides HOUSE, in the order of their names.
     fn owners(&mut self, alloc: Global) -> Result<Vec<OwnerRow>, KeepFault>
-        ensures reading { IsReading is_honest is_live is_closed has_cause leaves holds self.old self.new result }
-        ensures reads { is_honest self.new → (c : Content) → holds self.old c → IfOk result (λ rows. rows.items ≡ c.owners) };
+        ensures reading { IsReading meaning self.old self.new result }
+        ensures reads { meaning.is_honest self.new → (c : Content) → meaning.holds self.old c → IfOk result (λ rows. rows.items ≡ c.owners) };
 
     /// The units, in the order of their names.
     fn units(&mut self, alloc: Global) -> Result<Vec<UnitRow>, KeepFault>
-        ensures reading { IsReading is_honest is_live is_closed has_cause leaves holds self.old self.new result }
-        ensures reads { is_honest self.new → (c : Content) → holds self.old c → IfOk result (λ rows. rows.items ≡ c.units) };
+        ensures reading { IsReading meaning self.old self.new result }
+        ensures reads { meaning.is_honest self.new → (c : Content) → meaning.holds self.old c → IfOk result (λ rows. rows.items ≡ c.units) };
 
     /// The batch that holds the unit, of any owner: `None` where none does.
     fn holder(&mut self, alloc: Global, unit: &Name) -> Result<Option<Holder>, KeepFault>
-        ensures reading { IsReading is_honest is_live is_closed has_cause leaves holds self.old self.new result }
-        ensures reads { is_honest self.new → (c : Content) → holds self.old c → IfOk result (IsHolder c unit.now) };
+        ensures reading { IsReading meaning self.old self.new result }
+        ensures reads { meaning.is_honest self.new → (c : Content) → meaning.holds self.old c → IfOk result (IsHolder c unit.now) };
 
     /// The genealogy of an owner's own batches, in order, each edge once: empty for an unknown owner.
     fn edges(&mut self, alloc: Global, owner: &Name) -> Result<Vec<Edge>, KeepFault>
-        ensures reading { IsReading is_honest is_live is_closed has_cause leaves holds self.old self.new result }
-        ensures reads { is_honest self.new → (c : Content) → holds self.old c → IfOk result (λ edges. AreEdges (IsEdge (c.rows owner.now)) edges.items) };
+        ensures reading { IsReading meaning self.old self.new result }
+        ensures reads { meaning.is_honest self.new → (c : Content) → meaning.holds self.old c → IfOk result (λ edges. AreEdges (IsEdge (c.rows owner.now)) edges.items) };
 
     /// The genealogy of all batches, in order, each edge once.
     fn all_edges(&mut self, alloc: Global) -> Result<Vec<Edge>, KeepFault>
-        ensures reading { IsReading is_honest is_live is_closed has_cause leaves holds self.old self.new result }
-        ensures reads { is_honest self.new → (c : Content) → holds self.old c → IfOk result (λ edges. AreEdges (IsEdgeOfSome c) edges.items) };
+        ensures reading { IsReading meaning self.old self.new result }
+        ensures reads { meaning.is_honest self.new → (c : Content) → meaning.holds self.old c → IfOk result (λ edges. AreEdges (IsEdgeOfSome c) edges.items) };
 
     /// Makes all of these changes, in order, or none.
     ///
@@ -72,18 +58,18 @@ pub trait Keep {
     /// a [`Slice`]. A stop during the call, or a fault of the disk that cuts it off, leaves a store that
     /// has, when it is opened again, the rows from before or those after all changes, never some.
     fn apply(&mut self, alloc: Global, changes: &[Change]) -> Result<(), KeepFault>
-        ensures goes { Goes is_honest is_live is_closed has_cause leaves self.old self.new result }
-        ensures all { is_honest self.new → (c : Content) → holds self.old c → Fits c changes.now → OnOk result (holds self.new (after changes.now c)) }
-        ensures none { is_honest self.new → (c : Content) → holds self.old c → OnErr result (holds self.new c) }
-        ensures whole { is_honest self.new → (c : Content) → holds self.old c → ContentKeepsRules c → result ≢ Err KeepFault.Damaged }
-        ensures crash { is_honest self.new → is_live self.old → (c : Content) → holds self.old c → Fits c changes.now → leaves self.new (c ∷ after changes.now c ∷ []) };
+        ensures goes { Goes meaning self.old self.new result }
+        ensures all { meaning.is_honest self.new → (c : Content) → meaning.holds self.old c → Fits c changes.now → OnOk result (meaning.holds self.new (after changes.now c)) }
+        ensures none { meaning.is_honest self.new → (c : Content) → meaning.holds self.old c → OnErr result (meaning.holds self.new c) }
+        ensures whole { meaning.is_honest self.new → (c : Content) → meaning.holds self.old c → ContentKeepsRules c → result ≢ Err KeepFault.Damaged }
+        ensures crash { meaning.is_honest self.new → meaning.is_live self.old → (c : Content) → meaning.holds self.old c → Fits c changes.now → meaning.leaves self.new (c ∷ after changes.now c ∷ []) };
 
     // While the store lives, a stop between two calls leaves the content and nothing else.
-    ghost settled: { (k : Self) (c : Content) → is_honest k → is_live k → holds k c → leaves k (c ∷ []) };
+    ghost settled: { (k : Self) (c : Content) → meaning.is_honest k → meaning.is_live k → meaning.holds k c → meaning.leaves k (c ∷ []) };
 
     // That its store has not shut itself is one fact.
-    ghost lives_once: { (k : Self) (a b : is_live k) → a ≡ b };
+    ghost lives_once: { (k : Self) (a b : meaning.is_live k) → a ≡ b };
 
     // One of some contents is one of more.
-    ghost widened: { (k : Self) (cs more : List Content) → leaves k cs → leaves k (cs ++ more) };
+    ghost widened: { (k : Self) (cs more : List Content) → meaning.leaves k cs → meaning.leaves k (cs ++ more) };
 }

@@ -51,7 +51,7 @@ impl MemKeep {
     /// No owners but HOUSE, no units, no rows. It takes no memory yet.
     pub fn new(alloc: Global) -> Self
         ensures empty { content_of result ≡ nothing }
-        ensures holds { ⟦<MemKeep as Keep>⟧.holds result nothing }
+        ensures holds { ⟦<MemKeep as Keep>⟧.meaning.holds result nothing }
     {
         MemKeep {
             owners: Table::new(alloc),
@@ -115,17 +115,14 @@ impl MemKeep {
 }
 
 impl Keep for MemKeep {
-    ghost holds = { λ k c. content_of k ≡ c };
-
-    ghost is_honest = { λ _. ⊤ };
-
-    ghost is_closed = { λ _. false };
-
-    ghost is_live = { λ _. ⊤ };
-
-    ghost has_cause = { λ _ _. ⊥ };
-
-    ghost leaves = { λ k cs. IsAmong (λ c. content_of k ≡ c) cs };
+    ghost meaning = { record {
+      holds = λ k c. content_of k ≡ c;
+      is_honest = λ _. ⊤;
+      is_closed = λ _. false;
+      is_live = λ _. ⊤;
+      has_cause = λ _ _. ⊥;
+      leaves = λ k cs. IsAmong (λ c. content_of k ≡ c) cs;
+    } };
 
     fn slice(&mut self, alloc: Global, owner: &Name) -> Result<Option<Slice>, KeepFault> {
         Ok(self.shared_slice(alloc, owner)?)

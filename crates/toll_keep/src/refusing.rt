@@ -1,4 +1,5 @@
 //! A keep that once has no memory.
+ghost use Rattle.toll_keep.specs.Meaning.{meaning_of};
 ghost use Rattle.std.specs.Prelude.{◌≡◌, true};
 
 use crate::fault::KeepFault;
@@ -40,17 +41,7 @@ impl<K: Keep> Refusing<K> {
 }
 
 impl<K: Keep> Keep for Refusing<K> {
-    ghost holds = { λ r c. K.holds r.keep c };
-
-    ghost is_honest = { λ r. K.is_honest r.keep };
-
-    ghost is_closed = { λ r. K.is_closed r.keep };
-
-    ghost is_live = { λ r. K.is_live r.keep };
-
-    ghost has_cause = { λ r s. K.has_cause r.keep s.keep };
-
-    ghost leaves = { λ r cs. K.leaves r.keep cs };
+    ghost meaning = { meaning_of (λ r. r.keep) K.meaning };
 
     fn slice(&mut self, alloc: Global, owner: &Name) -> Result<Option<Slice>, KeepFault> {
         self.keep.slice(alloc, owner)

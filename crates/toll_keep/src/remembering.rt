@@ -17,8 +17,8 @@ use toll_trace::edges_of;
 pub struct Remembering<K: Keep> {
     keep: K,
     slices: Vec<Slice>,
-    ghost unclosed: { slices.items ≢ [] → K.is_closed keep ≡ false },
-    ghost live: { slices.items ≢ [] → K.is_honest keep → ∥ K.is_live keep ∥₁ },
+    ghost unclosed: { slices.items ≢ [] → K.meaning.is_closed keep ≡ false },
+    ghost live: { slices.items ≢ [] → K.meaning.is_honest keep → ∥ K.meaning.is_live keep ∥₁ },
 }
 
 /// By hand, since what is derived is written out at every exit of every function that owns a keep.
@@ -32,7 +32,7 @@ impl<K: Keep> Remembering<K> {
     /// Around this keep, holding what that holds. It remembers nothing yet, and takes no memory.
     pub fn new(alloc: Global, keep: K) -> Self
         ensures keep { result.keep ≡ keep }
-        ensures holds { (c : Content) → ⟦<Remembering<K> as Keep>⟧.holds result c ↔ K.holds keep c }
+        ensures holds { (c : Content) → ⟦<Remembering<K> as Keep>⟧.meaning.holds result c ↔ K.meaning.holds keep c }
     {
         Remembering {
             keep,
@@ -67,17 +67,14 @@ fn or_forget<T>(
 
 // What changes the slices takes them out, and puts them back where all went well.
 impl<K: Keep> Keep for Remembering<K> {
-    ghost holds = { λ r c. K.holds r.keep c × AreOf c r.slices.items };
-
-    ghost is_honest = { λ r. K.is_honest r.keep };
-
-    ghost is_closed = { λ r. K.is_closed r.keep };
-
-    ghost is_live = { λ r. K.is_live r.keep };
-
-    ghost has_cause = { λ r s. K.has_cause r.keep s.keep };
-
-    ghost leaves = { λ r cs. K.leaves r.keep cs };
+    ghost meaning = { record {
+      holds = λ r c. K.meaning.holds r.keep c × AreOf c r.slices.items;
+      is_honest = λ r. K.meaning.is_honest r.keep;
+      is_closed = λ r. K.meaning.is_closed r.keep;
+      is_live = λ r. K.meaning.is_live r.keep;
+      has_cause = λ r s. K.meaning.has_cause r.keep s.keep;
+      leaves = λ r cs. K.meaning.leaves r.keep cs;
+    } };
 
     fn slice(&mut self, alloc: Global, owner: &Name) -> Result<Option<Slice>, KeepFault> {
         let mut slices = mem::replace(&mut self.slices, Vec::new(alloc));

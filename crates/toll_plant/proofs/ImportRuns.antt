@@ -10,6 +10,7 @@ use Rattle.toll_base.specs.declared.refusal.Refusal.{Refusal}
 use Rattle.toll_history.specs.Command.{Record, by}
 use Rattle.toll_history.specs.History.{History}
 use Rattle.toll_history.specs.Verdict.{Verdict, Accepted, Repeated, Refused, IsLawful, verdict}
+use Rattle.toll_keep.specs.Meaning.{Meaning}
 use Rattle.toll_keep.specs.Content.{Content}
 use Rattle.toll_keep.specs.Goes.{Goes}
 use Rattle.toll_keep.specs.Standing.{StandsFor}
@@ -63,15 +64,15 @@ comes_judged H command Accepted answer = (Accepted, answer, refl, refl)
 comes_judged H command Repeated answer = (Repeated, answer, refl, refl)
 comes_judged H command (Refused why) answer = (Refused why, answer, refl, refl)
 
-module _ {K : Type 0} (is_honest is_live : K → Type 0) (is_closed : K → Bool) (has_cause : K → K → Type 0) (leaves : K → List Content → Type 0) (holds : K → Content → Type 0) where
+module _ {K : Type 0} (meaning : Meaning K) where
   abbrev Served : K → List (Option PlantCmd) → List Outcome → K → Type 0
-  Served old commands outcomes new = AreRecordsServed is_honest is_live is_closed has_cause leaves holds old commands outcomes new
+  Served old commands outcomes new = AreRecordsServed meaning old commands outcomes new
 
   abbrev RecordServed : K → K → Option PlantCmd → Outcome → Type 0
-  RecordServed old new command outcome = IsRecordServed is_honest is_live is_closed has_cause leaves holds old new command outcome
+  RecordServed old new command outcome = IsRecordServed meaning old new command outcome
 
   abbrev PlantServed : K → K → PlantCmd → PlantReply → Type 0
-  PlantServed old new command reply = IsPlantServed is_honest is_live is_closed has_cause leaves holds old new command reply
+  PlantServed old new command reply = IsPlantServed meaning old new command reply
 
   -- what is so of the records behind one, or of the end after its fault
   abbrev Behind : Outcome → K → List (Option PlantCmd) → List Outcome → K → Type 0
@@ -89,43 +90,43 @@ module _ {K : Type 0} (is_honest is_live : K → Type 0) (is_closed : K → Bool
   first_served old middle new command commands o outcomes goes_on served rest = (middle, served, subst (λ b. MatchBool b ((outcomes ≡ []) × (new ≡ middle)) (Served middle commands outcomes new)) (sym goes_on) rest)
 
   -- a keep that is honest now has always been so
-  record_honest : (old new : K) (command : Option PlantCmd) (o : Outcome) → RecordServed old new command o → is_honest new → is_honest old
-  record_honest old new None o served now = subst is_honest served.1 now
+  record_honest : (old new : K) (command : Option PlantCmd) (o : Outcome) → RecordServed old new command o → meaning.is_honest new → meaning.is_honest old
+  record_honest old new None o served now = subst meaning.is_honest served.1 now
   record_honest old new (Some command) o served now = served.1.honest now
 
-  behind_honest : (b : Bool) (middle new : K) (outcomes : List Outcome) (X : Type 0) → (X → is_honest new → is_honest middle) → MatchBool b ((outcomes ≡ []) × (new ≡ middle)) X → is_honest new → is_honest middle
-  behind_honest true middle new outcomes X rest ends now = subst is_honest ends.1 now
+  behind_honest : (b : Bool) (middle new : K) (outcomes : List Outcome) (X : Type 0) → (X → meaning.is_honest new → meaning.is_honest middle) → MatchBool b ((outcomes ≡ []) × (new ≡ middle)) X → meaning.is_honest new → meaning.is_honest middle
+  behind_honest true middle new outcomes X rest ends now = subst meaning.is_honest ends.1 now
   behind_honest false middle new outcomes X rest behind now = rest behind now
 
-  pub all_honest : (old new : K) (commands : List (Option PlantCmd)) (outcomes : List Outcome) → Served old commands outcomes new → is_honest new → is_honest old
-  all_honest old new [] [] served now = subst is_honest served now
+  pub all_honest : (old new : K) (commands : List (Option PlantCmd)) (outcomes : List Outcome) → Served old commands outcomes new → meaning.is_honest new → meaning.is_honest old
+  all_honest old new [] [] served now = subst meaning.is_honest served now
   all_honest old new (c ∷ commands) (o ∷ outcomes) served now =
       record_honest old served.0 c o served.1 (behind_honest (is_fault o) served.0 new outcomes (Served served.0 commands outcomes new) (all_honest served.0 new commands outcomes) served.2 now)
   all_honest old new [] (o ∷ outcomes) served now = absurd served
   all_honest old new (c ∷ commands) [] served now = absurd served
 
-  module _ (settled : (k : K) (c : Content) → is_honest k → is_live k → holds k c → leaves k (c ∷ [])) where
+  module _ (settled : (k : K) (c : Content) → meaning.is_honest k → meaning.is_live k → meaning.holds k c → meaning.leaves k (c ∷ [])) where
     -- ---- one record is a step
 
-    module _ (old new : K) (now : is_honest new) (c : Content) (H : History) (held : holds old c) (stands : StandsFor c H) (lawful : IsLawful H) where
+    module _ (old new : K) (now : meaning.is_honest new) (c : Content) (H : History) (held : meaning.holds old c) (stands : StandsFor c H) (lawful : IsLawful H) where
       abbrev Step : Option PlantCmd → Outcome → Type 0
-      Step command o = IsRecordStep (holds new) (is_live old) (leaves new) c H command o
+      Step command o = IsRecordStep (meaning.holds new) (meaning.is_live old) (meaning.leaves new) c H command o
 
       -- a record that gives no command leaves all as it was
       bad_step : (o : Outcome) → o ≡ came.BadRecord → new ≡ old → Step None o
       bad_step o bad same =
-          let still = subst (λ k. holds k c) (sym same) held in
+          let still = subst (λ k. meaning.holds k c) (sym same) held in
           record {
             next = H;
             comes = (bad, refl);
             lawful = lawful;
             left = record { content = c; held = still; stands = stands };
-            crash = λ live. record { others = []; stand = tt; left = settled new c now (subst is_live (sym same) live) still };
+            crash = λ live. record { others = []; stand = tt; left = settled new c now (subst meaning.is_live (sym same) live) still };
           }
 
       -- a command was judged, or there was a fault
       told_step : (command : PlantCmd) → IsDeed (asked_by command) → IsValidDeed (asked_by command) → (outcome : Result PlantTold KeepFault) →
-          IsDone (holds new) (is_live old) (leaves new) c (after_plant H (asked_by command)) outcome (IsPlantAnswer H (asked_by command)) → Step (Some command) (outcome_of outcome)
+          IsDone (meaning.holds new) (meaning.is_live old) (meaning.leaves new) c (after_plant H (asked_by command)) outcome (IsPlantAnswer H (asked_by command)) → Step (Some command) (outcome_of outcome)
       told_step command deed valid (Ok (Judged v)) done = record {
         next = after_plant H (asked_by command);
         comes = comes_judged H command v done.told;
@@ -152,15 +153,15 @@ module _ {K : Type 0} (is_honest is_live : K → Type 0) (is_closed : K → Bool
     -- ---- records in order
 
     abbrev Steps : K → Content → History → List (Option PlantCmd) → List Outcome → K → Type 0
-    Steps old c H commands outcomes new = AreRecordSteps is_honest is_live is_closed has_cause leaves holds old c H commands outcomes new
+    Steps old c H commands outcomes new = AreRecordSteps meaning old c H commands outcomes new
 
     -- what is so behind a record, from what is so after it
     behind : (b : Bool) (middle new : K) (outcomes : List Outcome) (X Y : Type 0) → (X → Y) → MatchBool b ((outcomes ≡ []) × (new ≡ middle)) X → MatchBool b ((outcomes ≡ []) × (new ≡ middle)) Y
     behind true middle new outcomes X Y f ends = ends
     behind false middle new outcomes X Y f rest = f rest
 
-    pub steps_of : (old new : K) (commands : List (Option PlantCmd)) → AllByRecursion IsDeedOrNone commands → (outcomes : List Outcome) → Served old commands outcomes new → is_honest new →
-        (c : Content) (H : History) → holds old c → StandsFor c H → IsLawful H → Steps old c H commands outcomes new
+    pub steps_of : (old new : K) (commands : List (Option PlantCmd)) → AllByRecursion IsDeedOrNone commands → (outcomes : List Outcome) → Served old commands outcomes new → meaning.is_honest new →
+        (c : Content) (H : History) → meaning.holds old c → StandsFor c H → IsLawful H → Steps old c H commands outcomes new
     steps_of old new [] deeds [] served now c H held stands lawful = served
     steps_of old new (command ∷ commands) deeds (o ∷ outcomes) served now c H held stands lawful =
         let middle = served.0 in
@@ -176,15 +177,15 @@ module _ {K : Type 0} (is_honest is_live : K → Type 0) (is_closed : K → Bool
 
     -- the run that begins with a step, where a fault ends it or others come behind
     abbrev Run : K → History → List (Option PlantCmd) → List Outcome → Type 0
-    Run new H commands outcomes = IsImportOf (holds new) H commands outcomes
+    Run new H commands outcomes = IsImportOf (meaning.holds new) H commands outcomes
 
     run_more : (b : Bool) (middle new : K) (was : Type 0) (left : List Content → Type 0) (c : Content) (H : History) (command : Option PlantCmd) (commands : List (Option PlantCmd)) (o : Outcome) (outcomes : List Outcome) → is_fault o ≡ b →
-        (step : IsRecordStep (holds middle) was left c H command o) (X : Type 0) → (X → Run new step.next commands outcomes) → MatchBool b ((outcomes ≡ []) × (new ≡ middle)) X → Run new H (command ∷ commands) (o ∷ outcomes)
+        (step : IsRecordStep (meaning.holds middle) was left c H command o) (X : Type 0) → (X → Run new step.next commands outcomes) → MatchBool b ((outcomes ≡ []) × (new ≡ middle)) X → Run new H (command ∷ commands) (o ∷ outcomes)
     run_more true middle new was left c H command commands o outcomes fault step X rest ends = record {
       last = step.next;
       imported = (step.next, step.comes, subst (λ b. MatchBool b ((outcomes ≡ []) × (step.next ≡ step.next)) (IsImport step.next commands outcomes step.next)) (sym fault) (ends.0, refl));
       lawful = step.lawful;
-      left = record { content = step.left.content; held = subst (λ k. holds k step.left.content) (sym ends.1) step.left.held; stands = step.left.stands };
+      left = record { content = step.left.content; held = subst (λ k. meaning.holds k step.left.content) (sym ends.1) step.left.held; stands = step.left.stands };
     }
     run_more false middle new was left c H command commands o outcomes fault step X rest behind =
         let run = rest behind in
@@ -195,16 +196,16 @@ module _ {K : Type 0} (is_honest is_live : K → Type 0) (is_closed : K → Bool
           left = run.left;
         }
 
-    pub run_of : (old new : K) (commands : List (Option PlantCmd)) (outcomes : List Outcome) (c : Content) (H : History) → holds old c → StandsFor c H → IsLawful H → Steps old c H commands outcomes new → Run new H commands outcomes
+    pub run_of : (old new : K) (commands : List (Option PlantCmd)) (outcomes : List Outcome) (c : Content) (H : History) → meaning.holds old c → StandsFor c H → IsLawful H → Steps old c H commands outcomes new → Run new H commands outcomes
     run_of old new [] [] c H held stands lawful steps = record {
       last = H;
       imported = refl;
       lawful = lawful;
-      left = record { content = c; held = subst (λ k. holds k c) (sym steps) held; stands = stands };
+      left = record { content = c; held = subst (λ k. meaning.holds k c) (sym steps) held; stands = stands };
     }
     run_of old new (command ∷ commands) (o ∷ outcomes) c H held stands lawful steps =
         let step = steps.1 in
-        run_more (is_fault o) steps.0 new (is_live old) (leaves steps.0) c H command commands o outcomes refl step (Steps steps.0 step.left.content step.next commands outcomes new)
+        run_more (is_fault o) steps.0 new (meaning.is_live old) (meaning.leaves steps.0) c H command commands o outcomes refl step (Steps steps.0 step.left.content step.next commands outcomes new)
         (run_of steps.0 new commands outcomes step.left.content step.next step.left.held step.left.stands step.lawful) steps.2
     run_of old new [] (o ∷ outcomes) c H held stands lawful steps = absurd steps
     run_of old new (command ∷ commands) [] c H held stands lawful steps = absurd steps
@@ -212,13 +213,13 @@ module _ {K : Type 0} (is_honest is_live : K → Type 0) (is_closed : K → Bool
     -- ---- what holds of each outcome
 
     module _ (P : Outcome → Type 0)
-        (each : (old new : K) → is_honest new → (c : Content) (H : History) → holds old c → StandsFor c H → IsLawful H → (command : Option PlantCmd) → IsDeedOrNone command → (o : Outcome) → RecordServed old new command o → P o) where
+        (each : (old new : K) → meaning.is_honest new → (c : Content) (H : History) → meaning.holds old c → StandsFor c H → IsLawful H → (command : Option PlantCmd) → IsDeedOrNone command → (o : Outcome) → RecordServed old new command o → P o) where
       all_behind : (b : Bool) (middle new : K) (outcomes : List Outcome) (X : Type 0) → (X → AllByRecursion P outcomes) → MatchBool b ((outcomes ≡ []) × (new ≡ middle)) X → AllByRecursion P outcomes
       all_behind true middle new outcomes X rest ends = subst (AllByRecursion P) (sym ends.0) tt
       all_behind false middle new outcomes X rest behind = rest behind
 
-      all_so : (old new : K) (commands : List (Option PlantCmd)) → AllByRecursion IsDeedOrNone commands → (outcomes : List Outcome) → Served old commands outcomes new → is_honest new →
-          (c : Content) (H : History) → holds old c → StandsFor c H → IsLawful H → AllByRecursion P outcomes
+      all_so : (old new : K) (commands : List (Option PlantCmd)) → AllByRecursion IsDeedOrNone commands → (outcomes : List Outcome) → Served old commands outcomes new → meaning.is_honest new →
+          (c : Content) (H : History) → meaning.holds old c → StandsFor c H → IsLawful H → AllByRecursion P outcomes
       all_so old new [] deeds [] served now c H held stands lawful = tt
       all_so old new (command ∷ commands) deeds (o ∷ outcomes) served now c H held stands lawful =
           let middle = served.0 in
@@ -237,20 +238,20 @@ module _ {K : Type 0} (is_honest is_live : K → Type 0) (is_closed : K → Bool
     fault_told H command deed (Ok (Shows text)) fault told is = let shown = judges (asked_by command) deed H (Shows text) told in absurd (cc shown.1)
     fault_told H command deed (Err other) fault told is = let same : other ≡ fault = cc is in ap (λ f. Err f) same
 
-    whole_record : (old new : K) → is_honest new → (c : Content) (H : History) → holds old c → StandsFor c H → IsLawful H → (command : Option PlantCmd) → IsDeedOrNone command → (o : Outcome) → RecordServed old new command o → IsWholeOutcome o
+    whole_record : (old new : K) → meaning.is_honest new → (c : Content) (H : History) → meaning.holds old c → StandsFor c H → IsLawful H → (command : Option PlantCmd) → IsDeedOrNone command → (o : Outcome) → RecordServed old new command o → IsWholeOutcome o
     whole_record old new now c H held stands lawful None deed o served damaged = let never : came.BadRecord ≡ came.Fault Damaged = sym served.0 ∙ damaged in cc never
     whole_record old new now c H held stands lawful (Some command) deed o served damaged =
         served.1.undamaged now c H held stands lawful (fault_told H command deed (plant_told served.0) Damaged (served.1.done now c H held stands lawful).told (sym served.2 ∙ damaged))
 
-    pub all_whole : (old new : K) (commands : List (Option PlantCmd)) → AllByRecursion IsDeedOrNone commands → (outcomes : List Outcome) → Served old commands outcomes new → is_honest new →
-        (c : Content) (H : History) → holds old c → StandsFor c H → IsLawful H → AllByRecursion IsWholeOutcome outcomes
+    pub all_whole : (old new : K) (commands : List (Option PlantCmd)) → AllByRecursion IsDeedOrNone commands → (outcomes : List Outcome) → Served old commands outcomes new → meaning.is_honest new →
+        (c : Content) (H : History) → meaning.holds old c → StandsFor c H → IsLawful H → AllByRecursion IsWholeOutcome outcomes
     all_whole = all_so IsWholeOutcome whole_record
 
     -- ---- over a keep that never closes
 
-    module _ (never_closes : (k : K) → is_closed k ≡ false) where
+    module _ (never_closes : (k : K) → meaning.is_closed k ≡ false) where
       -- a fault of a call that went so is want of memory
-      memory_alone : {X : Type 0} (old new : K) (fault : KeepFault) → Goes {X = X} is_honest is_live is_closed has_cause leaves old new (Err fault) → fault ≡ Memory
+      memory_alone : {X : Type 0} (old new : K) (fault : KeepFault) → Goes {X = X} meaning old new (Err fault) → fault ≡ Memory
       memory_alone old new Memory goes = refl
       memory_alone old new Disk goes = absurd (false≢true (sym (never_closes new) ∙ goes.closes))
       memory_alone old new Damaged goes = absurd (false≢true (sym (never_closes new) ∙ goes.closes))
@@ -258,15 +259,15 @@ module _ {K : Type 0} (is_honest is_live : K → Type 0) (is_closed : K → Bool
 
       deed_memory : (old new : K) (command : PlantCmd) (reply : PlantReply) (fault : KeepFault) → IsDeed (asked_by command) → PlantServed old new command reply → plant_told reply ≡ Err fault → fault ≡ Memory
       deed_memory old new command reply fault (inl does) served is =
-          memory_alone old new fault (subst (λ r. GoesFor is_honest is_live is_closed has_cause leaves old new (Does (by does.0 (Record does.1))) r) is (subst (λ a. GoesFor is_honest is_live is_closed has_cause leaves old new a (plant_told reply)) does.2 served.goes))
+          memory_alone old new fault (subst (λ r. GoesFor meaning old new (Does (by does.0 (Record does.1))) r) is (subst (λ a. GoesFor meaning old new a (plant_told reply)) does.2 served.goes))
       deed_memory old new command reply fault (inr unread) served is =
           let told = (served.unread unread.0 unread.1).0 in let never : Ok _ ≡ Err fault = sym told ∙ is in (cc never)
 
-      open_record : (old new : K) → is_honest new → (c : Content) (H : History) → holds old c → StandsFor c H → IsLawful H → (command : Option PlantCmd) → IsDeedOrNone command → (o : Outcome) → RecordServed old new command o → IsOpenOutcome o
+      open_record : (old new : K) → meaning.is_honest new → (c : Content) (H : History) → meaning.holds old c → StandsFor c H → IsLawful H → (command : Option PlantCmd) → IsDeedOrNone command → (o : Outcome) → RecordServed old new command o → IsOpenOutcome o
       open_record old new now c H held stands lawful None deed o served fault is = let never : came.BadRecord ≡ came.Fault fault = sym served.0 ∙ is in cc never
       open_record old new now c H held stands lawful (Some command) deed o served fault is =
           deed_memory old new command served.0 fault deed served.1 (fault_told H command deed (plant_told served.0) fault (served.1.done now c H held stands lawful).told (sym served.2 ∙ is))
 
-      pub all_open : (old new : K) (commands : List (Option PlantCmd)) → AllByRecursion IsDeedOrNone commands → (outcomes : List Outcome) → Served old commands outcomes new → is_honest new →
-          (c : Content) (H : History) → holds old c → StandsFor c H → IsLawful H → AllByRecursion IsOpenOutcome outcomes
+      pub all_open : (old new : K) (commands : List (Option PlantCmd)) → AllByRecursion IsDeedOrNone commands → (outcomes : List Outcome) → Served old commands outcomes new → meaning.is_honest new →
+          (c : Content) (H : History) → meaning.holds old c → StandsFor c H → IsLawful H → AllByRecursion IsOpenOutcome outcomes
       all_open = all_so IsOpenOutcome open_record

@@ -3,6 +3,7 @@ use Rattle.std.specs.Prelude.{◌≡◌, ◌≢◌, ◌+◌, ℕ, Bool, Option, 
 use Rattle.std.specs.Bool.{MatchBool}
 use Rattle.toll_history.specs.History.{History}
 use Rattle.toll_history.specs.Verdict.{Verdict, IsLawful}
+use Rattle.toll_keep.specs.Meaning.{Meaning}
 use Rattle.toll_keep.specs.Content.{Content}
 use Rattle.toll_keep.specs.declared.fault.KeepFault.{KeepFault}
 use Rattle.toll_keep.specs.declared.fault.KeepFault.TheVariants.{Memory, Damaged}
@@ -60,11 +61,11 @@ pub record IsRecordStep (holds : Content → Type 0) (was_live : Type 0) (leaves
   pub left : HoldsFor holds next
   pub crash : was_live → LeavesOr leaves c (after_record H command)
 
-module _ {K : Type 0} (is_honest is_live : K → Type 0) (is_closed : K → Bool) (has_cause : K → K → Type 0) (leaves : K → List Content → Type 0) (holds : K → Content → Type 0) where
+module _ {K : Type 0} (meaning : Meaning K) where
   -- the record got this outcome: its command was done, or the keep was not called where it gives none
   abbrev pub IsRecordServed : K → K → Option PlantCmd → Outcome → Type 0
   IsRecordServed old new None outcome = (outcome ≡ BadRecord) × (new ≡ old)
-  IsRecordServed old new (Some command) outcome = (reply : PlantReply) × IsPlantServed is_honest is_live is_closed has_cause leaves holds old new command reply × (outcome ≡ outcome_of (plant_told reply))
+  IsRecordServed old new (Some command) outcome = (reply : PlantReply) × IsPlantServed meaning old new command reply × (outcome ≡ outcome_of (plant_told reply))
 
   -- the records got these outcomes one after another, up to a fault, and made the one keep of the other
   abbrev pub AreRecordsServed : K → List (Option PlantCmd) → List Outcome → K → Type 0
@@ -77,7 +78,7 @@ module _ {K : Type 0} (is_honest is_live : K → Type 0) (is_closed : K → Bool
   abbrev pub AreRecordSteps : K → Content → History → List (Option PlantCmd) → List Outcome → K → Type 0
   AreRecordSteps old c H [] [] new = new ≡ old
   AreRecordSteps old c H (command ∷ commands) (o ∷ outcomes) new =
-      (middle : K) × (step : IsRecordStep (holds middle) (is_live old) (leaves middle) c H command o)
+      (middle : K) × (step : IsRecordStep (meaning.holds middle) (meaning.is_live old) (meaning.leaves middle) c H command o)
       × MatchBool (is_fault o) ((outcomes ≡ []) × (new ≡ middle)) (AreRecordSteps middle step.left.content step.next commands outcomes new)
   AreRecordSteps old c H _ _ new = ⊥
 

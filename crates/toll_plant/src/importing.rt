@@ -36,13 +36,13 @@ pub fn import_actuals<K: Keep>(
     ensures too_long { (result ≡ Err ImportFault.TooLong) ↔ (MOST_FILE_BYTES < length file.now) }
     ensures bad_header { length file.now ≤ MOST_FILE_BYTES → result ≢ Err ImportFault.Memory → ((result ≡ Err ImportFault.BadHeader) ↔ ¬ (HasHeader file.now)) }
     ensures err { OnErr result (keep.new ≡ keep.old) }
-    ensures honest { K.is_honest keep.new → K.is_honest keep.old }
+    ensures honest { K.meaning.is_honest keep.new → K.meaning.is_honest keep.old }
     ensures numbered { IfOk result (λ report. AreNumbered 1 report.lines.items) }
-    ensures served { IfOk result (λ report. (records : List Fields) × HasActuals file.now records × AreRecordsServed K.is_honest K.is_live K.is_closed K.has_cause K.leaves K.holds keep.old (commands_in records) (outcomes_in report.lines.items) keep.new) }
-    ensures run { Over K.is_honest K.holds keep.old keep.new (λ c H. IfOk result (λ report. (records : List Fields) × HasActuals file.now records × IsImportOf (K.holds keep.new) H (commands_in records) (outcomes_in report.lines.items))) }
-    ensures steps { Over K.is_honest K.holds keep.old keep.new (λ c H. IfOk result (λ report. (records : List Fields) × HasActuals file.now records × AreRecordSteps K.is_honest K.is_live K.is_closed K.has_cause K.leaves K.holds keep.old c H (commands_in records) (outcomes_in report.lines.items) keep.new)) }
-    ensures whole { Over K.is_honest K.holds keep.old keep.new (λ c H. IfOk result (λ report. AllByRecursion IsWholeOutcome (outcomes_in report.lines.items))) }
-    ensures open { ((k : K) → K.is_closed k ≡ false) → Over K.is_honest K.holds keep.old keep.new (λ c H. IfOk result (λ report. AllByRecursion IsOpenOutcome (outcomes_in report.lines.items))) }
+    ensures served { IfOk result (λ report. (records : List Fields) × HasActuals file.now records × AreRecordsServed K.meaning keep.old (commands_in records) (outcomes_in report.lines.items) keep.new) }
+    ensures run { Over K.meaning keep.old keep.new (λ c H. IfOk result (λ report. (records : List Fields) × HasActuals file.now records × IsImportOf (K.meaning.holds keep.new) H (commands_in records) (outcomes_in report.lines.items))) }
+    ensures steps { Over K.meaning keep.old keep.new (λ c H. IfOk result (λ report. (records : List Fields) × HasActuals file.now records × AreRecordSteps K.meaning keep.old c H (commands_in records) (outcomes_in report.lines.items) keep.new)) }
+    ensures whole { Over K.meaning keep.old keep.new (λ c H. IfOk result (λ report. AllByRecursion IsWholeOutcome (outcomes_in report.lines.items))) }
+    ensures open { ((k : K) → K.meaning.is_closed k ≡ false) → Over K.meaning keep.old keep.new (λ c H. IfOk result (λ report. AllByRecursion IsOpenOutcome (outcomes_in report.lines.items))) }
 {
     if file.len() > MOST_FILE_BYTES {
         return Err(ImportFault::TooLong);
@@ -60,7 +60,7 @@ fn run<K: Keep>(
 ) -> Result<Vec<ImportLine>, AllocError>
     ensures err { OnErr result (keep.new ≡ keep.old) }
     ensures numbered { IfOk result (λ lines. AreNumbered 1 lines.items) }
-    ensures served { IfOk result (λ lines. AreRecordsServed K.is_honest K.is_live K.is_closed K.has_cause K.leaves K.holds keep.old commands.now (outcomes_in lines.items) keep.new) }
+    ensures served { IfOk result (λ lines. AreRecordsServed K.meaning keep.old commands.now (outcomes_in lines.items) keep.new) }
 {
     let mut lines = Vec::with_capacity(alloc, commands.len())?;
     for command in commands {
@@ -76,7 +76,7 @@ fn run<K: Keep>(
 
 // What comes of a record with this command.
 fn act<K: Keep>(alloc: Global, keep: &mut K, command: &Option<PlantCmd>) -> Outcome
-    ensures { IsRecordServed K.is_honest K.is_live K.is_closed K.has_cause K.leaves K.holds keep.old keep.new command.now result }
+    ensures { IsRecordServed K.meaning keep.old keep.new command.now result }
 {
     match command {
         None => Outcome::BadRecord,

@@ -1,6 +1,7 @@
 -- What is so where a file of actuals was imported over a keep.
 use Rattle.std.specs.Prelude.{◌≡◌, ◌≢◌, ◌↔◌, ◌<◌, ◌≤◌, Bool, List, Result, Err, IfOk, OnErr, length}
 use Rattle.toll_base.specs.Bytes.{Bytes}
+use Rattle.toll_keep.specs.Meaning.{Meaning}
 use Rattle.toll_keep.specs.Content.{Content}
 use Rattle.toll_plant.specs.Files.{Fields, HasActuals, HasHeader}
 use Rattle.toll_plant.specs.Imports.{AreRecordsServed, commands_in, outcomes_in}
@@ -10,8 +11,8 @@ use Rattle.toll_plant.specs.declared.importing.TheConstants.{MOST_FILE_BYTES}
 use Rattle.toll_plant.specs.declared.report.ImportReport.{ImportReport}
 
 -- its records got these outcomes one after another, up to a fault; or nothing acted, for this cause
-pub record IsImported {K : Type 0} (is_honest is_live : K → Type 0) (is_closed : K → Bool) (has_cause : K → K → Type 0) (leaves : K → List Content → Type 0) (holds : K → Content → Type 0) (old new : K) (file : Bytes) (imported : Result ImportReport ImportFault) : Type 0 where
+pub record IsImported {K : Type 0} (meaning : Meaning K) (old new : K) (file : Bytes) (imported : Result ImportReport ImportFault) : Type 0 where
   pub too_long : (imported ≡ Err TooLong) ↔ (MOST_FILE_BYTES < length file)
   pub bad_header : length file ≤ MOST_FILE_BYTES → imported ≢ Err Memory → ((imported ≡ Err BadHeader) ↔ ¬ (HasHeader file))
   pub err : OnErr imported (new ≡ old)
-  pub served : IfOk imported (λ report. (records : List Fields) × HasActuals file records × AreRecordsServed is_honest is_live is_closed has_cause leaves holds old (commands_in records) (outcomes_in report.lines.items) new)
+  pub served : IfOk imported (λ report. (records : List Fields) × HasActuals file records × AreRecordsServed meaning old (commands_in records) (outcomes_in report.lines.items) new)

@@ -2,6 +2,7 @@
 use Rattle.std.specs.Prelude.{◌<◌, ℕ, Bool, true, false, List, length, take, Option}
 use Rattle.std.specs.Io.KnownBytes.{Appends}
 use Rattle.toll_base.specs.Bytes.{Bytes}
+use Rattle.toll_keep.specs.Meaning.{Meaning}
 use Rattle.toll_keep.specs.Content.{Content}
 use Rattle.toll_desk.specs.Reads.{Over}
 use Rattle.toll_wire.specs.OfficeRuns.{AreServed, IsRunOf}
@@ -15,9 +16,9 @@ use Rattle.toll_programs.specs.declared.scripts.ScriptEnd.{ScriptEnd}
 use Rattle.toll_programs.specs.declared.scripts.ScriptEnd.TheVariants.{Done, Memory, WriteFault}
 
 -- the events got these answers one after another, over this keep; and where it was honest so far, and held a content that stands for a lawful history, they are a run from that history, and what the run leaves is held
-pub record RanOver {K : Type 0} (is_honest is_live : K → Type 0) (is_closed : K → Bool) (has_cause : K → K → Type 0) (leaves : K → List Content → Type 0) (holds : K → Content → Type 0) (old new : K) (events : List Event) (answers : List Answer) : Type 0 where
-  pub served : AreServed is_honest is_live is_closed has_cause leaves holds old events answers new
-  pub run : Over is_honest holds old new (λ c H. IsRunOf (holds new) H events answers)
+pub record RanOver {K : Type 0} (meaning : Meaning K) (old new : K) (events : List Event) (answers : List Answer) : Type 0 where
+  pub served : AreServed meaning old events answers new
+  pub run : Over meaning old new (λ c H. IsRunOf (holds new) H events answers)
 
 -- the input's events, in order, got these answers, and so they ran
 pub record Runs (Ran : List Event → List Answer → Type 0) (input : Bytes) (answers : List Answer) : Type 0 where

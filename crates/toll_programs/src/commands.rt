@@ -23,7 +23,7 @@ pub fn plant_line<K: Keep, W: Sink, E: Sink>(
     output: &mut W,
     error: &mut E,
 ) -> u64
-    ensures { (reply : PlantReply) × IsPlantServed K.is_honest K.is_live K.is_closed K.has_cause K.leaves K.holds keep.old keep.new command.now reply
+    ensures { (reply : PlantReply) × IsPlantServed K.meaning keep.old keep.new command.now reply
         × IsReplyTold (record { output = W.held output.old; now_output = W.held output.new; error = E.held error.old; now_error = E.held error.new }) reply result }
 {
     let reply = plant_do(alloc, keep, command);

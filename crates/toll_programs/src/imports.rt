@@ -27,7 +27,7 @@ pub fn plant_import<K: Keep, W: Sink, E: Sink>(
     output: &mut W,
     error: &mut E,
 ) -> u64
-    ensures { (imported : Result ImportReport ImportFault) × IsImported K.is_honest K.is_live K.is_closed K.has_cause K.leaves K.holds keep.old keep.new file.now imported
+    ensures { (imported : Result ImportReport ImportFault) × IsImported K.meaning keep.old keep.new file.now imported
         × IsImportTold (record { output = W.held output.old; now_output = W.held output.new; error = E.held error.old; now_error = E.held error.new }) imported result }
 {
     let imported = import_actuals(alloc, keep, file);

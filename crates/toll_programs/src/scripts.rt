@@ -44,12 +44,12 @@ pub fn script<R: Source, W: Sink, K: Keep>(
     keep: &mut K,
 ) -> ScriptEnd
     ensures done { result ≡ ScriptEnd.Done
-        → IsRun (RanOver K.is_honest K.is_live K.is_closed K.has_cause K.leaves K.holds keep.old keep.new) (R.unread reader.old) (R.unread reader.new) (W.held writer.old) (W.held writer.new) }
+        → IsRun (RanOver K.meaning keep.old keep.new) (R.unread reader.old) (R.unread reader.new) (W.held writer.old) (W.held writer.new) }
     ensures cut_short { result ≡ ScriptEnd.WriteFault
-        → IsCutShort (RanOver K.is_honest K.is_live K.is_closed K.has_cause K.leaves K.holds keep.old keep.new) (R.unread reader.old) (R.unread reader.new) (W.held writer.old) (W.held writer.new) }
+        → IsCutShort (RanOver K.meaning keep.old keep.new) (R.unread reader.old) (R.unread reader.new) (W.held writer.old) (W.held writer.new) }
     ensures memory { result ≡ ScriptEnd.Memory
-        → (keep.new ≡ keep.old) ⊎ HasRun (RanOver K.is_honest K.is_live K.is_closed K.has_cause K.leaves K.holds keep.old keep.new) (R.unread reader.old) (R.unread reader.new) }
-    ensures honest { K.is_honest keep.new → K.is_honest keep.old }
+        → (keep.new ≡ keep.old) ⊎ HasRun (RanOver K.meaning keep.old keep.new) (R.unread reader.old) (R.unread reader.new) }
+    ensures honest { K.meaning.is_honest keep.new → K.meaning.is_honest keep.old }
     ensures bad_line { (number : ℕ) → result ≡ ScriptEnd.BadLine number
         → HasBadLine (R.unread reader.old) (R.unread reader.new) number }
     ensures too_long { result ≡ ScriptEnd.TooLong → IsTooLong (R.unread reader.old) (R.unread reader.new) }

@@ -8,6 +8,7 @@ use Rattle.sqlite.specs.Tree.{Trees}
 use Rattle.toll_base.specs.declared.decision.Change.{Change}
 use Rattle.toll_keep.specs.Content.{Content, ContentKeepsRules, after}
 use Rattle.toll_keep.specs.Goes.{Goes, IsReading, closes}
+use Rattle.toll_keep.specs.Meaning.{Meaning}
 use Rattle.toll_keep.specs.declared.fault.KeepFault.{KeepFault}
 use Rattle.toll_keep.specs.declared.fault.KeepFault.TheVariants.{Disk, Damaged, Closed}
 use Rattle.toll_sql.specs.Asking.{IsLooking}
@@ -81,9 +82,13 @@ module _ {K : Type 0} (store : K → State) (closed : K → Bool) (old new : K) 
   abbrev HoldsOpen : K → Content → Type 0
   HoldsOpen k c = LiesOpen (store k) → HoldsIn (store k) c
 
+  -- what such a keep means
+  abbrev means : Meaning K
+  means = record { holds = HoldsOpen; is_honest = IsHonest; is_closed = closed; is_live = IsLive; has_cause = HasCauseIn; leaves = Leaves }
+
   pub goes : {X : Type 0} (r : Result X KeepFault) (P : Trees → Type 0) → Survives (store old) (store new) P → (HasCleanDisk (store new) → IsTrue (store new).is_open → IsTrue (store old).is_open)
       → (HasCleanDisk (store new) → OnOk r (IsTrue (store new).is_open)) → (HasCleanDisk (store new) → r ≡ Err Disk → Reason (store old) (store new)) → r ≢ Err Closed → closed new ≡ closes r
-      → Goes IsHonest IsLive closed HasCauseIn Leaves old new r
+      → Goes means old new r
   goes r P survives live shown cause unclosed shut = record {
     honest = λ clean. omega (arith, clean, survives.clean);
     closed = (λ told. absurd (unclosed told), λ was. absurd (false≢true (sym open_before ∙ was)));
@@ -100,7 +105,7 @@ module _ {K : Type 0} (store : K → State) (closed : K → Bool) (old new : K) 
       opened (Err e) h = tt
 
   looked : {X : Type 0} (r : Result X KeepFault) → (IsLive old → OnlyLeaves (store old)) → IsLooking (store old) (store new) r → closed new ≡ closes r
-      → (HasCleanDisk (store new) → (c : Content) → HoldsIn (store old) c → ContentKeepsRules c → r ≢ Err Damaged) → IsReading IsHonest IsLive closed HasCauseIn Leaves HoldsOpen old new r
+      → (HasCleanDisk (store new) → (c : Content) → HoldsIn (store old) c → ContentKeepsRules c → r ≢ Err Damaged) → IsReading means old new r
   looked r only looks shut whole = record {
     goes = goes r _ looks.asks.survives looks.asks.live looks.asks.shown looks.cause looks.unclosed shut;
     keeps = λ clean. record {
@@ -114,7 +119,7 @@ module _ {K : Type 0} (store : K → State) (closed : K → Bool) (old new : K) 
 
   -- a look, whose answer was passed on
   pub reading : {X : Type 0} (answer r : Result X KeepFault) (after : State) → store new ≡ after → r ≡ answer → closed new ≡ closes answer → (IsLive old → OnlyLeaves (store old)) → IsLooking (store old) after answer
-      → (HasCleanDisk after → (c : Content) → HoldsIn (store old) c → ContentKeepsRules c → answer ≢ Err Damaged) → IsReading IsHonest IsLive closed HasCauseIn Leaves HoldsOpen old new r
+      → (HasCleanDisk after → (c : Content) → HoldsIn (store old) c → ContentKeepsRules c → answer ≢ Err Damaged) → IsReading means old new r
   reading {X} answer r after at same shut only looks whole =
       looked r only (subst (λ a. IsLooking (store old) (store new) a) (sym same) (subst (λ s. IsLooking (store old) s answer) (sym at) looks)) (shut ∙ ap closes (sym same))
       (λ clean c held keeps. subst (λ (a : Result X KeepFault). a ≢ Err Damaged) (sym same) (whole (subst HasCleanDisk at clean) c held keeps))
@@ -123,10 +128,10 @@ module _ {K : Type 0} (store : K → State) (closed : K → Bool) (old new : K) 
 
   module _ (made r : Result (Unit {0}) KeepFault) (after' : State) (at : store new ≡ after') (same : r ≡ made) where
     pub applied_goes : (P : Trees → Type 0) → Survives (store old) after' P → (HasCleanDisk after' → IsTrue after'.is_open → IsTrue (store old).is_open) → (HasCleanDisk after' → OnOk made (IsTrue after'.is_open))
-        → (HasCleanDisk after' → made ≡ Err Disk → Reason (store old) after') → made ≢ Err Closed → closed new ≡ closes made → Goes IsHonest IsLive closed HasCauseIn Leaves old new r
+        → (HasCleanDisk after' → made ≡ Err Disk → Reason (store old) after') → made ≢ Err Closed → closed new ≡ closes made → Goes means old new r
     applied_goes P survives live shown cause unclosed shut =
         let there = sym at in
-        subst (λ a. Goes IsHonest IsLive closed HasCauseIn Leaves old new a) (sym same)
+        subst (λ a. Goes means old new a) (sym same)
         (goes made P (subst (λ s. Survives (store old) s P) there survives) (λ clean now. live (subst HasCleanDisk at clean) (subst (λ s. IsTrue s.is_open) at now))
         (λ clean. subst (λ s. OnOk made (IsTrue s.is_open)) there (shown (subst HasCleanDisk at clean))) (λ clean is. subst (Reason (store old)) there (cause (subst HasCleanDisk at clean) is)) unclosed shut)
 

@@ -14,15 +14,15 @@ use toll_keep::Keep;
 /// A keep over SQLite is honest while the disk has returned what was written to it, lives while its
 /// connection lies open, and meets the causes of Disk that `sqlite` names.
 pub fn a_keep_over_sqlite_is_as_honest_as_its_disk<S: Alter>()
-    ensures honest { (k : SqlKeep S S.Store) → ⟦<SqlKeep<S> as Keep>⟧.is_honest k ↔ HasCleanDisk (state S.Store k.conn) }
-    ensures live { (k : SqlKeep S S.Store) → ⟦<SqlKeep<S> as Keep>⟧.is_live k ↔ LiesOpen (state S.Store k.conn) }
-    ensures closed { (k : SqlKeep S S.Store) → ⟦<SqlKeep<S> as Keep>⟧.is_closed k ≡ k.closed }
-    ensures cause { (old new : SqlKeep S S.Store) → ⟦<SqlKeep<S> as Keep>⟧.has_cause old new ↔ HasCause (state S.Store old.conn) (state S.Store new.conn) }
+    ensures honest { (k : SqlKeep S S.Store) → ⟦<SqlKeep<S> as Keep>⟧.meaning.is_honest k ↔ HasCleanDisk (state S.Store k.conn) }
+    ensures live { (k : SqlKeep S S.Store) → ⟦<SqlKeep<S> as Keep>⟧.meaning.is_live k ↔ LiesOpen (state S.Store k.conn) }
+    ensures closed { (k : SqlKeep S S.Store) → ⟦<SqlKeep<S> as Keep>⟧.meaning.is_closed k ≡ k.closed }
+    ensures cause { (old new : SqlKeep S S.Store) → ⟦<SqlKeep<S> as Keep>⟧.meaning.has_cause old new ↔ HasCause (state S.Store old.conn) (state S.Store new.conn) }
 {}
 
 /// A keep over SQLite holds what its tables hold, where its connection lies open, and a stop leaves
 /// what it leaves of its store.
 pub fn a_keep_over_sqlite_has_the_content_of_its_tables<S: Alter>()
-    ensures holds { (k : SqlKeep S S.Store) (c : Content) → ⟦<SqlKeep<S> as Keep>⟧.holds k c ↔ (LiesOpen (state S.Store k.conn) → HoldsIn (state S.Store k.conn) c) }
-    ensures leaves { (k : SqlKeep S S.Store) (cs : List Content) → ⟦<SqlKeep<S> as Keep>⟧.leaves k cs ↔ LeavesIn (state S.Store k.conn) cs }
+    ensures holds { (k : SqlKeep S S.Store) (c : Content) → ⟦<SqlKeep<S> as Keep>⟧.meaning.holds k c ↔ (LiesOpen (state S.Store k.conn) → HoldsIn (state S.Store k.conn) c) }
+    ensures leaves { (k : SqlKeep S S.Store) (cs : List Content) → ⟦<SqlKeep<S> as Keep>⟧.meaning.leaves k cs ↔ LeavesIn (state S.Store k.conn) cs }
 {}

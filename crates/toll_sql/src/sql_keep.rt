@@ -42,17 +42,14 @@ impl<S: Alter> SqlKeep<S> {
 }
 
 impl<S: Alter> Keep for SqlKeep<S> {
-    ghost holds = { λ k c. LiesOpen (state S.Store k.conn) → HoldsIn (state S.Store k.conn) c };
-
-    ghost is_honest = { λ k. HasCleanDisk (state S.Store k.conn) };
-
-    ghost is_closed = { λ k. k.closed };
-
-    ghost is_live = { λ k. LiesOpen (state S.Store k.conn) };
-
-    ghost has_cause = { λ old new. HasCause (state S.Store old.conn) (state S.Store new.conn) };
-
-    ghost leaves = { λ k cs. LeavesIn (state S.Store k.conn) cs };
+    ghost meaning = { record {
+      holds = λ k c. LiesOpen (state S.Store k.conn) → HoldsIn (state S.Store k.conn) c;
+      is_honest = λ k. HasCleanDisk (state S.Store k.conn);
+      is_closed = λ k. k.closed;
+      is_live = λ k. LiesOpen (state S.Store k.conn);
+      has_cause = λ old new. HasCause (state S.Store old.conn) (state S.Store new.conn);
+      leaves = λ k cs. LeavesIn (state S.Store k.conn) cs;
+    } };
 
     fn slice(&mut self, alloc: Global, owner: &Name) -> Result<Option<Slice>, KeepFault> {
         if self.closed {

@@ -8,6 +8,7 @@ use mathlib.Core.Bool.{false≢true}
 use Rattle.toll_base.specs.Bytes.{Bytes}
 use Rattle.toll_base.specs.declared.decision.Change.{Change}
 use Rattle.toll_history.specs.History.{History}
+use Rattle.toll_keep.specs.Meaning.{Meaning}
 use Rattle.toll_keep.specs.Content.{Content, ContentKeepsRules, Fits, after}
 use Rattle.toll_keep.specs.Goes.{Goes, IsReading}
 use Rattle.toll_keep.specs.Standing.{StandsFor}
@@ -84,41 +85,41 @@ so_of_reply : (out : Out) (text : Bytes) (P : Bytes → Type 0) → IsText out (
 so_of_reply (Text told) text P is so = subst P (sym is) so
 so_of_reply Unavailable text P is so = tt
 
-module _ {K : Type 0} (is_honest is_live : K → Type 0) (is_closed : K → Bool) (has_cause : K → K → Type 0) (leaves : K → List Content → Type 0) (holds : K → Content → Type 0) where
+module _ {K : Type 0} (meaning : Meaning K) where
   abbrev Serves : K → K → Saying → Out → Type 0
-  Serves old new saying out = IsServing is_honest is_live is_closed has_cause leaves holds old new saying out
+  Serves old new saying out = IsServing meaning old new saying out
 
   abbrev ReadsTo : {X : Type 0} → K → K → Result X KeepFault → Type 0
-  ReadsTo old new r = IsReading is_honest is_live is_closed has_cause leaves holds old new r
+  ReadsTo old new r = IsReading meaning old new r
 
   -- ---- without a call of the keep
 
   -- what the bytes alone are told, and who gives no key
-  pub untouched : (k : K) (settled : (c : Content) → is_honest k → is_live k → holds k c → leaves k (c ∷ [])) (text : Bytes) (out : Out) → IsText out (Some text) → Serves k k (Nobody text) out
+  pub untouched : (k : K) (settled : (c : Content) → meaning.is_honest k → meaning.is_live k → meaning.holds k c → meaning.leaves k (c ∷ [])) (text : Bytes) (out : Out) → IsText out (Some text) → Serves k k (Nobody text) out
   untouched k settled text out is = record {
     tells = so_of_reply out text (MayBeTold http (Nobody text)) is refl;
     goes = refl;
     honest = λ now. now;
     asks = λ now c held none. held;
     quiet = λ now c held not. held;
-    served = λ now c H held stands lawful. none_to_do (holds k) (is_live k) (leaves k) c held H (outcome_of out) (IsTold http H (Nobody text)) stands (λ live. settled c now live held) (so_of_text out text (IsTold http H (Nobody text)) is refl);
+    served = λ now c H held stands lawful. none_to_do (meaning.holds k) (meaning.is_live k) (meaning.leaves k) c held H (outcome_of out) (IsTold http H (Nobody text)) stands (λ live. settled c now live held) (so_of_text out text (IsTold http H (Nobody text)) is refl);
   }
 
-  pub keyless : (k : K) (settled : (c : Content) → is_honest k → is_live k → holds k c → leaves k (c ∷ [])) (o : Bytes) (asking : Asking) (out : Out) → IsText out (Some (text_of_failure Forbidden)) → Serves k k (By o None asking) out
+  pub keyless : (k : K) (settled : (c : Content) → meaning.is_honest k → meaning.is_live k → meaning.holds k c → meaning.leaves k (c ∷ [])) (o : Bytes) (asking : Asking) (out : Out) → IsText out (Some (text_of_failure Forbidden)) → Serves k k (By o None asking) out
   keyless k settled o asking out is = record {
     tells = so_of_reply out (text_of_failure Forbidden) (MayBeTold http (By o None asking)) is refl;
     goes = refl;
     honest = λ now. now;
     asks = λ now c held none. held;
     quiet = λ now c held not. held;
-    served = λ now c H held stands lawful. none_to_do (holds k) (is_live k) (leaves k) c held H (outcome_of out) (IsTold http H (By o None asking)) stands (λ live. settled c now live held) (so_of_text out (text_of_failure Forbidden) (IsTold http H (By o None asking)) is refl);
+    served = λ now c H held stands lawful. none_to_do (meaning.holds k) (meaning.is_live k) (meaning.leaves k) c held H (outcome_of out) (IsTold http H (By o None asking)) stands (λ live. settled c now live held) (so_of_text out (text_of_failure Forbidden) (IsTold http H (By o None asking)) is refl);
   }
 
   -- ---- after a reading
 
   module _ (old new : K) (o key : Bytes) where
     abbrev GoesOut : Out → Type 0
-    GoesOut out = OutGoes is_honest is_live is_closed has_cause leaves holds old new out
+    GoesOut out = OutGoes meaning old new out
 
     abbrev failed : {X : Type 0} → KeepFault → Result X KeepFault
     failed fault = Err fault
@@ -128,22 +129,22 @@ module _ {K : Type 0} (is_honest is_live : K → Type 0) (is_closed : K → Bool
     goes_untold (Ok x) reads = record {
       outcome = Err Memory;
       is = (Memory, refl);
-      goes = goes_memory is_honest is_live is_closed has_cause leaves holds old new x reads.goes;
+      goes = goes_memory meaning old new x reads.goes;
       whole = λ now c held rules is. (cc is);
     }
     goes_untold {X} (Err fault) reads = record {
       outcome = Err fault;
       is = (fault, refl);
-      goes = goes_fault is_honest is_live is_closed has_cause leaves holds old new fault reads.goes;
+      goes = goes_fault meaning old new fault reads.goes;
       whole = λ now c held rules is. let same : fault ≡ Damaged = (cc is) in reads.whole now c held rules (ap (λ f. failed {X = X} f) same);
     }
 
     -- calls that answered, and a reply
-    goes_told : {X : Type 0} (x : X) (text : Vec ℕ) → Goes {X = X} is_honest is_live is_closed has_cause leaves old new (Ok x) → GoesOut (Text text)
+    goes_told : {X : Type 0} (x : X) (text : Vec ℕ) → Goes {X = X} meaning old new (Ok x) → GoesOut (Text text)
     goes_told x text goes = record {
       outcome = Ok tt;
       is = refl;
-      goes = goes_as is_honest is_live is_closed has_cause leaves holds old new x tt goes;
+      goes = goes_as meaning old new x tt goes;
       whole = λ now c held rules is. (cc is);
     }
 
@@ -156,10 +157,10 @@ module _ {K : Type 0} (is_honest is_live : K → Type 0) (is_closed : K → Bool
       asks = λ now c held none. (reads.keeps now).content c held;
       quiet = λ now c held not. (reads.keeps now).content c held;
       served = λ now c H held stands lawful.
-          none_done (holds new) (is_live old) (leaves new) c ((reads.keeps now).content c held) (after_saying http H (By o (Some key) asking)) tt (IsTold http H (By o (Some key) asking)) (λ live. (reads.keeps now).crash live c held);
+          none_done (meaning.holds new) (meaning.is_live old) (meaning.leaves new) c ((reads.keeps now).content c held) (after_saying http H (By o (Some key) asking)) tt (IsTold http H (By o (Some key) asking)) (λ live. (reads.keeps now).crash live c held);
     }
 
-    module _ (failure : Failure) {X : Type 0} (x : X) (reads : ReadsTo {X = X} old new (Ok x)) (b : Bool) (admits : is_honest new → (c : Content) (H : History) → holds old c → StandsFor c H → b ≡ has_key o key H) where
+    module _ (failure : Failure) {X : Type 0} (x : X) (reads : ReadsTo {X = X} old new (Ok x)) (b : Bool) (admits : meaning.is_honest new → (c : Content) (H : History) → meaning.holds old c → StandsFor c H → b ≡ has_key o key H) where
       abbrev failing : Saying
       failing = By o (Some key) (Fails (text_of_failure failure))
 
@@ -173,7 +174,7 @@ module _ {K : Type 0} (is_honest is_live : K → Type 0) (is_closed : K → Bool
         asks = λ now c held none. (reads.keeps now).content c held;
         quiet = λ now c held not. (reads.keeps now).content c held;
         served = λ now c H held stands lawful.
-            none_to_do (holds new) (is_live old) (leaves new) c ((reads.keeps now).content c held) H (outcome_of (Text text)) (IsTold http H failing) stands (λ live. (reads.keeps now).crash live c held)
+            none_to_do (meaning.holds new) (meaning.is_live old) (meaning.leaves new) c ((reads.keeps now).content c held) H (outcome_of (Text text)) (IsTold http H failing) stands (λ live. (reads.keeps now).crash live c held)
             (b, admits now c H held stands, is);
       }
 
@@ -181,40 +182,40 @@ module _ {K : Type 0} (is_honest is_live : K → Type 0) (is_closed : K → Bool
 
   -- what is so of the call that made the changes of a plan, over any content
   pub record Carries (middle new : K) (changes : List Change) (made : Result (Unit {0}) KeepFault) : Type 0 where
-    pub honest : is_honest new → is_honest middle
+    pub honest : meaning.is_honest new → meaning.is_honest middle
     pub idle : changes ≡ [] → (new ≡ middle) × (made ≡ Ok tt)
-    pub goes : (changes ≡ [] → ⊥) → Goes is_honest is_live is_closed has_cause leaves middle new made
-    pub all : is_honest new → (c : Content) → holds middle c → Fits c changes → OnOk made (holds new (after changes c))
-    pub none : is_honest new → (c : Content) → holds middle c → OnErr made (holds new c)
-    pub whole : is_honest new → (c : Content) → holds middle c → ContentKeepsRules c → made ≢ Err Damaged
-    pub crash : is_honest new → is_live middle → (c : Content) → holds middle c → Fits c changes → leaves new (c ∷ after changes c ∷ [])
+    pub goes : (changes ≡ [] → ⊥) → Goes meaning middle new made
+    pub all : meaning.is_honest new → (c : Content) → meaning.holds middle c → Fits c changes → OnOk made (meaning.holds new (after changes c))
+    pub none : meaning.is_honest new → (c : Content) → meaning.holds middle c → OnErr made (meaning.holds new c)
+    pub whole : meaning.is_honest new → (c : Content) → meaning.holds middle c → ContentKeepsRules c → made ≢ Err Damaged
+    pub crash : meaning.is_honest new → meaning.is_live middle → (c : Content) → meaning.holds middle c → Fits c changes → meaning.leaves new (c ∷ after changes c ∷ [])
 
   module _ (old middle new : K) (o key : Bytes) (q : Asked) (told : Told) (changes : List Change) (reads : ReadsTo {X = Told} old middle (Ok told)) (quiet : may_change q (Ok told) ≡ false → changes ≡ [])
-      (plan : Over is_honest holds old middle (λ c H. IsPlan c H o key q told changes)) (text : Vec ℕ) (is : text.items ≡ text_of_told told) where
+      (plan : Over meaning old middle (λ c H. IsPlan c H o key q told changes)) (text : Vec ℕ) (is : text.items ≡ text_of_told told) where
     abbrev asking : Saying
     asking = By o (Some key) (Asks q)
 
     abbrev planned : Result Told KeepFault
     planned = Ok told
 
-    goes_made : (made : Result (Unit {0}) KeepFault) → Carries middle new changes made → Goes is_honest is_live is_closed has_cause leaves old new (finished planned made)
-    goes_made made carries = goes_on is_honest is_live is_closed has_cause leaves holds old middle new planned changes made reads.goes tt carries.idle carries.goes
+    goes_made : (made : Result (Unit {0}) KeepFault) → Carries middle new changes made → Goes meaning old new (finished planned made)
+    goes_made made carries = goes_on meaning old middle new planned changes made reads.goes tt carries.idle carries.goes
 
-    goes_out : (made : Result (Unit {0}) KeepFault) → Carries middle new changes made → OutGoes is_honest is_live is_closed has_cause leaves holds old new (text_if text made)
+    goes_out : (made : Result (Unit {0}) KeepFault) → Carries middle new changes made → OutGoes meaning old new (text_if text made)
     goes_out (Ok done) carries = goes_told old new o key told text (goes_made (Ok done) carries)
     goes_out (Err fault) carries = record {
       outcome = Err fault;
       is = (fault, refl);
-      goes = goes_fault is_honest is_live is_closed has_cause leaves holds old new fault (goes_made (Err fault) carries);
+      goes = goes_fault meaning old new fault (goes_made (Err fault) carries);
       whole = λ now c held rules damaged. let same : fault ≡ Damaged = (cc damaged) in carries.whole now c ((reads.keeps (carries.honest now)).content c held) rules (ap (λ f. Err f) same);
     }
 
     -- where there was nothing to change, what was held is held
-    still : (made : Result (Unit {0}) KeepFault) → Carries middle new changes made → is_honest new → (c : Content) → holds old c → changes ≡ [] → holds new c
-    still made carries now c held none = subst (λ k. holds k c) (sym (carries.idle none).0) ((reads.keeps (carries.honest now)).content c held)
+    still : (made : Result (Unit {0}) KeepFault) → Carries middle new changes made → meaning.is_honest new → (c : Content) → meaning.holds old c → changes ≡ [] → meaning.holds new c
+    still made carries now c held none = subst (λ k. meaning.holds k c) (sym (carries.idle none).0) ((reads.keeps (carries.honest now)).content c held)
 
     -- and what says no 200 changed nothing
-    quiet_out : (made : Result (Unit {0}) KeepFault) → Carries middle new changes made → is_honest new → (c : Content) → holds old c → ¬ (IsGranted (text_if text made)) → holds new c
+    quiet_out : (made : Result (Unit {0}) KeepFault) → Carries middle new changes made → meaning.is_honest new → (c : Content) → meaning.holds old c → ¬ (IsGranted (text_if text made)) → meaning.holds new c
     quiet_out (Ok done) carries now c held not = still (Ok done) carries now c held (quiet (grants_none q told text is not))
     quiet_out (Err fault) carries now c held not = carries.none now c ((reads.keeps (carries.honest now)).content c held)
 
@@ -222,8 +223,8 @@ module _ {K : Type 0} (is_honest is_live : K → Type 0) (is_closed : K → Bool
     tells_out (Ok done) = (told, tt, is)
     tells_out (Err fault) = tt
 
-    served_out : (made : Result (Unit {0}) KeepFault) (c : Content) (H : History) → IsDone (holds new) (is_live old) (leaves new) c (after_reply o key H q) (finished planned made) (IsReply o key H q) →
-        IsServed (holds new) (is_live old) (leaves new) c H asking (text_if text made)
+    served_out : (made : Result (Unit {0}) KeepFault) (c : Content) (H : History) → IsDone (meaning.holds new) (meaning.is_live old) (meaning.leaves new) c (after_reply o key H q) (finished planned made) (IsReply o key H q) →
+        IsServed (meaning.holds new) (meaning.is_live old) (meaning.leaves new) c H asking (text_if text made)
     served_out (Ok done) c H came = record { told = (told, came.told, is); done = came.done; undone = tt; crash = came.crash }
     served_out (Err fault) c H came = record { told = tt; done = tt; undone = came.undone; crash = came.crash }
 
@@ -240,14 +241,14 @@ module _ {K : Type 0} (is_honest is_live : K → Type 0) (is_closed : K → Bool
           let keeps = reads.keeps before in
           let between = keeps.content c held in
           let plans = plan before c H held stands lawful in
-          served_out made c H (done_of holds is_live leaves old middle new made c (after_reply o key H q) (IsReply o key H q) changes changes refl
+          served_out made c H (done_of meaning old middle new made c (after_reply o key H q) (IsReply o key H q) changes changes refl
           (record { idle = carries.idle; all = carries.all now c between; none = carries.none now c between; crash = λ live. carries.crash now live c between }) between
           planned tt (plans.reply, plans.leads) (λ was. reads.goes.shown before) (λ live. keeps.crash live c held) (finished planned made) refl);
     }
 
   -- the same for a plan that was told, whose changes are read through a reference
   pub plan_told : (old middle new : K) (o key : Bytes) (q : Asked) (planned : Result Told KeepFault) (changes made_of : List Change) → made_of ≡ changes → ReadsTo old middle planned → (may_change q planned ≡ false → changes ≡ []) →
-      Over is_honest holds old middle (λ c H. IfOk planned (λ told. IsPlan c H o key q told changes)) → (text : Vec ℕ) → IsText (Text text) (text_if_told planned) → (made : Result (Unit {0}) KeepFault) → Carries middle new made_of made → Serves old new (By o (Some key) (Asks q)) (text_if text made)
+      Over meaning old middle (λ c H. IfOk planned (λ told. IsPlan c H o key q told changes)) → (text : Vec ℕ) → IsText (Text text) (text_if_told planned) → (made : Result (Unit {0}) KeepFault) → Carries middle new made_of made → Serves old new (By o (Some key) (Asks q)) (text_if text made)
   plan_told old middle new o key q (Ok told) changes made_of same reads quiet plan text is made carries =
       told_after old middle new o key q told changes reads quiet plan text is made (subst (λ changes. Carries middle new changes made) same carries)
   plan_told old middle new o key q (Err fault) changes made_of same reads quiet plan text is made carries = absurd is

@@ -7,6 +7,7 @@ use mathlib.Core.Bool.{false≢true}
 use Rattle.toll_base.specs.declared.refusal.Refusal.{Refusal}
 use Rattle.toll_history.specs.History.{History}
 use Rattle.toll_history.specs.Verdict.{IsLawful}
+use Rattle.toll_keep.specs.Meaning.{Meaning}
 use Rattle.toll_keep.specs.Content.{Content}
 use Rattle.toll_keep.specs.Goes.{Goes}
 use Rattle.toll_keep.specs.Standing.{StandsFor}
@@ -28,12 +29,12 @@ use Rattle.toll_wire.specs.OfficeRuns.{PlantShows, nothing, IsStepOf, IsEventSer
 use Rattle.toll_wire.proofs.Private.{lawful-step, runs-private}
 use Rattle.toll_wire.proofs.Valid.{says_valid}
 
-module _ {K : Type 0} (is_honest is_live : K → Type 0) (is_closed : K → Bool) (has_cause : K → K → Type 0) (leaves : K → List Content → Type 0) (holds : K → Content → Type 0) where
+module _ {K : Type 0} (meaning : Meaning K) where
   abbrev Served : K → List Event → List Answer → K → Type 0
-  Served old events answers new = AreServed is_honest is_live is_closed has_cause leaves holds old events answers new
+  Served old events answers new = AreServed meaning old events answers new
 
   abbrev EventServed : K → K → Event → Answer → Type 0
-  EventServed old new e a = IsEventServed is_honest is_live is_closed has_cause leaves holds old new e a
+  EventServed old new e a = IsEventServed meaning old new e a
 
   -- one more event
   pub served_more : (old middle new : K) (events : List Event) (answers : List Answer) (e : Event) (a : Answer) → Served old events answers middle → EventServed middle new e a → Served old (events ++ e ∷ []) (answers ++ a ∷ []) new
@@ -43,30 +44,30 @@ module _ {K : Type 0} (is_honest is_live : K → Type 0) (is_closed : K → Bool
   served_more old middle new (f ∷ events) [] e a before last = absurd before
 
   -- a keep that is honest now has always been so
-  event_honest : (old new : K) (e : Event) (a : Answer) → EventServed old new e a → is_honest new → is_honest old
+  event_honest : (old new : K) (e : Event) (a : Answer) → EventServed old new e a → meaning.is_honest new → meaning.is_honest old
   event_honest old new (Owner bytes) (Reply out) (inl answered) = answered.2.honest
-  event_honest old new (Owner bytes) (Reply out) (inr unread) = subst is_honest unread.same
+  event_honest old new (Owner bytes) (Reply out) (inr unread) = subst meaning.is_honest unread.same
   event_honest old new (Command command) (CommandReply reply) served = served.honest
   event_honest old new (Owner bytes) (CommandReply reply) served = absurd served
   event_honest old new (Command command) (Reply out) served = absurd served
 
-  pub all_honest : (old new : K) (events : List Event) (answers : List Answer) → Served old events answers new → is_honest new → is_honest old
-  all_honest old new [] [] served now = subst is_honest served now
+  pub all_honest : (old new : K) (events : List Event) (answers : List Answer) → Served old events answers new → meaning.is_honest new → meaning.is_honest old
+  all_honest old new [] [] served now = subst meaning.is_honest served now
   all_honest old new (e ∷ events) (a ∷ answers) served now = event_honest old served.0 e a served.1 (all_honest served.0 new events answers served.2 now)
   all_honest old new [] (a ∷ answers) served now = absurd served
   all_honest old new (e ∷ events) [] served now = absurd served
 
-  module _ (settled : (k : K) (c : Content) → is_honest k → is_live k → holds k c → leaves k (c ∷ [])) where
+  module _ (settled : (k : K) (c : Content) → meaning.is_honest k → meaning.is_live k → meaning.holds k c → meaning.leaves k (c ∷ [])) where
     -- ---- one event is a step
 
-    module _ (old new : K) (now : is_honest new) (c : Content) (H : History) (held : holds old c) (stands : StandsFor c H) (lawful : IsLawful H) where
+    module _ (old new : K) (now : meaning.is_honest new) (c : Content) (H : History) (held : meaning.holds old c) (stands : StandsFor c H) (lawful : IsLawful H) where
       abbrev Step : Event → Answer → Type 0
-      Step e a = IsStepOf (holds new) (is_live old) (leaves new) c H e a
+      Step e a = IsStepOf (meaning.holds new) (meaning.is_live old) (meaning.leaves new) c H e a
 
       -- its bytes were not read, and nothing happened
       unread_step : (bytes : Vec ℕ) → new ≡ old → Step (Owner bytes) (Reply NoText)
       unread_step bytes same =
-          let still = subst (λ k. holds k c) (sym same) held in
+          let still = subst (λ k. meaning.holds k c) (sym same) held in
           record {
             happening = Request nothing;
             told = Unavailable;
@@ -75,11 +76,11 @@ module _ {K : Type 0} (is_honest is_live : K → Type 0) (is_closed : K → Bool
             next = H;
             step = refl;
             left = record { content = c; held = still; stands = stands };
-            crash = λ live. record { others = []; stand = tt; left = settled new c now (subst is_live (sym same) live) still };
+            crash = λ live. record { others = []; stand = tt; left = settled new c now (subst meaning.is_live (sym same) live) still };
           }
 
       -- what its bytes say was served
-      reply_step : (bytes : Vec ℕ) (saying : Saying) (out : Out) → Says bytes.items saying → IsServed (holds new) (is_live old) (leaves new) c H saying out → Step (Owner bytes) (Reply out)
+      reply_step : (bytes : Vec ℕ) (saying : Saying) (out : Out) → Says bytes.items saying → IsServed (meaning.holds new) (meaning.is_live old) (meaning.leaves new) c H saying out → Step (Owner bytes) (Reply out)
       reply_step bytes saying (OutText text) says served = record {
         happening = Request saying;
         told = Text text.items;
@@ -103,7 +104,7 @@ module _ {K : Type 0} (is_honest is_live : K → Type 0) (is_closed : K → Bool
 
       -- the plant was told something, or there was a fault
       plant_step : (command : PlantCmd) (reply : PlantReply) (outcome : Result PlantTold KeepFault) → plant_told reply ≡ outcome → IsValidDeed (asked_by command) →
-          IsDone (holds new) (is_live old) (leaves new) c (after_plant H (asked_by command)) outcome (IsPlantAnswer H (asked_by command)) → Step (Command command) (CommandReply reply)
+          IsDone (meaning.holds new) (meaning.is_live old) (meaning.leaves new) c (after_plant H (asked_by command)) outcome (IsPlantAnswer H (asked_by command)) → Step (Command command) (CommandReply reply)
       plant_step command reply (Ok told) outcome_is valid done = record {
         happening = Plant (asked_by command);
         told = PlantTells told;
@@ -135,23 +136,23 @@ module _ {K : Type 0} (is_honest is_live : K → Type 0) (is_closed : K → Bool
     -- ---- events in order
 
     abbrev Steps : K → Content → History → List Event → List Answer → K → Type 0
-    Steps old c H events answers new = AreSteps is_honest is_live is_closed has_cause leaves holds old c H events answers new
+    Steps old c H events answers new = AreSteps meaning old c H events answers new
 
     -- the history after a step is lawful
     lawful_next : (was : Type 0) (after : Content → Type 0) (left : List Content → Type 0) (c : Content) (H : History) (e : Event) (a : Answer) → IsLawful H → (step : IsStepOf after was left c H e a) → IsLawful step.next
     lawful_next was after left c H e a lawful step = lawful-step http H step.happening step.told step.next lawful step.valid step.step
 
-    pub steps_of : (old new : K) (events : List Event) (answers : List Answer) → Served old events answers new → is_honest new → (c : Content) (H : History) → holds old c → StandsFor c H → IsLawful H → Steps old c H events answers new
+    pub steps_of : (old new : K) (events : List Event) (answers : List Answer) → Served old events answers new → meaning.is_honest new → (c : Content) (H : History) → meaning.holds old c → StandsFor c H → IsLawful H → Steps old c H events answers new
     steps_of old new [] [] served now c H held stands lawful = served
     steps_of old new (e ∷ events) (a ∷ answers) served now c H held stands lawful =
         let middle = served.0 in
         let then = all_honest middle new events answers served.2 now in
         let step = event_step old middle then c H held stands lawful e a served.1 in
-        (middle, step, steps_of middle new events answers served.2 now step.left.content step.next step.left.held step.left.stands (lawful_next (is_live old) (holds middle) (leaves middle) c H e a lawful step))
+        (middle, step, steps_of middle new events answers served.2 now step.left.content step.next step.left.held step.left.stands (lawful_next (meaning.is_live old) (meaning.holds middle) (meaning.leaves middle) c H e a lawful step))
     steps_of old new [] (a ∷ answers) served now c H held stands lawful = absurd served
     steps_of old new (e ∷ events) [] served now c H held stands lawful = absurd served
 
-    pub run_of : (old new : K) (events : List Event) (answers : List Answer) (c : Content) (H : History) → holds old c → StandsFor c H → IsLawful H → Steps old c H events answers new → IsRunOf (holds new) H events answers
+    pub run_of : (old new : K) (events : List Event) (answers : List Answer) (c : Content) (H : History) → meaning.holds old c → StandsFor c H → IsLawful H → Steps old c H events answers new → IsRunOf (meaning.holds new) H events answers
     run_of old new [] [] c H held stands lawful steps = record {
       happenings = [];
       told = [];
@@ -161,11 +162,11 @@ module _ {K : Type 0} (is_honest is_live : K → Type 0) (is_closed : K → Bool
       run = refl;
       private = runs-private http H [] [] H lawful tt refl;
       lawful = lawful;
-      left = record { content = c; held = subst (λ k. holds k c) (sym steps) held; stands = stands };
+      left = record { content = c; held = subst (λ k. meaning.holds k c) (sym steps) held; stands = stands };
     }
     run_of old new (e ∷ events) (a ∷ answers) c H held stands lawful steps =
         let step = steps.1 in
-        let rest = run_of steps.0 new events answers step.left.content step.next step.left.held step.left.stands (lawful_next (is_live old) (holds steps.0) (leaves steps.0) c H e a lawful step) steps.2 in
+        let rest = run_of steps.0 new events answers step.left.content step.next step.left.held step.left.stands (lawful_next (meaning.is_live old) (meaning.holds steps.0) (meaning.leaves steps.0) c H e a lawful step) steps.2 in
         let run : IsRun http H (step.happening ∷ rest.happenings) (step.told ∷ rest.told) rest.last = (step.next, step.step, rest.run) in
         record {
           happenings = step.happening ∷ rest.happenings;
@@ -183,16 +184,16 @@ module _ {K : Type 0} (is_honest is_live : K → Type 0) (is_closed : K → Bool
 
     -- ---- over a keep that never closes
 
-    module _ (never_closes : (k : K) → is_closed k ≡ false) where
+    module _ (never_closes : (k : K) → meaning.is_closed k ≡ false) where
       -- a fault of a call that went so is want of memory
-      memory_alone : {X : Type 0} (old new : K) (fault : KeepFault) → Goes {X = X} is_honest is_live is_closed has_cause leaves old new (Err fault) → fault ≡ Memory
+      memory_alone : {X : Type 0} (old new : K) (fault : KeepFault) → Goes {X = X} meaning old new (Err fault) → fault ≡ Memory
       memory_alone old new Memory goes = refl
       memory_alone old new Disk goes = absurd (false≢true (sym (never_closes new) ∙ goes.closes))
       memory_alone old new Damaged goes = absurd (false≢true (sym (never_closes new) ∙ goes.closes))
       memory_alone old new Closed goes = absurd (false≢true (sym (never_closes new) ∙ goes.closes))
 
       abbrev GoesAs : K → K → PlantAsked → Result PlantTold KeepFault → Type 0
-      GoesAs old new asked outcome = GoesFor is_honest is_live is_closed has_cause leaves old new asked outcome
+      GoesAs old new asked outcome = GoesFor meaning old new asked outcome
 
       fault_alone : (old new : K) (asked : PlantAsked) (fault : KeepFault) → GoesAs old new asked (Err fault) → ¬ (fault ≡ Damaged) → ((why : Refusal) → asked ≡ CannotRead why → ⊥) → fault ≡ Memory
       fault_alone old new (Does c) fault goes whole read = memory_alone old new fault goes
@@ -204,7 +205,7 @@ module _ {K : Type 0} (is_honest is_live : K → Type 0) (is_closed : K → Bool
       fault_alone old new (AsksRecall lot) fault (inr damaged) whole read = let is : fault ≡ Damaged = (cc damaged.0) in absurd (whole is)
       fault_alone old new (CannotRead why) fault goes whole read = absurd (read why refl)
 
-      open_event : (old new : K) → is_honest new → (c : Content) (H : History) → holds old c → StandsFor c H → IsLawful H → (e : Event) (a : Answer) → EventServed old new e a → IsOpenAnswer a
+      open_event : (old new : K) → meaning.is_honest new → (c : Content) (H : History) → meaning.holds old c → StandsFor c H → IsLawful H → (e : Event) (a : Answer) → EventServed old new e a → IsOpenAnswer a
       open_event old new now c H held stands lawful (Owner bytes) (Reply out) served = tt
       open_event old new now c H held stands lawful (Command command) (CommandReply reply) served = λ fault is.
           fault_alone old new (asked_by command) fault (subst (GoesAs old new (asked_by command)) is served.goes)
@@ -213,14 +214,14 @@ module _ {K : Type 0} (is_honest is_live : K → Type 0) (is_closed : K → Bool
       open_event old new now c H held stands lawful (Owner bytes) (CommandReply reply) served = absurd served
       open_event old new now c H held stands lawful (Command command) (Reply out) served = absurd served
 
-      pub all_open : (old new : K) (events : List Event) (answers : List Answer) → Served old events answers new → is_honest new → (c : Content) (H : History) → holds old c → StandsFor c H → IsLawful H → AllByRecursion IsOpenAnswer answers
+      pub all_open : (old new : K) (events : List Event) (answers : List Answer) → Served old events answers new → meaning.is_honest new → (c : Content) (H : History) → meaning.holds old c → StandsFor c H → IsLawful H → AllByRecursion IsOpenAnswer answers
       all_open old new [] [] served now c H held stands lawful = tt
       all_open old new (e ∷ events) (a ∷ answers) served now c H held stands lawful =
           let middle = served.0 in
           let then = all_honest middle new events answers served.2 now in
           let step = event_step old middle then c H held stands lawful e a served.1 in (
             open_event old middle then c H held stands lawful e a served.1,
-            all_open middle new events answers served.2 now step.left.content step.next step.left.held step.left.stands (lawful_next (is_live old) (holds middle) (leaves middle) c H e a lawful step),
+            all_open middle new events answers served.2 now step.left.content step.next step.left.held step.left.stands (lawful_next (meaning.is_live old) (meaning.holds middle) (meaning.leaves middle) c H e a lawful step),
           )
       all_open old new [] (a ∷ answers) served now c H held stands lawful = absurd served
       all_open old new (e ∷ events) [] served now c H held stands lawful = absurd served

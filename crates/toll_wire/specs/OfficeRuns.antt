@@ -2,6 +2,7 @@
 use Rattle.std.specs.Prelude.{◌≡◌, ◌⊎◌, Bool, List, [], ◌∷◌, Result, Ok, Err}
 use Rattle.toll_history.specs.History.{History}
 use Rattle.toll_history.specs.Verdict.{IsLawful}
+use Rattle.toll_keep.specs.Meaning.{Meaning}
 use Rattle.toll_keep.specs.Content.{Content}
 use Rattle.toll_keep.specs.declared.fault.KeepFault.{KeepFault}
 use Rattle.toll_keep.specs.declared.fault.KeepFault.TheVariants.{Memory}
@@ -66,11 +67,11 @@ pub record IsStepOf (holds : Content → Type 0) (was_live : Type 0) (leaves : L
   pub left : HoldsFor holds next
   pub crash : was_live → LeavesOr leaves c (after_event http H happening)
 
-module _ {K : Type 0} (is_honest is_live : K → Type 0) (is_closed : K → Bool) (has_cause : K → K → Type 0) (leaves : K → List Content → Type 0) (holds : K → Content → Type 0) where
+module _ {K : Type 0} (meaning : Meaning K) where
   -- the event got this answer
   abbrev pub IsEventServed : K → K → Event → Answer → Type 0
-  IsEventServed old new (Owner bytes) (Reply out) = IsAnswered is_honest is_live is_closed has_cause leaves holds old new bytes.items out
-  IsEventServed old new (Command command) (CommandReply reply) = IsPlantServed is_honest is_live is_closed has_cause leaves holds old new command reply
+  IsEventServed old new (Owner bytes) (Reply out) = IsAnswered meaning old new bytes.items out
+  IsEventServed old new (Command command) (CommandReply reply) = IsPlantServed meaning old new command reply
   IsEventServed old new _ _ = ⊥
 
   -- the events got these answers one after another, and made the one keep of the other
@@ -83,7 +84,7 @@ module _ {K : Type 0} (is_honest is_live : K → Type 0) (is_closed : K → Bool
   abbrev pub AreSteps : K → Content → History → List Event → List Answer → K → Type 0
   AreSteps old c H [] [] new = new ≡ old
   AreSteps old c H (e ∷ events) (a ∷ answers) new =
-      (middle : K) × (step : IsStepOf (holds middle) (is_live old) (leaves middle) c H e a) × AreSteps middle step.left.content step.next events answers new
+      (middle : K) × (step : IsStepOf (meaning.holds middle) (meaning.is_live old) (meaning.leaves middle) c H e a) × AreSteps middle step.left.content step.next events answers new
   AreSteps old c H _ _ new = ⊥
 
 -- the only fault that the plant is told is want of memory

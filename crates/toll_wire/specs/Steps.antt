@@ -3,6 +3,7 @@ use Rattle.std.specs.Prelude.{◌≡◌, ◌≢◌, ◌⊎◌, Bool, false, Some
 use Rattle.std.specs.List.{starts_with}
 use Rattle.toll_base.specs.Bytes.{Bytes}
 use Rattle.toll_history.specs.History.{History}
+use Rattle.toll_keep.specs.Meaning.{Meaning}
 use Rattle.toll_keep.specs.Content.{Content, ContentKeepsRules}
 use Rattle.toll_keep.specs.Goes.{Goes}
 use Rattle.toll_keep.specs.declared.fault.KeepFault.{KeepFault}
@@ -69,13 +70,13 @@ abbrev pub IsOutcome : Out → Result (Unit {0}) KeepFault → Type 0
 IsOutcome (Text text) outcome = outcome ≡ Ok tt
 IsOutcome Unavailable outcome = (fault : KeepFault) × (outcome ≡ Err fault)
 
-module _ {K : Type 0} (is_honest is_live : K → Type 0) (is_closed : K → Bool) (has_cause : K → K → Type 0) (leaves : K → List Content → Type 0) (holds : K → Content → Type 0) (old new : K) where
+module _ {K : Type 0} (meaning : Meaning K) (old new : K) where
   -- the keep was called and goes as after a call that answered so; and no damage is found in rows that keep the rules
   pub record OutGoes (out : Out) : Type 0 where
     pub outcome : Result (Unit {0}) KeepFault
     pub is : IsOutcome out outcome
-    pub goes : Goes is_honest is_live is_closed has_cause leaves old new outcome
-    pub whole : is_honest new → (c : Content) → holds old c → ContentKeepsRules c → outcome ≢ Err Damaged
+    pub goes : Goes meaning old new outcome
+    pub whole : meaning.is_honest new → (c : Content) → meaning.holds old c → ContentKeepsRules c → outcome ≢ Err Damaged
 
   -- the keep is called for who has a key, and for nobody else
   abbrev pub OutGoesFor : Saying → Out → Type 0
@@ -88,12 +89,12 @@ module _ {K : Type 0} (is_honest is_live : K → Type 0) (is_closed : K → Bool
     pub tells : IsReplyWhere (MayBeTold http saying) out
     -- how the calls of the keep went
     pub goes : OutGoesFor saying out
-    pub honest : is_honest new → is_honest old
+    pub honest : meaning.is_honest new → meaning.is_honest old
     -- what asks for no change, and what isn't told 200, leaves what is held, whatever rows there are
-    pub asks : is_honest new → (c : Content) → holds old c → may_write saying ≡ false → holds new c
-    pub quiet : is_honest new → (c : Content) → holds old c → ¬ (IsGranted out) → holds new c
+    pub asks : meaning.is_honest new → (c : Content) → meaning.holds old c → may_write saying ≡ false → meaning.holds new c
+    pub quiet : meaning.is_honest new → (c : Content) → meaning.holds old c → ¬ (IsGranted out) → meaning.holds new c
     -- it is told what the definitions say, and what they say is held
-    pub served : Over is_honest holds old new (λ c H. IsServed (holds new) (is_live old) (leaves new) c H saying out)
+    pub served : Over meaning old new (λ c H. IsServed (meaning.holds new) (meaning.is_live old) (meaning.leaves new) c H saying out)
 
   -- there was no memory to read the bytes, and the keep is untouched
   pub record IsUnread (out : Out) : Type 0 where

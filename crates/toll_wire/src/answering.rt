@@ -18,7 +18,7 @@ use toll_routes::Asks;
 /// anything changes, so where the answer is [`Out::Unavailable`] nothing changed; or, after a fault of
 /// the disk, the change stands whole or not at all. Whatever isn't told 200 changes nothing.
 pub fn answer<K: Keep>(alloc: Global, keep: &mut K, bytes: &[u8]) -> Out
-    ensures { IsAnswered K.is_honest K.is_live K.is_closed K.has_cause K.leaves K.holds keep.old keep.new bytes.now result }
+    ensures { IsAnswered K.meaning keep.old keep.new bytes.now result }
 {
     match read(alloc, bytes) {
         Err(_) => Out::Unavailable,
@@ -35,7 +35,7 @@ pub fn answer<K: Keep>(alloc: Global, keep: &mut K, bytes: &[u8]) -> Out
 
 // Makes the text of the reply, and then the changes.
 fn serve<K: Keep>(alloc: Global, keep: &mut K, owner: &[u8], key: &[u8], request: &Request) -> Out
-    ensures { IsServing K.is_honest K.is_live K.is_closed K.has_cause K.leaves K.holds keep.old keep.new (By owner.now (Some key.now) (asking_of (Asks.For request.now))) result }
+    ensures { IsServing K.meaning keep.old keep.new (By owner.now (Some key.now) (asking_of (Asks.For request.now))) result }
 {
     let planned = owner_plan(alloc, keep, owner, key, request);
     match tell(alloc, &planned.reply) {
@@ -49,7 +49,7 @@ fn serve<K: Keep>(alloc: Global, keep: &mut K, owner: &[u8], key: &[u8], request
 
 // Tells an owner which check the request fails, and everybody else no more than that it is forbidden.
 fn refuse<K: Keep>(alloc: Global, keep: &mut K, owner: &[u8], key: &[u8], failure: Failure) -> Out
-    ensures { IsServing K.is_honest K.is_live K.is_closed K.has_cause K.leaves K.holds keep.old keep.new (By owner.now (Some key.now) (asking_of (Asks.Failing failure))) result }
+    ensures { IsServing K.meaning keep.old keep.new (By owner.now (Some key.now) (asking_of (Asks.Failing failure))) result }
 {
     match admit(alloc, keep, owner, key) {
         Ok(Some(_)) => fail(alloc, failure),

@@ -35,14 +35,14 @@ pub fn bytes_say_one_thing()
 /// Of each run of the office an owner has its own part, as bytes: requests and their replies, and the
 /// accepted commands on its rows.
 pub fn every_run_has_its_parts<K: Keep>()
-    ensures { (k : K) (H : History) (events : List Event) (answers : List Answer) → IsRunOf (K.holds k) H events answers → (o : Bytes) →
+    ensures { (k : K) (H : History) (events : List Event) (answers : List Answer) → IsRunOf (K.meaning.holds k) H events answers → (o : Bytes) →
         (own : List OwnEvent) × (replies : List Bytes) × IsPart o events answers own replies }
 {}
 
 /// The replies to each owner besides HOUSE are, byte for byte, those that its own requests, and the
 /// accepted commands of the plant on its rows, give by themselves.
 pub fn replies_are_those_that_the_owners_part_gives_alone<K: Keep>()
-    ensures { (k : K) (H : History) (events : List Event) (answers : List Answer) → IsRunOf (K.holds k) H events answers →
+    ensures { (k : K) (H : History) (events : List Event) (answers : List Answer) → IsRunOf (K.meaning.holds k) H events answers →
         (o : Bytes) (own : List OwnEvent) (replies : List Bytes) → same_bytes o house_name ≡ false → IsPart o events answers own replies → AreAlone (part o H) own replies }
 {}
 
@@ -56,7 +56,7 @@ pub fn a_part_alone_gives_one_list_of_replies()
 /// reply bytes. What everybody else sent may differ in any way and number.
 pub fn runs_with_the_same_part_give_the_same_replies<J: Keep, K: Keep>()
     ensures { (j : J) (k : K) (G H : History) (events events' : List Event) (answers answers' : List Answer) (o : Bytes) (own : List OwnEvent) (replies replies' : List Bytes) →
-        IsRunOf (J.holds j) G events answers → IsRunOf (K.holds k) H events' answers' → same_bytes o house_name ≡ false → part o G ≡ part o H →
+        IsRunOf (J.meaning.holds j) G events answers → IsRunOf (K.meaning.holds k) H events' answers' → same_bytes o house_name ≡ false → part o G ≡ part o H →
         IsPart o events answers own replies → IsPart o events' answers' own replies' → replies ≡ replies' }
 {}
 
@@ -78,7 +78,7 @@ pub fn answers_are_determined()
 /// The same events, over whatever two keeps whose rows stand for one history, are told the same, byte for
 /// byte, where no answer says that there was no memory, or a fault.
 pub fn any_two_keeps_answer_alike<J: Keep, K: Keep>()
-    ensures { (j : J) (k : K) (H : History) (events : List Event) (answers others : List Answer) → IsRunOf (J.holds j) H events answers → IsRunOf (K.holds k) H events others →
+    ensures { (j : J) (k : K) (H : History) (events : List Event) (answers others : List Answer) → IsRunOf (J.meaning.holds j) H events answers → IsRunOf (K.meaning.holds k) H events others →
         NoFaults http (map tells answers) → NoFaults http (map tells others) → map tells answers ≡ map tells others }
 {}
 

@@ -20,11 +20,11 @@ pub fn run_events<K: Keep>(
     events: &[Event],
 ) -> Result<Vec<Answer>, AllocError>
     ensures err { OnErr result (keep.new ≡ keep.old) }
-    ensures honest { K.is_honest keep.new → K.is_honest keep.old }
-    ensures served { IfOk result (λ answers. AreServed K.is_honest K.is_live K.is_closed K.has_cause K.leaves K.holds keep.old events.now answers.items keep.new) }
-    ensures run { Over K.is_honest K.holds keep.old keep.new (λ c H. IfOk result (λ answers. IsRunOf (K.holds keep.new) H events.now answers.items)) }
-    ensures steps { Over K.is_honest K.holds keep.old keep.new (λ c H. IfOk result (λ answers. AreSteps K.is_honest K.is_live K.is_closed K.has_cause K.leaves K.holds keep.old c H events.now answers.items keep.new)) }
-    ensures open { ((k : K) → K.is_closed k ≡ false) → Over K.is_honest K.holds keep.old keep.new (λ c H. IfOk result (λ answers. AllByRecursion IsOpenAnswer answers.items)) }
+    ensures honest { K.meaning.is_honest keep.new → K.meaning.is_honest keep.old }
+    ensures served { IfOk result (λ answers. AreServed K.meaning keep.old events.now answers.items keep.new) }
+    ensures run { Over K.meaning keep.old keep.new (λ c H. IfOk result (λ answers. IsRunOf (K.meaning.holds keep.new) H events.now answers.items)) }
+    ensures steps { Over K.meaning keep.old keep.new (λ c H. IfOk result (λ answers. AreSteps K.meaning keep.old c H events.now answers.items keep.new)) }
+    ensures open { ((k : K) → K.meaning.is_closed k ≡ false) → Over K.meaning keep.old keep.new (λ c H. IfOk result (λ answers. AllByRecursion IsOpenAnswer answers.items)) }
 {
     let mut answers = Vec::with_capacity(alloc, events.len())?;
     for event in events {
@@ -35,7 +35,7 @@ pub fn run_events<K: Keep>(
 }
 
 fn answer_event<K: Keep>(alloc: Global, keep: &mut K, event: &Event) -> Answer
-    ensures { IsEventServed K.is_honest K.is_live K.is_closed K.has_cause K.leaves K.holds keep.old keep.new event.now result }
+    ensures { IsEventServed K.meaning keep.old keep.new event.now result }
 {
     match event {
         Event::Owner(bytes) => Answer::Bytes(answer(alloc, keep, bytes)),

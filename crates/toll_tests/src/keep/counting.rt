@@ -1,4 +1,6 @@
 //! A keep that counts the slices that are read of it.
+ghost use Rattle.toll_keep.specs.Meaning.{meaning_of};
+
 use std::alloc::Global;
 use toll_base::{Change, Edge, Name, OwnerRow, Slice, UnitRow};
 use toll_keep::{Holder, Keep, KeepFault};
@@ -23,17 +25,7 @@ impl<K: Keep> Counting<K> {
 }
 
 impl<K: Keep> Keep for Counting<K> {
-    ghost holds = { λ r c. K.holds r.keep c };
-
-    ghost is_honest = { λ r. K.is_honest r.keep };
-
-    ghost is_closed = { λ r. K.is_closed r.keep };
-
-    ghost is_live = { λ r. K.is_live r.keep };
-
-    ghost has_cause = { λ r s. K.has_cause r.keep s.keep };
-
-    ghost leaves = { λ r cs. K.leaves r.keep cs };
+    ghost meaning = { meaning_of (λ r. r.keep) K.meaning };
 
     fn slice(&mut self, alloc: Global, owner: &Name) -> Result<Option<Slice>, KeepFault> {
         self.read = self.read.saturating_add(1);

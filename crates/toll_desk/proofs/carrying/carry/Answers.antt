@@ -5,5 +5,5 @@ use Rattle.toll_desk.proofs.carrying.carry.Goals as goal
 
 pub returns-then-is_empty-clause-crash : goal.returns-then-is_empty-clause-crash
 returns-then-is_empty-clause-crash g c honest live content held fits =
-    subst (λ changes. g.K.Keep.leaves c.args.keep.now (content ∷ after changes content ∷ [])) (sym (no_changes c.args.changes.now (sym c.is_empty.ensures ∙ c.if-is_empty.true)))
+    subst (λ changes. g.K.Keep.meaning.leaves c.args.keep.now (content ∷ after changes content ∷ [])) (sym (no_changes c.args.changes.now (sym c.is_empty.ensures ∙ c.if-is_empty.true)))
     (g.met.K.Keep.widened c.args.keep.now (content ∷ []) (content ∷ []) (g.met.K.Keep.settled c.args.keep.now content honest live held))

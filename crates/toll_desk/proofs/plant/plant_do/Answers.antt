@@ -12,12 +12,12 @@ returns-in-Do-clause-undamaged g c honest content H held stands lawful = c.do_de
 pub returns-in-Do-clause-done : goal.returns-in-Do-clause-done
 returns-in-Do-clause-done g c honest content H held stands lawful =
     let K = g.K.Keep in
-    subst (λ q. IsDone (K.holds c.do_deed.new.keep) (K.is_live c.args.keep.now) (K.leaves c.do_deed.new.keep) content (after_plant H q) (plant_told c.do_deed.result) (IsPlantAnswer H q)) (sym c.in-Do.ensures.form)
+    subst (λ q. IsDone (K.meaning.holds c.do_deed.new.keep) (K.meaning.is_live c.args.keep.now) (K.meaning.leaves c.do_deed.new.keep) content (after_plant H q) (plant_told c.do_deed.result) (IsPlantAnswer H q)) (sym c.in-Do.ensures.form)
     (c.do_deed.ensures.done honest content H held stands lawful)
 
 pub returns-in-Ask-clause-done : goal.returns-in-Ask-clause-done
 returns-in-Ask-clause-done g c honest content H held stands lawful =
     let K = g.K.Keep in
     let q = asked_by_question c.in-Ask.question in
-    subst (λ q. IsDone (K.holds c.ask.new.keep) (K.is_live c.args.keep.now) (K.leaves c.ask.new.keep) content (after_plant H q) (plant_told c.ask.result) (IsPlantAnswer H q)) (sym c.in-Ask.ensures.form)
-    (question_done K.is_honest K.is_live K.is_closed K.has_cause K.leaves K.holds c.args.keep.now c.ask.new.keep (plant_told c.ask.result) content H c.in-Ask.question (IsPlantAnswer H q) stands held (c.ask.ensures.keeps honest) (c.ask.ensures.over honest content H held stands lawful))
+    subst (λ q. IsDone (K.meaning.holds c.ask.new.keep) (K.meaning.is_live c.args.keep.now) (K.meaning.leaves c.ask.new.keep) content (after_plant H q) (plant_told c.ask.result) (IsPlantAnswer H q)) (sym c.in-Ask.ensures.form)
+    (question_done K.meaning c.args.keep.now c.ask.new.keep (plant_told c.ask.result) content H c.in-Ask.question (IsPlantAnswer H q) stands held (c.ask.ensures.keeps honest) (c.ask.ensures.over honest content H held stands lawful))

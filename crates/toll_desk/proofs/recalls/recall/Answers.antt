@@ -24,7 +24,7 @@ returns-in-Err-clause-whole g c honest content H held stands lawful is =
 pub returns-in-Ok-clause-over : goal.returns-in-Ok-clause-over
 returns-in-Ok-clause-over g c honest content H held stands lawful =
     let lot = c.args.lot.now in
-    let before = going_honest g.K.Keep.is_honest g.K.Keep.is_live g.K.Keep.is_closed g.K.Keep.has_cause g.K.Keep.leaves g.K.Keep.holds c.slice.new.self c.recall_known.new.keep _ c.recall_known.ensures.going honest in
+    let before = going_honest g.K.Keep.meaning c.slice.new.self c.recall_known.new.keep _ c.recall_known.ensures.going honest in
     let there = sym c.in-Ok-Some.field-0-is ∙ c.in-Ok-Some.ensures.reads before content held in
     let read = rows_read content H lot.owner c.in-Ok-Some.slice stands there in (
       lot_there H lot (some_read content H lot.owner c.in-Ok-Some.slice stands there) (sym (ap is_some ((λ i. (read.0 i).lot lot.lot) ∙ ap (λ o. lot_row H o lot.lot) read.1)) ∙ sym (ap is_some c.lot.ensures) ∙ c.if-is_none.ensures),
@@ -33,13 +33,13 @@ returns-in-Ok-clause-over g c honest content H held stands lawful =
 
 pub returns-in-Err-recall_known-clause-going : goal.returns-in-Err-recall_known-clause-going
 returns-in-Err-recall_known-clause-going g c =
-    going_fault_as g.K.Keep.is_honest g.K.Keep.is_live g.K.Keep.is_closed g.K.Keep.has_cause g.K.Keep.leaves g.K.Keep.holds c.args.keep.now c.recall_known.new.keep _
-    (going_then g.K.Keep.is_honest g.K.Keep.is_live g.K.Keep.is_closed g.K.Keep.has_cause g.K.Keep.leaves g.K.Keep.holds c.slice.new.self c.recall_known.new.keep c.args.keep.now _ _ (record { goes = c.in-Ok-Some.ensures.reading.goes; keeps = c.in-Ok-Some.ensures.reading.keeps; whole = c.in-Ok-Some.ensures.reading.whole }) c.in-Err-recall_known.ensures.going)
+    going_fault_as g.K.Keep.meaning c.args.keep.now c.recall_known.new.keep _
+    (going_then g.K.Keep.meaning c.slice.new.self c.recall_known.new.keep c.args.keep.now _ _ (record { goes = c.in-Ok-Some.ensures.reading.goes; keeps = c.in-Ok-Some.ensures.reading.keeps; whole = c.in-Ok-Some.ensures.reading.whole }) c.in-Err-recall_known.ensures.going)
 
 pub returns-in-Err-recall_known-clause-whole : goal.returns-in-Err-recall_known-clause-whole
 returns-in-Err-recall_known-clause-whole g c honest content H held stands lawful is =
     let lot = c.args.lot.now in
-    let before = going_honest g.K.Keep.is_honest g.K.Keep.is_live g.K.Keep.is_closed g.K.Keep.has_cause g.K.Keep.leaves g.K.Keep.holds c.slice.new.self c.recall_known.new.keep _ c.recall_known.ensures.going honest in
+    let before = going_honest g.K.Keep.meaning c.slice.new.self c.recall_known.new.keep _ c.recall_known.ensures.going honest in
     let there = sym c.in-Ok-Some.field-0-is ∙ c.in-Ok-Some.ensures.reads before content held in
     let read = rows_read content H lot.owner c.in-Ok-Some.slice stands there in
     let known = lot_there H lot (some_read content H lot.owner c.in-Ok-Some.slice stands there) (sym (ap is_some ((λ i. (read.0 i).lot lot.lot) ∙ ap (λ o. lot_row H o lot.lot) read.1)) ∙ sym (ap is_some c.lot.ensures) ∙ c.if-is_none.ensures) in

@@ -7,18 +7,18 @@ use Rattle.toll_desk.proofs.RecallLines.{lines_recall, traced_has_line}
 use Rattle.toll_desk.proofs.recalls.recall_steps.Goals as goal
 
 pub returns-in-Ok-Some-clause-going : goal.returns-in-Ok-Some-clause-going
-returns-in-Ok-Some-clause-going g c first have = inl (reads_as g.K.Keep.is_honest g.K.Keep.is_live g.K.Keep.is_closed g.K.Keep.has_cause g.K.Keep.leaves g.K.Keep.holds first c.slices_of.new.keep _ _ (c.in-Ok.ensures.reads first have))
+returns-in-Ok-Some-clause-going g c first have = inl (reads_as g.K.Keep.meaning first c.slices_of.new.keep _ _ (c.in-Ok.ensures.reads first have))
 
 pub returns-in-Ok-None-clause-going : goal.returns-in-Ok-None-clause-going
-returns-in-Ok-None-clause-going g c first have = inr (refl, reads_as g.K.Keep.is_honest g.K.Keep.is_live g.K.Keep.is_closed g.K.Keep.has_cause g.K.Keep.leaves g.K.Keep.holds first c.slices_of.new.keep _ _ (c.in-Ok.ensures.reads first have))
+returns-in-Ok-None-clause-going g c first have = inr (refl, reads_as g.K.Keep.meaning first c.slices_of.new.keep _ _ (c.in-Ok.ensures.reads first have))
 
 pub returns-in-Ok-clause-going : goal.returns-in-Ok-clause-going
 returns-in-Ok-clause-going g c first have =
     let reads = c.in-Ok.ensures.reads first have in
-    inl (read_memory g.K.Keep.is_honest g.K.Keep.is_live g.K.Keep.is_closed g.K.Keep.has_cause g.K.Keep.leaves g.K.Keep.holds first c.slices_of.new.keep _ reads.goes reads.keeps)
+    inl (read_memory g.K.Keep.meaning first c.slices_of.new.keep _ reads.goes reads.keeps)
 
 pub returns-clause-going : goal.returns-clause-going
-returns-clause-going g c first have = inl (fault_as g.K.Keep.is_honest g.K.Keep.is_live g.K.Keep.is_closed g.K.Keep.has_cause g.K.Keep.leaves g.K.Keep.holds first c.slices_of.new.keep _ (c.in-Err.ensures.reads first have))
+returns-clause-going g c first have = inl (fault_as g.K.Keep.meaning first c.slices_of.new.keep _ (c.in-Err.ensures.reads first have))
 
 pub returns-clause-whole : goal.returns-clause-whole
 returns-clause-whole g c first have honest content H held stands lawful lot rows known traced is =

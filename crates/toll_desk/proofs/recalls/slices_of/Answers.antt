@@ -18,8 +18,8 @@ pub returns-in_err-add_slice-clause-reads : goal.returns-in_err-add_slice-clause
 returns-in_err-add_slice-clause-reads g c first have =
     let was = c.in_err-add_slice.ensures.reads first (c.loop-step.invariant.0 first have) in
     let is = passed_on c.from_residual.result c.in_err-add_slice.field-0.0 c.from_residual.ensures.1 in
-    subst (λ r. IsReading g.K.Keep.is_honest g.K.Keep.is_live g.K.Keep.is_closed g.K.Keep.has_cause g.K.Keep.leaves g.K.Keep.holds first c.add_slice.new.keep r) (sym is)
-    (read_fault g.K.Keep.is_honest g.K.Keep.is_live g.K.Keep.is_closed g.K.Keep.has_cause g.K.Keep.leaves g.K.Keep.holds first c.add_slice.new.keep c.in_err-add_slice.field-0.0 was.goes was.keeps was.whole)
+    subst (λ r. IsReading g.K.Keep.meaning first c.add_slice.new.keep r) (sym is)
+    (read_fault g.K.Keep.meaning first c.add_slice.new.keep c.in_err-add_slice.field-0.0 was.goes was.keeps was.whole)
 
 pub loop-step-preserved : goal.loop-step-preserved
 loop-step-preserved g c =
@@ -36,7 +36,7 @@ loop-step-preserved g c =
 pub returns-clause-reads : goal.returns-clause-reads
 returns-clause-reads g c first have =
     let now = c.loop-step.invariant.0 first have in
-    read_ok g.K.Keep.is_honest g.K.Keep.is_live g.K.Keep.is_closed g.K.Keep.has_cause g.K.Keep.leaves g.K.Keep.holds first c.loop-step.keep _ _ now.goes now.keeps
+    read_ok g.K.Keep.meaning first c.loop-step.keep _ _ now.goes now.keeps
 
 pub returns-clause-over : goal.returns-clause-over
 returns-clause-over g c honest content H held stands lawful rows =

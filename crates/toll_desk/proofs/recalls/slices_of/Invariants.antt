@@ -8,6 +8,6 @@ use Rattle.toll_desk.proofs.recalls.slices_of.Given as goal
 abbrev pub invariant-loop-step : goal.invariant-loop-step
 invariant-loop-step g l =
     let k = g.K.Keep in
-    ((first : g.row.K.Denot) → HaveRead k.is_honest k.is_live k.is_closed k.has_cause k.leaves k.holds first l.initial.keep → HaveRead k.is_honest k.is_live k.is_closed k.has_cause k.leaves k.holds first l.keep)
-    × IsKept k.is_honest k.holds l.initial.keep l.keep
-    × Over k.is_honest k.holds l.initial.keep l.keep (λ c H. IsRowsOf H l.fn.own → AreSlicesFor H (take l.step-index l.steps) l.slices.items)
+    ((first : g.row.K.Denot) → HaveRead k.meaning first l.initial.keep → HaveRead k.meaning first l.keep)
+    × IsKept k.meaning l.initial.keep l.keep
+    × Over k.meaning l.initial.keep l.keep (λ c H. IsRowsOf H l.fn.own → AreSlicesFor H (take l.step-index l.steps) l.slices.items)

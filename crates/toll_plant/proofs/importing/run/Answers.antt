@@ -25,9 +25,9 @@ loop-command-preserved g c =
       room = omega arith;
       numbered = subst (AreNumbered 1) (sym {A = List ImportLine} c.push_reserved.ensures.items) (numbered_more 1 before line c.loop-command.invariant.numbered (omega arith));
       served = λ outcomes new rest.
-          let behind = first_served K.is_honest K.is_live K.is_closed K.has_cause K.leaves K.holds c.loop-command.keep c.act-outcome.new.keep new command (drop (i + 1) commands) line.outcome outcomes (sym c.is_fault.ensures ∙ c.if-is_fault.false) c.act-outcome.ensures rest in
-          let all = c.loop-command.invariant.served (line.outcome ∷ outcomes) new (subst (λ left. AreRecordsServed K.is_honest K.is_live K.is_closed K.has_cause K.leaves K.holds c.loop-command.keep left (line.outcome ∷ outcomes) new) (sym left) behind) in
-          subst (λ told. AreRecordsServed K.is_honest K.is_live K.is_closed K.has_cause K.leaves K.holds c.args.keep.now commands told new)
+          let behind = first_served K.meaning c.loop-command.keep c.act-outcome.new.keep new command (drop (i + 1) commands) line.outcome outcomes (sym c.is_fault.ensures ∙ c.if-is_fault.false) c.act-outcome.ensures rest in
+          let all = c.loop-command.invariant.served (line.outcome ∷ outcomes) new (subst (λ left. AreRecordsServed K.meaning c.loop-command.keep left (line.outcome ∷ outcomes) new) (sym left) behind) in
+          subst (λ told. AreRecordsServed K.meaning c.args.keep.now commands told new)
           (sym (outcomes_grow before c.push_reserved.new.self.items line outcomes c.push_reserved.ensures.items)) all;
     }
 
@@ -35,6 +35,6 @@ pub returns-clause-served : goal.returns-clause-served
 returns-clause-served g c =
     let K = g.K.Keep in
     let none = drop_all c.loop-command.command-index c.args.commands.now c.loop-command-test.false in
-    let end = subst (λ left. AreRecordsServed K.is_honest K.is_live K.is_closed K.has_cause K.leaves K.holds c.loop-command.keep left [] c.loop-command.keep) (sym none) refl in
-    subst (λ told. AreRecordsServed K.is_honest K.is_live K.is_closed K.has_cause K.leaves K.holds c.args.keep.now c.args.commands.now told c.loop-command.keep)
+    let end = subst (λ left. AreRecordsServed K.meaning c.loop-command.keep left [] c.loop-command.keep) (sym none) refl in
+    subst (λ told. AreRecordsServed K.meaning c.args.keep.now c.args.commands.now told c.loop-command.keep)
     (append-nil (outcomes_in c.loop-command.lines.items)) (c.loop-command.invariant.served [] c.loop-command.keep end)

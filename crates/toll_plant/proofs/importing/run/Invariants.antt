@@ -11,6 +11,6 @@ invariant-loop-command g l =
       count : vec_len l.lines ≡ l.command-index;
       room : length l.commands ≤ vec_capacity l.lines;
       numbered : AreNumbered 1 l.lines.items;
-      served : (outcomes : List Outcome) (new : _) → AreRecordsServed K.is_honest K.is_live K.is_closed K.has_cause K.leaves K.holds l.keep (drop l.command-index l.commands) outcomes new
-          → AreRecordsServed K.is_honest K.is_live K.is_closed K.has_cause K.leaves K.holds l.fn.keep l.commands (outcomes_in l.lines.items ++ outcomes) new;
+      served : (outcomes : List Outcome) (new : _) → AreRecordsServed K.meaning l.keep (drop l.command-index l.commands) outcomes new
+          → AreRecordsServed K.meaning l.fn.keep l.commands (outcomes_in l.lines.items ++ outcomes) new;
     }

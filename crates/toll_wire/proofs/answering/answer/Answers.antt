@@ -12,7 +12,7 @@ returns-in-Ok-Refused g c =
     inl (
       _,
       (_, rw c.in-Ok-Refused.field-0-is at c.in-Ok-Refused.ensures.reads, refl),
-      untouched K.is_honest K.is_live K.is_closed K.has_cause K.leaves K.holds keep (λ content. g.met.K.Keep.settled keep content) (text_of_failure c.in-Ok-Refused.failure) c.fail.result c.fail.ensures,
+      untouched K.meaning keep (λ content. g.met.K.Keep.settled keep content) (text_of_failure c.in-Ok-Refused.failure) c.fail.result c.fail.ensures,
     )
 
 pub returns-in_default : goal.returns-in_default
@@ -22,6 +22,6 @@ returns-in_default g c =
     let out = c.fail-in_default.result in
     let reads = rw c.in-Ok-Claimed.field-0-is at c.in-Ok-Claimed.ensures.reads in
     elim c.in_default.branch [
-      | in_default-via-in-Some+in_default w ↦ inl (_, (_, rw (w.in_default.is-0, w.in_default.is-1) at reads, refl), keyless K.is_honest K.is_live K.is_closed K.has_cause K.leaves K.holds keep (λ content. g.met.K.Keep.settled keep content) _ _ out c.fail-in_default.ensures)
-      | in_default-via-in_default w ↦ inl (_, (_, rw w.in_default.is-0 at reads, refl), untouched K.is_honest K.is_live K.is_closed K.has_cause K.leaves K.holds keep (λ content. g.met.K.Keep.settled keep content) (text_of_failure Forbidden) out c.fail-in_default.ensures)
+      | in_default-via-in-Some+in_default w ↦ inl (_, (_, rw (w.in_default.is-0, w.in_default.is-1) at reads, refl), keyless K.meaning keep (λ content. g.met.K.Keep.settled keep content) _ _ out c.fail-in_default.ensures)
+      | in_default-via-in_default w ↦ inl (_, (_, rw w.in_default.is-0 at reads, refl), untouched K.meaning keep (λ content. g.met.K.Keep.settled keep content) (text_of_failure Forbidden) out c.fail-in_default.ensures)
     ]

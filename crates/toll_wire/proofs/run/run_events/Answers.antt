@@ -14,7 +14,7 @@ loop-event-init g c =
     record {
       count = omega (arith, c.in_ok-answers.ensures.len);
       room = omega (arith, c.in_ok-answers.ensures.capacity);
-      served = subst (λ answers. AreServed K.is_honest K.is_live K.is_closed K.has_cause K.leaves K.holds keep [] answers keep) (sym none) refl;
+      served = subst (λ answers. AreServed K.meaning keep [] answers keep) (sym none) refl;
     }
 
 pub loop-event-preserved : goal.loop-event-preserved
@@ -29,31 +29,31 @@ loop-event-preserved g c =
     record {
       count = omega arith;
       room = omega arith;
-      served = subst₂ (λ (events : List Event) (answers : List Answer). AreServed K.is_honest K.is_live K.is_closed K.has_cause K.leaves K.holds c.args.keep.now events answers told.new.keep) events_are answers_are
-          (served_more K.is_honest K.is_live K.is_closed K.has_cause K.leaves K.holds c.args.keep.now c.loop-event.keep told.new.keep before c.loop-event.answers.items event told.result c.loop-event.invariant.served told.ensures);
+      served = subst₂ (λ (events : List Event) (answers : List Answer). AreServed K.meaning c.args.keep.now events answers told.new.keep) events_are answers_are
+          (served_more K.meaning c.args.keep.now c.loop-event.keep told.new.keep before c.loop-event.answers.items event told.result c.loop-event.invariant.served told.ensures);
     }
 
 pub returns-clause-honest : goal.returns-clause-honest
 returns-clause-honest g c now =
     let K = g.K.Keep in
-    all_honest K.is_honest K.is_live K.is_closed K.has_cause K.leaves K.holds c.args.keep.now c.loop-event.keep (take c.loop-event.event-index c.args.events.now) c.loop-event.answers.items c.loop-event.invariant.served now
+    all_honest K.meaning c.args.keep.now c.loop-event.keep (take c.loop-event.event-index c.args.events.now) c.loop-event.answers.items c.loop-event.invariant.served now
 
 pub returns-clause-steps : goal.returns-clause-steps
 returns-clause-steps g c now content H held stands lawful =
     let K = g.K.Keep in
     let all = take_all c.loop-event.event-index c.args.events.now c.loop-event-test.false in
-    let served = subst (λ events. AreServed K.is_honest K.is_live K.is_closed K.has_cause K.leaves K.holds c.args.keep.now events c.loop-event.answers.items c.loop-event.keep) all c.loop-event.invariant.served in
-    steps_of K.is_honest K.is_live K.is_closed K.has_cause K.leaves K.holds g.met.K.Keep.settled c.args.keep.now c.loop-event.keep c.args.events.now c.loop-event.answers.items served now content H held stands lawful
+    let served = subst (λ events. AreServed K.meaning c.args.keep.now events c.loop-event.answers.items c.loop-event.keep) all c.loop-event.invariant.served in
+    steps_of K.meaning g.met.K.Keep.settled c.args.keep.now c.loop-event.keep c.args.events.now c.loop-event.answers.items served now content H held stands lawful
 
 pub returns-clause-run : goal.returns-clause-run
 returns-clause-run g c now content H held stands lawful =
     let K = g.K.Keep in
     let all = take_all c.loop-event.event-index c.args.events.now c.loop-event-test.false in
-    let served = subst (λ events. AreServed K.is_honest K.is_live K.is_closed K.has_cause K.leaves K.holds c.args.keep.now events c.loop-event.answers.items c.loop-event.keep) all c.loop-event.invariant.served in
-    run_of K.is_honest K.is_live K.is_closed K.has_cause K.leaves K.holds g.met.K.Keep.settled c.args.keep.now c.loop-event.keep c.args.events.now c.loop-event.answers.items content H held stands lawful
-    (steps_of K.is_honest K.is_live K.is_closed K.has_cause K.leaves K.holds g.met.K.Keep.settled c.args.keep.now c.loop-event.keep c.args.events.now c.loop-event.answers.items served now content H held stands lawful)
+    let served = subst (λ events. AreServed K.meaning c.args.keep.now events c.loop-event.answers.items c.loop-event.keep) all c.loop-event.invariant.served in
+    run_of K.meaning g.met.K.Keep.settled c.args.keep.now c.loop-event.keep c.args.events.now c.loop-event.answers.items content H held stands lawful
+    (steps_of K.meaning g.met.K.Keep.settled c.args.keep.now c.loop-event.keep c.args.events.now c.loop-event.answers.items served now content H held stands lawful)
 
 pub returns-clause-open : goal.returns-clause-open
 returns-clause-open g c never_closes now content H held stands lawful =
     let K = g.K.Keep in
-    all_open K.is_honest K.is_live K.is_closed K.has_cause K.leaves K.holds g.met.K.Keep.settled never_closes c.args.keep.now c.loop-event.keep (take c.loop-event.event-index c.args.events.now) c.loop-event.answers.items c.loop-event.invariant.served now content H held stands lawful
+    all_open K.meaning g.met.K.Keep.settled never_closes c.args.keep.now c.loop-event.keep (take c.loop-event.event-index c.args.events.now) c.loop-event.answers.items c.loop-event.invariant.served now content H held stands lawful

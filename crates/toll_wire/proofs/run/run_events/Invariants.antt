@@ -9,5 +9,5 @@ invariant-loop-event g l =
     record {
       count : vec_len l.answers ≡ l.event-index;
       room : length l.events ≤ vec_capacity l.answers;
-      served : AreServed K.is_honest K.is_live K.is_closed K.has_cause K.leaves K.holds l.fn.keep (take l.event-index l.events) l.answers.items l.keep;
+      served : AreServed K.meaning l.fn.keep (take l.event-index l.events) l.answers.items l.keep;
     }
