@@ -23,10 +23,11 @@ use Rattle.toll_base.specs.declared.refusal.Refusal.TheVariants.{UnknownOwner, O
 use Rattle.toll_base.proofs.Texts.{same_bytes-refl}
 use Rattle.toll_history.proofs.Passed.{accepted_passes}
 use Rattle.toll_keep.specs.Content.{Content}
-use Rattle.toll_keep.specs.Standing.{StandsFor}
-use Rattle.toll_keep.proofs.Knowing.{standing_knows}
-use Rattle.toll_keep.proofs.UnitHolders.{same_holder}
-use Rattle.toll_keep.specs.Holding.{IsHolder, on_unit}
+use Rattle.toll_standing.specs.Standing.{StandsFor}
+use Rattle.toll_standing.proofs.Knowing.{standing_knows}
+use Rattle.toll_standing.proofs.UnitHolders.{same_holder}
+use Rattle.toll_keep.specs.Holding.{IsHolder}
+use Rattle.toll_standing.specs.Held.{on_unit}
 use Rattle.toll_keep.specs.declared.holder.Holder.{Holder}
 use Rattle.toll_history.specs.Holders.{holder}
 use Rattle.toll_work.specs.Opening.{IsToldOfUnit, DecidesOpening}

@@ -25,10 +25,10 @@ use Rattle.toll_base.specs.declared.decision.Change.TheVariants.{Owner, Unit as 
 use Rattle.toll_history.proofs.Acts.{first_acts, any_acts}
 use Rattle.toll_base.proofs.Texts.{same_bytes-exact, same_bytes-refl}
 use Rattle.toll_keep.specs.Content.{Content, knows, after_owners, after_units, PutsToKnown}
-use Rattle.toll_keep.specs.Standing.{StandsFor, AreOwnersOf, AreUnitsOf}
-use Rattle.toll_keep.proofs.Fitting.{kept_rules_fit}
-use Rattle.toll_keep.proofs.KeptRules.{standing_keeps_rules}
-use Rattle.toll_keep.proofs.Knowing.{standing_knows}
+use Rattle.toll_standing.specs.Standing.{StandsFor, AreOwnersOf, AreUnitsOf}
+use Rattle.toll_standing.proofs.Fitting.{kept_rules_fit}
+use Rattle.toll_standing.proofs.KeptRules.{standing_keeps_rules}
+use Rattle.toll_standing.proofs.Knowing.{standing_knows}
 use Rattle.toll_keep.proofs.Slicing.{owner-with_row}
 use Rattle.toll_desk.specs.Plans.{LeadsTo, is_shared_put, PutsShared}
 

@@ -32,7 +32,7 @@ use Rattle.toll_views.specs.Views.{consumes_lot, has_consumed}
 use Rattle.toll_answers.specs.Replies.{IsAnswer}
 use Rattle.toll_answers.specs.Told.{TellTrace, TellRefused}
 use Rattle.toll_keep.specs.Content.{Content, slice_of}
-use Rattle.toll_keep.specs.Standing.{StandsFor}
+use Rattle.toll_standing.specs.Standing.{StandsFor}
 use Rattle.toll_desk.specs.Forms.{asked_to_trace, traced_from, traced_way}
 use Rattle.toll_desk.specs.Questions.{may_trace}
 use Rattle.toll_desk.specs.declared.form.Tracing.{Tracing}

@@ -25,10 +25,10 @@ use Rattle.toll_history.proofs.OwnTables.{tables-part}
 use Rattle.toll_base.proofs.PutTables.{length-new}
 use Rattle.toll_base.proofs.Texts.{same_bytes-exact, same_bytes-refl, same_bytes-symm}
 use Rattle.toll_keep.specs.Content.{Content}
-use Rattle.toll_keep.specs.Standing.{StandsFor, AreOwnersOf}
-use Rattle.toll_keep.proofs.Knowing.{standing_knows}
+use Rattle.toll_standing.specs.Standing.{StandsFor, AreOwnersOf}
+use Rattle.toll_standing.proofs.Knowing.{standing_knows}
 use Rattle.toll_desk.specs.Plans.{LeadsTo}
-use Rattle.toll_keep.proofs.Unknown.{neither, nothing_of_unknown}
+use Rattle.toll_standing.proofs.Unknown.{neither, nothing_of_unknown}
 
 -- an owner whose only command added it has no rows yet
 rows_of_new : (o key : Bytes) → IsRowsOf (by o (AddOwner key) ∷ []) (empty_slice o)

@@ -6,7 +6,7 @@ use Rattle.toll_history.specs.History.{History}
 use Rattle.toll_answers.specs.Told.{Asked, Told}
 use Rattle.toll_answers.specs.Replies.{IsAnswer, after_answer}
 use Rattle.toll_keep.specs.Content.{Content}
-use Rattle.toll_keep.specs.Standing.{StandsFor}
+use Rattle.toll_standing.specs.Standing.{StandsFor}
 use Rattle.toll_desk.specs.Forms.{asked_to_read, asked_to_trace, asked_to_write}
 use Rattle.toll_desk.specs.Plans.{LeadsTo, IsPlanFor, writes}
 use Rattle.toll_desk.specs.declared.form.Reading.{Reading}

@@ -16,8 +16,8 @@ use Rattle.toll_history.specs.Decision.{ChangesKeepRules}
 use Rattle.toll_base.specs.declared.decision.Change.{Change}
 use Rattle.toll_base.specs.declared.rows.OwnerRow.{OwnerRow}
 use Rattle.toll_keep.specs.Content.{Content, knows, slice_of}
-use Rattle.toll_keep.specs.Standing.{StandsFor}
-use Rattle.toll_keep.proofs.Knowing.{standing_knows}
+use Rattle.toll_standing.specs.Standing.{StandsFor}
+use Rattle.toll_standing.proofs.Knowing.{standing_knows}
 use Rattle.toll_history.specs.OwnChanges.{PutsOnly}
 use Rattle.toll_answers.specs.Told.{Asked, AskPlace, AskCancel, AskRelease, AskReject, Told, TellForbidden}
 use Rattle.toll_answers.specs.Replies.{has_key, IsAnswer, after_answer, IsReply, after_reply}

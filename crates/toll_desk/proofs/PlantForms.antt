@@ -6,7 +6,7 @@ use Rattle.toll_answers.specs.PlantAnswers.{CannotRead, PlantTold, after_plant}
 use Rattle.toll_keep.specs.Meaning.{Meaning}
 use Rattle.toll_keep.specs.Content.{Content}
 use Rattle.toll_keep.specs.Goes.{Keeps, IsReading}
-use Rattle.toll_keep.specs.Standing.{StandsFor}
+use Rattle.toll_standing.specs.Standing.{StandsFor}
 use Rattle.toll_keep.specs.declared.fault.KeepFault.{KeepFault}
 use Rattle.toll_desk.specs.PlantForms.{asked_by_question}
 use Rattle.toll_desk.specs.Plans.{GoesFor, IsDone, HoldsFor, asks_recall}

@@ -28,7 +28,7 @@ use Rattle.toll_genealogy.specs.Recall.{IsRecall}
 use Rattle.toll_genealogy.specs.declared.recall.RecallLine.{RecallLine}
 use Rattle.toll_desk.specs.Questions.{is_known_lot}
 use Rattle.toll_answers.specs.PlantAnswers.{PlantTold, Judged, Shows, AreOrdersShown, IsBatchShownOr, IsCheckedOr, AsksRecall, IsPlantAnswer, owner_checks, lot_checks}
-use Rattle.toll_keep.proofs.Unknown.{acts_of_unknown}
+use Rattle.toll_standing.proofs.Unknown.{acts_of_unknown}
 use Rattle.toll_desk.specs.PlantForms.{asked_of_rows}
 use Rattle.toll_desk.specs.declared.plant_form.Shown.{Shown}
 use Rattle.toll_desk.specs.declared.plant_form.Shown.TheVariants.{Orders, Stock, Batch}

@@ -20,7 +20,7 @@ use Rattle.toll_base.proofs.KeyOrder.{row_at-put_row, put_row_ordered}
 use Rattle.toll_base.proofs.PutTables.{length-new}
 use Rattle.toll_base.proofs.Texts.{same_bytes-exact, same_bytes-symm}
 use Rattle.toll_keep.specs.Content.{Content}
-use Rattle.toll_keep.specs.Standing.{StandsFor, AreOwnersOf, AreUnitsOf}
+use Rattle.toll_standing.specs.Standing.{StandsFor, AreOwnersOf, AreUnitsOf}
 use Rattle.toll_desk.specs.Plans.{LeadsTo}
 use Rattle.toll_desk.proofs.Lift.{none_else, idle, none_more}
 

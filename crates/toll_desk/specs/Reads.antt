@@ -6,7 +6,7 @@ use Rattle.toll_base.specs.Bytes.{Bytes}
 use Rattle.toll_base.specs.Values.{house_name}
 use Rattle.toll_keep.specs.Meaning.{Meaning}
 use Rattle.toll_keep.specs.Content.{Content, slice_of}
-use Rattle.toll_keep.specs.Standing.{StandsFor}
+use Rattle.toll_standing.specs.Standing.{StandsFor}
 use Rattle.toll_desk.specs.declared.deciding.Both.{Both}
 
 -- whatever lawful history the content that was held stands for, this is so of the two

@@ -8,7 +8,7 @@ ghost use Rattle.toll_history.specs.History.{History};
 ghost use Rattle.toll_answers.specs.Replies.{has_key};
 ghost use Rattle.toll_keep.specs.Content.{Content};
 ghost use Rattle.toll_keep.specs.Goes.{IsReading};
-ghost use Rattle.toll_keep.specs.Standing.{StandsFor};
+ghost use Rattle.toll_standing.specs.Standing.{StandsFor};
 ghost use Rattle.toll_desk.specs.Plans.{is_admitted};
 
 use std::alloc::Global;

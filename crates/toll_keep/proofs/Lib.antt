@@ -3,14 +3,7 @@ pub mod Slicing
 pub mod Contents
 pub mod Finding
 pub mod AllOwners
-pub mod Fitting
-pub mod Beginning
-pub mod KeptRules
-pub mod Knowing
-pub mod Unknown
-pub mod StandingEdges
-pub mod OneHolder
-pub mod UnitHolders
+pub mod Changed
 pub mod Undoing
 pub mod RememberedLemmas
 pub mod Around

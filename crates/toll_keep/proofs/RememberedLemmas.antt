@@ -12,7 +12,7 @@ use Rattle.toll_base.proofs.Texts.{same_bytes-exact}
 use Rattle.toll_keep.specs.Content.{Content, knows, slice_of, after}
 use Rattle.toll_keep.specs.Remembered.{AreOf}
 use Rattle.toll_keep.specs.Slices.{is_of}
-use Rattle.toll_keep.proofs.Fitting.{own_after, known_after}
+use Rattle.toll_keep.proofs.Changed.{own_after, known_after}
 
 -- ---- looked up
 

@@ -5,9 +5,6 @@ use Rattle.toll_base.specs.Words.{is_some_where, none_or}
 use Rattle.toll_base.specs.Slice.{Slice, batch_at}
 use Rattle.toll_base.specs.declared.lot.Edge.{Edge}
 use Rattle.toll_base.specs.declared.rows.BatchRow.{BatchRow}
-use Rattle.toll_history.specs.History.{History, acts}
-use Rattle.toll_history.specs.Holders.{OpenedBatch, opened}
-use Rattle.toll_history.specs.Work.{is_closed}
 use Rattle.toll_trace.specs.Edges.{IsEdge}
 use Rattle.toll_keep.specs.Content.{Content}
 use Rattle.toll_keep.specs.declared.holder.Holder.{Holder}
@@ -30,18 +27,6 @@ IsHolderIn s unit None = (k : Bytes × ℕ) → none_or (λ row. not (is_on unit
 abbrev pub IsHolderAmong : List Slice → Bytes → Option Holder → Type 0
 IsHolderAmong slices unit (Some h) = Any (λ s. IsHolderIn s unit (Some h)) slices
 IsHolderAmong slices unit None = All (λ s. IsHolderIn s unit None) slices
-
--- ---- and as a history has it
-
--- in the history, the batch was opened on the unit and isn't closed
-pub record HoldsUnit (H : History) (unit : Bytes) (b : OpenedBatch) : Type 0 where
-  pub was_opened : Contains (opened H) b
-  pub on : b.unit ≡ unit
-  pub not_closed : is_closed (acts b.owner H) b.order b.number ≡ false
-
--- the holder of the unit, as a batch that was opened on it
-abbrev pub on_unit : Bytes → Holder → OpenedBatch
-on_unit unit h = record { owner = h.owner; order = h.order; number = h.number; unit = unit }
 
 -- ---- edges
 

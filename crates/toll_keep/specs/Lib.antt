@@ -1,5 +1,4 @@
 pub mod Content
-pub mod Standing
 pub mod Fault
 pub mod Goes
 pub mod Meaning

@@ -7,7 +7,6 @@ mod fault;
 mod ghosts;
 mod holder;
 mod keep;
-mod laws;
 mod mem_keep;
 mod opening;
 mod refusing;
@@ -23,11 +22,6 @@ pub use ghosts::{
 };
 pub use holder::Holder;
 pub use keep::Keep;
-pub use laws::{
-    a_unit_is_held_by_one_batch, all_edges_are_the_plants, changes_that_keep_the_rules_fit,
-    edges_are_the_owners, lawful_rows_keep_the_rules, nothing_stands_for_no_commands,
-    owners_are_known_alike, units_are_held_alike,
-};
 pub use mem_keep::MemKeep;
 pub use refusing::Refusing;
 pub use remembering::Remembering;

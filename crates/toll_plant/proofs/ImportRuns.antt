@@ -13,7 +13,7 @@ use Rattle.toll_history.specs.Verdict.{Verdict, Accepted, Repeated, Refused, IsL
 use Rattle.toll_keep.specs.Meaning.{Meaning}
 use Rattle.toll_keep.specs.Content.{Content}
 use Rattle.toll_keep.specs.Goes.{Goes}
-use Rattle.toll_keep.specs.Standing.{StandsFor}
+use Rattle.toll_standing.specs.Standing.{StandsFor}
 use Rattle.toll_keep.specs.declared.fault.KeepFault.{KeepFault}
 use Rattle.toll_keep.specs.declared.fault.KeepFault.TheVariants.{Memory, Disk, Damaged, Closed}
 use Rattle.toll_answers.specs.PlantAnswers.{PlantAsked, PlantTold, Does, CannotRead, Judged, Shows, IsPlantAnswer, after_plant}

@@ -11,7 +11,7 @@ use Rattle.toll_history.specs.History.{History}
 use Rattle.toll_keep.specs.Meaning.{Meaning}
 use Rattle.toll_keep.specs.Content.{Content, ContentKeepsRules, Fits, after}
 use Rattle.toll_keep.specs.Goes.{Goes, IsReading}
-use Rattle.toll_keep.specs.Standing.{StandsFor}
+use Rattle.toll_standing.specs.Standing.{StandsFor}
 use Rattle.toll_keep.specs.declared.fault.KeepFault.{KeepFault}
 use Rattle.toll_keep.specs.declared.fault.KeepFault.TheVariants.{Memory, Damaged}
 use Rattle.toll_answers.specs.Told.{Asked, Told, TellForbidden, TellOrders, TellOrder, TellBatch, TellStock, TellLot, TellTrace, TellRefused}

@@ -1,4 +1,4 @@
-use Rattle.toll_keep.proofs.KeptRules.{standing_keeps_rules}
+use Rattle.toll_standing.proofs.KeptRules.{standing_keeps_rules}
 use Rattle.toll_desk.proofs.questions.ask.Goals as goal
 
 pub returns-in-Rows-clause-whole : goal.returns-in-Rows-clause-whole

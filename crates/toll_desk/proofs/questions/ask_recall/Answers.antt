@@ -1,5 +1,5 @@
 use Rattle.std.proofs.Common.{inl}
-use Rattle.toll_keep.proofs.KeptRules.{standing_keeps_rules}
+use Rattle.toll_standing.proofs.KeptRules.{standing_keeps_rules}
 use Rattle.toll_desk.proofs.Going.{going_ok_as}
 use Rattle.toll_desk.proofs.Calls.{reads_then}
 use Rattle.toll_desk.proofs.questions.ask_recall.Goals as goal

@@ -1,5 +1,5 @@
 use Rattle.std.proofs.Common.{refl, inl, inr, sym, subst}
-use Rattle.toll_keep.proofs.KeptRules.{standing_keeps_rules}
+use Rattle.toll_standing.proofs.KeptRules.{standing_keeps_rules}
 use Rattle.toll_desk.specs.Questions.{AreSlicesFor, AreLinesOf}
 use Rattle.toll_desk.proofs.Going.{reads_as, fault_as}
 use Rattle.toll_desk.proofs.Calls.{read_memory}

@@ -13,9 +13,9 @@ use Rattle.toll_genealogy.specs.Edges.{IsOwnEdge, IsPlantEdge}
 use Rattle.toll_genealogy.proofs.SliceEdges.{slice_edge_is_own, own_edge_is_slices}
 use Rattle.toll_keep.specs.Content.{Content}
 use Rattle.toll_keep.specs.Holding.{IsEdgeOfSome}
-use Rattle.toll_keep.specs.Standing.{StandsFor}
+use Rattle.toll_standing.specs.Standing.{StandsFor}
 use Rattle.toll_keep.proofs.AllOwners.{no_edges}
-use Rattle.toll_keep.proofs.Unknown.{acts_of_unknown}
+use Rattle.toll_standing.proofs.Unknown.{acts_of_unknown}
 
 module _ (H : History) (c : Content) (lawful : IsLawful H) (stands : StandsFor c H) where
   edge_is_own : (o : Bytes) (e : Edge) → IsEdge (c.rows o) e → IsOwnEdge (acts o H) e

@@ -13,25 +13,9 @@ use Rattle.toll_base.specs.declared.decision.Change.TheVariants.{Owner, Unit as 
 use Rattle.toll_base.proofs.Texts.{same_bytes-refl}
 use Rattle.toll_base.proofs.PutRules.{still_there}
 use Rattle.toll_keep.specs.Content.{Content, knows, after, Fits, PutsToKnown}
-use Rattle.toll_keep.proofs.Slicing.{owner-with_row}
+use Rattle.toll_keep.proofs.Changed.{own_after, known_after}
 
--- ---- a slice stays its owner's
-
-pub own_after : (change : Change) (s : Slice) → (after_change change s).owner ≡ s.owner
-own_after (Owner row) s = refl
-own_after (UnitAdded row) s = refl
-own_after (Put o row) s = elim (same_bytes o s.owner) as (λ b. (cond b (with_row s row) s).owner ≡ s.owner) [ true ↦ owner-with_row s row | false ↦ refl ]
-
--- ---- who is known stays known
-
-or_more : (house before now : Bool) → (before ≡ true → now ≡ true) → (house || before) ≡ true → (house || now) ≡ true
-or_more true before now more h = refl
-or_more false before now more h = more h
-
-pub known_after : (change : Change) (c : Content) (o : Bytes) → knows c o ≡ true → knows (after (change ∷ []) c) o ≡ true
-known_after (Owner row) c o h = or_more (same_bytes o house_name) _ _ (still_there bytes_cmp nat_list_cmp_total (λ row. row.owner) c.owners row o) h
-known_after (UnitAdded row) c o h = h
-known_after (Put p row) c o h = h
+-- ---- the owners stay known
 
 puts_after : (first : Change) (changes : List Change) (c : Content) → PutsToKnown c changes → PutsToKnown (after (first ∷ []) c) changes
 puts_after first [] c puts = tt

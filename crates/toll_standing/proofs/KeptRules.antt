@@ -21,7 +21,7 @@ use Rattle.toll_history.proofs.Stock.{stock_bounded}
 use Rattle.toll_base.proofs.SliceFits.{empty_keeps}
 use Rattle.toll_genealogy.proofs.KnownLots.{some_mapped}
 use Rattle.toll_keep.specs.Content.{Content, ContentKeepsRules}
-use Rattle.toll_keep.specs.Standing.{StandsFor}
+use Rattle.toll_standing.specs.Standing.{StandsFor}
 
 le_true : (n most : ℕ) → n ≤ most → nat_le n most ≡ true
 le_true n most le = grind (arith, nat_tests)

@@ -8,7 +8,7 @@ use Rattle.toll_history.specs.Command.{Action, AddOwner}
 use Rattle.toll_history.specs.History.{History, acts, key_added, adds_owner, owner_key, owner_known}
 use Rattle.toll_genealogy.proofs.KnownLots.{some_mapped}
 use Rattle.toll_keep.specs.Content.{Content, knows}
-use Rattle.toll_keep.specs.Standing.{StandsFor}
+use Rattle.toll_standing.specs.Standing.{StandsFor}
 
 some_else : {X : Type 0} (first second : Option X) → is_some (or_else first second) ≡ (is_some first || is_some second)
 some_else None second = refl

@@ -14,7 +14,7 @@ use Rattle.toll_history.specs.Work.{closes, count_opened, is_closed}
 use Rattle.toll_history.proofs.Acts.{any_acts}
 use Rattle.toll_history.proofs.Passed.{accepted_passes}
 use Rattle.toll_trace.proofs.Members.{Contains-none, Contains-cases}
-use Rattle.toll_keep.specs.Holding.{HoldsUnit}
+use Rattle.toll_standing.specs.Held.{HoldsUnit}
 use Rattle.toll_keep.proofs.Finding.{found_in, found_one}
 
 -- the test of a batch by which the history finds the holder

@@ -8,7 +8,7 @@ use Rattle.toll_history.specs.Movements.{stock, sublot_known, lot_made, count_lo
 use Rattle.toll_history.specs.Tables.{IsRowsOf}
 use Rattle.std.specs.List.Sorted.{IsStrictlySortedBy}
 use Rattle.toll_keep.specs.Content.{nothing}
-use Rattle.toll_keep.specs.Standing.{StandsFor}
+use Rattle.toll_standing.specs.Standing.{StandsFor}
 
 rows_of_nobody : (o : Bytes) → IsRowsOf [] (empty_slice o)
 unfolding row_at acts stock sublot_known lot_made count_lots count_sublots material_used

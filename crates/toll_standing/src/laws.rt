@@ -11,8 +11,9 @@ ghost use Rattle.toll_history.specs.Verdict.{IsLawful};
 ghost use Rattle.toll_trace.specs.Edges.{IsEdge, AreEdges};
 ghost use Rattle.toll_genealogy.specs.Edges.{IsOwnEdge, IsPlantEdge};
 ghost use Rattle.toll_keep.specs.Content.{Content, nothing, knows, ContentKeepsRules, Fits, PutsToKnown};
-ghost use Rattle.toll_keep.specs.Holding.{IsHolder, HoldsUnit, on_unit, IsEdgeOfSome};
-ghost use Rattle.toll_keep.specs.Standing.{StandsFor};
+ghost use Rattle.toll_keep.specs.Holding.{IsHolder, IsEdgeOfSome};
+ghost use Rattle.toll_standing.specs.Held.{HoldsUnit, on_unit};
+ghost use Rattle.toll_standing.specs.Standing.{StandsFor};
 ghost use Rattle.toll_keep.specs.declared.holder.Holder.{Holder};
 
 /// No rows at all stand for the history in which nothing was done.

@@ -22,10 +22,11 @@ use Rattle.toll_base.proofs.Texts.{same_bytes-exact, same_bytes-refl, nat_eq-exa
 use Rattle.toll_trace.proofs.Members.{Contains-none, Contains-here, Contains-cases}
 use Rattle.toll_keep.specs.declared.holder.Holder.{Holder}
 use Rattle.toll_keep.specs.Content.{Content}
-use Rattle.toll_keep.specs.Holding.{is_on, IsHolder, HoldsUnit, on_unit}
-use Rattle.toll_keep.specs.Standing.{StandsFor}
-use Rattle.toll_keep.proofs.OneHolder.{holder_is, no_holder_is}
-use Rattle.toll_keep.proofs.Unknown.{acts_of_unknown}
+use Rattle.toll_keep.specs.Holding.{is_on, IsHolder}
+use Rattle.toll_standing.specs.Held.{HoldsUnit, on_unit}
+use Rattle.toll_standing.specs.Standing.{StandsFor}
+use Rattle.toll_standing.proofs.OneHolder.{holder_is, no_holder_is}
+use Rattle.toll_standing.proofs.Unknown.{acts_of_unknown}
 
 -- a batch with its unit
 abbrev batch : (owner order : Bytes) (number : ℕ) (unit : Bytes) → OpenedBatch

@@ -1,0 +1,30 @@
+-- What changes leave as it was: whose a slice is, and who is known.
+use Rattle.std.proofs.Common.{◌≡◌, Bool, true, false, ◌||◌, List, [], ◌∷◌, cond, refl}
+use Rattle.std.specs.Cmp.Lexicographic.{nat_list_cmp_total}
+use Rattle.toll_base.specs.Bytes.{Bytes, bytes_cmp, same_bytes}
+use Rattle.toll_base.specs.Values.{house_name}
+use Rattle.toll_base.specs.Slice.{Slice, with_row}
+use Rattle.toll_base.specs.Changes.{after_change}
+use Rattle.toll_base.specs.declared.decision.Change.{Change}
+use Rattle.toll_base.specs.declared.decision.Change.TheVariants.{Owner, Unit as UnitAdded, Put}
+use Rattle.toll_base.proofs.PutRules.{still_there}
+use Rattle.toll_keep.specs.Content.{Content, knows, after}
+use Rattle.toll_keep.proofs.Slicing.{owner-with_row}
+
+-- ---- a slice stays its owner's
+
+pub own_after : (change : Change) (s : Slice) → (after_change change s).owner ≡ s.owner
+own_after (Owner row) s = refl
+own_after (UnitAdded row) s = refl
+own_after (Put o row) s = elim (same_bytes o s.owner) as (λ b. (cond b (with_row s row) s).owner ≡ s.owner) [ true ↦ owner-with_row s row | false ↦ refl ]
+
+-- ---- who is known stays known
+
+or_more : (house before now : Bool) → (before ≡ true → now ≡ true) → (house || before) ≡ true → (house || now) ≡ true
+or_more true before now more h = refl
+or_more false before now more h = more h
+
+pub known_after : (change : Change) (c : Content) (o : Bytes) → knows c o ≡ true → knows (after (change ∷ []) c) o ≡ true
+known_after (Owner row) c o h = or_more (same_bytes o house_name) _ _ (still_there bytes_cmp nat_list_cmp_total (λ row. row.owner) c.owners row o) h
+known_after (UnitAdded row) c o h = h
+known_after (Put p row) c o h = h
