@@ -18,7 +18,7 @@ use Rattle.toll_programs.specs.declared.scripts.ScriptEnd.TheVariants.{Done, Mem
 -- the events got these answers one after another, over this keep; and where it was honest so far, and held a content that stands for a lawful history, they are a run from that history, and what the run leaves is held
 pub record RanOver {K : Type 0} (meaning : Meaning K) (old new : K) (events : List Event) (answers : List Answer) : Type 0 where
   pub served : AreServed meaning old events answers new
-  pub run : Over meaning old new (λ c H. IsRunOf (holds new) H events answers)
+  pub run : Over meaning old new (λ c H. IsRunOf (meaning.holds new) H events answers)
 
 -- the input's events, in order, got these answers, and so they ran
 pub record Runs (Ran : List Event → List Answer → Type 0) (input : Bytes) (answers : List Answer) : Type 0 where
