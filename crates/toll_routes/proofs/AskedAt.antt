@@ -1,13 +1,16 @@
 -- What is asked for at the route of a path.
-use Rattle.std.proofs.Common.{◌≡◌, ap, subst, Some, None, Result, Ok, Err}
+use Rattle.std.proofs.Common.{◌≡◌, ap, refl, subst, Some, None, Result, Ok, Err}
 use Rattle.std.specs.Prelude.{IfOk}
 use Rattle.std.specs.declared.alloc.AllocError.{AllocError}
 use Rattle.toll_base.specs.Bytes.{Bytes}
-use Rattle.toll_http.specs.declared.failure.Failure.TheVariants.{MethodNotAllowed}
+use Rattle.toll_http.specs.declared.failure.Failure.TheVariants.{MethodNotAllowed, NoRoute}
 use Rattle.toll_http.specs.declared.verb.Verb.{Verb}
+use Rattle.toll_http.specs.declared.verb.Verb.TheVariants.{Get, Post}
 use Rattle.toll_routes.specs.Asking.{AsksBy, AsksOf, IsAsking, ask_of, other_of}
 use Rattle.toll_routes.specs.Places.{LeadsTo, path_of}
 use Rattle.toll_routes.specs.Routes.{Route, routes}
+use Rattle.toll_routes.specs.Routers.{Served, served, shown, ask_of as ask_at}
+use Rattle.toll_routes.specs.declared.route.Route.{Route as CodeRoute}
 use Rattle.toll_routes.specs.declared.ask.Ask.{Ask}
 use Rattle.toll_routes.specs.declared.asks.Asks.{Asks}
 use Rattle.toll_routes.specs.declared.asks.Asks.TheVariants.{Failing}
@@ -29,3 +32,11 @@ not_served verb other target body path r v is leads e same = record {
   leads = subst (λ p. LeadsTo routes p (Some (r, v))) is leads;
   asked = subst (λ k. AsksOf verb k v body (Failing (MethodNotAllowed other))) e (ap (λ m. Failing (MethodNotAllowed m)) same);
 }
+
+pub no_route : (verb : Verb) (target body path : Bytes) → path ≡ path_of target → LeadsTo routes path None → IsAsking verb target body (Failing NoRoute)
+no_route verb target body path is leads = record { place = None; leads = subst (λ p. LeadsTo routes p None) is leads; asked = refl }
+
+-- what the code's route asks for is what the route does
+pub ask_is : (verb : Verb) (e : CodeRoute) (r : Route) → shown e ≡ served r → ask_at verb e ≡ ask_of verb r
+ask_is Get e r same = ap (λ (s : Served). s.1) same
+ask_is Post e r same = ap (λ (s : Served). s.2) same

@@ -1,9 +1,12 @@
 pub mod Numbers
-pub mod Reading
-pub mod Paths
+pub mod Patterns
+pub mod Seeks
+pub mod Taken
+pub mod Places
+pub mod Routers
+pub mod Office
 pub mod Rows
 pub mod AskedAt
 pub mod Once
 pub mod Within
-pub mod Frames
 pub mod Clients

@@ -1,51 +1,42 @@
 -- A method, a target and a body ask for one thing.
-use Rattle.std.proofs.Common.{◌≡◌, ◌∙◌, ℕ, List, [], ◌∷◌, ◌++◌, length, refl, sym, ap, subst, arith, inl, inr, Option, Some, None}
-use Rattle.std.specs.Prelude.{decimal, IsTrue, option_map}
-use Rattle.std.proofs.lemmas.Fmt.{decimal_injective}
+use Rattle.std.proofs.Common.{◌≡◌, ◌∙◌, true, List, [], ◌∷◌, ◌++◌, refl, sym, ap, subst, inl, inr, Option, Some, None}
+use Rattle.std.specs.Prelude.{option_map}
 use Rattle.std.proofs.lemmas.List.{append_cancel_left, append_cancel_right}
 use Rattle.toll_base.specs.Bytes.{Bytes}
-use Rattle.toll_base.specs.Values.{IsBatchNo, is_name}
 use Rattle.toll_http.specs.declared.verb.Verb.{Verb}
 use Rattle.toll_bodies.specs.declared.body.Placing.{Placing}
 use Rattle.toll_bodies.specs.Bodies.{AsksFor, AsksOrder, order_in}
 use Rattle.toll_routes.specs.Asking.{AsksAt, AsksBy, AsksOf, IsAsking, IsPlacing, ask_of, placing, request_from}
-use Rattle.toll_routes.specs.Places.{AreValues, IsPath, LeadsTo, parts_of, path_of}
+use Rattle.toll_routes.specs.Places.{AreValues, IsPath, LeadsTo, parts_of, path_of, texts_of}
+use Rattle.toll_routes.specs.Routers.{holes}
 use Rattle.toll_routes.specs.Routes.{Route, routes, text_of}
 use Rattle.toll_routes.specs.declared.ask.Ask.{Ask}
 use Rattle.toll_routes.specs.declared.ask.Ask.TheVariants.{Place}
 use Rattle.toll_routes.specs.declared.asks.Asks.{Asks}
 use Rattle.toll_routes.specs.declared.asks.Asks.TheVariants.{For}
 use Rattle.toll_routes.specs.declared.values.Values.{Values}
-use Rattle.toll_routes.specs.declared.values.Values.TheVariants.{Nothing, Name, NameAndNumber}
-use Rattle.toll_routes.proofs.Reading.{cut_parts, slash_behind}
+use Rattle.toll_routes.specs.declared.parts.Parts.{Parts}
+use Rattle.toll_routes.specs.declared.parts.Parts.TheVariants as part
+use Rattle.toll_routes.proofs.Patterns.{IsFilled, filled_once, is_plain}
+use Rattle.toll_routes.proofs.Places.{values_once, with_values}
 
 -- ---- a path has one place
 
-pair_once : (a b : Bytes) (m n : ℕ) → IsTrue (is_name a) → IsTrue (is_name b) → IsBatchNo m → IsBatchNo n → a ++ (47 ∷ decimal m) ≡ b ++ (47 ∷ decimal n)
-    → NameAndNumber a m ≡ NameAndNumber b n
-pair_once a b m n named other one two e =
-    let here = slash_behind a (decimal m) named in
-    let left = cut_parts (a ++ (47 ∷ decimal m)) a (decimal m) (length a) named refl here in
-    let right = cut_parts (a ++ (47 ∷ decimal m)) b (decimal n) (length a) other e here in
-    let names : a ≡ b = sym left.0 ∙ right.0 in
-    let numbers : m ≡ n = decimal_injective m n (omega arith) (omega arith) (sym left.1 ∙ right.1) in
-    cc
+plain_holes : (p : Parts) → is_plain (holes p ++ []) ≡ true
+plain_holes part.Nothing = refl
+plain_holes part.Name = refl
+plain_holes part.NameAndNumber = refl
 
-values_once : (v w : Values) → AreValues v → AreValues w → parts_of v ≡ parts_of w → text_of v ≡ text_of w → v ≡ w
-values_once Nothing Nothing one two p e = refl
-values_once (Name a) (Name b) one two p e = ap Name e
-values_once (NameAndNumber a m) (NameAndNumber b n) one two p e = pair_once a b m n one.0 two.0 one.1 two.1 e
-values_once Nothing (Name b) one two p e = absurd (cc p)
-values_once Nothing (NameAndNumber b n) one two p e = absurd (cc p)
-values_once (Name a) Nothing one two p e = absurd (cc p)
-values_once (Name a) (NameAndNumber b n) one two p e = absurd (cc p)
-values_once (NameAndNumber a m) Nothing one two p e = absurd (cc p)
-values_once (NameAndNumber a m) (Name b) one two p e = absurd (cc p)
+one_text : (v w : Values) → AreValues v → AreValues w → parts_of v ≡ parts_of w → text_of v ≡ text_of w → v ≡ w
+one_text v w one two p e =
+    let first = subst (λ q. IsFilled (holes q ++ []) (texts_of v) (text_of v ++ [])) p (with_values v [] one (refl, refl)) in
+    let same = subst (λ t. IsFilled (holes (parts_of w) ++ []) (texts_of v) (t ++ [])) e first in
+    values_once v w one two (filled_once (holes (parts_of w) ++ []) (texts_of v) (texts_of w) (text_of w ++ []) (plain_holes (parts_of w)) same (with_values w [] two (refl, refl)))
 
 path_once : (r : Route) (v w : Values) (path : Bytes) → IsPath r v path → IsPath r w path → v ≡ w
 path_once r v w path one two =
     let behind : text_of v ++ r.back ≡ text_of w ++ r.back = append_cancel_left r.front (text_of v ++ r.back) (text_of w ++ r.back) (sym one.text ∙ two.text) in
-    values_once v w one.valid two.valid (one.parts ∙ sym two.parts) (append_cancel_right (text_of v) (text_of w) r.back behind)
+    one_text v w one.valid two.valid (one.parts ∙ sym two.parts) (append_cancel_right (text_of v) (text_of w) r.back behind)
 
 leads_once : (rs : List Route) (path : Bytes) (a b : Option (Route × Values)) → LeadsTo rs path a → LeadsTo rs path b → a ≡ b
 leads_once [] path a b one two = one ∙ sym two

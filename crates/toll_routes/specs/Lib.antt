@@ -1,5 +1,5 @@
 pub mod Routes
-pub mod Shown
 pub mod Places
+pub mod Routers
 pub mod Asking
 pub mod Addresses

@@ -3,7 +3,7 @@ use Rattle.std.specs.Prelude.{◌≡◌, ◌⊎◌, ℕ, ◌==◌, IsTrue, List,
 use Rattle.std.specs.List.{before_first}
 use Rattle.toll_base.specs.Bytes.{Bytes}
 use Rattle.toll_base.specs.Values.{IsBatchNo, is_name}
-use Rattle.toll_routes.specs.Routes.{Route, spelled, text_of}
+use Rattle.toll_routes.specs.Routes.{Route, spelled}
 use Rattle.toll_routes.specs.declared.parts.Parts.{Parts}
 use Rattle.toll_routes.specs.declared.parts.Parts.TheVariants as part
 use Rattle.toll_routes.specs.declared.values.Values.{Values}
@@ -38,23 +38,30 @@ LeadsTo (route ∷ routes) path found =
     ((values : Values) × IsPath route values path × (found ≡ Some (route, values)))
     ⊎ (((values : Values) → IsPath route values path → ⊥) × LeadsTo routes path found)
 
--- ---- one route
+-- ---- the parts of a path
 
--- the path is one of the route with these values, or with none
-abbrev pub IsFoundBy : Route → Bytes → Option Values → Type 0
-IsFoundBy route path (Some values) = IsPath route values path
-IsFoundBy route path None = (values : Values) → IsPath route values path → ⊥
+-- how many parts there are
+abbrev pub count : Parts → ℕ
+count part.Nothing = 0
+count part.Name = 1
+count part.NameAndNumber = 2
 
--- the text writes these values in these parts
-pub record IsTextOf (parts : Parts) (values : Values) (text : Bytes) : Type 0 where
+-- values as they stand in the parts
+abbrev pub texts_of : Values → List Bytes
+texts_of value.Nothing = []
+texts_of (value.Name name) = name ∷ []
+texts_of (value.NameAndNumber order number) = order ∷ decimal number ∷ []
+
+-- the texts write these values in these parts
+pub record AreTextsOf (parts : Parts) (values : Values) (texts : List Bytes) : Type 0 where
   pub fill : parts_of values ≡ parts
   pub valid : AreValues values
-  pub text_is : text ≡ text_of values
+  pub texts_are : texts ≡ texts_of values
 
--- the text writes these values in the parts, or none
-abbrev pub AreReadFrom : Parts → Bytes → Option Values → Type 0
-AreReadFrom parts text (Some values) = IsTextOf parts values text
-AreReadFrom parts text None = (values : Values) → IsTextOf parts values text → ⊥
+-- the texts write these values in the parts, or none
+abbrev pub AreReadFrom : Parts → List Bytes → Option Values → Type 0
+AreReadFrom parts texts (Some values) = AreTextsOf parts values texts
+AreReadFrom parts texts None = (values : Values) → AreTextsOf parts values texts → ⊥
 
 -- the text is the decimal text of this number of a batch, or of none
 abbrev pub IsNumberRead : Bytes → Option ℕ → Type 0

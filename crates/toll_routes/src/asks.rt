@@ -4,6 +4,7 @@ ghost use Rattle.toll_routes.specs.Asking.{AsksBy, AsksOf, IsAsking, IsPlacing, 
 
 use crate::ask::{Ask, request_from};
 use crate::path::{path_of, place_of};
+use crate::route::router;
 use crate::values::Values;
 use std::alloc::{AllocError, Global};
 use toll_bodies::order_asked;
@@ -26,7 +27,8 @@ pub enum Asks {
 pub fn asks_of(alloc: Global, verb: Verb, target: &[u8], body: &[u8]) -> Result<Asks, AllocError>
     ensures { IfOk result (IsAsking verb target.now body.now) }
 {
-    let Some((route, values)) = place_of(path_of(target)) else {
+    let router = router(alloc)?;
+    let Some((route, values)) = place_of(&router, path_of(target)) else {
         return Ok(Asks::Failing(Failure::NoRoute));
     };
     match route.ask(verb) {

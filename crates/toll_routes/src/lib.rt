@@ -3,7 +3,6 @@
 
 mod ask;
 mod asks;
-mod bytes;
 mod laws;
 mod parts;
 mod path;

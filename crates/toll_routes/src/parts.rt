@@ -1,8 +1,11 @@
 //! The parts of paths.
-ghost use Rattle.toll_routes.specs.Places.{AreReadFrom, IsNumberRead};
+ghost use Rattle.std.specs.Prelude.{◌≡◌, length, map};
+ghost use Rattle.std.specs.List.{AllByRecursion};
+ghost use Rattle.std.specs.Str.{IsUtf8};
+ghost use Rattle.toll_routes.specs.Places.{AreReadFrom, IsNumberRead, count};
 
-use crate::bytes::index_of;
 use crate::values::Values;
+use matchit::ParamsIter;
 use toll_base::{BatchNo, Name, number};
 
 /// Which parts stand in the paths of a route.
@@ -12,32 +15,32 @@ pub enum Parts {
     Nothing,
     /// The name of an order or of a lot.
     Name,
-    /// The name of an order and the number of one of its batches, with a slash between them.
+    /// The name of an order and the number of one of its batches.
     NameAndNumber,
 }
 
 impl Parts {
-    /// The values that this text writes in these parts; `None` where it writes none.
-    pub fn read(self, text: &[u8]) -> Option<Values>
-        ensures { AreReadFrom self text.now result }
+    /// The values that these texts write in these parts; `None` where they write none.
+    pub fn read(self, mut texts: ParamsIter<'_, '_, '_>) -> Option<Values>
+        requires count { length texts ≡ count self }
+        requires text { AllByRecursion (λ p. IsUtf8 p.1) texts }
+        ensures { AreReadFrom self (map (λ p. p.1) texts.entry) result }
     {
         match self {
-            Parts::Nothing if text.is_empty() => Some(Values::Nothing),
-            Parts::Nothing => None,
-            Parts::Name => Name::parse(text).ok().map(Values::Name),
-            Parts::NameAndNumber => name_and_number(text),
+            Parts::Nothing => Some(Values::Nothing),
+            Parts::Name => {
+                let (_, name) = texts.next()?;
+                Name::parse(name.as_bytes()).ok().map(Values::Name)
+            }
+            Parts::NameAndNumber => {
+                let (_, order) = texts.next()?;
+                let (_, number) = texts.next()?;
+                let order = Name::parse(order.as_bytes()).ok()?;
+                let number = batch_number(number.as_bytes())?;
+                Some(Values::NameAndNumber(order, number))
+            }
         }
     }
-}
-
-// The name and the number that this text writes, with a slash between them.
-fn name_and_number(text: &[u8]) -> Option<Values>
-    ensures { AreReadFrom Parts.NameAndNumber text.now result }
-{
-    let slash = index_of(text, b'/')?;
-    let order = Name::parse(&text[..slash]).ok()?;
-    let number = batch_number(&text[slash + 1..])?;
-    Some(Values::NameAndNumber(order, number))
 }
 
 // The number of a batch whose decimal text this is: no zero stands in front.

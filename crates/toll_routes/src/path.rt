@@ -1,38 +1,36 @@
 //! What a path leads to.
-ghost use Rattle.std.specs.Prelude.{◌≡◌, map, option_map};
-ghost use Rattle.toll_routes.specs.Places.{LeadsTo, path_of};
-ghost use Rattle.toll_routes.specs.Routes.{routes};
-ghost use Rattle.toll_routes.specs.Shown.{shown, shown_place};
+ghost use Rattle.std.specs.Prelude.{◌≡◌, ◌==◌, position};
+ghost use Rattle.toll_routes.specs.Places.{path_of};
+ghost use Rattle.toll_routes.specs.Routers.{IsOffice, LeadsBy};
 
-use crate::bytes::index_of;
-use crate::route::{ROUTES, Route};
+use crate::route::Route;
 use crate::values::Values;
+use matchit::Router;
+use std::str::from_utf8;
 
 /// The target up to its first question mark (RFC 9112, section 3.2.1).
 pub fn path_of(target: &[u8]) -> &[u8]
     ensures { result.now ≡ path_of target.now }
 {
-    match index_of(target, b'?') {
+    match query_start(target) {
         Some(end) => &target[..end],
         None => target,
     }
 }
 
-/// The route of a path, with the values that it has there; `None` where the path is of no route.
-pub fn place_of(path: &[u8]) -> Option<(&'static Route, Values)>
-    ensures { LeadsTo routes path.now (option_map shown_place result) }
+fn query_start(target: &[u8]) -> Option<usize>
+    ensures { result ≡ position (λ b. b == 63) target.now }
 {
-    place_among(&ROUTES, path)
+    target.iter().position(|b| *b == b'?')
 }
 
-// The first of these routes that the path is of, with its values there.
-fn place_among<'r>(routes: &'r [Route], path: &[u8]) -> Option<(&'r Route, Values)>
-    ensures { LeadsTo (map shown routes.entry.now) path.now (option_map shown_place result) }
+/// The route of a path by the router of the office, with the values that the path has there; `None`
+/// where the path is of no route.
+pub fn place_of<'r>(router: &'r Router<Route>, path: &[u8]) -> Option<(&'r Route, Values)>
+    requires { IsOffice router.now }
+    ensures { LeadsBy path.now result }
 {
-    for route in routes {
-        if let Some(values) = route.values_in(path) {
-            return Some((route, values));
-        }
-    }
-    None
+    let found = router.at(from_utf8(path).ok()?).ok()?;
+    let values = found.value.parts.read(found.params.iter())?;
+    Some((found.value, values))
 }

@@ -90,6 +90,46 @@ fn a_path_of_no_route_leads_nowhere(rt: HostRuntime) -> Result<(), Fail> {
     )
 }
 
+/// Paths that look like those of a route.
+const ODD_PATHS: &[Line] = &[
+    (
+        "> ACME ACMEKEY1 GET /orders/",
+        "404 {\"error\":\"NoRoute\"}",
+    ),
+    ("> ACME ACMEKEY1 GET //", "404 {\"error\":\"NoRoute\"}"),
+    (
+        "> ACME ACMEKEY1 POST /orders//cancel",
+        "404 {\"error\":\"NoRoute\"}",
+    ),
+    (
+        "> ACME ACMEKEY1 GET /lots/%41",
+        "404 {\"error\":\"NoRoute\"}",
+    ),
+    (
+        "> ACME ACMEKEY1 GET /batches/A/01",
+        "404 {\"error\":\"NoRoute\"}",
+    ),
+    (
+        "> ACME ACMEKEY1 GET /batches/A/1/",
+        "404 {\"error\":\"NoRoute\"}",
+    ),
+    ("> ACME ACMEKEY1 GET *", "404 {\"error\":\"NoRoute\"}"),
+    ("> ACME ACMEKEY1 GET ?", "404 {\"error\":\"NoRoute\"}"),
+    (
+        "> ACME ACMEKEY1 GET /orders/{order}",
+        "404 {\"error\":\"NoRoute\"}",
+    ),
+    (
+        "> ACME ACMEKEY1 GET /lots/{lot}",
+        "404 {\"error\":\"NoRoute\"}",
+    ),
+];
+
+#[test]
+fn odd_paths_lead_nowhere(rt: HostRuntime) -> Result<(), Fail> {
+    check_said_over_lists::<Asked>(rt.alloc(), &[WITH_ACME, ODD_PATHS])
+}
+
 const GET_ALONE: &str =
     "HTTP/1.1 405 Method Not Allowed\r\ncontent-type: application/json\r\ncontent-length: 28\r\nallow: GET\r\nconnection: close\r\n\r\n{\"error\":\"MethodNotAllowed\"}";
 

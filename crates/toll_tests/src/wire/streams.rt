@@ -57,6 +57,14 @@ fn a_head_has_limits(rt: HostRuntime) -> Result<(), Fail> {
     Ok(())
 }
 
+/// A path of 8,000 bytes is read whole, and is of no route.
+#[test]
+fn a_long_path_is_of_no_route(rt: HostRuntime) -> Result<(), Fail> {
+    let line = repeated(rt.alloc(), "GET /lots/", "A", 7994, " HTTP/1.1")?;
+    let bytes = with_fields(rt.alloc(), line.as_str(), "", "")?;
+    check_status(rt.alloc(), &bytes, "404")
+}
+
 /// How many blanks stand before the body, what its head claims, the body, and the status.
 const BODIES: &[(usize, &str, &str, &str)] = &[
     (4096 - PLACE.len(), "content-length: 4096\r\n", PLACE, "200"),
