@@ -19,6 +19,7 @@ pub use failure::Failure;
 pub use head::{FIELD_LIMIT, HEAD_LIMIT};
 pub use laws::{
     a_plain_reader_tells_its_bytes, a_plain_writer_tells_its_bytes, a_text_comes_to_one_thing,
+    limits_are_those_defined,
 };
 pub use messages::message;
 pub use reading::{ReadFault, read_request};

@@ -7,7 +7,13 @@ ghost use Rattle.toll_history.specs.Verdict.{IsLawful};
 ghost use Rattle.toll_plant.specs.Files.{Fields, Reads};
 ghost use Rattle.toll_plant.specs.ImportLaws.{AreImports, Imported, IsKept, IsRepeatedOrFault, IsStanding, all_accepted, count_keyed};
 ghost use Rattle.toll_plant.specs.Imports.{IsImport, commands_in};
+ghost use Rattle.toll_plant.specs.declared.importing.TheConstants.{MOST_FILE_BYTES};
 ghost use Rattle.toll_plant.specs.declared.outcome.Outcome.{Outcome};
+
+/// A file of actuals has at most 1,048,576 bytes.
+pub fn a_file_has_a_limit()
+    ensures { MOST_FILE_BYTES ≡ 1048576 }
+{}
 
 /// A file has one list of records, and so its import one list of commands.
 pub fn a_file_has_one_list_of_records()

@@ -28,8 +28,8 @@ pub use fault::WordsFault;
 pub use import_fault::ImportFault;
 pub use importing::{MOST_FILE_BYTES, import_actuals};
 pub use laws::{
-    a_file_has_one_list_of_records, a_key_is_imported_once, what_stands_is_repeated,
-    what_was_imported_stands,
+    a_file_has_a_limit, a_file_has_one_list_of_records, a_key_is_imported_once,
+    what_stands_is_repeated, what_was_imported_stands,
 };
 pub use outcome::Outcome;
 pub use printing::import_text;

@@ -1,5 +1,6 @@
 -- What a text reads of a database, whatever its tables are.
 use Rattle.std.proofs.Common.{◌≡◌, ◌≢◌, ◌⊎◌, inl, inr, ℕ, true, false, List, [], Option, None, Ok, Err, Result, IfOk, IfErr, refl, sym, ap, subst, ◌∙◌}
+use Rattle.sqlite.specs.Clock.{timed}
 use Rattle.sqlite.specs.Effect.{Database, RefusesToRead}
 use Rattle.sqlite.specs.Order.{Row}
 use Rattle.sqlite.specs.Listing.{IsSourceOf, reads_listing, understood}
@@ -53,17 +54,19 @@ module _ (old new : State) (e : Error) (other : IsOther e) where
     unrun (inl h) = a_statement h.0
     unrun (inr h) = no_fault h.0 h.1 h.2
 
-    refused : (d : Compiled) → understood old.now.schema sql ≡ Ok d → (params : Row) → FailsToShow old new sql d params e d.returning → (source : Database) × IsSourceOf (reads_listing old.now.schema sql) old.now source × ((limit : Option ℕ) × (params : Row) × (e : Error) × RefusesToRead limit c.command source params e)
-    refused d so params h =
+    refused : (d : Compiled) → understood old.now.schema sql ≡ Ok d → FailsToShow old new sql d [] e d.returning → (source : Database) × IsSourceOf (reads_listing old.now.schema sql) old.now source × ((e : Error) × RefusesToRead old.step_limit c.command source [] e)
+    refused d so h =
         let it = same d so in
         let bare : d.returning ≡ None = ap (λ (k : Compiled). k.returning) it ∙ none in
         let r = (rw bare at h) in
-        (r.0, r.1, (old.step_limit, params, e, subst (λ (k : Compiled). RefusesToRead old.step_limit k.command r.0 params e) it r.2))
+        (r.0, r.1, (e, subst (λ (k : Compiled). RefusesToRead old.step_limit k.command r.0 [] e) it r.2))
 
-  pub unread_by : (sql : List ℕ) → FailsToQuery sql [] old new e ⊎ IsTooLate sql [] old new e → IsUnreadBy old.now sql
+  pub unread_by : (sql : List ℕ) → FailsToQuery sql [] old new e ⊎ IsTooLate sql [] old new e → IsUnreadBy old.step_limit old.now sql
   unfolding FailsToQuery
   unread_by sql (inl (inl h)) = λ c is none whole. absurd (unrun sql c is none whole h)
-  unread_by sql (inl (inr h)) = λ c is none whole. refused sql c is none whole h.0 h.1.is _ h.2
+  unread_by sql (inl (inr h)) = λ c is none whole.
+      let bare = ap (λ (k : Compiled). k.formats) (same sql c is none whole h.0 h.1.is) ∙ whole.untimed in
+      refused sql c is none whole h.0 h.1.is (subst (λ formats. FailsToShow old new sql h.0 (timed [] formats h.1.now) e h.0.returning) bare h.2)
   unread_by sql (inr h) = λ c is none whole. absurd (let it = same sql c is none whole h.0 h.1.is in let some = h.2 in let bare : h.0.returning ≡ None = ap (λ (k : Compiled). k.returning) it ∙ none in cc)
 
 -- an answer, or an error of what was asked
@@ -72,6 +75,6 @@ module _ {X : Type 0} (items : X → List Row) (sql : List ℕ) (old new : State
   read_of (Ok x) h = read_by sql old new (items x) h
   read_of (Err e) h = tt
 
-  pub unread_of : (r : Result X Error) → IfErr r (λ e. FailsToQuery sql [] old new e ⊎ IsTooLate sql [] old new e) → IfErr r (λ e. e ≢ SqliteFailure code.OutOfMemory → is_disk_fault e ≡ false → IsUnreadBy old.now sql)
+  pub unread_of : (r : Result X Error) → IfErr r (λ e. FailsToQuery sql [] old new e ⊎ IsTooLate sql [] old new e) → IfErr r (λ e. e ≢ SqliteFailure code.OutOfMemory → is_disk_fault e ≡ false → IsUnreadBy old.step_limit old.now sql)
   unread_of (Ok x) h = tt
   unread_of (Err e) h = λ memory disk. unread_by old new e (memory, disk) sql h

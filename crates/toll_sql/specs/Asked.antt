@@ -20,10 +20,10 @@ pub record IsWholeText (sql : List ℕ) (c : Compiled) : Type 0 where
   pub given : length c.names ≡ 0
   pub untimed : c.formats ≡ []
 
--- the text reads nothing of the database: it is not understood, or no such statement, or what it asks is refused
-abbrev pub IsUnreadBy : Database → List ℕ → Type 0
-IsUnreadBy db sql =
-    (c : Compiled) → understood db.schema sql ≡ Ok c → c.returning ≡ None → IsWholeText sql c → (source : Database) × IsSourceOf (reads_listing db.schema sql) db source × ((limit : Option ℕ) × (params : Row) × (e : Error) × RefusesToRead limit c.command source params e)
+-- the text, without parameters, reads nothing of the database within this limit of steps: it is not understood, or no such statement, or what it asks is refused
+abbrev pub IsUnreadBy : (limit : Option ℕ) → Database → List ℕ → Type 0
+IsUnreadBy limit db sql =
+    (c : Compiled) → understood db.schema sql ≡ Ok c → c.returning ≡ None → IsWholeText sql c → (source : Database) × IsSourceOf (reads_listing db.schema sql) db source × ((e : Error) × RefusesToRead limit c.command source [] e)
 
 -- what `meta` shows of a store is such
 abbrev pub ShowsMeta : (List Row → Type 0) → Database → Type 0

@@ -75,15 +75,15 @@ pub record IsUnlike (n : ℕ) (tables : Schema) (db : Database) : Type 0 where
 
 -- `meta` tells neither version, or can't be asked
 abbrev pub IsForeign : Database → Type 0
-IsForeign db = ShowsMeta TellNeither db ⊎ IsUnreadBy db (select_text Meta)
+IsForeign db = ShowsMeta TellNeither db ⊎ IsUnreadBy None db (select_text Meta)
 
 -- the version that was told is the one that `meta` tells
 abbrev pub FindsVersion : Database → Option ℕ → Type 0
 FindsVersion db told = ShowsMeta (λ rows. IsVersionIn rows told) db
 
 -- an error of neither memory nor the disk is one of what was asked
-abbrev pub IsUnreadFor : Database → Error → Type 0
-IsUnreadFor db e = e ≢ SqliteFailure code.OutOfMemory → is_disk_fault e ≡ false → IsUnreadBy db (select_text Meta)
+abbrev pub IsUnreadFor : (limit : Option ℕ) → Database → Error → Type 0
+IsUnreadFor limit db e = e ≢ SqliteFailure code.OutOfMemory → is_disk_fault e ≡ false → IsUnreadBy limit db (select_text Meta)
 
 -- a call that finds the tables: after it they are ours, and hold the content that they held
 pub record Adopts {X : Type 0} (old new : State) (result : Result X OpenFault) : Type 0 where

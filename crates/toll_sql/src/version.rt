@@ -61,7 +61,7 @@ pub(crate) fn find_version<S: Alter>(conn: &mut Connection<S>) -> Result<Option<
     requires settled { IsTrue (state S.Store conn.old).is_open → (state S.Store conn.old).now ≡ (state S.Store conn.old).committed }
     ensures left { IsLeft (state S.Store conn.old) (state S.Store conn.new) result }
     ensures found { HasCleanDisk (state S.Store conn.new) → IfOk result (FindsVersion (state S.Store conn.old).now) }
-    ensures unread { HasCleanDisk (state S.Store conn.new) → IfErr result (IsUnreadFor (state S.Store conn.old).now) }
+    ensures unread { HasCleanDisk (state S.Store conn.new) → IfErr result (IsUnreadFor conn.old.step_limit (state S.Store conn.old).now) }
 {
     let mut tx = conn.transaction();
     let rows = ask_version(&mut tx)?;
@@ -73,7 +73,7 @@ fn ask_version<S: Alter>(tx: &mut Transaction<'_, S>) -> Result<Vec<Row>, Error>
     ensures same_reference { tx.new.conn.ghost_name ≡ tx.old.conn.ghost_name }
     ensures asks { IsAskedInside (state S.Store tx.old.conn.now) (state S.Store tx.new.conn.now) result }
     ensures read { HasCleanDisk (state S.Store tx.new.conn.now) → IfOk result (λ rows. AreReadBy (state S.Store tx.old.conn.now).now (select_text Meta) rows.items) }
-    ensures unread { HasCleanDisk (state S.Store tx.new.conn.now) → IfErr result (IsUnreadFor (state S.Store tx.old.conn.now).now) }
+    ensures unread { HasCleanDisk (state S.Store tx.new.conn.now) → IfErr result (IsUnreadFor tx.old.conn.now.step_limit (state S.Store tx.old.conn.now).now) }
 {
     tx.query_all(TableKind::Meta.select_text(), &[])
 }
