@@ -1,0 +1,156 @@
+/** What is asked of the office: a few requests at a time, and again where it is busy or away. */
+
+import { parse } from "./values.js";
+import { meaning } from "./refusals.js";
+
+/** The office understood, and refuses: docs/refusals.md. */
+export class Refused extends Error {
+  constructor(status, code, word, repeated) {
+    super(meaning(code, word));
+    Object.assign(this, { status, code, word, repeated });
+  }
+}
+
+/** The name or the key is wrong. */
+export class Forbidden extends Error {}
+
+/** Nobody answered, or the office was busy each time. */
+export class Away extends Error {}
+
+/** An answer that the interface doesn't have. */
+export class Strange extends Error {}
+
+const AT_A_TIME = 4;
+const LONGEST_REQUEST = 70_000;
+const BUSY = new Set([429, 503]);
+const AWAY = new Set([502, 504]);
+
+/** How long is waited before each further try, in milliseconds: some 50 seconds in all. */
+export const RESTS = [150, 300, 600, 1200, 2400, 4800, 8000, 8000, 8000, 8000, 8000];
+
+/** Turns to ask: at most so many at a time, the others wait in a row. */
+class Turns {
+  #free;
+  #row = [];
+
+  constructor(most) {
+    this.#free = most;
+  }
+
+  async take() {
+    if (this.#free > 0) this.#free--;
+    else await new Promise(go => this.#row.push(go));
+  }
+
+  give() {
+    const next = this.#row.shift();
+    if (next) next();
+    else this.#free++;
+  }
+}
+
+function restFor(milliseconds, signal) {
+  return new Promise((done, failed) => {
+    const timer = setTimeout(done, milliseconds);
+    signal?.addEventListener("abort", () => {
+      clearTimeout(timer);
+      failed(signal.reason);
+    }, { once: true });
+  });
+}
+
+/**
+ * The office, asked by fetch. `waits(why)` is called where a request is about to be asked again, with
+ * "busy" or "away"; what it gives is called when that request is over.
+ */
+export class Office {
+  #turns = new Turns(AT_A_TIME);
+  #fetch;
+  #rest;
+  #waits;
+
+  constructor({ fetch = (...it) => globalThis.fetch(...it), rest = restFor, waits = () => () => {} } = {}) {
+    this.#fetch = fetch;
+    this.#rest = rest;
+    this.#waits = waits;
+  }
+
+  /** The value of the reply. `who` asks; `signal` ends it. */
+  async ask(who, method, path, { body, signal } = {}) {
+    await this.#turns.take();
+    try {
+      return await this.#askUntilTold(who, method, path, body, signal);
+    } finally {
+      this.#turns.give();
+    }
+  }
+
+  /**
+   * The value of a reply to what changes something. It is asked again like all else: each change is made
+   * once, however often it is asked. Where it was asked again and is refused, its reply may have been
+   * lost: then `stands` tells whether what was asked for is there, and if so, that is no refusal.
+   */
+  async carry(who, path, { body, stands } = {}) {
+    try {
+      return await this.ask(who, "POST", path, { body });
+    } catch (it) {
+      if (it instanceof Refused && it.repeated && await stands?.()) return null;
+      throw it;
+    }
+  }
+
+  async #askUntilTold(who, method, path, body, signal) {
+    let over = null;
+    try {
+      for (let tries = 0; ; tries++) {
+        signal?.throwIfAborted();
+        const reply = await this.#send(who, method, path, body, signal);
+        const why = reply === null || AWAY.has(reply.status) ? "away" : BUSY.has(reply.status) ? "busy" : null;
+        if (why === null) return await valueOf(reply, tries > 0);
+        if (tries === RESTS.length) throw new Away(why);
+        over ??= this.#waits(why);
+        await this.#rest(restBefore(tries, reply), signal);
+      }
+    } finally {
+      over?.();
+    }
+  }
+
+  /** The reply, or null where there is none. */
+  async #send(who, method, path, body, signal) {
+    const limit = AbortSignal.timeout(LONGEST_REQUEST);
+    try {
+      const reply = await this.#fetch(path, {
+        method,
+        headers: { "toll-owner": who.owner, "toll-key": who.key },
+        body: body && JSON.stringify(body),
+        signal: signal ? AbortSignal.any([signal, limit]) : limit,
+        cache: "no-store", credentials: "omit", redirect: "error", referrerPolicy: "no-referrer",
+      });
+      // a reply that breaks off is none
+      return { status: reply.status, type: reply.headers.get("content-type") ?? "", after: reply.headers.get("retry-after"), text: await reply.text() };
+    } catch (it) {
+      if (signal?.aborted) throw it;
+      return null;
+    }
+  }
+}
+
+/** What is waited, a quarter more or less, so that windows don't ask in step; longer where the reply says so. */
+function restBefore(tries, reply) {
+  const said = Number(reply?.after ?? 0) * 1000 || 0;
+  return Math.max(RESTS[tries] * (0.75 + Math.random() / 2), Math.min(said, 30_000));
+}
+
+function valueOf(reply, repeated) {
+  if (reply.status === 403) throw new Forbidden("The name or the key is wrong.");
+  let value = null;
+  try {
+    value = reply.type.startsWith("application/json") ? parse(reply.text) : null;
+  } catch {
+    // told below as strange
+  }
+  if (reply.status === 200 && value !== null) return value;
+  if (Number.isInteger(value?.code)) throw new Refused(reply.status, value.code, String(value.error), repeated);
+  throw new Strange(`The office answered in a way that this page doesn't know: ${reply.status} ${value?.error ?? ""}`.trim());
+}

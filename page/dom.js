@@ -1,0 +1,27 @@
+/** Elements, made of names, attributes and texts. Nothing that is given is ever read as HTML. */
+
+const SVG = "http://www.w3.org/2000/svg";
+
+/** An element of HTML: attributes, listeners (functions by the event's name), and what is in it. */
+export const html = (name, given = {}, ...inner) => fill(document.createElement(name), given, inner);
+
+/** An element of SVG, in the same way. */
+export const svg = (name, given = {}, ...inner) => fill(document.createElementNS(SVG, name), given, inner);
+
+/** A link to an address of the page. */
+export const link = (address, ...inner) => html("a", { href: address }, ...inner);
+
+/** Text that is read out and not seen. */
+export const unseen = (...inner) => html("span", { class: "unseen" }, ...inner);
+
+const isThere = it => it !== null && it !== undefined && it !== false;
+
+function fill(element, given, inner) {
+  for (const [name, value] of Object.entries(given)) {
+    if (typeof value === "function") element.addEventListener(name, value);
+    else if (isThere(value)) element.setAttribute(name, value === true ? "" : value);
+  }
+  // what is no element becomes a text node
+  element.append(...inner.flat(Infinity).filter(isThere).map(it => (it instanceof Node ? it : String(it))));
+  return element;
+}

@@ -1,0 +1,174 @@
+/** A lot's genealogy: the picture, what unfolds it, and the same lots as a table. */
+
+import { chip } from "../chips.js";
+import { html, link } from "../dom.js";
+import { table } from "../list.js";
+import { toLot, toPlantLot } from "../router.js";
+import { amount, count, number, PLANT } from "../values.js";
+import { picture } from "./draw.js";
+import { layered } from "./layout.js";
+import { atFirst, edgesOf, foldOf, further, hiddenOf, idOf, lotsOf, mostOf, MOST, shownOf } from "./lots.js";
+
+const WAYS = [["back", "further back"], ["forward", "further on"]];
+const addressOf = it => (it.owner === PLANT ? toPlantLot(it.lot) : toLot(it.lot));
+const LEGEND = ["released", "quarantined", "rejected", "the plant's"];
+
+/**
+ * The genealogy of the lot that both traces begin with. `stock` has the owner's lots by name. The picture
+ * is drawn when its edges were read.
+ */
+export class Genealogy {
+  #page;
+  #traces;
+  #stock;
+  #shown;
+  #neighbours = new Map();
+  #drawing = null;
+  #details;
+  #place = html("div", { class: "picture", tabindex: 0, role: "region", "aria-label": "Picture of the genealogy" });
+  #tools = html("div", { class: "buttons tools" });
+  #sign = html("p", { class: "soft", role: "status" });
+
+  constructor(page, { back, forward, stock }) {
+    this.#page = page;
+    this.#traces = { back, forward };
+    this.#stock = stock;
+    this.#shown = atFirst(back, forward);
+    this.#know(idOf(back[0]), "back", back);
+    this.#know(idOf(back[0]), "forward", forward);
+    this.element = html("section", { class: "card genealogy-card" },
+      html("h2", {}, "Where it comes from and where it went"),
+      html("p", { class: "soft" }, this.#summary()),
+      this.#tools, this.#sign, this.#place, this.#legend(), this.#table());
+    this.drawn = this.#redraw();
+  }
+
+  #summary() {
+    const told = trace => (trace.length > 1 ? `${count(trace.length - 1, "lot")} over ${count(trace.at(-1).steps, "step")}` : "none");
+    return `Made of: ${told(this.#traces.back)}. Went into: ${told(this.#traces.forward)}. Arrows lead from a lot to what it went into.`;
+  }
+
+  #legend() {
+    return html("p", { class: "legend" }, LEGEND.map(it => chip(it)));
+  }
+
+  // What is shown
+
+  #unfold(shown) {
+    this.#shown = shown;
+    this.drawn = this.#redraw();
+  }
+
+  #more(way) {
+    const { back, forward } = this.#traces;
+    const next = further(this.#traces[way], this.#shown[way]);
+    return { ...this.#shown, [way]: Math.min(next, mostOf(back, forward)[way]) };
+  }
+
+  /** What a click on a fold does: it unfolds, or leads to the table where the picture has no more room. */
+  #openFold(way) {
+    const more = this.#more(way);
+    if (more[way] > this.#shown[way]) this.#unfold(more);
+    else {
+      this.#details.open = true;
+      this.#details.querySelector("summary").focus();
+    }
+  }
+
+  #drawTools(hidden) {
+    const { back, forward } = this.#traces;
+    const [first, most] = [atFirst(back, forward), mostOf(back, forward)];
+    const button = (key, title, shown) => html("button", { type: "button", class: "small", "data-key": key, click: () => this.#unfold(shown) }, title);
+    const more = WAYS.map(([way, words]) => [way, words, this.#more(way)]).filter(([way, , then]) => then[way] > this.#shown[way])
+      .map(([way, words, then]) => button(`more-${way}`, `${number(then[way] - this.#shown[way])} more ${words}`, then));
+    const whole = most.back + most.forward === back.length + forward.length - 2;
+    const all = more.length > 0 && button("all", whole ? `All ${number(hidden.size)} more` : `As many as ${MOST}`, most);
+    const fewer = (this.#shown.back > first.back || this.#shown.forward > first.forward) && button("fewer", "Fewer", first);
+    this.#tools.replaceChildren(...[more, all, fewer].flat().filter(Boolean));
+  }
+
+  async #redraw() {
+    this.#drawing?.abort();
+    const drawing = this.#drawing = new AbortController();
+    const { back, forward } = this.#traces;
+    const shown = shownOf(back, forward, this.#shown);
+    const hidden = hiddenOf(back, forward, this.#shown);
+    const focused = document.activeElement?.dataset?.key;
+    await this.#page.fill(this.#sign, async () => {
+      await this.#readNeighbours(shown, hidden, drawing.signal);
+      if (drawing.signal.aborted) return;
+      this.#drawTools(hidden);
+      this.#place.replaceChildren(this.#picture(shown, hidden));
+      this.#showAsked();
+      if (focused) (this.element.querySelector(`[data-key="${CSS.escape(focused)}"]`) ?? this.#place).focus();
+    });
+  }
+
+  /** Brings the asked lot into sight, where the picture is wider than its place. */
+  #showAsked() {
+    const asked = this.#place.querySelector(".asked");
+    const [box, place] = [asked.getBoundingClientRect(), this.#place.getBoundingClientRect()];
+    this.#place.scrollLeft += box.left + box.width / 2 - place.left - place.width / 2;
+  }
+
+  // The edges
+
+  #know(id, way, trace) {
+    const found = this.#neighbours.get(id) ?? {};
+    this.#neighbours.set(id, { ...found, [way]: trace.filter(it => it.steps === 1).map(idOf) });
+  }
+
+  /** Asks each lot that is shown for what it was made of; and for what it went into, where that may be folded. */
+  async #readNeighbours(shown, hidden, signal) {
+    const ways = [...hidden.values()].includes("forward") ? ["back", "forward"] : ["back"];
+    const asks = shown.filter(it => it.owner !== PLANT).flatMap(it => ways.filter(way => !this.#neighbours.get(it.id)?.[way]).map(way => [it, way]));
+    let read = 0;
+    const told = () => { this.#sign.textContent = read < asks.length ? `Reading the steps between the lots: ${read} of ${asks.length}` : ""; };
+    told();
+    await Promise.all(asks.map(async ([it, way]) => {
+      if (signal.aborted) return;
+      this.#know(it.id, way, (await this.#page.get(`/trace/${way}/${it.lot}`)).lots);
+      read += 1;
+      if (!signal.aborted) told();
+    }));
+  }
+
+  // The picture
+
+  #picture(shown, hidden) {
+    const boxes = new Map(shown.map(it => [it.id, this.#boxOf(it)]));
+    for (const [way, words] of WAYS) {
+      const n = [...hidden.values()].filter(it => it === way).length;
+      if (n > 0) boxes.set(foldOf(way), { id: foldOf(way), title: `${number(n)} more`, lines: [words], word: "", fold: () => this.#openFold(way) });
+    }
+    const layout = layered([...boxes.keys()], edgesOf(shown, this.#neighbours, hidden));
+    return picture(layout, boxes, `Genealogy of ${shown[0].lot}: ${count(boxes.size, "box", "boxes")}`);
+  }
+
+  #boxOf(it) {
+    const asked = it.id === idOf(this.#traces.back[0]);
+    if (it.owner === PLANT) return { id: it.id, title: it.lot, lines: ["a lot of the plant"], word: "the plant's", plant: true, asked, address: toPlantLot(it.lot) };
+    const line = this.#stock.get(it.lot);
+    return { id: it.id, title: it.lot, lines: line ? [line.material, amount(line.amount, line.measure)] : [""], word: line?.disposition ?? "", asked, address: toLot(it.lot) };
+  }
+
+  // The table
+
+  #table() {
+    const { back, forward } = this.#traces;
+    const lineOf = it => (it.owner === PLANT ? undefined : this.#stock.get(it.lot));
+    return this.#details = html("details", {}, html("summary", {}, "The same as a table"), table({
+      caption: "The lots of the genealogy, with their fewest steps",
+      signal: this.#page.signal,
+      rows: lotsOf(back, forward),
+      columns: [
+        { title: "Lot", cell: it => link(addressOf(it), it.lot) },
+        { title: "Steps back", number: true, cell: it => it.back !== null && number(it.back) },
+        { title: "Steps forward", number: true, cell: it => it.forward !== null && number(it.forward) },
+        { title: "Material", cell: it => lineOf(it)?.material },
+        { title: "On hand", number: true, cell: it => lineOf(it) && amount(lineOf(it).amount, lineOf(it).measure) },
+        { title: "Disposition", cell: it => chip(lineOf(it)?.disposition ?? "the plant's") },
+      ],
+    }));
+  }
+}

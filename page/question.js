@@ -1,0 +1,25 @@
+/** A question before something that can't be taken back. */
+
+import { html } from "./dom.js";
+
+/** Asks in a window of the page. True where the answer is `yes`; Escape and `no` are false. */
+export function ask({ title, text, yes, no = "No, keep it" }) {
+  return new Promise(answered => {
+    const close = answer => () => {
+      dialog.returnValue = answer;
+      dialog.close();
+    };
+    const dialog = html("dialog", { class: "question", "aria-labelledby": "question-title", "aria-describedby": "question-text" },
+      html("h2", { id: "question-title" }, title),
+      html("p", { id: "question-text" }, text),
+      html("div", { class: "buttons" },
+        html("button", { type: "button", click: close("no"), autofocus: true }, no),
+        html("button", { type: "button", class: "danger", click: close("yes") }, yes)));
+    dialog.addEventListener("close", () => {
+      dialog.remove();
+      answered(dialog.returnValue === "yes");
+    });
+    document.body.append(dialog);
+    dialog.showModal();
+  });
+}

@@ -1,0 +1,55 @@
+import assert from "node:assert/strict";
+import test from "node:test";
+import { atFirst, edgesOf, foldOf, further, hiddenOf, lotsOf, mostOf, MOST, shownOf, within } from "../genealogy/lots.js";
+
+/** A trace of lots by steps: how many there are at one step, at two, and so on. */
+const trace = (name, ...counts) => [{ lot: "ASKED", owner: "ACME", steps: 0 },
+  ...counts.flatMap((n, i) => Array.from({ length: n }, (_, at) => ({ lot: `${name}-${i + 1}-${at}`, owner: "ACME", steps: i + 1 })))];
+
+test("each lot of both traces is there once, with its steps", () => {
+  const back = [{ lot: "A", owner: "ACME", steps: 0 }, { lot: "W", owner: "HOUSE", steps: 1 }, { lot: "B", owner: "ACME", steps: 2 }];
+  const forward = [{ lot: "A", owner: "ACME", steps: 0 }, { lot: "B", owner: "ACME", steps: 1 }];
+  assert.deepEqual(lotsOf(back, forward).map(it => [it.id, it.back, it.forward]), [["ACME/A", 0, 0], ["HOUSE/W", 1, null], ["ACME/B", 2, 1]]);
+});
+
+test("how many lots there are within so many steps", () => {
+  assert.deepEqual(within(trace("B", 2, 3, 1)), [2, 5, 6]);
+  assert.deepEqual(within(trace("B")), []);
+});
+
+test("a small genealogy is shown whole", () => {
+  assert.deepEqual(atFirst(trace("B", 4, 3), trace("F", 5, 5, 5)), { back: 7, forward: 15 });
+});
+
+test("a large one begins with the nearest steps, and a step that is too large with its first lots", () => {
+  assert.deepEqual(atFirst(trace("B", 3, 500), trace("F", 2, 4, 80)), { back: 3, forward: 6 });
+  assert.deepEqual(atFirst(trace("B", 500), trace("F", 500)), { back: 14, forward: 14 });
+});
+
+test("further shows the next whole step, or a part of it", () => {
+  const back = trace("B", 3, 20, 500);
+  assert.equal(further(back, 3), 23);
+  assert.equal(further(back, 23), 53);
+  assert.equal(further(back, 523), 523);
+});
+
+test("a picture has a limit, which both sides share", () => {
+  assert.deepEqual(mostOf(trace("B", 1000), trace("F", 1000)), { back: MOST / 2, forward: MOST / 2 });
+  assert.deepEqual(mostOf(trace("B", 10), trace("F", 1000)), { back: 10, forward: MOST - 10 });
+});
+
+test("edges join what is shown, and lead to a fold where a neighbour isn't", () => {
+  const [back, forward] = [trace("B", 2, 1), trace("F", 1)];
+  const shown = { back: 2, forward: 1 };
+  const hidden = hiddenOf(back, forward, shown);
+  assert.deepEqual([...hidden], [["ACME/B-2-0", "back"]]);
+  const neighbours = new Map([
+    ["ACME/ASKED", { back: ["ACME/B-1-0", "ACME/B-1-1"], forward: ["ACME/F-1-0"] }],
+    ["ACME/B-1-0", { back: ["ACME/B-2-0"] }],
+    ["ACME/B-1-1", { back: ["ACME/B-2-0"] }],
+    ["ACME/F-1-0", { back: ["ACME/ASKED", "ACME/ELSEWHERE"] }],
+  ]);
+  assert.deepEqual(edgesOf(shownOf(back, forward, shown), neighbours, hidden).map(it => it.join(">")).sort(), [
+    "ACME/ASKED>ACME/F-1-0", "ACME/B-1-0>ACME/ASKED", "ACME/B-1-1>ACME/ASKED", `${foldOf("back")}>ACME/B-1-0`, `${foldOf("back")}>ACME/B-1-1`,
+  ].sort());
+});

@@ -1,0 +1,162 @@
+import assert from "node:assert/strict";
+import { readFileSync, readdirSync } from "node:fs";
+import test from "node:test";
+import { Away, Forbidden, Office, Refused, RESTS, Strange } from "../api.js";
+import { known, meaning } from "../refusals.js";
+import { read, toLot, toOrder, toOrders, toPlantLot, toStock } from "../router.js";
+import { compareNumbers, count, isName, number, parse, percent } from "../values.js";
+
+const PAGE = new URL("..", import.meta.url);
+const WHO = { owner: "ACME", key: "ACMEKEY1" };
+
+// The office, asked
+
+const json = (status, value, more = {}) => new Response(JSON.stringify(value), { status, headers: { "content-type": "application/json", ...more } });
+
+/** An office that is told these replies, one after another; a function is called. What was asked is in `asked`. */
+function office(...replies) {
+  const asked = [];
+  const rests = [];
+  const signs = [];
+  const it = new Office({
+    fetch: async (path, given) => {
+      asked.push([given.method, path, given.headers["toll-owner"], given.body]);
+      const reply = replies.length > 1 ? replies.shift() : replies[0];
+      return typeof reply === "function" ? reply() : reply.clone();
+    },
+    rest: async milliseconds => { rests.push(milliseconds); },
+    waits: why => { signs.push(why); return () => signs.push("over"); },
+  });
+  return Object.assign(it, { asked, rests, signs });
+}
+
+const away = () => { throw new TypeError("Failed to fetch"); };
+
+test("a reply is given as it is", async () => {
+  const it = office(json(200, { orders: [] }));
+  assert.deepEqual(await it.ask(WHO, "GET", "/orders"), { orders: [] });
+  assert.deepEqual(it.asked, [["GET", "/orders", "ACME", undefined]]);
+  assert.deepEqual(it.signs, []);
+});
+
+test("503 and 429, and a server that is away, are asked again, with a sign until it is over", async () => {
+  const it = office(json(503, { error: "Unavailable" }), new Response("<html>", { status: 429 }), away, new Response("", { status: 502 }), json(200, { lots: [] }));
+  assert.deepEqual(await it.ask(WHO, "GET", "/stock"), { lots: [] });
+  assert.equal(it.asked.length, 5);
+  assert.deepEqual(it.signs, ["busy", "over"]);
+  it.rests.forEach((rest, i) => assert.ok(rest >= RESTS[i] * 0.75 && rest <= RESTS[i] * 1.25));
+});
+
+test("retry-after is kept, up to half a minute", async () => {
+  const it = office(json(429, {}, { "retry-after": "3" }), json(503, {}, { "retry-after": "900" }), json(200, {}));
+  await it.ask(WHO, "GET", "/stock");
+  assert.deepEqual(it.rests, [3000, 30000]);
+});
+
+test("in the end it is told that the office is away", async () => {
+  const it = office(away);
+  await assert.rejects(it.ask(WHO, "GET", "/stock"), Away);
+  assert.equal(it.asked.length, RESTS.length + 1);
+  assert.deepEqual(it.signs, ["away", "over"]);
+});
+
+test("refusals, a wrong key and what the interface doesn't have are told apart", async () => {
+  await assert.rejects(office(json(409, { code: 36, error: "TestsOpen" })).ask(WHO, "POST", "/lots/B-1/release"),
+    it => it instanceof Refused && it.code === 36 && it.status === 409 && !it.repeated && it.message === meaning(36, "TestsOpen"));
+  await assert.rejects(office(json(403, { error: "Forbidden" })).ask(WHO, "GET", "/stock"), Forbidden);
+  for (const reply of [json(404, { error: "NoRoute" }), json(400, { error: "BadRequest" }), new Response("", { status: 501 }), new Response("<html>", { status: 200, headers: { "content-type": "text/html" } }), new Response("{", { status: 200, headers: { "content-type": "application/json" } })]) {
+    await assert.rejects(office(reply).ask(WHO, "GET", "/stock"), Strange);
+  }
+});
+
+test("a refusal of what was asked twice is none, where it stands as it was asked for", async () => {
+  const lost = () => office(away, json(409, { code: 32, error: "NotQuarantined" }));
+  assert.equal(await lost().carry(WHO, "/lots/S-1/release", { stands: async () => true }), null);
+  await assert.rejects(lost().carry(WHO, "/lots/S-1/release", { stands: async () => false }), Refused);
+  await assert.rejects(office(json(409, { code: 32, error: "NotQuarantined" })).carry(WHO, "/lots/S-1/release", { stands: async () => true }), Refused);
+});
+
+test("an order is sent as JSON", async () => {
+  const it = office(json(200, {}));
+  await it.carry(WHO, "/orders", { body: { order: "O-1", recipe: "R", batches: 2 } });
+  assert.deepEqual(it.asked, [["POST", "/orders", "ACME", '{"order":"O-1","recipe":"R","batches":2}']]);
+});
+
+test("at most four are asked at a time", async () => {
+  let [now, most] = [0, 0];
+  const it = new Office({
+    fetch: async () => {
+      most = Math.max(most, ++now);
+      await new Promise(done => setTimeout(done, 2));
+      now--;
+      return json(200, {});
+    },
+  });
+  await Promise.all(Array.from({ length: 25 }, () => it.ask(WHO, "GET", "/stock")));
+  assert.equal(most, 4);
+});
+
+test("what was left is asked no more", async () => {
+  const leaving = new AbortController();
+  const it = office(() => { leaving.abort(); throw leaving.signal.reason; });
+  await assert.rejects(it.ask(WHO, "GET", "/stock", { signal: leaving.signal }), { name: "AbortError" });
+  await assert.rejects(it.ask(WHO, "GET", "/stock", { signal: leaving.signal }), { name: "AbortError" });
+  assert.equal(it.asked.length, 1);
+});
+
+// Refusals
+
+test("each refusal of an owner's request has its meaning, by the number and the word of docs/refusals.md", () => {
+  const rows = readFileSync(new URL("../docs/refusals.md", PAGE), "utf8").matchAll(/^\| (\d+) \| (\w+) \| [^|]* \| [^|]* \| ([^|]*) \|/gm);
+  const asked = [...rows].filter(([, , , requests]) => requests.trim() !== "").map(([, code, word]) => [Number(code), word]);
+  assert.ok(asked.length > 0);
+  assert.deepEqual([...known()], asked);
+  assert.match(meaning(99, "NewWord"), /NewWord/);
+});
+
+// Addresses
+
+test("an address names a view, and what it is about", () => {
+  const view = hash => { const it = read(hash); return [it.view, it.name]; };
+  assert.deepEqual(view(""), ["orders", null]);
+  assert.deepEqual(view("#/"), ["orders", null]);
+  assert.deepEqual(view(toOrders()), ["orders", null]);
+  assert.deepEqual(view(toOrder("O-1")), ["order", "O-1"]);
+  assert.deepEqual(view(toStock({ material: "BRINE" })), ["stock", null]);
+  assert.deepEqual(view(toLot("B-1")), ["lot", "B-1"]);
+  assert.deepEqual(view(toPlantLot("W-101")), ["plant", "W-101"]);
+  assert.equal(read(toStock({ search: "A B", sort: "" })).query.get("search"), "A B");
+  assert.equal(toStock({ search: "" }), "#/stock");
+});
+
+test("what is no name is in no address", () => {
+  for (const hash of ["#/lots/b-1", "#/lots/", "#/lots/-A", "#/lots/A/release", "#/lots/A%2f", "#/lots/ABCDEFGHIJKLMNOPQ", "#/stock/A", "#/nowhere", "#/orders/../stock"]) {
+    assert.equal(read(hash).view, "nowhere", hash);
+  }
+});
+
+// Values
+
+test("numbers that a Number can't hold are kept", () => {
+  const told = parse('{"lots":[{"amount":123456789012345678,"lot":"A"},{"amount":5,"lot":"1234567890123456"}]}');
+  assert.equal(number(told.lots[0].amount), "123,456,789,012,345,678");
+  assert.equal(told.lots[1].lot, "1234567890123456");
+  assert.deepEqual(["20", "3", 100].sort(compareNumbers), ["3", "20", 100]);
+});
+
+test("numbers and names in words", () => {
+  assert.deepEqual([number(1000), number(-5), count(1, "lot"), count(2000, "lot")], ["1,000", "-5", "1 lot", "2,000 lots"]);
+  assert.deepEqual([percent(980, 1000), percent(999, 1000), percent(1001, 1000)], [98n, 99n, 100n]);
+  assert.deepEqual(["A", "A-1", "-A", "a", "", "A".repeat(17), "A/B", 5].map(isName), [true, true, false, false, false, false, false, false]);
+});
+
+// The files
+
+test("no file of the page makes HTML of texts, and none has styles or scripts within", () => {
+  const files = readdirSync(PAGE, { recursive: true }).filter(it => /\.(js|html)$/.test(it) && !it.startsWith("tests"));
+  for (const file of files) {
+    const text = readFileSync(new URL(file, PAGE), "utf8");
+    assert.doesNotMatch(text, /innerHTML|outerHTML|insertAdjacentHTML|document\.write|DOMParser|\beval\(|new Function|localStorage/, file);
+    assert.doesNotMatch(text, /<script(?![^>]*\bsrc=)[^>]*>|<style|\sstyle=|\son\w+="/, file);
+  }
+});

@@ -1,0 +1,39 @@
+/** Values of the interface: names, keys and numbers, as docs/http.md has them. */
+
+/** What a field for a name takes: as typed, so in small letters too. */
+export const NAME_TYPED = "[A-Za-z0-9][A-Za-z0-9\\-]{0,15}";
+
+/** What a field for a key takes. */
+export const KEY_TYPED = "[A-Za-z0-9]{8,32}";
+
+/** The owner that is the plant itself. */
+export const PLANT = "HOUSE";
+
+/** The most batches of an order. */
+export const MOST_BATCHES = 99;
+
+const GROUPED = new Intl.NumberFormat("en");
+
+/** Whether it is a name, which may stand in an address. */
+export const isName = it => typeof it === "string" && /^[A-Z0-9][A-Z0-9-]{0,15}$/.test(it);
+
+/** A whole number in groups of three digits: 1,000. Sums may be larger than what a Number holds. */
+export const number = value => GROUPED.format(BigInt(value));
+
+/** An amount with its measure: 1,000 kg. */
+export const amount = (value, measure) => `${number(value)} ${measure}`;
+
+/** How many there are of something: 1 lot, 2,000 lots. */
+export const count = (n, one, many = `${one}s`) => `${number(n)} ${n === 1 ? one : many}`;
+
+/** How much of what is required is there, in percent, rounded down, so that 100 is never less. */
+export const percent = (actual, required) => BigInt(actual) * 100n / BigInt(required);
+
+/** The value that a reply's JSON text tells. Numbers of 16 digits and more stay texts, as they stand. */
+export const parse = text => JSON.parse(text.replace(/("[a-z]+":)(\d{16,})(?=[,}])/g, '$1"$2"'));
+
+/** Puts numbers in order, those that are texts too. */
+export const compareNumbers = (a, b) => (BigInt(a) < BigInt(b) ? -1 : BigInt(a) > BigInt(b) ? 1 : 0);
+
+/** Puts names in the order of the interface. */
+export const compareNames = (a, b) => (a < b ? -1 : a > b ? 1 : 0);

@@ -1,0 +1,35 @@
+/** Who asks, and by which key. */
+
+import { Forbidden } from "../api.js";
+import { html } from "../dom.js";
+import { KEY_TYPED, NAME_TYPED } from "../values.js";
+
+export function enter({ enterAs, tell, owner }) {
+  const name = html("input", { name: "owner", required: true, pattern: NAME_TYPED, value: owner, autocomplete: "username", autocapitalize: "characters", spellcheck: "false", title: "1 to 16 letters, digits and -" });
+  const key = html("input", { name: "key", type: "password", required: true, pattern: KEY_TYPED, autocomplete: "current-password", title: "8 to 32 letters or digits" });
+  const button = html("button", { class: "main" }, "Enter");
+
+  async function submit(event) {
+    event.preventDefault();
+    button.disabled = true;
+    tell("");
+    try {
+      await enterAs({ owner: name.value.toUpperCase(), key: key.value });
+    } catch (it) {
+      tell(it.message || "The office can't be reached.", true);
+      if (it instanceof Forbidden) key.select();
+    } finally {
+      button.disabled = false;
+    }
+  }
+
+  return {
+    title: "Enter",
+    focus: owner ? key : name,
+    body: html("section", { class: "card enter" },
+      html("p", {}, "Your orders, your stock, and where each of your lots comes from and went."),
+      html("form", { class: "fields upright", submit },
+        html("label", {}, "Owner", name), html("label", {}, "Key", key), button),
+      html("p", { class: "soft" }, "The key stays in this window, and is forgotten when you leave or close it.")),
+  };
+}

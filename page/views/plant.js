@@ -1,0 +1,27 @@
+/** A lot of the plant that the owner's batches consumed: where it went. */
+
+import { chip } from "../chips.js";
+import { html, link } from "../dom.js";
+import { Genealogy } from "../genealogy/view.js";
+import { toStock } from "../router.js";
+import { PLANT } from "../values.js";
+
+export async function plant(page) {
+  const { name } = page.route;
+  const [forward, stock] = await Promise.all([`/trace/house/${name}`, "/stock"].map(it => page.get(it)));
+  const genealogy = new Genealogy(page, {
+    back: [{ lot: name, owner: PLANT, steps: 0 }],
+    forward: forward.lots,
+    stock: new Map(stock.lots.map(it => [it.lot, it])),
+  });
+  return {
+    over: link(toStock(), "Stock"),
+    title: `Lot ${name} of the plant`,
+    mark: chip("the plant's"),
+    drawn: genealogy.drawn,
+    body: [
+      html("section", { class: "card facts" }, html("p", {}, "The plant's own lot, which your batches consumed. You see which of your lots it went into. What it is made of and how much there is, is the plant's own.")),
+      genealogy.element,
+    ],
+  };
+}
