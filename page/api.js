@@ -15,7 +15,11 @@ export class Refused extends Error {
 export class Forbidden extends Error {}
 
 /** Nobody answered, or the office was busy each time. */
-export class Away extends Error {}
+export class Away extends Error {
+  constructor(why) {
+    super(why === "busy" ? "The office is busy." : "The office can't be reached.");
+  }
+}
 
 /** An answer that the interface doesn't have. */
 export class Strange extends Error {}

@@ -28,14 +28,16 @@ export function table({ caption, columns, rows, signal }) {
   return frame(caption, columns.map(it => head(it, it.title)), body);
 }
 
-const head = (column, ...inner) => html("th", { scope: "col", role: "columnheader", class: column.number && "number" }, ...inner);
+const classOf = column => (column.number ? "number" : column.acts && "acts");
+
+const head = (column, ...inner) => html("th", { scope: "col", role: "columnheader", class: classOf(column) }, ...inner);
 
 const frame = (caption, heads, body) => html("div", { class: "table" }, html("table", { role: "table" },
   html("caption", { class: "unseen" }, caption),
   html("thead", { role: "rowgroup" }, html("tr", { role: "row" }, heads)), body));
 
 const line = (columns, row) => html("tr", { role: "row" }, columns.map((it, i) =>
-  html(i === 0 ? "th" : "td", { role: i === 0 ? "rowheader" : "cell", scope: i === 0 && "row", class: it.number && "number", "data-title": it.title }, it.cell(row))));
+  html(i === 0 ? "th" : "td", { role: i === 0 ? "rowheader" : "cell", scope: i === 0 && "row", class: classOf(it), "data-title": typeof it.title === "string" && it.title }, it.cell(row))));
 
 /**
  * A list of many rows with a field to search, choices, and heads that sort. What is searched, chosen and

@@ -77,6 +77,8 @@ function leave() {
 
 /** The key isn't taken any more: the owner enters again, and comes back to where it was. */
 function sendAway() {
+  // several requests may be told so
+  if (!whoAsks()) return;
   sentAway = whoAsks();
   forget();
   show();
@@ -151,6 +153,7 @@ const failed = (error, again) => html("div", { class: "failed" }, html("p", {}, 
 let current = null;
 
 async function show({ anew = false } = {}) {
+  const stood = anew ? scrollY : history.state?.scroll ?? 0;
   current?.leave();
   const page = current = new Page(read(location.hash));
   if (!anew) tell("");
@@ -161,6 +164,7 @@ async function show({ anew = false } = {}) {
   clearTimeout(late);
   if (page !== current || !view) return;
   draw(page, view, anew);
+  scrollBack(page, stood, view.drawn);
 }
 
 async function viewOf(page) {
@@ -175,18 +179,17 @@ async function viewOf(page) {
 
 function draw(page, view, anew) {
   const heading = html("h1", { tabindex: -1 }, view.title, view.mark && [" ", view.mark]);
-  const readAt = new Date().toLocaleTimeString("en-GB");
+  const now = new Date();
   const focused = anew ? document.activeElement?.dataset?.key : null;
   at("view").replaceChildren(
     html("div", { class: "head" }, html("div", {}, view.over && html("p", { class: "over" }, view.over), heading),
-      page.who && html("p", { class: "read" }, `${page.who.owner}, read at ${readAt}`,
+      page.who && html("p", { class: "read" }, `${page.who.owner}, read on ${now.toLocaleDateString("sv")} at ${now.toLocaleTimeString("sv")}`,
         html("button", { type: "button", class: "quiet", "data-key": "again", click: () => show({ anew: true }) }, "Read again"))),
     ...[view.body].flat(Infinity).filter(Boolean));
   at("content").removeAttribute("aria-busy");
   document.title = `${view.title} - Hilpoven`;
   const key = focused && at("view").querySelector(`[data-key="${CSS.escape(focused)}"]`);
   (key || (view.focus ?? heading)).focus({ preventScroll: true });
-  if (!anew) scrollBack(page, view.drawn);
 }
 
 function drawBar(page) {
@@ -205,9 +208,9 @@ addEventListener("scroll", () => {
   scrolled = setTimeout(() => history.replaceState({ scroll: scrollY }, ""), 150);
 }, { passive: true });
 
-async function scrollBack(page, drawn) {
+/** Goes to where the view stood; again, when all of it is drawn, if nobody scrolled meanwhile. */
+async function scrollBack(page, wanted, drawn) {
   clearTimeout(scrolled);
-  const wanted = history.state?.scroll ?? 0;
   scrollTo(0, wanted);
   const stands = scrollY;
   await drawn;

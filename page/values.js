@@ -26,8 +26,11 @@ export const amount = (value, measure) => `${number(value)} ${measure}`;
 /** How many there are of something: 1 lot, 2,000 lots. */
 export const count = (n, one, many = `${one}s`) => `${number(n)} ${n === 1 ? one : many}`;
 
-/** How much of what is required is there, in percent, rounded down, so that 100 is never less. */
-export const percent = (actual, required) => BigInt(actual) * 100n / BigInt(required);
+/** How much of what is required is there: 98 %, 100.2 %. It is rounded down, so that 100 % is never less. */
+export function share(actual, required) {
+  const tenths = (BigInt(actual) * 1000n) / BigInt(required);
+  return `${GROUPED.format(tenths / 10n)}${tenths % 10n === 0n ? "" : `.${tenths % 10n}`} %`;
+}
 
 /** The value that a reply's JSON text tells. Numbers of 16 digits and more stay texts, as they stand. */
 export const parse = text => JSON.parse(text.replace(/("[a-z]+":)(\d{16,})(?=[,}])/g, '$1"$2"'));

@@ -44,7 +44,7 @@ const tip = ([x, y], long) => `M${x} ${y}l${-long} -4v8z`;
 
 function box(it, at) {
   const kind = it.fold ? "fold" : `${toneOf(it.word)}${it.plant ? " plant" : ""}${it.asked ? " asked" : ""}`;
-  const name = [it.title, ...it.lines, it.word, it.asked && "the lot that was asked for"].filter(Boolean).join(", ");
+  const name = [it.title, ...it.lines, !it.plant && it.word, it.asked && "the lot that was asked for"].filter(Boolean).join(", ");
   const inner = [outline(it, at), it.fold ? folded(it, at) : written(it, at)];
   const given = { class: `box ${kind}`, "aria-label": name, "data-id": it.id };
   if (it.fold) return svg("g", { ...given, role: "button", tabindex: 0, "data-key": it.id, click: it.fold, keydown: event => { if (["Enter", " "].includes(event.key)) { event.preventDefault(); it.fold(); } } }, inner);
@@ -64,7 +64,7 @@ function written(it, { x, y }) {
     shape(it.word, x + 11, y + 9),
     svg("text", { class: "title", x: x + 34, y: y + 22 }, it.title),
     svg("text", { x: x + 11, y: y + 40 }, it.lines[0]),
-    svg("text", { class: "word", x: x + 11, y: y + 57 }, lastLine(it)),
+    !it.plant && svg("text", { class: "word", x: x + 11, y: y + 57 }, lastLine(it)),
     it.asked && flag(x, y),
   ];
 }

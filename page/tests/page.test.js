@@ -4,7 +4,7 @@ import test from "node:test";
 import { Away, Forbidden, Office, Refused, RESTS, Strange } from "../api.js";
 import { known, meaning } from "../refusals.js";
 import { read, toLot, toOrder, toOrders, toPlantLot, toStock } from "../router.js";
-import { compareNumbers, count, isName, number, parse, percent } from "../values.js";
+import { compareNumbers, count, isName, number, parse, share } from "../values.js";
 
 const PAGE = new URL("..", import.meta.url);
 const WHO = { owner: "ACME", key: "ACMEKEY1" };
@@ -146,7 +146,7 @@ test("numbers that a Number can't hold are kept", () => {
 
 test("numbers and names in words", () => {
   assert.deepEqual([number(1000), number(-5), count(1, "lot"), count(2000, "lot")], ["1,000", "-5", "1 lot", "2,000 lots"]);
-  assert.deepEqual([percent(980, 1000), percent(999, 1000), percent(1001, 1000)], [98n, 99n, 100n]);
+  assert.deepEqual([share(980, 1000), share(9999, 10000), share(1002, 1000), share(0, 7), share("20000000000000000", 1)], ["98 %", "99.9 %", "100.2 %", "0 %", "2,000,000,000,000,000,000 %"]);
   assert.deepEqual(["A", "A-1", "-A", "a", "", "A".repeat(17), "A/B", 5].map(isName), [true, true, false, false, false, false, false, false]);
 });
 

@@ -20,7 +20,7 @@ export async function orders(page) {
       { name: "recipe", title: "Recipe", cell: it => it.recipe, compare: (a, b) => compareNames(a.recipe, b.recipe) || compareNames(a.order, b.order) },
       { name: "batches", title: "Batches", number: true, cell: it => number(it.batches), compare: (a, b) => a.batches - b.batches || compareNames(a.order, b.order) },
       { name: "status", title: "Status", cell: it => chip(it.status), compare: (a, b) => compareNames(a.status, b.status) || compareNames(a.order, b.order) },
-      { name: "acts", title: unseen("What can be done"), cell: it => it.status === "open" && cancelButton(page, it.order) },
+      { name: "acts", title: unseen("What can be done"), acts: true, cell: it => it.status === "open" && cancelButton(page, it.order) },
     ],
   });
   return {

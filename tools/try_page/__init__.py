@@ -1,0 +1,1 @@
+"""What tools/try-page stands on: a browser that is driven, and a site to look at."""

@@ -1,0 +1,196 @@
+"""A headless Chromium, driven by chromedriver over the WebDriver protocol (https://www.w3.org/TR/webdriver2/)."""
+import base64
+import http.client
+import json
+import os
+import pathlib
+import signal
+import subprocess
+import time
+
+ELEMENT = "element-6066-11e4-a52e-4f735466cecf"
+PATIENCE = 30
+KEYS = {"tab": "\ue004", "enter": "\ue007", "escape": "\ue00c", "space": " ", "shift": "\ue008"}
+
+
+class Failed(Exception):
+    """The browser, or what it shows, isn't as it was waited for."""
+
+
+class Browser:
+    """A browser with one window at first. Elements are named by CSS, or by `text` within CSS."""
+
+    def __init__(self, port, folder, width=1250, height=900):
+        self.port = port
+        self.size = (width, height)
+        # a session of its own, so that all of the browser's processes can be ended
+        self.driver = subprocess.Popen(["chromedriver", f"--port={port}", "--silent"], stdout=subprocess.DEVNULL, stderr=subprocess.DEVNULL, start_new_session=True)
+        self.session = None
+        try:
+            self._begin(folder)
+        except BaseException:
+            self.close()
+            raise
+
+    def _begin(self, folder):
+        words = ["--headless=new", "--disable-gpu", "--disable-dev-shm-usage", "--hide-scrollbars", "--no-first-run", "--lang=en",
+                 f"--user-data-dir={folder}", "--window-size=%d,%d" % self.size]
+        if os.geteuid() == 0:
+            words.append("--no-sandbox")
+        asked = {"browserName": "chrome", "acceptInsecureCerts": True, "goog:loggingPrefs": {"browser": "ALL"}, "goog:chromeOptions": {"args": words}}
+        until(lambda: self._answers(), "chromedriver answers")
+        self.session = self._send("POST", "/session", {"capabilities": {"alwaysMatch": asked}})["sessionId"]
+
+    def _answers(self):
+        try:
+            return self._send("GET", "/status")["ready"]
+        except OSError:
+            return False
+
+    def _send(self, method, path, body=None):
+        line = http.client.HTTPConnection("127.0.0.1", self.port, timeout=120)
+        try:
+            line.request(method, path, None if body is None else json.dumps(body), {"content-type": "application/json"})
+            value = json.loads(line.getresponse().read())["value"]
+        finally:
+            line.close()
+        if isinstance(value, dict) and "error" in value:
+            raise Failed(f"{method} {path}: {value['error']}: {value['message'].splitlines()[0]}")
+        return value
+
+    def ask(self, method, path, **body):
+        return self._send(method, f"/session/{self.session}{path}", body if method == "POST" else None)
+
+    def close(self):
+        """Ends the browser and its driver, whatever state they are in."""
+        try:
+            if self.session:
+                self.ask("DELETE", "")
+        except (OSError, Failed, http.client.HTTPException):
+            pass
+        try:
+            os.killpg(self.driver.pid, signal.SIGKILL)
+        except ProcessLookupError:
+            pass
+        self.driver.wait()
+
+    # What is there
+
+    def js(self, script, *words):
+        """What the body of a function gives."""
+        return self.ask("POST", "/execute/sync", script=script, args=list(words))
+
+    def later(self, script, *words):
+        """What a script gives to its last argument, a function."""
+        return self.ask("POST", "/execute/async", script=script, args=list(words))
+
+    def find(self, css, text=None):
+        """The first element that is seen, of this text where one is given."""
+        return until(lambda: self.seen(css, text), f"{css} {text or ''} is there")
+
+    def seen(self, css, text=None):
+        found = self.js("""return [...document.querySelectorAll(arguments[0])].find(it =>
+            it.getClientRects().length > 0 && (arguments[1] === null || it.textContent.trim().startsWith(arguments[1]))) ?? null""", css, text)
+        return found and found[ELEMENT]
+
+    def text(self, css="main"):
+        return self.js("return document.querySelector(arguments[0])?.innerText ?? ''", css)
+
+    def wait(self, text, css="main"):
+        until(lambda: text in self.text(css), lambda: f"{css} says {text!r}; it says {self.text(css)[:300]!r}")
+
+    def gone(self, css, text=None):
+        until(lambda: not self.seen(css, text), f"{css} {text or ''} is gone")
+
+    def heading(self, text):
+        """Waits for the view of this heading."""
+        until(lambda: self.js("return document.querySelector('h1')?.firstChild?.textContent ?? ''").strip() == text,
+              lambda: f"the heading is {text!r}; it is {self.text('h1')!r}")
+
+    # What is done
+
+    def go(self, address):
+        self.ask("POST", "/url", url=address)
+
+    def click(self, css, text=None):
+        self.ask("POST", f"/element/{self.find(css, text)}/click")
+
+    def type(self, css, text):
+        element = self.find(css)
+        self.ask("POST", f"/element/{element}/clear")
+        self.ask("POST", f"/element/{element}/value", text=text)
+
+    def press(self, *keys):
+        """Presses keys one after another; "shift+tab" holds the first."""
+        for key in keys:
+            *held, last = [KEYS.get(it, it) for it in key.split("+")]
+            steps = [{"type": "keyDown", "value": it} for it in [*held, last]] + [{"type": "keyUp", "value": it} for it in [last, *held]]
+            self.ask("POST", "/actions", actions=[{"type": "key", "id": "keys", "actions": steps}])
+
+    def write(self, text):
+        self.press(*text)
+
+    def back(self):
+        self.ask("POST", "/back")
+
+    def reload(self):
+        self.ask("POST", "/refresh")
+
+    # Windows
+
+    def window(self):
+        return self.ask("GET", "/window")
+
+    def new_window(self):
+        """Opens a window, and goes on in it."""
+        handle = self.ask("POST", "/window/new", type="window")["handle"]
+        self.turn(handle)
+        self.ask("POST", "/window/rect", width=self.size[0], height=self.size[1])
+        return handle
+
+    def turn(self, handle):
+        self.ask("POST", "/window", handle=handle)
+
+    def close_window(self, then):
+        self.ask("DELETE", "/window")
+        self.turn(then)
+
+    # What it looks like
+
+    def devtools(self, command, **words):
+        return self.ask("POST", "/goog/cdp/execute", cmd=command, params=words)
+
+    def phone(self, width=390, height=844):
+        self.devtools("Emulation.setDeviceMetricsOverride", width=width, height=height, deviceScaleFactor=2, mobile=True)
+
+    def no_phone(self):
+        self.devtools("Emulation.clearDeviceMetricsOverride")
+
+    def shot(self, file, whole=False):
+        """A picture of what is seen, or of the whole page."""
+        if whole:
+            size = self.devtools("Page.getLayoutMetrics")["cssContentSize"]
+            clip = {"x": 0, "y": 0, "width": size["width"], "height": min(size["height"], 4000), "scale": 1}
+            data = self.devtools("Page.captureScreenshot", format="png", captureBeyondViewport=True, clip=clip)["data"]
+        else:
+            data = self.ask("GET", "/screenshot")
+        pathlib.Path(file).write_bytes(base64.b64decode(data))
+
+    def printed(self, file):
+        pathlib.Path(file).write_bytes(base64.b64decode(self.ask("POST", "/print", page={"width": 21.0, "height": 29.7}, background=False)))
+
+    def log(self):
+        """What the browser's console was told since it was asked last."""
+        return [it["message"] for it in self.ask("POST", "/se/log", type="browser")]
+
+
+def until(holds, what, patience=PATIENCE):
+    """What `holds` gives, as soon as that is something."""
+    ends = time.monotonic() + patience
+    while True:
+        found = holds()
+        if found:
+            return found
+        if time.monotonic() > ends:
+            raise Failed(f"waited {patience} s for this: {what() if callable(what) else what}")
+        time.sleep(0.03)

@@ -1,0 +1,89 @@
+/* Looked at within the page: what is wrong with what is shown. Each gives a list of words, empty where all is well. */
+const channel = it => (it /= 255) <= 0.04045 ? it / 12.92 : ((it + 0.055) / 1.055) ** 2.4;
+const light = ([r, g, b]) => 0.2126 * channel(r) + 0.7152 * channel(g) + 0.0722 * channel(b);
+const colour = text => { const [r, g, b, a = 1] = (text.match(/[\d.]+/g) ?? [0, 0, 0, 0]).map(Number); return [r, g, b, a]; };
+const over = ([r, g, b, a], [R, G, B]) => [r * a + R * (1 - a), g * a + G * (1 - a), b * a + B * (1 - a)];
+const ratio = (a, b) => { const [dark, bright] = [light(a), light(b)].sort((x, y) => x - y); return (bright + 0.05) / (dark + 0.05); };
+const isSeen = it => { const box = it.getBoundingClientRect(); return box.width > 1 && box.height > 1 && getComputedStyle(it).visibility !== "hidden" && it.checkVisibility(); };
+const words = it => it.textContent.trim().replace(/\s+/g, " ").slice(0, 40);
+
+/** What is behind an element: all backgrounds from the outside in, the fill of a box of the picture among them. */
+function behind(element) {
+  const around = [];
+  for (let it = element; it; it = it.parentElement) around.unshift(it);
+  return around.reduce((ground, it) => {
+    const drawn = it.matches("g.flag, .genealogy .box") ? it.querySelector(":scope > rect, :scope > .outline") : null;
+    return over(colour(drawn ? getComputedStyle(drawn).fill : getComputedStyle(it).backgroundColor), ground);
+  }, [255, 255, 255]);
+}
+
+function contrasts() {
+  const wrong = [];
+  const texts = document.createTreeWalker(document.body, NodeFilter.SHOW_TEXT);
+  let least = 21;
+  while (texts.nextNode()) {
+    const it = texts.currentNode.parentElement;
+    if (texts.currentNode.data.trim() === "" || !isSeen(it) || it.closest(":disabled")) continue;
+    const style = getComputedStyle(it);
+    const ground = behind(it);
+    const found = ratio(over(colour(it.closest("svg") ? style.fill : style.color), ground), ground);
+    least = Math.min(least, found);
+    if (found < 4.5) wrong.push(`contrast ${found.toFixed(2)} of "${words(it)}"`);
+  }
+  // the shapes of chips and boxes, and the frames of fields, are to be told from what is behind them
+  for (const it of document.querySelectorAll(".shape .filled, input, select, .genealogy .way")) {
+    if (!isSeen(it)) continue;
+    const style = getComputedStyle(it);
+    const line = it.matches("input, select") ? style.borderTopColor : it.matches(".way") ? style.stroke : style.fill;
+    const found = ratio(over(colour(line), behind(it.parentElement)), behind(it.parentElement));
+    if (found < 3) wrong.push(`contrast ${found.toFixed(2)} of a ${it.matches("input, select") ? `field ${it.name}` : it.getAttribute("class")}`);
+  }
+  return { least, wrong };
+}
+
+/** Whatever is used has a name, tables have captions and heads, and there is one heading of the first level. */
+function names() {
+  const wrong = [];
+  for (const it of document.querySelectorAll("input, select")) if (!it.labels?.length || words(it.labels[0]) === "") wrong.push(`the field ${it.name} has no label`);
+  for (const it of document.querySelectorAll("button, a, summary, [role=button]")) if (words(it) === "" && !it.getAttribute("aria-label")) wrong.push(`a ${it.tagName} has no name`);
+  for (const it of document.querySelectorAll("table")) if (!it.caption || !it.tHead) wrong.push("a table has no caption or no heads");
+  for (const it of document.querySelectorAll("[role=img], [role=region], section[aria-label], nav")) if (!it.getAttribute("aria-label")) wrong.push(`a ${it.tagName} has no name`);
+  for (const it of ["h1", "main", "header", "nav"]) if (document.querySelectorAll(it).length === 0) wrong.push(`there is no ${it}`);
+  if (document.querySelectorAll("h1").length > 1) wrong.push("there are several h1");
+  const twice = [...document.querySelectorAll("[id]")].map(it => it.id).filter((it, i, all) => all.indexOf(it) !== i);
+  if (twice.length > 0) wrong.push(`ids that are there twice: ${twice}`);
+  if (document.documentElement.lang !== "en") wrong.push("the page has no language");
+  return wrong;
+}
+
+/** Nothing is wider than the window, but what scrolls by itself. */
+function widths() {
+  const wide = document.documentElement.scrollWidth;
+  return wide > innerWidth ? [`the page is ${wide} wide, the window ${innerWidth}`] : [];
+}
+
+/** Edges of the picture pass behind no box, boxes don't overlap, and texts stay within their boxes. */
+function drawing() {
+  const picture = document.querySelector("svg.genealogy");
+  const boxes = [...picture.querySelectorAll(".box")].map(it => [it.dataset.id, it.querySelector(".outline").getBBox(), it]);
+  const wrong = [];
+  for (const way of picture.querySelectorAll(".way")) {
+    const length = way.getTotalLength();
+    for (let at = 0; at <= length; at += 3) {
+      const { x, y } = way.getPointAtLength(at);
+      const hit = boxes.find(([, it]) => x > it.x + 1 && x < it.x + it.width - 1 && y > it.y + 1 && y < it.y + it.height - 1);
+      if (hit) { wrong.push(`the edge ${way.parentNode.dataset.from} to ${way.parentNode.dataset.to} passes behind ${hit[0]}`); break; }
+    }
+  }
+  boxes.forEach(([a, p, box], i) => {
+    for (const [b, q] of boxes.slice(i + 1)) if (p.x < q.x + q.width && q.x < p.x + p.width && p.y < q.y + q.height && q.y < p.y + p.height) wrong.push(`${a} and ${b} overlap`);
+    for (const text of box.querySelectorAll(":scope > text")) if (text.getBBox().x + text.getBBox().width > p.x + p.width) wrong.push(`"${text.textContent}" is wider than its box`);
+  });
+  return wrong;
+}
+
+/** Within the picture: how many boxes and edges there are, and which lot is marked. */
+const pictured = () => {
+  const picture = document.querySelector("svg.genealogy");
+  return picture && { boxes: picture.querySelectorAll(".box").length, edges: [...picture.querySelectorAll(".edge")].map(it => `${it.dataset.from}>${it.dataset.to}`).sort(), asked: picture.querySelector(".asked")?.dataset.id };
+};

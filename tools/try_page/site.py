@@ -1,0 +1,168 @@
+"""A site to look at: an office in a file, its server, and the proxy of docs/operations.md with TLS in front."""
+import fcntl
+import http.client
+import json
+import os
+import pathlib
+import re
+import socket
+import subprocess
+
+from .browser import until
+
+ROOT = pathlib.Path(__file__).resolve().parent.parent.parent
+WRAPPER = """
+{user}
+daemon off;
+pid {folder}/nginx.pid;
+error_log {folder}/error.log info;
+events {{ worker_connections 256; }}
+http {{
+    include /etc/nginx/mime.types;
+    access_log off;
+    client_body_temp_path {folder}/body;
+    proxy_temp_path {folder}/proxy;
+    fastcgi_temp_path {folder}/fastcgi;
+    uwsgi_temp_path {folder}/uwsgi;
+    scgi_temp_path {folder}/scgi;
+    {site}
+}}
+"""
+
+
+def free_port():
+    with socket.socket() as it:
+        it.bind(("127.0.0.1", 0))
+        return it.getsockname()[1]
+
+
+def listens(port):
+    with socket.socket() as it:
+        return it.connect_ex(("127.0.0.1", port)) == 0
+
+
+class Process:
+    """A program in the background, which is ended by its number."""
+
+    def __init__(self, *words, **more):
+        self.it = subprocess.Popen([str(it) for it in words], start_new_session=True, **more)
+
+    def end(self):
+        if self.it.poll() is None:
+            self.it.terminate()
+            try:
+                self.it.wait(5)
+            except subprocess.TimeoutExpired:
+                self.it.kill()
+        self.it.wait()
+
+
+class Office:
+    """An office in a file, with the plant's commands, its server, and owners that ask it straight."""
+
+    def __init__(self, toll, file, port):
+        self.toll, self.file, self.port = toll, pathlib.Path(file), port
+        self.server = None
+
+    def plant(self, line):
+        """The answer to a command or question of the plant, asked again while another has the lock."""
+        def asked():
+            done = subprocess.run([self.toll, "--db", self.file, *line.split()], capture_output=True, text=True)
+            return None if "fault Locked" in done.stderr else (done.stdout + done.stderr).strip() or "(nothing)"
+        return until(asked, f"{line} gets the lock")
+
+    def plants(self, lines):
+        for line in filter(None, (it.strip() for it in lines.splitlines())):
+            said = self.plant(line)
+            if said != "accepted":
+                raise SystemExit(f"try-page: the office told {said!r} to {line!r}")
+
+    def actuals(self, records):
+        """Imports actuals: key, owner, order, batch, segment, use, material, lot's owner, lot, sublot, amount, day."""
+        sheet = self.file.with_suffix(".csv")
+        sheet.write_text("key,owner,order,batch,segment,use,material,lot_owner,lot,sublot,amount,day\n" + "\n".join(records) + "\n")
+        said = self.plant(f"import {sheet}").splitlines()[-1]
+        if said != f"accepted {len(records)} repeated 0 refused 0 bad 0 fault 0":
+            raise SystemExit(f"try-page: the import said {said!r}")
+
+    def serve(self):
+        # the port of a server that was ended may be kept for a moment
+        self.server = Process(self.toll, "--db", self.file, "serve", self.port, 1000000, stdout=subprocess.DEVNULL, stderr=subprocess.DEVNULL)
+        until(lambda: listens(self.port), "the server listens")
+
+    def end(self):
+        if self.server:
+            self.server.end()
+            self.server = None
+
+    def ask(self, owner, key, method, path, body=None):
+        """The status and the text of a reply, asked straight of the server."""
+        line = http.client.HTTPConnection("127.0.0.1", self.port, timeout=60)
+        try:
+            line.request(method, path, body, {} if owner == "-" else {"toll-owner": owner, "toll-key": key})
+            reply = line.getresponse()
+            return reply.status, reply.read().decode()
+        finally:
+            line.close()
+
+    def asks(self, owner, *requests):
+        """Requests that are to be answered 200, of an owner whose key is its name and KEY1."""
+        for method, path, *body in requests:
+            told = self.ask(owner, f"{owner}KEY1", method, path, json.dumps(body[0]) if body else None)
+            if told[0] != 200:
+                raise SystemExit(f"try-page: the office told {told} to {method} {path}")
+
+    def locked(self):
+        """The lock, as another program would have it: to be used by `with`."""
+        lock = open(f"{self.file}.lock", "a")
+        until(lambda: taken(lock), "the lock is free")
+        return lock
+
+
+def taken(lock):
+    try:
+        fcntl.flock(lock, fcntl.LOCK_EX | fcntl.LOCK_NB)
+        return True
+    except BlockingIOError:
+        return False
+
+
+class Proxy:
+    """nginx with the site of docs/operations.md, on a port and with a certificate of its own."""
+
+    def __init__(self, folder, office_port):
+        self.folder, self.port, self.it = pathlib.Path(folder), free_port(), None
+        self._certify()
+        user = "user root;" if os.geteuid() == 0 else ""
+        (self.folder / "nginx.conf").write_text(WRAPPER.format(folder=self.folder, user=user, site=self._site(office_port)))
+
+    @property
+    def address(self):
+        return f"https://127.0.0.1:{self.port}/owner/"
+
+    def _certify(self):
+        subprocess.run(["openssl", "req", "-x509", "-newkey", "rsa:2048", "-nodes", "-days", "2", "-subj", "/CN=127.0.0.1",
+                        "-keyout", self.folder / "key.pem", "-out", self.folder / "certificate.pem"], check=True, capture_output=True)
+
+    def _site(self, office_port):
+        """The site as the page has it; ports, the certificate and the page's folder are those of the trial."""
+        page = (ROOT / "docs" / "operations.md").read_text()
+        site = next(it for it in re.findall(r"^```nginx\n(.*?)^```", page, re.M | re.S) if "listen 443 ssl" in it)
+        for pattern, ours in ((r"listen \[::\][^;]*;", ""), (r"listen 443 ssl", f"listen 127.0.0.1:{self.port} ssl"), (r"listen 80\b", f"listen 127.0.0.1:{free_port()}"),
+                              (r"ssl_certificate [^;]*;", f"ssl_certificate {self.folder}/certificate.pem;"),
+                              (r"ssl_certificate_key [^;]*;", f"ssl_certificate_key {self.folder}/key.pem;"),
+                              (r"127\.0\.0\.1:8080", f"127.0.0.1:{office_port}"), (r"alias [^;]*/page/;", f"alias {ROOT}/page/;"),
+                              (r"(access|error)_log [^;]*;", "")):
+            site = re.sub(pattern, ours, site)
+        return site
+
+    def start(self):
+        self.it = Process("nginx", "-e", self.folder / "error.log", "-p", self.folder, "-c", self.folder / "nginx.conf", stdout=subprocess.DEVNULL, stderr=subprocess.DEVNULL)
+        until(lambda: self.it.it.poll() is not None or listens(self.port), "nginx listens")
+        if self.it.it.poll() is not None:
+            raise SystemExit(f"try-page: nginx ended: {(self.folder / 'error.log').read_text()[-600:]}")
+
+    def end(self):
+        if self.it:
+            self.it.end()
+            self.it = None
