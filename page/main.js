@@ -159,7 +159,7 @@ async function show({ anew = false } = {}) {
   if (!anew) tell("");
   drawBar(page);
   at("content").setAttribute("aria-busy", "true");
-  const late = setTimeout(() => { if (!anew && page === current) at("view").replaceChildren(html("p", { class: "reading" }, "Reading…")); }, 300);
+  const late = setTimeout(() => { if (!anew && page === current) at("view").replaceChildren(html("h1", { class: "reading" }, "Reading…")); }, 300);
   const view = await viewOf(page);
   clearTimeout(late);
   if (page !== current || !view) return;

@@ -120,6 +120,12 @@ class Browser:
         self.ask("POST", f"/element/{element}/clear")
         self.ask("POST", f"/element/{element}/value", text=text)
 
+    def choose(self, css, value):
+        """Chooses this option of a select."""
+        self.find(css)
+        option = self.js("return [...document.querySelector(arguments[0]).options].find(it => it.value === arguments[1])", css, value)
+        self.ask("POST", f"/element/{option[ELEMENT]}/click")
+
     def press(self, *keys):
         """Presses keys one after another; "shift+tab" holds the first."""
         for key in keys:

@@ -25,6 +25,7 @@ http {{
     fastcgi_temp_path {folder}/fastcgi;
     uwsgi_temp_path {folder}/uwsgi;
     scgi_temp_path {folder}/scgi;
+    {too_many}
     {site}
 }}
 """
@@ -133,8 +134,10 @@ class Proxy:
     def __init__(self, folder, office_port):
         self.folder, self.port, self.it = pathlib.Path(folder), free_port(), None
         self._certify()
-        user = "user root;" if os.geteuid() == 0 else ""
-        (self.folder / "nginx.conf").write_text(WRAPPER.format(folder=self.folder, user=user, site=self._site(office_port)))
+        user, site = "user root;" if os.geteuid() == 0 else "", self._site(office_port)
+        # a site that leaves it open would tell 503, and that is tried by the lock
+        too_many = "" if "limit_req_status" in site else "limit_req_status 429;"
+        (self.folder / "nginx.conf").write_text(WRAPPER.format(folder=self.folder, user=user, too_many=too_many, site=site))
 
     @property
     def address(self):
