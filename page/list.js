@@ -4,7 +4,7 @@ import { html } from "./dom.js";
 import { count } from "./values.js";
 
 const FIRST_PART = 60;
-const PART = 120;
+const PART = 250;
 
 const nextFrame = () => new Promise(done => setTimeout(done, 0));
 
