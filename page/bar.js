@@ -15,7 +15,7 @@ export function bar({ actual, required }) {
     svg("svg", { viewBox: `0 0 ${LONG} ${HIGH}`, width: LONG, height: HIGH, role: "img", "aria-label": `${number(actual)} of ${number(required)}` },
       svg("rect", { class: "required", width: at(required), height: HIGH, rx: 2 }),
       svg("rect", { class: "actual", width: at(over ? required : actual), height: HIGH, rx: 2 }),
-      over && svg("rect", { class: "over", x: at(required), width: LONG - at(required), height: HIGH }),
+      over && svg("rect", { class: "beyond", x: at(required), width: LONG - at(required), height: HIGH }),
       over && svg("path", { class: "end", d: `M${at(required)} 0V${HIGH}` })),
     html("span", { class: "percent" }, share(actual, required)));
 }

@@ -46,9 +46,12 @@ const office = new Office({ waits });
 
 // What is told
 
+/** Says what was done, or what went wrong, in place of what was told before. */
 function tell(text, wrong = false) {
-  at("told").replaceChildren(...(text && !wrong ? [html("p", { class: "notice good" }, text)] : []));
-  at("wrong").replaceChildren(...(text && wrong ? [html("p", { class: "notice bad" }, text)] : []));
+  const notice = tone => html("div", { class: `notice ${tone}` }, html("p", {}, text),
+    html("button", { type: "button", class: "close", "aria-label": "Close this notice", click: () => tell("") }, "×"));
+  at("told").replaceChildren(...(text && !wrong ? [notice("good")] : []));
+  at("wrong").replaceChildren(...(text && wrong ? [notice("bad")] : []));
 }
 
 /** What is said of an error, its number and word too where the office refused. */
@@ -182,7 +185,7 @@ function draw(page, view, anew) {
   const now = new Date();
   const focused = anew ? document.activeElement?.dataset?.key : null;
   at("view").replaceChildren(
-    html("div", { class: "head" }, html("div", {}, view.over && html("p", { class: "over" }, view.over), heading),
+    html("div", { class: "head" }, html("div", {}, view.upward && html("p", { class: "upward" }, view.upward), heading),
       page.who && html("p", { class: "read" }, `${page.who.owner}, read on ${now.toLocaleDateString("sv")} at ${now.toLocaleTimeString("sv")}`,
         html("button", { type: "button", class: "quiet", "data-key": "again", click: () => show({ anew: true }) }, "Read again"))),
     ...[view.body].flat(Infinity).filter(Boolean));

@@ -20,7 +20,7 @@ export async function lot(page) {
   const place = html("div", {}, html("p", { class: "card soft" }, "Reading the genealogy…"));
   const drawn = page.fill(place, () => drawGenealogy(page, name, place));
   return {
-    over: link(toStock(), "Stock"),
+    upward: link(toStock(), "Stock"),
     title: `Lot ${told.lot}`,
     mark: chip(told.disposition),
     drawn,

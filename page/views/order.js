@@ -24,7 +24,7 @@ export async function order(page) {
     if (n === 0 && told.status === "open") acts.append(cancelButton(page, told.order));
   });
   return {
-    over: link(toOrders(), "Orders"),
+    upward: link(toOrders(), "Orders"),
     title: `Order ${told.order}`,
     mark: chip(told.status),
     drawn,

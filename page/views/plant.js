@@ -15,7 +15,7 @@ export async function plant(page) {
     stock: new Map(stock.lots.map(it => [it.lot, it])),
   });
   return {
-    over: link(toStock(), "Stock"),
+    upward: link(toStock(), "Stock"),
     title: `Lot ${name} of the plant`,
     mark: chip("the plant's"),
     drawn: genealogy.drawn,
