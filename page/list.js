@@ -1,7 +1,7 @@
 /** Lists: tables that are searched, filtered, sorted and drawn in parts. */
 
 import { html } from "./dom.js";
-import { count } from "./values.js";
+import { count, number } from "./values.js";
 
 const FIRST_PART = 60;
 const PART = 250;
@@ -122,7 +122,8 @@ export class Finder {
       else head.removeAttribute("aria-sort");
     }
     const all = this.#given.rows.length;
-    this.#count.textContent = rows.length === all ? count(all, ...this.#given.what) : `${rows.length.toLocaleString("en")} of ${count(all, ...this.#given.what)}`;
+    const whole = all === 0 ? `No ${this.#given.what[1]} yet.` : count(all, ...this.#given.what);
+    this.#count.textContent = rows.length === all ? whole : `${number(rows.length)} of ${whole}`;
     this.drawn = inParts(this.#body, rows, row => line(this.#given.columns, row), AbortSignal.any([this.#drawing.signal, this.#page.signal]));
   }
 }

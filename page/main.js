@@ -14,6 +14,7 @@ import { stock } from "./views/stock.js";
 
 const VIEWS = { orders, order, stock, lot, plant, nowhere };
 const PARTS = [["orders", "Orders", toOrders(), ["orders", "order"]], ["stock", "Stock", toStock(), ["stock", "lot", "plant"]]];
+const TITLES = { orders: "Orders", order: "Order", stock: "Stock", lot: "Lot", plant: "Lot" };
 const SIGNS = {
   busy: "The office is busy. The page asks again by itself.",
   away: "The office can't be reached. The page asks again by itself.",
@@ -176,7 +177,7 @@ async function viewOf(page) {
   } catch (it) {
     if (page.signal.aborted) return null;
     if (it instanceof Forbidden) return sendAway();
-    return { title: page.route.name ?? "Not read", body: failed(it, () => show()) };
+    return { title: [TITLES[page.route.view], page.route.name].filter(Boolean).join(" "), body: failed(it, () => show()) };
   }
 }
 
