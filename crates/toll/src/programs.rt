@@ -1,7 +1,8 @@
 //! The programs.
 use std::alloc::{AllocError, Global};
 use std::fmt::Display;
-use std::fs::File;
+use std::fs::{File, OpenOptions};
+use std::io::ErrorKind;
 use std::net::{Ipv4Addr, SocketAddrV4, TcpListener};
 use std::{env, io};
 use toll_office::{OfficeFault, Served, do_command, do_import, do_script, serve_all};
@@ -11,10 +12,18 @@ use toll_programs::{FrontFault, ScriptEnd, Status, Task, read_front, task_of, te
 const USAGE: &str =
     "usage: toll script | toll --db FILE COMMAND.. | toll --db FILE import CSV | toll --db FILE serve PORT COUNT";
 
+/// How many standard streams there are.
+const STREAMS: usize = 3;
+
 /// Does what the program's words ask for, and gives the exit status.
 pub fn run(rt: &HostRuntime) -> u64 {
-    let Ok(words) = read_words(rt) else {
-        return fail(rt, Status::Failed, "fault Memory");
+    let _held = hold_streams(rt);
+    let words = match read_words(rt) {
+        Ok(words) => words,
+        Err(fault) if fault.kind() == ErrorKind::InvalidData => {
+            return fail(rt, Status::Unread, USAGE);
+        }
+        Err(_) => return fail(rt, Status::Failed, "fault Memory"),
     };
     let Ok(words) = texts_of(rt.alloc(), &words) else {
         return fail(rt, Status::Failed, "fault Memory");
@@ -28,7 +37,17 @@ pub fn run(rt: &HostRuntime) -> u64 {
     }
 }
 
-// The words behind the program's name.
+// Files in the place of standard streams that are closed, from which nothing is read and to which no write
+// succeeds: so no file of the office is taken for a stream.
+fn hold_streams(rt: &HostRuntime) -> io::Result<Vec<File>> {
+    let mut held = Vec::new(rt.alloc());
+    for _ in 0..STREAMS {
+        held.push(OpenOptions::new().write(true).open(rt, "/dev/full")?)?;
+    }
+    Ok(held)
+}
+
+// The words behind the program's name. One that is no text is InvalidData.
 fn read_words(rt: &HostRuntime) -> io::Result<Vec<String>> {
     let mut words = Vec::new(rt.alloc());
     for word in env::args(rt)?.skip(1) {

@@ -71,9 +71,13 @@ pub fn take_lock(rt: &HostRuntime, path: &str) -> Result<File, OfficeFault> {
 
 /// The keep in the file. An office whose making was stopped may have its tables in the log alone, or no
 /// tables in a file that is not empty: so where the file is not as its length says, it is looked at the
-/// other way.
+/// other way. A file that isn't there beside a log that has bytes was moved away, and its log would be
+/// written anew: it is NotOurs.
 pub fn open_keep(rt: &HostRuntime, path: &str) -> Result<FileKeep, OpenFault> {
     let is_fresh = is_absent_or_empty(rt, path);
+    if is_fresh && was_moved_away(rt, path)? {
+        return Err(OpenFault::NotOurs);
+    }
     let keep = match SqlKeep::open_from(rt, path, is_fresh, Unknown) {
         Err(OpenFault::NotOurs) => SqlKeep::open_from(rt, path, !is_fresh, Unknown)?,
         opened => opened?,
@@ -89,6 +93,23 @@ pub fn close_keep(keep: FileKeep) {
 /// The answer to a request, over the office in the file, as [`answer`] gives it.
 pub fn answer_from(rt: &HostRuntime, keep: &mut FileKeep, request: &[u8]) -> Out {
     answer(rt.alloc(), keep, request)
+}
+
+// Whether the file isn't there and its log is, with bytes.
+fn was_moved_away(rt: &HostRuntime, path: &str) -> Result<bool, OpenFault> {
+    let Ok(log) = format!(in rt.alloc(); "{path}-wal") else {
+        return Err(OpenFault::Memory);
+    };
+    let is_absent =
+        matches!(fs::metadata(rt, path), Err(fault) if fault.kind() == ErrorKind::NotFound);
+    Ok(is_absent && has_bytes(rt, log.as_str()))
+}
+
+fn has_bytes(rt: &HostRuntime, path: &str) -> bool {
+    match fs::metadata(rt, path) {
+        Ok(found) => found.len() > 0,
+        Err(_) => false,
+    }
 }
 
 fn is_absent_or_empty(rt: &HostRuntime, path: &str) -> bool {

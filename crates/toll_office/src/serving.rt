@@ -2,6 +2,7 @@
 use crate::office::{Office, answer_from};
 use crate::session::Session;
 use crate::timed::Timed;
+use std::io::ErrorKind;
 use std::net::{TcpListener, TcpStream};
 use toll_wire::{Out, ReadFault, read_request, write_reply};
 
@@ -53,11 +54,17 @@ fn serve_next(
     path: &str,
     session: &mut Session,
 ) -> Served {
-    let Ok((socket, _)) = listener.accept() else {
-        return Served::AcceptFault;
-    };
-    match take_request(rt, &socket) {
-        Ok(request) => give(rt, &socket, &session.answer(rt, path, &request)),
+    match listener.accept() {
+        Ok((socket, _)) => serve_peer(rt, &socket, path, session),
+        // A peer for whom there is no memory goes without a reply.
+        Err(fault) if fault.kind() == ErrorKind::OutOfMemory => Served::ReadFault,
+        Err(_) => Served::AcceptFault,
+    }
+}
+
+fn serve_peer(rt: &HostRuntime, socket: &TcpStream, path: &str, session: &mut Session) -> Served {
+    match take_request(rt, socket) {
+        Ok(request) => give(rt, socket, &session.answer(rt, path, &request)),
         Err(_) => Served::ReadFault,
     }
 }
