@@ -2,7 +2,9 @@
 
 import { Away, Forbidden, Office, Refused } from "./api.js";
 import { html } from "./dom.js";
+import { tell, waits, wordsOf } from "./notices.js";
 import { read, toOrders, toStock } from "./router.js";
+import { goBackTo, leaving, stoodAt } from "./scrolling.js";
 import { forget, keep, whoAsks } from "./session.js";
 import { enter } from "./views/enter.js";
 import { lot } from "./views/lot.js";
@@ -15,48 +17,10 @@ import { stock } from "./views/stock.js";
 const VIEWS = { orders, order, stock, lot, plant, nowhere };
 const PARTS = [["orders", "Orders", toOrders(), ["orders", "order"]], ["stock", "Stock", toStock(), ["stock", "lot", "plant"]]];
 const TITLES = { orders: "Orders", order: "Order", stock: "Stock", lot: "Lot", plant: "Lot" };
-const SIGNS = {
-  busy: "The office is busy. The page asks again by itself.",
-  away: "The office can't be reached. The page asks again by itself.",
-};
 
 const at = id => document.getElementById(id);
 
-// The sign that the page waits
-
-const waiting = [];
-
-function waits(why) {
-  const wait = { why };
-  waiting.push(wait);
-  // what is over at once is worth no sign
-  const shown = setTimeout(drawSign, 250);
-  return () => {
-    clearTimeout(shown);
-    waiting.splice(waiting.indexOf(wait), 1);
-    if (waiting.length === 0) drawSign();
-  };
-}
-
-function drawSign() {
-  const last = waiting.at(-1);
-  at("sign").replaceChildren(...(last ? [html("p", { class: "notice wait" }, html("span", { class: "turning", "aria-hidden": "true" }), SIGNS[last.why])] : []));
-}
-
 const office = new Office({ waits });
-
-// What is told
-
-/** Says what was done, or what went wrong, in place of what was told before. */
-function tell(text, wrong = false) {
-  const notice = tone => html("div", { class: `notice ${tone}` }, html("p", {}, text),
-    html("button", { type: "button", class: "close", "aria-label": "Close this notice", click: () => tell("") }, "×"));
-  at("told").replaceChildren(...(text && !wrong ? [notice("good")] : []));
-  at("wrong").replaceChildren(...(text && wrong ? [notice("bad")] : []));
-}
-
-/** What is said of an error, its number and word too where the office refused. */
-const wordsOf = error => (error instanceof Refused ? [error.message, " ", html("small", {}, `${error.code} ${error.word}`)] : error.message);
 
 // Entering and leaving
 
@@ -157,7 +121,7 @@ const failed = (error, again) => html("div", { class: "failed" }, html("p", {}, 
 let current = null;
 
 async function show({ anew = false } = {}) {
-  const stood = anew ? scrollY : history.state?.scroll ?? 0;
+  const stood = anew ? scrollY : stoodAt();
   current?.leave();
   const page = current = new Page(read(location.hash));
   if (!anew) tell("");
@@ -168,7 +132,7 @@ async function show({ anew = false } = {}) {
   clearTimeout(late);
   if (page !== current || !view) return;
   draw(page, view, anew);
-  scrollBack(page, stood, view.drawn);
+  goBackTo(stood, view.drawn, () => page === current);
 }
 
 async function viewOf(page) {
@@ -202,27 +166,8 @@ function drawBar(page) {
   at("who").replaceChildren(...(page.who ? [html("span", { class: "owner" }, page.who.owner), html("button", { type: "button", click: leave }, "Leave")] : []));
 }
 
-// Where a view was scrolled to, kept with its place in the history of the window
-
-history.scrollRestoration = "manual";
-let scrolled = null;
-
-addEventListener("scroll", () => {
-  clearTimeout(scrolled);
-  scrolled = setTimeout(() => history.replaceState({ scroll: scrollY }, ""), 150);
-}, { passive: true });
-
-/** Goes to where the view stood; again, when all of it is drawn, if nobody scrolled meanwhile. */
-async function scrollBack(page, wanted, drawn) {
-  clearTimeout(scrolled);
-  scrollTo(0, wanted);
-  const stands = scrollY;
-  await drawn;
-  if (page === current && scrollY === stands && wanted > stands) scrollTo(0, wanted);
-}
-
 addEventListener("hashchange", () => {
-  clearTimeout(scrolled);
+  leaving();
   show();
 });
 at("skip").addEventListener("click", event => {

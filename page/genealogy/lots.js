@@ -68,6 +68,17 @@ export function shownOf(back, forward, shown) {
 export const foldOf = way => `fold/${way}`;
 
 /**
+ * The ways that each lot that is shown is asked, so that no edge of it is missed: for what it was made of;
+ * where lots are folded that others went into, for what it went into, which tells the edges between lots
+ * that are shown as well; and for both, where lots are folded on both sides.
+ */
+export function waysAsked(hidden) {
+  const folded = new Set(hidden.values());
+  if (!folded.has("forward")) return ["back"];
+  return folded.has("back") ? ["back", "forward"] : ["forward"];
+}
+
+/**
  * The edges between lots that are shown. `neighbours` has of a lot's id the ids that are a step back and a
  * step forward, as far as they were asked. An edge to a lot that isn't shown leads to the fold of its way.
  */

@@ -7,7 +7,7 @@ import { toLot, toPlantLot } from "../router.js";
 import { amount, count, number, PLANT } from "../values.js";
 import { picture } from "./draw.js";
 import { layered } from "./layout.js";
-import { atFirst, edgesOf, foldOf, further, hiddenOf, idOf, lotsOf, mostOf, MOST, shownOf } from "./lots.js";
+import { atFirst, edgesOf, foldOf, further, hiddenOf, idOf, lotsOf, mostOf, MOST, shownOf, waysAsked } from "./lots.js";
 
 const WAYS = [["back", "further back"], ["forward", "further on"]];
 const addressOf = it => (it.owner === PLANT ? toPlantLot(it.lot) : toLot(it.lot));
@@ -118,16 +118,16 @@ export class Genealogy {
     this.#neighbours.set(id, { ...found, [way]: trace.filter(it => it.steps === 1).map(idOf) });
   }
 
-  /** Asks each lot that is shown for what it was made of; and for what it went into, where that may be folded. */
+  /** Asks for the neighbours of the lots that are shown, as far as they aren't known. What the plant's are made of isn't told. */
   async #readNeighbours(shown, hidden, signal) {
-    const ways = [...hidden.values()].includes("forward") ? ["back", "forward"] : ["back"];
-    const asks = shown.filter(it => it.owner !== PLANT).flatMap(it => ways.filter(way => !this.#neighbours.get(it.id)?.[way]).map(way => [it, way]));
+    const isKnown = (it, way) => this.#neighbours.get(it.id)?.[way] || (it.owner === PLANT && way === "back");
+    const asks = shown.flatMap(it => waysAsked(hidden).filter(way => !isKnown(it, way)).map(way => [it, way]));
     let read = 0;
     const told = () => { this.#sign.textContent = read < asks.length ? `Reading the steps between the lots: ${read} of ${asks.length}` : ""; };
     told();
     await Promise.all(asks.map(async ([it, way]) => {
       if (signal.aborted) return;
-      this.#know(it.id, way, (await this.#page.get(`/trace/${way}/${it.lot}`)).lots);
+      this.#know(it.id, way, (await this.#page.get(`/trace/${it.owner === PLANT ? "house" : way}/${it.lot}`)).lots);
       read += 1;
       if (!signal.aborted) told();
     }));

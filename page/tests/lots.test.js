@@ -1,6 +1,6 @@
 import assert from "node:assert/strict";
 import test from "node:test";
-import { atFirst, edgesOf, foldOf, further, hiddenOf, lotsOf, mostOf, MOST, shownOf, within } from "../genealogy/lots.js";
+import { atFirst, edgesOf, foldOf, further, hiddenOf, lotsOf, mostOf, MOST, shownOf, waysAsked, within } from "../genealogy/lots.js";
 
 /** A trace of lots by steps: how many there are at one step, at two, and so on. */
 const trace = (name, ...counts) => [{ lot: "ASKED", owner: "ACME", steps: 0 },
@@ -36,6 +36,27 @@ test("further shows the next whole step, or a part of it", () => {
 test("a picture has a limit, which both sides share", () => {
   assert.deepEqual(mostOf(trace("B", 1000), trace("F", 1000)), { back: MOST / 2, forward: MOST / 2 });
   assert.deepEqual(mostOf(trace("B", 10), trace("F", 1000)), { back: 10, forward: MOST - 10 });
+});
+
+/** What a genealogy's lots would tell, asked so: the edges that are found. */
+function edgesFound(edges, back, forward, shown) {
+  const [lots, hidden] = [shownOf(back, forward, shown), hiddenOf(back, forward, shown)];
+  const neighbours = new Map();
+  for (const { id } of lots) {
+    const asked = { back: edges.filter(it => it[1] === id).map(it => it[0]), forward: edges.filter(it => it[0] === id).map(it => it[1]) };
+    neighbours.set(id, Object.fromEntries(waysAsked(hidden).map(way => [way, asked[way]])));
+  }
+  return edgesOf(lots, neighbours, hidden).map(it => it.join(">").replaceAll("ACME/", "")).sort();
+}
+
+test("no edge is missed, whatever is folded", () => {
+  const edges = "B2>B1 B1>X B2>X X>F1 X>G1 F1>F2 G1>F2 F2>F3 B1>F1 B2>F2".split(" ").map(it => it.split(">").map(name => `ACME/${name}`));
+  const steps = text => text.split(" ").map(it => ({ lot: it.split(":")[0], owner: "ACME", steps: Number(it.split(":")[1]) }));
+  const [back, forward] = [steps("X:0 B1:1 B2:1"), steps("X:0 F1:1 G1:1 F2:2 F3:3")];
+  assert.deepEqual(edgesFound(edges, back, forward, { back: 2, forward: 4 }), ["B1>F1", "B1>X", "B2>B1", "B2>F2", "B2>X", "F1>F2", "F2>F3", "G1>F2", "X>F1", "X>G1"]);
+  assert.deepEqual(edgesFound(edges, back, forward, { back: 2, forward: 2 }), ["B1>F1", "B1>X", "B2>B1", "B2>X", "B2>fold/forward", "F1>fold/forward", "G1>fold/forward", "X>F1", "X>G1"]);
+  assert.deepEqual(edgesFound(edges, back, forward, { back: 1, forward: 1 }), ["B1>F1", "B1>X", "F1>fold/forward", "X>F1", "X>fold/forward", "fold/back>B1", "fold/back>X"]);
+  assert.deepEqual(edgesFound(edges, back, forward, { back: 1, forward: 4 }), ["B1>F1", "B1>X", "F1>F2", "F2>F3", "G1>F2", "X>F1", "X>G1", "fold/back>B1", "fold/back>F2", "fold/back>X"]);
 });
 
 test("edges join what is shown, and lead to a fold where a neighbour isn't", () => {

@@ -1,0 +1,42 @@
+/** What stands above a view: the sign that the page waits, and what is told. */
+
+import { Refused } from "./api.js";
+import { html } from "./dom.js";
+
+const SIGNS = {
+  busy: "The office is busy. The page asks again by itself.",
+  away: "The office can't be reached. The page asks again by itself.",
+};
+
+const at = id => document.getElementById(id);
+
+const waiting = [];
+
+/** Shows that the page waits, "busy" or "away", until what is given is called. */
+export function waits(why) {
+  const wait = { why };
+  waiting.push(wait);
+  // what is over at once is worth no sign
+  const shown = setTimeout(drawSign, 250);
+  return () => {
+    clearTimeout(shown);
+    waiting.splice(waiting.indexOf(wait), 1);
+    if (waiting.length === 0) drawSign();
+  };
+}
+
+function drawSign() {
+  const last = waiting.at(-1);
+  at("sign").replaceChildren(...(last ? [html("p", { class: "notice wait" }, html("span", { class: "turning", "aria-hidden": "true" }), SIGNS[last.why])] : []));
+}
+
+/** Says what was done, or what went wrong, in place of what was told before. */
+export function tell(text, wrong = false) {
+  const notice = tone => html("div", { class: `notice ${tone}` }, html("p", {}, text),
+    html("button", { type: "button", class: "close", "aria-label": "Close this notice", click: () => tell("") }, "×"));
+  at("told").replaceChildren(...(text && !wrong ? [notice("good")] : []));
+  at("wrong").replaceChildren(...(text && wrong ? [notice("bad")] : []));
+}
+
+/** What is said of an error, its number and word too where the office refused. */
+export const wordsOf = error => (error instanceof Refused ? [error.message, " ", html("small", {}, `${error.code} ${error.word}`)] : error.message);
