@@ -4,7 +4,7 @@ import { html } from "./dom.js";
 import { count, number } from "./values.js";
 
 const FIRST_PART = 60;
-const PART = 250;
+const PART = 150;
 
 const nextFrame = () => new Promise(done => setTimeout(done, 0));
 

@@ -111,7 +111,7 @@ def fill_small(office):
     office.plants("ship ACME F1 DR-1 PAL1 120 105")
 
 
-BATCHES, LOTS_EACH, CHAIN = 11, 199, 40
+BATCHES, LOTS_EACH, CHAIN = 11, 199, 32
 LARGE_LOTS = BATCHES * LOTS_EACH + CHAIN + 2
 
 LARGE_SETUP = """
@@ -127,27 +127,23 @@ require ACME AGE 1 consumed ACME CASK 1
 require ACME AGE 1 produced ACME CASK 1
 receive ACME R1 SALT S-1 BAY1 100000 101
 receive ACME R2 CASK C-0 BAY1 100 101
-""" + "".join(f"unit-add U-{it}\n" for it in range(1, BATCHES + 1))
+""" + "".join(f"unit-add U-{it}\n" for it in range(1, BATCHES + CHAIN + 1))
 
 
 def fill_large(office):
-    """2,000 orders; a lot of salt that went into 2,189 lots of drums; and a chain of 40 casks."""
+    """2,000 orders; a lot of salt that went into 2,189 lots of drums; and a chain of 32 casks."""
     office.asks("ACME", ("POST", "/lots/S-1/release"), ("POST", "/lots/C-0/release"),
                 ("POST", "/orders", {"order": "BIG", "recipe": "FILL", "batches": BATCHES}), ("POST", "/orders", {"order": "CHAIN", "recipe": "AGE", "batches": CHAIN}),
                 *(("POST", "/orders", {"order": f"ORDER-{it:04}", "recipe": "FILL" if it % 3 else "AGE", "batches": 1 + it % 20}) for it in range(1, 1999)))
     for batch in range(1, BATCHES + 1):
         office.plants(f"open ACME BIG U-{batch}\ndo ACME BIG {batch} start")
     office.actuals([record for batch in range(1, BATCHES + 1) for record in drums(batch)])
-    office.plants(f"do ACME BIG {BATCHES} done\nclose ACME BIG {BATCHES}")
     for batch in range(1, CHAIN + 1):
-        office.plants(f"""
-            open ACME CHAIN U-{BATCHES}
-            do ACME CHAIN {batch} start
-            actual C{batch} ACME CHAIN {batch} 1 consumed CASK ACME C-{batch - 1} BAY1 1 102
-            actual D{batch} ACME CHAIN {batch} 1 produced CASK ACME C-{batch} BAY1 1 102
-            do ACME CHAIN {batch} done
-            close ACME CHAIN {batch}""")
-        office.asks("ACME", ("POST", f"/lots/C-{batch}/release"))
+        office.plants(f"open ACME CHAIN U-{BATCHES + batch}\ndo ACME CHAIN {batch} start")
+    casks = lambda key, use, behind: [f"{key}{it},ACME,CHAIN,{it},1,{use},CASK,ACME,C-{it - behind},BAY1,1,102" for it in range(1, CHAIN + 1)]
+    office.actuals(casks("D", "produced", 0))
+    office.asks("ACME", *(("POST", f"/lots/C-{it}/release") for it in range(1, CHAIN + 1)))
+    office.actuals(casks("C", "consumed", 1))
 
 
 def drums(batch):

@@ -1,0 +1,161 @@
+"""The owners' lines of docs/day.toll, by clicks: they leave the same rows as over HTTP."""
+import json
+import os
+import pathlib
+import re
+import shutil
+import sqlite3
+
+from .browser import until
+from .site import ROOT, Office
+from .trial import TOLL
+
+
+def day(t):
+    small = t.office
+    replies = [(int(it[:3]), it[4:]) for it in (ROOT / "docs" / "day.out").read_text().splitlines() if re.match(r"\d{3}( \{|$)", it)]
+    lines = [it for it in (ROOT / "docs" / "day.toll").read_text().splitlines() if it and not it.startswith("#")]
+    asked = [it for it in lines if it.startswith("> ")]
+    t.expect(len(asked) == len(replies), f"{len(asked)} lines of owners have {len(replies)} replies")
+    straight, clicked = (Office(TOLL, t.folder / f"{it}.db", t.office_port) for it in ("straight", "clicked"))
+    by_http = iter(replies)
+    run_day(t, straight, lines, lambda *line: t.expect(straight.ask(*line) == next(by_http), f"{line} is told otherwise than in docs/day.out"))
+    clicks, by_page = Clicks(t), iter(replies)
+    run_day(t, clicked, lines, lambda *line: clicks.do(*line, *next(by_page)))
+    print(f"a day by clicks: {clicks.done} of {len(asked)} lines done and seen, {clicks.none} that no click asks for", flush=True)
+    clicks.close()
+    t.expect(rows_of(straight.file) == rows_of(clicked.file), "the day by clicks leaves other rows than over HTTP")
+    t.expect(rows_of(clicked.file)["orders"] != [], "the day leaves no orders")
+    t.serve(small)
+
+
+def run_day(t, office, lines, owner_asks):
+    """The plant's lines as commands, an owner's by what is given."""
+    t.office.end()
+    office.plant(lines[0])
+    t.serve(office)
+    for line in lines[1:]:
+        if line.startswith("> "):
+            owner, key, method, target, *body = line[2:].split(" ", 4)
+            owner_asks(owner, key, method, target, body[0] if body else None)
+        else:
+            office.plant(line)
+
+
+def rows_of(file):
+    """All tables with all their rows, of a copy."""
+    copy = pathlib.Path(f"{file}.copy")
+    for end in ("", "-wal"):
+        if os.path.exists(f"{file}{end}"):
+            shutil.copyfile(f"{file}{end}", f"{copy}{end}")
+    it = sqlite3.connect(copy)
+    try:
+        tables = [name for name, in it.execute("SELECT name FROM sqlite_master WHERE type = 'table' ORDER BY name")]
+        return {name: sorted(it.execute(f'SELECT * FROM "{name}"').fetchall(), key=repr) for name in tables}
+    finally:
+        it.close()
+
+
+class Clicks:
+    """What owners ask, done by clicks: a window for each owner."""
+
+    def __init__(self, t):
+        self.t, self.b, self.home, self.windows, self.done, self.none = t, t.browser, t.browser.window(), {}, 0, 0
+
+    def close(self):
+        for handle in self.windows.values():
+            self.b.turn(handle)
+            self.b.close_window(self.home)
+
+    def window_of(self, owner):
+        if owner in self.windows:
+            self.b.turn(self.windows[owner])
+            self.b.click("#nav a", "Orders")
+        else:
+            self.windows[owner] = self.b.new_window()
+            self.t.enter(owner)
+        self.b.heading("Orders")
+
+    def do(self, owner, key, method, target, body, status, reply):
+        told = json.loads(reply) if reply else {}
+        if key != f"{owner}KEY1":
+            return self.knock(owner, key)
+        self.window_of(owner)
+        what = " ".join(filter(None, [owner, method, target, body]))
+        if method == "POST":
+            doing = self.post(target, body and json.loads(body), status, told)
+        else:
+            doing = self.look(method, target, status, told)
+        self.t.expect(doing is not False, f"the day by clicks: {what}")
+        self.done, self.none = self.done + (doing is not None), self.none + (doing is None)
+
+    def knock(self, owner, key):
+        """Another window, a wrong key."""
+        before = self.b.window()
+        self.b.new_window()
+        if owner == "-":
+            self.b.go(self.t.proxy.address)
+            self.b.heading("Enter")
+            self.b.click("button", "Enter")
+            self.t.expect(self.b.js("return document.querySelector('input:invalid').name") == "owner", "who gives no name enters")
+        else:
+            self.t.enter(owner, key)
+            self.b.wait("The name or the key is wrong.")
+        self.b.close_window(before)
+        self.done += 1
+
+    def post(self, target, body, status, told):
+        """Whether the page says what was told; None where no click asks for it."""
+        _, first, *rest = target.split("/")
+        if target == "/orders":
+            if "recipe" not in body:
+                self.b.type("input[name=order]", body["order"])
+                self.b.click("button", "Place the order")
+                return self.b.js("return document.querySelector('input:invalid').name") == "recipe"
+            self.t.place(body["order"], body["recipe"], body["batches"])
+            return self.says(f"Order {body['order']} is placed" if status == 200 else str(told["code"]))
+        if first == "orders":
+            self.b.click("tbody a", rest[0])
+            return self.press("Cancel", "Cancel the order", f"Order {rest[0]} is cancelled.", status, told)
+        if first == "lots":
+            self.t.to_lot(rest[0])
+            if rest[1] == "release":
+                return self.press("Release", None, f"Lot {rest[0]} is released.", status, told)
+            return self.press("Reject…", "Reject the lot", f"Lot {rest[0]} is rejected.", status, told)
+        return None
+
+    def press(self, button, answer, said, status, told):
+        if status == 409 and told["error"] == "NotQuarantined":
+            # a page that shows the lot as it is doesn't offer this
+            return not self.b.seen("button", button)
+        self.b.click("button", button)
+        if answer:
+            self.b.click("dialog button", answer)
+        return self.says(said if status == 200 else str(told["code"]))
+
+    def says(self, words):
+        until(lambda: self.b.text("#told") + self.b.text("#wrong"), "something is told")
+        return words in self.b.text("#told") + self.b.text("#wrong")
+
+    def look(self, method, target, status, told):
+        """Whether all names and amounts of a reply are seen."""
+        if method != "GET":
+            return None
+        _, first, *rest = target.split("/")
+        address = {"orders": "#/orders", "stock": "#/stock", "batches": "#/orders", "lots": "#/lots", "trace": "#/lots", "nowhere": "#/nowhere"}[first]
+        if first == "trace":
+            address, rest = ("#/plant" if rest[0] == "house" else "#/lots"), rest[1:]
+        self.b.go(self.t.proxy.address + "/".join([address, *rest[:1]]))
+        wanted = ["There is no such page"] if first == "nowhere" else ["You have no lot"] if status == 404 else [f"{it:,}" if isinstance(it, int) and it > 99 else str(it) for it in leaves(told)]
+        if first == "trace":
+            self.t.pictured()
+            self.b.js("document.querySelector('details').open = true")
+        until(lambda: all(it in self.b.text() for it in wanted), lambda: f"{target} shows {wanted}: {self.b.text()[:500]!r}")
+        return True
+
+
+def leaves(value):
+    """The names and amounts of a reply."""
+    if isinstance(value, dict):
+        return [leaf for name, it in value.items() if name not in ("closed", "origin", "owner", "batch", "day") for leaf in leaves(it)]
+    return [leaf for it in value for leaf in leaves(it)] if isinstance(value, list) else [value]
