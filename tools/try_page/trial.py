@@ -14,7 +14,7 @@ class Trial:
 
     def __init__(self, folder, pictures):
         self.folder, self.pictures = pathlib.Path(folder), pathlib.Path(pictures)
-        self.wrong, self.shots, self.office_port = [], [], free_port()
+        self.wrong, self.shots, self.least, self.office_port = [], [], 21, free_port()
         self.office = self.proxy = self.browser = None
 
     def expect(self, holds, what):
@@ -33,7 +33,9 @@ class Trial:
         """Keeps a picture, and looks at what is on it."""
         self.browser.shot(self.pictures / f"{name}.png", whole)
         self.shots.append((name, what))
-        for it in self.looks("contrasts().wrong.concat(names(), widths())"):
+        contrasts, others = self.looks("[contrasts(), names().concat(widths())]")
+        self.least = min(self.least, contrasts["least"])
+        for it in contrasts["wrong"] + others:
             self.expect(False, f"{name}: {it}")
 
     def looks(self, asked):
