@@ -176,14 +176,19 @@ class Office:
         self.folder = tempfile.mkdtemp(dir=folder)
         self.db = os.path.join(self.folder, "office.db")
 
-    def run(self, words, env=None, stdin=b""):
-        told = subprocess.run([self.program, *words], input=stdin, capture_output=True, timeout=PATIENCE,
-                              env={**os.environ, **(env or {})}, cwd=self.folder)
+    def run(self, words, env=None, stdin=b"", closed=""):
+        """What the program tells of these words, with the streams closed that a shell is told to close."""
+        words = [self.program, *words]
+        if closed:
+            # the shell itself is not to be troubled
+            words = ["sh", "-c", f'export LD_PRELOAD="$TRY_LIBRARY"; exec "$0" "$@" {closed}', *words]
+            env = {**(env or {}), "TRY_LIBRARY": (env or {}).get("LD_PRELOAD", ""), "LD_PRELOAD": ""}
+        told = subprocess.run(words, input=stdin, capture_output=True, timeout=PATIENCE, env={**os.environ, **(env or {})}, cwd=self.folder)
         return Told(told.returncode, told.stdout.decode(errors="replace"), told.stderr.decode(errors="replace"))
 
-    def plant(self, *words, env=None):
+    def plant(self, *words, env=None, closed=""):
         """What the program tells of these words over the file."""
-        return self.run(["--db", self.db, *words], env)
+        return self.run(["--db", self.db, *words], env, closed=closed)
 
     @contextlib.contextmanager
     def serve(self, env=None):
@@ -210,6 +215,21 @@ class Office:
         return self.db
 
 
+class Troubled(Office):
+    """An office whose program is troubled by a preloaded library, which is told how in a file that it shares."""
+
+    def __init__(self, program, folder, preloaded):
+        super().__init__(program, folder)
+        self.plan = os.path.join(folder, os.path.basename(self.folder) + ".plan")
+        self.env = {"LD_PRELOAD": preloaded, "TRY_PLAN": self.plan, "TRY_FOLDER": self.folder}
+
+    def share(self, plan):
+        pathlib.Path(self.plan).write_bytes(plan)
+
+    def shared(self):
+        return pathlib.Path(self.plan).read_bytes()
+
+
 class Server:
     """A server of an office, at a port that it takes itself."""
 
@@ -230,6 +250,14 @@ class Server:
                 return printed(read_all(peer))
         except OSError:
             return ""
+
+    def is_ended(self):
+        """Whether the server has ended, which it may be about to."""
+        try:
+            self.it.wait(timeout=1)
+        except subprocess.TimeoutExpired:
+            return False
+        return True
 
     def kill(self):
         self.it.kill()
@@ -256,6 +284,88 @@ def printed(reply):
     head, _, body = reply.partition("\r\n\r\n")
     return f"{head.split(' ')[1]} {body}" if head.startswith("HTTP/1.1 ") else reply
 
+
+# What is tried over a file
+
+UNTROUBLED, ALLOWED = "as untroubled", "as it may be"
+
+
+class Command:
+    """Words of the plant over a file. For each answer it has the contents that it may leave, each with the answer to the
+    same words given again, after which the content is that of the untroubled command."""
+
+    def __init__(self, office, name, base, words, out):
+        self.name, self.base, self.words = name, base, words
+        put(base, office.db)
+        self.before = content(office.db)
+        self.ample = office.plant(*words)
+        if self.ample != Told(0, out):
+            give_up(f"{name}: untroubled it is told {self.ample}")
+        self.after = content(office.db)
+        self.allowed = {self.ample: [(self.after, None)]}
+
+    def attempt(self, office):
+        """One of the two words above, or what is wrong."""
+        put(self.base, office.db)
+        told = office.plant(*self.words, env=office.env)
+        found = content(office.db)
+        for left, again in self.allowed.get(told, []):
+            if left == found:
+                return self.attempt_again(office, told, again)
+        return f"{told}, with rows that it may not leave" if told in self.allowed else str(told)
+
+    def attempt_again(self, office, told, again):
+        if again is None:
+            return UNTROUBLED
+        more = office.plant(*self.words)
+        if more != again or content(office.db) != self.after:
+            return f"{told}, and the same words again: {more}"
+        return ALLOWED
+
+
+class Import(Command):
+    """An import of ACTUALS, with the content after each number of its records."""
+    OUTCOMES = ["accepted", "accepted", "repeated"]
+
+    def __init__(self, office, name, base):
+        actuals = os.path.join(tempfile.mkdtemp(dir=os.path.dirname(office.folder)), "actuals.csv")
+        self.fronts = [self.front(office, base, actuals, count) for count in range(len(self.OUTCOMES) + 1)]
+        self.again = [Told(0, report(["repeated"] * count + self.OUTCOMES[count:])) for count in range(len(self.fronts))]
+        super().__init__(office, name, base, ["import", actuals], report(self.OUTCOMES))
+
+    def front(self, office, base, actuals, count):
+        """The content after so many records."""
+        with open(actuals, "w") as file:
+            file.writelines(ACTUALS.splitlines(keepends=True)[:count + 1])
+        put(base, office.db)
+        office.plant("import", actuals)
+        return content(office.db)
+
+    def left(self, *counts):
+        """The contents after these numbers of records, each with what is told of the file when it is imported again."""
+        return [(self.fronts[count], self.again[count]) for count in counts]
+
+    def ending_with(self, fault, count):
+        """What is told where the record behind so many met this fault."""
+        return Told(3, report(self.OUTCOMES[:count] + [f"fault {fault}"]))
+
+
+def report(outcomes):
+    """The text of an import with these outcomes."""
+    lines = "".join(f"{number:6} {outcome}\n" for number, outcome in enumerate(outcomes, 1))
+    counts = [sum(it.startswith(word) for it in outcomes) for word in ("accepted", "repeated", "refused", "bad", "fault")]
+    return lines + "accepted %d repeated %d refused %d bad %d fault %d\n" % tuple(counts)
+
+
+def make_version_1(office):
+    """A file of version 1 with an office at work."""
+    db = office.lay(AT_WORK)
+    with contextlib.closing(sqlite3.connect(db)) as base:
+        base.executescript(BACK_TO_VERSION_1)
+    return db
+
+
+# Many starts
 
 class Offices:
     """An office for each thread that asks for one."""
