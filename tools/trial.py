@@ -183,7 +183,10 @@ class Office:
             # the shell itself is not to be troubled
             words = ["sh", "-c", f'export LD_PRELOAD="$TRY_LIBRARY"; exec "$0" "$@" {closed}', *words]
             env = {**(env or {}), "TRY_LIBRARY": (env or {}).get("LD_PRELOAD", ""), "LD_PRELOAD": ""}
-        told = subprocess.run(words, input=stdin, capture_output=True, timeout=PATIENCE, env={**os.environ, **(env or {})}, cwd=self.folder)
+        try:
+            told = subprocess.run(words, input=stdin, capture_output=True, timeout=PATIENCE, env={**os.environ, **(env or {})}, cwd=self.folder)
+        except subprocess.TimeoutExpired:
+            return Told(0, "", f"no end within {PATIENCE} s")
         return Told(told.returncode, told.stdout.decode(errors="replace"), told.stderr.decode(errors="replace"))
 
     def plant(self, *words, env=None, closed=""):
@@ -292,7 +295,7 @@ UNTROUBLED, ALLOWED = "as untroubled", "as it may be"
 
 class Command:
     """Words of the plant over a file. For each answer it has the contents that it may leave, each with the answer to the
-    same words given again, after which the content is that of the untroubled command."""
+    same words given again, after which the content is that of the untroubled command; none where they aren't."""
 
     def __init__(self, office, name, base, words, out):
         self.name, self.base, self.words = name, base, words
@@ -320,7 +323,7 @@ class Command:
         more = office.plant(*self.words)
         if more != again or content(office.db) != self.after:
             return f"{told}, and the same words again: {more}"
-        return ALLOWED
+        return UNTROUBLED if told == self.ample else ALLOWED
 
 
 class Import(Command):

@@ -17,7 +17,7 @@ enum { FILES = 1024, MOST_CALLS = 8192 };
 enum way { FAIL = 1, SHORT, TORN, KILLED_BEFORE, KILLED_AFTER };
 
 static struct plan {
-    long at, way, error;  /* the call that is troubled, how, and its errno where it fails */
+    long at, way, error;  /* the call that is troubled, how, and its errno where it fails; -1: none any more */
     long calls;
     char kinds[MOST_CALLS];  /* a letter for each call so far */
 } *plan;
@@ -39,7 +39,7 @@ static void stop(void) { syscall(SYS_kill, getpid(), SIGKILL); }
 
 /* How this call is troubled; 0 where it goes its way. */
 static enum way trouble(char kind) {
-    if (!plan) return 0;
+    if (!plan || plan->at < 0) return 0;
     long number = plan->calls++;
     if (number < MOST_CALLS) plan->kinds[number] = kind;
     if (number + 1 != plan->at) return 0;
