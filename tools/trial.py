@@ -132,7 +132,8 @@ def library(source, folder):
 @contextlib.contextmanager
 def folder_of_trial(parent=None):
     """A folder that is removed at the end, also where the tool is ended by a signal."""
-    signal.signal(signal.SIGTERM, lambda *_: sys.exit(143))
+    for number in (signal.SIGINT, signal.SIGTERM):
+        signal.signal(number, lambda number, _: sys.exit(128 + number))
     os.umask(0o077)
     with tempfile.TemporaryDirectory(prefix=f"{NAME}.", dir=parent) as folder:
         yield folder
