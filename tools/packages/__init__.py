@@ -1,0 +1,1 @@
+"""What tools/package and tools/check-package stand on: what is packaged, and how."""
