@@ -1,0 +1,1 @@
+"""What tools/bench and tools/load are made of."""

@@ -1,0 +1,265 @@
+"""The workloads: the offices of each, what is measured of a program at one, and what a user would write instead."""
+import json
+import os
+import pathlib
+import statistics
+import sys
+import time
+
+import trial
+
+from . import beside, offices
+from .clock import Figures, in_process, request, run, settled, status_of
+from .offices import AT_THE_LIMITS, HOUSE, KEY, WATER, Genealogy, owner_name
+from .sheet import BESIDE, Sheet
+
+OWNER = owner_name(0)
+GET = f"> {OWNER} {KEY} GET"
+OPENING = ("GET that opens the file", f"> {OWNER} NOTTHEKEY GET /stock", "403 ")
+IN_A_ROW = {"GET an order": (f"{GET} /orders/X-00001", 1_000), "GET all orders": (f"{GET} /orders", 20),
+            "GET stock of 2,000 lots": (f"{GET} /stock", 20)}
+
+
+def place(number):
+    return f'> {OWNER} {KEY} POST /orders {{"order":"NEW-{number}","recipe":"R","batches":1}}'
+
+
+class Office(trial.Office):
+    """An office whose program is measured."""
+
+    def measure(self, *words, **how):
+        return run([self.program, "--db", self.db, *words], self.folder, **how)
+
+
+class Written(Office):
+    """The same file, of which what a user would write instead is measured."""
+
+    def measure(self, *words, **how):
+        return run([sys.executable, "-I", beside.__file__, self.db, *words], self.folder, **how)
+
+
+class Bench:
+    """All measures, over files in memory or on a disk."""
+
+    def __init__(self, words, in_memory, on_disk):
+        self.runs, self.in_memory, self.on_disk = words.runs, in_memory, on_disk
+        self.programs = dict(zip("ABCDEFGH", words.program))
+        self.sheet = Sheet(list(self.programs))
+
+    def laid(self, what, fill, *size):
+        """The file of an office that is filled so."""
+        office = Office(self.programs["A"], self.in_memory)
+        fill(office, *size)
+        print(f"{trial.NAME}: {what}, {os.path.getsize(office.db) / 1e6:,.1f} MB", file=sys.stderr, flush=True)
+        return office.db
+
+    def take(self, base, size, session, instead=None, *rest, is_on_disk=False):
+        """Measures all programs by turns, and what is written instead; each begins with the base's file."""
+        folder = self.on_disk if is_on_disk else self.in_memory
+        for _ in range(self.runs):
+            for name, program in self.programs.items():
+                self.turn(base, size, name, Office(program, folder), session, *rest)
+            if instead:
+                self.turn(base, size, BESIDE, Written(None, folder), instead, *rest)
+
+    def turn(self, base, size, name, office, session, *rest):
+        trial.put(base, office.db)
+        for row, figures in session(office, *rest):
+            self.sheet.note(row, size, name, figures)
+        trial.put(None, office.db)
+
+
+# An owner's genealogy
+
+def questions(it):
+    """What is asked of a genealogy by command."""
+    return {"`stock`": ["stock", OWNER], "`trace` forward": ["trace", HOUSE, WATER, "forward"], "`trace` back": ["trace", OWNER, it.last, "back"],
+            "`recall`": ["recall", HOUSE, WATER]}
+
+
+def traces(it):
+    """The traces that the owner asks for over HTTP: the lot and the way."""
+    return {"GET trace forward": (it.first, "forward"), "GET trace back": (it.last, "back")}
+
+
+def twice(row, line):
+    return [(f"{row}, {it}", line, "200 ") for it in ("first", "again")]
+
+
+def requests(it):
+    """What two servers are asked: the one for traces first, the other for stock."""
+    lines = {row: f"{GET} /trace/{way}/{lot}" for row, (lot, way) in traces(it).items()}
+    forward = lines["GET trace forward"]
+    yield [OPENING, *(asked for row, line in lines.items() for asked in twice(row, line))]
+    yield [OPENING, *twice("GET stock", f"{GET} /stock"), *twice("GET trace forward after stock", forward),
+           *twice("GET an order", f"{GET} /orders/O-00001"), ("POST an order, first", place(1), "200 "), ("POST an order, again", place(2), "200 "),
+           ("GET trace forward after an order", forward, "200 ")]
+
+
+def genealogy(office, it):
+    yield "opening", office.measure("orders", HOUSE)
+    for row, words in questions(it).items():
+        yield row, office.measure(*words)
+    for asked in requests(it):
+        with office.serve() as server:
+            for row, line, wanted in asked:
+                yield row, request(server, line, wanted)
+
+
+def genealogy_instead(office, it):
+    yield "opening", office.measure("open")
+    for row, words in questions(it).items():
+        yield row, office.measure(*words)
+    base = beside.Base(office.db)
+    asked = {row: lambda lot=lot, way=way: base.chain(beside.TRACE, OWNER, lot, way, OWNER) for row, (lot, way) in traces(it).items()}
+    asked["GET stock"] = lambda: base.base.execute(beside.STOCK, (OWNER,)).fetchall()
+    for row, ask in asked.items():
+        yield f"{row}, first", in_process(lambda: json.dumps(ask()))
+        yield f"{row}, again", in_process(lambda: json.dumps(ask()))
+    base.base.close()
+
+
+def measure_owner(bench, words):
+    for actuals in words.batches:
+        for movements in words.movements:
+            it = Genealogy(movements, actuals)
+            base = bench.laid(f"an owner of {movements:,} movements in batches of {actuals}", offices.with_genealogy, it)
+            bench.take(base, movements, genealogy, genealogy_instead, it)
+        bench.sheet.print(f"An owner of so many movements, in batches of {actuals} actuals", "movements")
+
+
+def measure_chain(bench, words):
+    for lots in words.lots:
+        it = Genealogy(2 * (lots - 1), 2, raw=0, is_chain=True)
+        base = bench.laid(f"a chain of {lots:,} lots", offices.with_genealogy, it)
+        bench.take(base, lots, genealogy, genealogy_instead, it)
+    bench.sheet.print("Lots in a chain, each made of the one before", "lots")
+
+
+def measure_limits(bench, words):
+    """Each owner has all that it may have. What the program tells of its stock is held against SQL first."""
+    for owners in words.owners:
+        base = bench.laid(f"{owners} owners at the limits", offices.at_the_limits, owners)
+        for name, program in bench.programs.items():
+            office = Office(program, bench.in_memory)
+            trial.put(base, office.db)
+            for owner in {OWNER, owner_name(owners - 1)}:
+                if office.plant("stock", owner) != trial.Told(0, offices.stock(base, owner)):
+                    bench.sheet.wrong.append(f"{name}: the stock of {owner} is not what SQL says")
+            trial.put(None, office.db)
+        bench.take(base, offices.count_rows(base), genealogy, genealogy_instead, AT_THE_LIMITS)
+    bench.sheet.print("An office of owners at the limits", "rows")
+
+
+# Orders
+
+def in_a_row(server, lines):
+    """The mean of the processor and the median of the clock of these requests, one after another."""
+    before, clocks = settled(server.it.pid), []
+    for line in lines:
+        began = time.perf_counter()
+        told = server.ask(line)
+        clocks.append(time.perf_counter() - began)
+        if not told.startswith("200 "):
+            trial.give_up(f"{line}: {told[:200]}")
+    return Figures((settled(server.it.pid) - before) / len(lines), statistics.median(clocks), status_of(server.it.pid, "VmHWM"))
+
+
+def orders(office):
+    yield "opening", office.measure("orders", HOUSE)
+    yield "`orders` of the owner", office.measure("orders", OWNER)
+    with office.serve() as server:
+        yield OPENING[0], request(server, *OPENING[1:])
+        for row, (line, count) in IN_A_ROW.items():
+            yield f"{row}, {count:,} in a row", in_a_row(server, [line] * count)
+        yield "POST an order, 100 in a row", in_a_row(server, [place(it) for it in range(100)])
+        office.plant("unit-add", "U-900")
+        yield "GET an order after a command", request(server, f"{GET} /orders/X-00001")
+
+
+def orders_instead(office):
+    yield "opening", office.measure("open")
+
+
+def measure_orders(bench, words):
+    for count in words.orders:
+        base = bench.laid(f"{count:,} orders", offices.with_orders, count)
+        bench.take(base, count, orders, orders_instead)
+    bench.sheet.print("Orders of many owners, and 2,000 lots of the one that asks", "orders")
+
+
+# Files that are written to
+
+def start(office, where):
+    yield f"a question{where}", office.measure("orders", HOUSE)
+    yield f"a command{where}", office.measure("unit-add", "U-200")
+    trial.put(None, office.db)
+    yield f"the first command, which makes the file{where}", office.measure("unit-add", "U-001")
+
+
+def start_instead(office, where):
+    yield f"a question{where}", office.measure("open")
+
+
+def measure_start(bench, _):
+    base = bench.laid("a small file", offices.with_raw_lots, 1)
+    for where in ("", ", on a disk"):
+        bench.take(base, 1, start, start_instead, where, is_on_disk=where != "")
+    bench.sheet.print("A file of one lot, the program's start included", "lots")
+
+
+def importing(office, count, where):
+    path = written(office, offices.records(count))
+    yield f"`import`{where}", office.measure("import", path)
+    yield f"the same file again{where}", office.measure("import", path)
+
+
+def importing_instead(office, count, where):
+    path, base = written(office, offices.records(count)), f"{office.db}.base"
+    trial.put(office.db, base)
+    yield f"`import`{where}", office.measure("import", path)
+    trial.put(base, office.db)
+    trial.put(None, base)
+    yield f"its writes alone{where}", office.measure("write", path)
+
+
+def written(office, lines):
+    """A file of these lines, beside the office."""
+    path = pathlib.Path(office.folder) / "lines"
+    path.write_text("".join(lines))
+    return str(path)
+
+
+def measure_import(bench, words):
+    base = bench.laid("running batches", offices.with_raw_lots, 100)
+    for count in words.records:
+        for where in ("", ", on a disk"):
+            bench.take(base, count, importing, importing_instead, count, where, is_on_disk=where != "")
+    bench.sheet.print("A file of actuals", "records")
+
+
+# A script
+
+def receipts_and_releases(count):
+    yield "material-add HOUSE WATER liter\n"
+    yield from (f"receive HOUSE K{it} WATER W-{it} TANK 1000 101\n" for it in range(count))
+    yield from (f"release W-{it}\n" for it in range(count))
+
+
+def script(office, count):
+    yield "`script`", run([office.program, "script"], office.folder, written(office, receipts_and_releases(count)))
+
+
+def script_instead(office, count):
+    office.db = ":memory:"
+    yield "`script`", office.measure("script", stdin=written(office, receipts_and_releases(count)))
+
+
+def measure_script(bench, words):
+    for count in words.lines:
+        bench.take(None, count, script, script_instead, count)
+    bench.sheet.print("A script of receipts, and as many releases", "receipts")
+
+
+WORKS = {"start": measure_start, "owner": measure_owner, "chain": measure_chain, "script": measure_script, "import": measure_import,
+         "orders": measure_orders, "limits": measure_limits}
