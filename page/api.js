@@ -1,7 +1,8 @@
 /** What is asked of the office: a few requests at a time, and again where it is busy or away. */
 
-import { parse } from "./values.js";
 import { meaning } from "./refusals.js";
+import { isReply } from "./replies.js";
+import { parse } from "./values.js";
 
 /** The office understood, and refuses: docs/refusals.md. */
 export class Refused extends Error {
@@ -41,9 +42,10 @@ class Turns {
     this.#free = most;
   }
 
-  async take() {
+  /** A turn, as soon as it comes; `isFirst` goes before all that wait. */
+  async take(isFirst) {
     if (this.#free > 0) this.#free--;
-    else await new Promise(go => this.#row.push(go));
+    else await new Promise(go => (isFirst ? this.#row.unshift(go) : this.#row.push(go)));
   }
 
   give() {
@@ -55,11 +57,15 @@ class Turns {
 
 function restFor(milliseconds, signal) {
   return new Promise((done, failed) => {
-    const timer = setTimeout(done, milliseconds);
-    signal?.addEventListener("abort", () => {
+    const end = () => {
       clearTimeout(timer);
       failed(signal.reason);
-    }, { once: true });
+    };
+    const timer = setTimeout(() => {
+      signal?.removeEventListener("abort", end);
+      done();
+    }, milliseconds);
+    signal?.addEventListener("abort", end, { once: true });
   });
 }
 
@@ -81,7 +87,8 @@ export class Office {
 
   /** The value of the reply. `who` asks; `signal` ends it. */
   async ask(who, method, path, { body, signal } = {}) {
-    await this.#turns.take();
+    // what a person has clicked doesn't wait for a picture that is being read
+    await this.#turns.take(method === "POST");
     try {
       return await this.#askUntilTold(who, method, path, body, signal);
     } finally {
@@ -94,9 +101,9 @@ export class Office {
    * once, however often it is asked. Where it was asked again and is refused, its reply may have been
    * lost: then `stands` tells whether what was asked for is there, and if so, that is no refusal.
    */
-  async carry(who, path, { body, stands } = {}) {
+  async carry(who, path, { body, stands, signal } = {}) {
     try {
-      return await this.ask(who, "POST", path, { body });
+      return await this.ask(who, "POST", path, { body, signal });
     } catch (it) {
       if (it instanceof Refused && it.repeated && await stands?.()) return null;
       throw it;
@@ -110,7 +117,7 @@ export class Office {
         signal?.throwIfAborted();
         const reply = await this.#send(who, method, path, body, signal);
         const why = reply === null || AWAY.has(reply.status) ? "away" : BUSY.has(reply.status) ? "busy" : null;
-        if (why === null) return await valueOf(reply, tries > 0);
+        if (why === null) return valueOf(reply, tries > 0, it => isReply(method, path, it));
         if (tries === RESTS.length) throw new Away(why);
         over ??= this.#waits(why);
         await this.#rest(restBefore(tries, reply), signal);
@@ -133,8 +140,8 @@ export class Office {
       });
       // a reply that breaks off is none
       return { status: reply.status, type: reply.headers.get("content-type") ?? "", after: reply.headers.get("retry-after"), text: await reply.text() };
-    } catch (it) {
-      if (signal?.aborted) throw it;
+    } catch {
+      signal?.throwIfAborted();
       return null;
     }
   }
@@ -146,15 +153,21 @@ function restBefore(tries, reply) {
   return Math.max(RESTS[tries] * (0.75 + Math.random() / 2), Math.min(said, 30_000));
 }
 
-function valueOf(reply, repeated) {
-  if (reply.status === 403) throw new Forbidden("The name or the key is wrong.");
-  let value = null;
+/** The value of the office's reply. A proxy answers too, as it likes: what isn't as the office has it is strange. */
+function valueOf(reply, repeated, isWanted) {
+  const value = jsonOf(reply);
+  if (reply.status === 200 && isWanted(value)) return value;
+  if (reply.status === 403 && value?.error === "Forbidden") throw new Forbidden("The name or the key is wrong.");
+  const refuses = [404, 409].includes(reply.status) && Number.isInteger(value?.code) && typeof value.error === "string";
+  if (refuses) throw new Refused(reply.status, value.code, value.error, repeated);
+  throw new Strange(`What came isn't the office's answer (${reply.status}). It may be that something between here and the office is wrong.`);
+}
+
+/** The value of a reply in JSON, or null. */
+function jsonOf({ type, text }) {
   try {
-    value = reply.type.startsWith("application/json") ? parse(reply.text) : null;
+    return type.startsWith("application/json") ? parse(text) : null;
   } catch {
-    // told below as strange
+    return null;
   }
-  if (reply.status === 200 && value !== null) return value;
-  if (Number.isInteger(value?.code)) throw new Refused(reply.status, value.code, String(value.error), repeated);
-  throw new Strange(`The office answered in a way that this page doesn't know: ${reply.status} ${value?.error ?? ""}`.trim());
 }

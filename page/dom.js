@@ -11,6 +11,9 @@ export const svg = (name, given = {}, ...inner) => fill(document.createElementNS
 /** A link to an address of the page. */
 export const link = (address, ...inner) => html("a", { href: address }, ...inner);
 
+/** A name with its value, for a list of facts. */
+export const fact = (name, ...value) => html("div", {}, html("dt", {}, name), html("dd", {}, ...value));
+
 /** Text that is read out and not seen. */
 export const unseen = (...inner) => html("span", { class: "unseen" }, ...inner);
 

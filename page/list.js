@@ -36,8 +36,11 @@ const frame = (caption, heads, body) => html("div", { class: "table" }, html("ta
   html("caption", { class: "unseen" }, caption),
   html("thead", { role: "rowgroup" }, html("tr", { role: "row" }, heads)), body));
 
-const line = (columns, row) => html("tr", { role: "row" }, columns.map((it, i) =>
-  html(i === 0 ? "th" : "td", { role: i === 0 ? "rowheader" : "cell", scope: i === 0 && "row", class: classOf(it), "data-title": typeof it.title === "string" && it.title }, it.cell(row))));
+/** A row, whose first cell is its head. Where cells stand in blocks, each begins with its column's title. */
+const line = (columns, row) => html("tr", { role: "row" }, columns.map((it, i) => {
+  const given = { class: classOf(it), "data-title": typeof it.title === "string" && it.title };
+  return i === 0 ? html("th", { role: "rowheader", scope: "row", ...given }, it.cell(row)) : html("td", { role: "cell", ...given }, it.cell(row));
+}));
 
 /**
  * A list of many rows with a field to search, choices, and heads that sort. What is searched, chosen and
@@ -68,8 +71,11 @@ export class Finder {
 
   #fields() {
     const { what, choices = [] } = this.#given;
+    const search = html("input", {
+      type: "search", name: "search", value: this.#query.search, autocomplete: "off", input: event => this.#set("search", event.target.value.trim()),
+    });
     return html("form", { class: "fields", role: "search", "aria-label": `Find ${what[1]}`, submit: event => event.preventDefault() },
-      html("label", {}, `Search ${what[1]}`, html("input", { type: "search", name: "search", value: this.#query.search, autocomplete: "off", input: event => this.#set("search", event.target.value.trim()) })),
+      html("label", {}, `Search ${what[1]}`, search),
       choices.map(it => html("label", {}, it.title, this.#choice(it))));
   }
 

@@ -1,4 +1,4 @@
-/** What stands above a view: the sign that the page waits, and what is told. */
+/** What is told: the sign that the page waits, what was done, and what went wrong. */
 
 import { Refused } from "./api.js";
 import { html } from "./dom.js";
@@ -27,7 +27,8 @@ export function waits(why) {
 
 function drawSign() {
   const last = waiting.at(-1);
-  at("sign").replaceChildren(...(last ? [html("p", { class: "notice wait" }, html("span", { class: "turning", "aria-hidden": "true" }), SIGNS[last.why])] : []));
+  const sign = () => html("p", { class: "notice wait" }, html("span", { class: "turning", "aria-hidden": "true" }), SIGNS[last.why]);
+  at("sign").replaceChildren(...(last ? [sign()] : []));
 }
 
 /** Says what was done, or what went wrong, in place of what was told before. */
@@ -40,3 +41,7 @@ export function tell(text, wrong = false) {
 
 /** What is said of an error, its number and word too where the office refused. */
 export const wordsOf = error => (error instanceof Refused ? [error.message, " ", html("small", {}, `${error.code} ${error.word}`)] : error.message);
+
+/** What stands in the place of what couldn't be read. A refusal stays one, all else may be asked again. */
+export const failed = (error, again) => html("div", { class: "failed" }, html("p", {}, wordsOf(error)),
+  !(error instanceof Refused) && html("button", { type: "button", click: again }, "Ask again"));

@@ -2,8 +2,8 @@
 
 import { html } from "./dom.js";
 
-/** Asks in a window of the page. True where the answer is `yes`; Escape and `no` are false. */
-export function ask({ title, text, yes, no = "No, keep it" }) {
+/** Asks in a window of the page. True where the answer is `yes`; Escape, `no` and leaving the view (its signal) are false. */
+export function ask(signal, { title, text, yes, no = "No, keep it" }) {
   return new Promise(answered => {
     const close = answer => () => {
       dialog.returnValue = answer;
@@ -15,6 +15,7 @@ export function ask({ title, text, yes, no = "No, keep it" }) {
       html("div", { class: "buttons" },
         html("button", { type: "button", click: close("no"), autofocus: true }, no),
         html("button", { type: "button", class: "danger", click: close("yes") }, yes)));
+    signal.addEventListener("abort", close("no"), { once: true });
     dialog.addEventListener("close", () => {
       dialog.remove();
       answered(dialog.returnValue === "yes");

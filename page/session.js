@@ -1,6 +1,8 @@
-/** Who asks. The name and the key stay in the window's sessionStorage, and end with the window. */
+/** Who asks. The name and the key stay in the window's sessionStorage, until the owner leaves. */
 
 const PLACE = "hilpoven";
+
+let ends = new AbortController();
 
 /** The owner and its key, or null. */
 export function whoAsks() {
@@ -12,6 +14,21 @@ export function whoAsks() {
   }
 }
 
-export const keep = who => sessionStorage.setItem(PLACE, JSON.stringify(who));
+/** A signal that comes when this session ends: nothing is asked or told in its owner's name any more. */
+export const untilEnd = () => ends.signal;
 
-export const forget = () => sessionStorage.removeItem(PLACE);
+/** Gives up what is asked in this session, while its key stays: the browser may bring the page back for another owner. */
+export function giveUp() {
+  ends.abort();
+  ends = new AbortController();
+}
+
+export function keep(who) {
+  giveUp();
+  sessionStorage.setItem(PLACE, JSON.stringify(who));
+}
+
+export function forget() {
+  giveUp();
+  sessionStorage.removeItem(PLACE);
+}

@@ -47,16 +47,24 @@ function box(it, at) {
   const name = [it.title, ...it.lines, !it.plant && it.word, it.asked && "the lot that was asked for"].filter(Boolean).join(", ");
   const inner = [outline(it, at), it.fold ? folded(it, at) : written(it, at)];
   const given = { class: `box ${kind}`, "aria-label": name, "data-id": it.id };
-  if (it.fold) return svg("g", { ...given, role: "button", tabindex: 0, "data-key": it.id, click: it.fold, keydown: event => { if (["Enter", " "].includes(event.key)) { event.preventDefault(); it.fold(); } } }, inner);
+  if (it.fold) return svg("g", { ...given, role: "button", tabindex: 0, "data-key": it.id, click: it.fold, keydown: pressed(it.fold) }, inner);
   return it.asked ? svg("g", { ...given, role: "img", "aria-current": "true" }, inner) : svg("a", { ...given, href: it.address }, inner);
 }
+
+/** What a key does that has the focus on a fold: as with a button, Enter and space open it. */
+const pressed = fold => event => {
+  if (!["Enter", " "].includes(event.key)) return;
+  event.preventDefault();
+  fold();
+};
 
 /** The plant's lots have their corners cut off, so that they are told apart without colours. */
 function outline(it, { x, y }) {
   const { width, height } = SIZES;
   if (!it.plant) return svg("rect", { class: "outline", x, y, width, height, rx: 7 });
   const cut = 11;
-  return svg("path", { class: "outline", d: `M${x + cut} ${y}H${x + width - cut}L${x + width} ${y + cut}V${y + height - cut}L${x + width - cut} ${y + height}H${x + cut}L${x} ${y + height - cut}V${y + cut}z` });
+  const [right, bottom] = [width - 2 * cut, height - 2 * cut];
+  return svg("path", { class: "outline", d: `M${x + cut} ${y}h${right}l${cut} ${cut}v${bottom}l${-cut} ${cut}h${-right}l${-cut} ${-cut}v${-bottom}z` });
 }
 
 function written(it, { x, y }) {

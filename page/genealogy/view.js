@@ -44,8 +44,10 @@ export class Genealogy {
   }
 
   #summary() {
+    const { back, forward } = this.#traces;
     const told = trace => (trace.length > 1 ? `${count(trace.length - 1, "lot")} over ${count(trace.at(-1).steps, "step")}` : "none");
-    return `Made of: ${told(this.#traces.back)}. Went into: ${told(this.#traces.forward)}. Arrows lead from a lot to what it went into.`;
+    const made = back[0].owner === PLANT ? "" : `Made of: ${told(back)}. `;
+    return `${made}Went into: ${told(forward)}. Arrows lead from a lot to what it went into.`;
   }
 
   #legend() {
@@ -139,7 +141,8 @@ export class Genealogy {
     const boxes = new Map(shown.map(it => [it.id, this.#boxOf(it)]));
     for (const [way, words] of WAYS) {
       const n = [...hidden.values()].filter(it => it === way).length;
-      if (n > 0) boxes.set(foldOf(way), { id: foldOf(way), title: `${number(n)} more`, lines: [words], word: "", fold: () => this.#openFold(way) });
+      const id = foldOf(way);
+      if (n > 0) boxes.set(id, { id, title: `${number(n)} more`, lines: [words], word: "", fold: () => this.#openFold(way) });
     }
     const layout = layered([...boxes.keys()], edgesOf(shown, this.#neighbours, hidden));
     return picture(layout, boxes, `Genealogy of ${shown[0].lot}: ${count(boxes.size, "box", "boxes")}`);
@@ -147,9 +150,11 @@ export class Genealogy {
 
   #boxOf(it) {
     const asked = it.id === idOf(this.#traces.back[0]);
-    if (it.owner === PLANT) return { id: it.id, title: it.lot, lines: ["a lot of the plant"], word: "the plant's", plant: true, asked, address: toPlantLot(it.lot) };
+    const common = { id: it.id, title: it.lot, asked, address: addressOf(it) };
+    if (it.owner === PLANT) return { ...common, lines: ["a lot of the plant"], word: "the plant's", plant: true };
+    // a lot that was made after the stock was read has no line in it
     const line = this.#stock.get(it.lot);
-    return { id: it.id, title: it.lot, lines: line ? [line.material, amount(line.amount, line.measure)] : [""], word: line?.disposition ?? "", asked, address: toLot(it.lot) };
+    return { ...common, lines: line ? [line.material, amount(line.amount, line.measure)] : [""], word: line?.disposition ?? "" };
   }
 
   // The table
@@ -157,6 +162,8 @@ export class Genealogy {
   #table() {
     const { back, forward } = this.#traces;
     const lineOf = it => (it.owner === PLANT ? undefined : this.#stock.get(it.lot));
+    const amountOf = line => line && amount(line.amount, line.measure);
+    const word = it => (it.owner === PLANT ? "the plant's" : lineOf(it)?.disposition);
     return this.#details = html("details", {}, html("summary", {}, "The same as a table"), table({
       caption: "The lots of the genealogy, with their fewest steps",
       signal: this.#page.signal,
@@ -166,8 +173,8 @@ export class Genealogy {
         { title: "Steps back", number: true, cell: it => it.back !== null && number(it.back) },
         { title: "Steps forward", number: true, cell: it => it.forward !== null && number(it.forward) },
         { title: "Material", cell: it => lineOf(it)?.material },
-        { title: "On hand", number: true, cell: it => lineOf(it) && amount(lineOf(it).amount, lineOf(it).measure) },
-        { title: "Disposition", cell: it => chip(lineOf(it)?.disposition ?? "the plant's") },
+        { title: "On hand", number: true, cell: it => amountOf(lineOf(it)) },
+        { title: "Disposition", cell: it => word(it) && chip(word(it)) },
       ],
     }));
   }

@@ -3,11 +3,14 @@ import { readFileSync, readdirSync } from "node:fs";
 import test from "node:test";
 import { Away, Forbidden, Office, Refused, RESTS, Strange } from "../api.js";
 import { known, meaning } from "../refusals.js";
+import { isReply } from "../replies.js";
 import { read, toLot, toOrder, toOrders, toPlantLot, toStock } from "../router.js";
+import { forget, giveUp, keep, untilEnd, whoAsks } from "../session.js";
 import { compareNumbers, count, isName, number, parse, share } from "../values.js";
 
 const PAGE = new URL("..", import.meta.url);
 const WHO = { owner: "ACME", key: "ACMEKEY1" };
+const ORDER = { batches: 2, order: "O-1", recipe: "R", status: "open" };
 
 // The office, asked
 
@@ -48,7 +51,7 @@ test("503 and 429, and a server that is away, are asked again, with a sign until
 });
 
 test("retry-after is kept, up to half a minute", async () => {
-  const it = office(json(429, {}, { "retry-after": "3" }), json(503, {}, { "retry-after": "900" }), json(200, {}));
+  const it = office(json(429, {}, { "retry-after": "3" }), json(503, {}, { "retry-after": "900" }), json(200, { lots: [] }));
   await it.ask(WHO, "GET", "/stock");
   assert.deepEqual(it.rests, [3000, 30000]);
 });
@@ -64,8 +67,29 @@ test("refusals, a wrong key and what the interface doesn't have are told apart",
   await assert.rejects(office(json(409, { code: 36, error: "TestsOpen" })).ask(WHO, "POST", "/lots/B-1/release"),
     it => it instanceof Refused && it.code === 36 && it.status === 409 && !it.repeated && it.message === meaning(36, "TestsOpen"));
   await assert.rejects(office(json(403, { error: "Forbidden" })).ask(WHO, "GET", "/stock"), Forbidden);
-  for (const reply of [json(404, { error: "NoRoute" }), json(400, { error: "BadRequest" }), new Response("", { status: 501 }), new Response("<html>", { status: 200, headers: { "content-type": "text/html" } }), new Response("{", { status: 200, headers: { "content-type": "application/json" } })]) {
-    await assert.rejects(office(reply).ask(WHO, "GET", "/stock"), Strange);
+  const page = (status, text) => new Response(text, { status, headers: { "content-type": "text/html" } });
+  const cut = text => new Response(text, { status: 200, headers: { "content-type": "application/json" } });
+  const strange = [
+    json(404, { error: "NoRoute" }), json(400, { error: "BadRequest" }), json(409, { error: "TestsOpen" }), json(500, { code: 36, error: "TestsOpen" }),
+    new Response("", { status: 501 }), page(200, "<html>"), page(200, '{"lots":[]}'), page(403, "<html>Forbidden"), page(404, "<html>"), json(403, {}),
+    cut(""), cut("{"), cut('{"lots":['), json(200, null), json(200, []), json(200, {}), json(200, { lots: {} }), json(200, { lots: [null] }), json(200, { orders: [] }),
+  ];
+  for (const [i, reply] of strange.entries()) await assert.rejects(office(reply).ask(WHO, "GET", "/stock"), Strange, `strange ${i}`);
+});
+
+test("each reply of docs/http.md has its form, and no form takes another route's", () => {
+  const text = readFileSync(new URL("../docs/http.md", PAGE), "utf8");
+  const asked = [...text.matchAll(/^\$ curl -K acme (.*)http:\/\/127\.0\.0\.1:8080(\/\S+)\n(\{.*\}) 200$/gm)]
+    .map(([, words, path, reply]) => [/-X POST|-d /.test(words) ? "POST" : "GET", path, parse(reply)]);
+  const kinds = new Set(asked.map(([method, path]) => `${method} ${path.replace(/[A-Z]+-\d+|\d+/g, "*")}`));
+  assert.equal(kinds.size, 12);
+  for (const [method, path, value] of asked) assert.ok(isReply(method, path, value), `${method} ${path}`);
+  const [order, lots, lot] = ["/orders/O-1", "/stock", "/lots/S-1"].map(it => asked.find(([method, path]) => method === "GET" && path === it)[2]);
+  for (const [path, value] of [["/orders", order], ["/orders/O-1", lots], ["/stock", lot], ["/lots/S-1", lots], ["/trace/back/S-1", { lots: [] }], ["/nowhere", {}]]) {
+    assert.ok(!isReply("GET", path, value), path);
+  }
+  for (const wrong of [{ lot: "<b>" }, { material: "a" }, { measure: 1 }, { disposition: "fine" }, { origin: "O-1/1/2" }, { results: null }, { sublots: [{ sublot: "A", amount: "x" }] }]) {
+    assert.ok(!isReply("GET", "/lots/S-1", { ...lot, ...wrong }), JSON.stringify(wrong));
   }
 });
 
@@ -77,7 +101,7 @@ test("a refusal of what was asked twice is none, where it stands as it was asked
 });
 
 test("an order is sent as JSON", async () => {
-  const it = office(json(200, {}));
+  const it = office(json(200, ORDER));
   await it.carry(WHO, "/orders", { body: { order: "O-1", recipe: "R", batches: 2 } });
   assert.deepEqual(it.asked, [["POST", "/orders", "ACME", '{"order":"O-1","recipe":"R","batches":2}']]);
 });
@@ -89,11 +113,25 @@ test("at most four are asked at a time", async () => {
       most = Math.max(most, ++now);
       await new Promise(done => setTimeout(done, 2));
       now--;
-      return json(200, {});
+      return json(200, { lots: [] });
     },
   });
   await Promise.all(Array.from({ length: 25 }, () => it.ask(WHO, "GET", "/stock")));
   assert.equal(most, 4);
+});
+
+test("what changes something is asked before all that waits to be read", async () => {
+  const asked = [];
+  const it = new Office({
+    fetch: async path => {
+      asked.push(path);
+      await new Promise(done => setTimeout(done, 2));
+      return json(200, path === "/stock" ? { lots: [] } : ORDER);
+    },
+  });
+  const reads = Array.from({ length: 9 }, () => it.ask(WHO, "GET", "/stock"));
+  await Promise.all([...reads, it.carry(WHO, "/orders", { body: {} })]);
+  assert.equal(asked.indexOf("/orders"), 4);
 });
 
 test("what was left is asked no more", async () => {
@@ -102,6 +140,40 @@ test("what was left is asked no more", async () => {
   await assert.rejects(it.ask(WHO, "GET", "/stock", { signal: leaving.signal }), { name: "AbortError" });
   await assert.rejects(it.ask(WHO, "GET", "/stock", { signal: leaving.signal }), { name: "AbortError" });
   assert.equal(it.asked.length, 1);
+});
+
+test("what was given up between two tries is asked no more, and not looked up", async () => {
+  const over = new AbortController();
+  const it = office(() => { over.abort(); throw new TypeError("Failed to fetch"); }, json(409, { code: 32, error: "NotQuarantined" }));
+  let looked = false;
+  await assert.rejects(it.carry(WHO, "/lots/S-1/release", { signal: over.signal, stands: async () => { looked = true; return true; } }), { name: "AbortError" });
+  assert.deepEqual([it.asked.length, looked, it.signs], [1, false, []]);
+});
+
+// Who asks
+
+test("a session ends when its owner leaves, and when another enters", () => {
+  const kept = new Map();
+  globalThis.sessionStorage = { getItem: name => kept.get(name) ?? null, setItem: (name, it) => kept.set(name, it), removeItem: name => kept.delete(name) };
+  const ends = [];
+  const begin = () => ends.push(untilEnd());
+  begin();
+  keep(WHO);
+  begin();
+  assert.deepEqual([whoAsks(), ends.map(it => it.aborted)], [WHO, [true, false]]);
+  keep({ owner: "BOLT", key: "BOLTKEY1" });
+  begin();
+  assert.deepEqual([whoAsks().owner, ends.map(it => it.aborted)], ["BOLT", [true, true, false]]);
+  giveUp();
+  begin();
+  assert.deepEqual([whoAsks().owner, ends.map(it => it.aborted)], ["BOLT", [true, true, true, false]]);
+  forget();
+  assert.deepEqual([whoAsks(), kept.size, ends.every(it => it.aborted)], [null, 0, true]);
+  for (const wrong of ["", "null", "{", "[]", '{"owner":"ACME"}', '{"owner":1,"key":2}']) {
+    kept.set("hilpoven", wrong);
+    assert.equal(whoAsks(), null, wrong);
+  }
+  delete globalThis.sessionStorage;
 });
 
 // Refusals

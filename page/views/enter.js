@@ -4,9 +4,14 @@ import { Forbidden } from "../api.js";
 import { html } from "../dom.js";
 import { KEY_TYPED, NAME_TYPED } from "../values.js";
 
-export function enter({ enterAs, tell, owner }) {
-  const name = html("input", { name: "owner", required: true, pattern: NAME_TYPED, value: owner, autocomplete: "username", autocapitalize: "characters", spellcheck: "false", title: "1 to 16 letters, digits and -" });
-  const key = html("input", { name: "key", type: "password", required: true, pattern: KEY_TYPED, autocomplete: "current-password", title: "8 to 32 letters or digits" });
+export function enter({ enterAs, tell, owner, signal }) {
+  const name = html("input", {
+    name: "owner", required: true, pattern: NAME_TYPED, title: "1 to 16 letters, digits and -", value: owner,
+    autocomplete: "username", autocapitalize: "characters", spellcheck: "false",
+  });
+  const key = html("input", {
+    name: "key", type: "password", required: true, pattern: KEY_TYPED, title: "8 to 32 letters or digits", autocomplete: "current-password",
+  });
   const button = html("button", { class: "main" }, "Enter");
 
   async function submit(event) {
@@ -14,9 +19,10 @@ export function enter({ enterAs, tell, owner }) {
     button.disabled = true;
     tell("");
     try {
-      await enterAs({ owner: name.value.toUpperCase(), key: key.value });
+      await enterAs({ owner: name.value.toUpperCase(), key: key.value }, signal);
     } catch (it) {
-      tell(it.message || "The office can't be reached.", true);
+      if (signal.aborted) return;
+      tell(it.message, true);
       if (it instanceof Forbidden) key.select();
     } finally {
       button.disabled = false;
@@ -30,6 +36,7 @@ export function enter({ enterAs, tell, owner }) {
       html("p", {}, "Your orders, your stock, and where each of your lots comes from and went."),
       html("form", { class: "fields upright", submit },
         html("label", {}, "Owner", name), html("label", {}, "Key", key), button),
-      html("p", { class: "soft" }, "The key stays in this window, and is forgotten when you leave or close it.")),
+      html("p", { class: "soft" }, "The key stays in this window until you leave. Leave before others use it: ",
+        "a browser can bring back a window that was closed.")),
   };
 }

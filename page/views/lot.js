@@ -1,7 +1,7 @@
 /** A lot: its disposition and what decides it, its sublots and results, and its genealogy. */
 
 import { chip } from "../chips.js";
-import { html, link } from "../dom.js";
+import { fact, html, link, unseen } from "../dom.js";
 import { Genealogy } from "../genealogy/view.js";
 import { table } from "../list.js";
 import { ask } from "../question.js";
@@ -49,8 +49,6 @@ function facts(page, told) {
       told.disposition !== "rejected" && rejectButton(page, told.lot)));
 }
 
-const fact = (name, ...value) => html("div", {}, html("dt", {}, name), html("dd", {}, ...value));
-
 function origin(told) {
   if (told === "receipts") return "receipts";
   const [name, batch] = told.split("/");
@@ -72,12 +70,17 @@ function rejectButton(page, name) {
   return html("button", {
     type: "button", class: "danger", "data-key": "reject",
     click: async ({ currentTarget: button }) => {
-      if (await ask({ title: `Reject lot ${name}?`, text: "This is for good. A rejected lot is never released again, and nothing leaves it.", yes: "Reject the lot" })) await reject(button);
+      const text = "This is for good. A rejected lot is never released again, and nothing leaves it.";
+      if (await ask(page.signal, { title: `Reject lot ${name}?`, text, yes: "Reject the lot" })) await reject(button);
     },
   }, "Reject…");
 }
 
-const sublots = told => html("section", { class: "card" }, html("h2", {}, "Sublots"), told.sublots.length === 0 ? html("p", { class: "soft" }, "It has none.") : table({
+/** A part of the view with its table, or what is said where it has no rows. */
+const part = (title, rows, none, shown) => html("section", { class: "card" },
+  html("h2", {}, title), rows.length === 0 ? html("p", { class: "soft" }, none) : shown());
+
+const sublots = told => part("Sublots", told.sublots, "It has none.", () => table({
   caption: "Sublots",
   rows: told.sublots,
   columns: [
@@ -89,14 +92,14 @@ const sublots = told => html("section", { class: "card" }, html("h2", {}, "Sublo
 /** All results, as they came. The last of each test is the one that counts for the release. */
 function results(told) {
   const counts = new Set(new Map(told.results.map(it => [it.test, it])).values());
-  return html("section", { class: "card" }, html("h2", {}, "Results"), told.results.length === 0 ? html("p", { class: "soft" }, "None was recorded.") : [table({
+  return part("Results", told.results, "None was recorded.", () => [table({
     caption: "Results of tests",
     rows: told.results,
     columns: [
       { title: "Test", cell: it => it.test },
       { title: "Value", number: true, cell: it => number(it.value) },
       { title: "Day", number: true, cell: it => String(it.day) },
-      { title: "", cell: it => (counts.has(it) ? "counts" : html("span", { class: "soft" }, "earlier")) },
+      { title: unseen("Whether it counts"), cell: it => (counts.has(it) ? "counts" : html("span", { class: "soft" }, "earlier")) },
     ],
   }), html("p", { class: "soft" }, "All that were recorded, in the order in which they came. The last of each test counts.")]);
 }

@@ -3,7 +3,7 @@
 import { Refused } from "../api.js";
 import { bar } from "../bar.js";
 import { chip } from "../chips.js";
-import { html, link } from "../dom.js";
+import { fact, html, link } from "../dom.js";
 import { table } from "../list.js";
 import { toOrders, toStock } from "../router.js";
 import { count, number, PLANT } from "../values.js";
@@ -14,14 +14,16 @@ const AT_A_TIME = 4;
 
 export async function order(page) {
   const told = await page.get(`/orders/${page.route.name}`);
-  const opened = html("dd", {}, "…");
+  const opened = html("span", {}, "…");
   const acts = html("div", { class: "buttons" });
   const batches = html("div", { class: "batches" });
   const drawn = page.fill(batches, async () => {
     const n = await drawBatches(page, told, batches);
     opened.textContent = `${n} of ${told.batches}`;
-    if (n === 0) batches.append(html("p", { class: "card soft" }, told.status === "open" ? "The plant has opened no batch of it yet." : "No batch of it was opened."));
-    if (n === 0 && told.status === "open") acts.append(cancelButton(page, told.order));
+    if (n > 0) return;
+    const isOpen = told.status === "open";
+    batches.append(html("p", { class: "card soft" }, isOpen ? "The plant has opened no batch of it yet." : "No batch of it was opened."));
+    if (isOpen) acts.append(cancelButton(page, told.order));
   });
   return {
     upward: link(toOrders(), "Orders"),
@@ -30,13 +32,11 @@ export async function order(page) {
     drawn,
     body: [
       html("section", { class: "card facts" },
-        html("dl", {}, fact("Recipe", told.recipe), html("div", {}, html("dt", {}, "Batches opened"), opened)), acts),
+        html("dl", {}, fact("Recipe", told.recipe), fact("Batches opened", opened)), acts),
       batches,
     ],
   };
 }
-
-const fact = (name, value) => html("div", {}, html("dt", {}, name), html("dd", {}, value));
 
 /** Reads and draws batches until there is no further one; how many there are. */
 async function drawBatches(page, { order: name, batches: most }, place) {

@@ -7,6 +7,8 @@ import { ask } from "../question.js";
 import { toOrder } from "../router.js";
 import { compareNames, MOST_BATCHES, NAME_TYPED, number } from "../values.js";
 
+const byOrder = (a, b) => compareNames(a.order, b.order);
+
 export async function orders(page) {
   const { orders: rows } = await page.get("/orders");
   const finder = new Finder(page, {
@@ -16,10 +18,10 @@ export async function orders(page) {
     search: it => `${it.order} ${it.recipe}`,
     choices: [{ name: "status", title: "Status", options: ["open", "cancelled"], of: it => it.status }],
     columns: [
-      { name: "order", title: "Order", cell: it => link(toOrder(it.order), it.order), compare: (a, b) => compareNames(a.order, b.order) },
-      { name: "recipe", title: "Recipe", cell: it => it.recipe, compare: (a, b) => compareNames(a.recipe, b.recipe) || compareNames(a.order, b.order) },
-      { name: "batches", title: "Batches", number: true, cell: it => number(it.batches), compare: (a, b) => a.batches - b.batches || compareNames(a.order, b.order) },
-      { name: "status", title: "Status", cell: it => chip(it.status), compare: (a, b) => compareNames(a.status, b.status) || compareNames(a.order, b.order) },
+      { name: "order", title: "Order", cell: it => link(toOrder(it.order), it.order), compare: byOrder },
+      { name: "recipe", title: "Recipe", cell: it => it.recipe, compare: (a, b) => compareNames(a.recipe, b.recipe) || byOrder(a, b) },
+      { name: "batches", title: "Batches", number: true, cell: it => number(it.batches), compare: (a, b) => a.batches - b.batches || byOrder(a, b) },
+      { name: "status", title: "Status", cell: it => chip(it.status), compare: (a, b) => compareNames(a.status, b.status) || byOrder(a, b) },
       { name: "acts", title: unseen("What can be done"), acts: true, cell: it => it.status === "open" && cancelButton(page, it.order) },
     ],
   });
@@ -35,7 +37,8 @@ export function cancelButton(page, name) {
   return html("button", {
     type: "button", class: "small", "data-key": `cancel-${name}`,
     click: async ({ currentTarget: button }) => {
-      if (!await ask({ title: `Cancel order ${name}?`, text: "A cancelled order stays cancelled. The plant opens no batch of it.", yes: "Cancel the order" })) return;
+      const text = "A cancelled order stays cancelled. The plant opens no batch of it.";
+      if (!await ask(page.signal, { title: `Cancel order ${name}?`, text, yes: "Cancel the order" })) return;
       await page.act(button, `/orders/${name}/cancel`, {
         said: `Order ${name} is cancelled.`,
         stands: async get => (await get(`/orders/${name}`)).status === "cancelled",
@@ -68,4 +71,6 @@ function newOrder(page, rows) {
     html("datalist", { id: "recipes" }, recipes.map(it => html("option", { value: it }))));
 }
 
-const field = given => html("input", { required: true, pattern: NAME_TYPED, autocomplete: "off", autocapitalize: "characters", spellcheck: "false", class: "name", ...given });
+const field = given => html("input", {
+  required: true, pattern: NAME_TYPED, autocomplete: "off", autocapitalize: "characters", spellcheck: "false", class: "name", ...given,
+});

@@ -20,7 +20,8 @@ export async function plant(page) {
     mark: chip("the plant's"),
     drawn: genealogy.drawn,
     body: [
-      html("section", { class: "card facts" }, html("p", {}, "The plant's own lot, which your batches consumed. You see which of your lots it went into. What it is made of and how much there is, is the plant's own.")),
+      html("section", { class: "card facts" }, html("p", {}, "The plant's own lot, which your batches consumed. You see which of your lots it went into. ",
+        "What it is made of and how much there is, is the plant's own.")),
       genealogy.element,
     ],
   };

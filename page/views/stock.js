@@ -24,22 +24,25 @@ export async function stock(page) {
 }
 
 const byLot = (a, b) => compareNames(a.lot, b.lot);
+const byAmount = (a, b) => compareNumbers(a.amount, b.amount) || byLot(a, b);
+const byDisposition = (a, b) => compareNames(a.disposition, b.disposition) || byLot(a, b);
 
 function lotsOf(page, rows) {
+  const materials = [...new Set(rows.map(it => it.material))].sort(compareNames);
   return new Finder(page, {
     caption: "Lots in stock",
     what: ["lot", "lots"],
     rows,
     search: it => `${it.lot} ${it.material}`,
     choices: [
-      { name: "material", title: "Material", options: [...new Set(rows.map(it => it.material))].sort(compareNames), of: it => it.material },
+      { name: "material", title: "Material", options: materials, of: it => it.material },
       { name: "disposition", title: "Disposition", options: DISPOSITIONS, of: it => it.disposition },
     ],
     columns: [
       { name: "lot", title: "Lot", cell: it => link(toLot(it.lot), it.lot), compare: byLot },
       { name: "material", title: "Material", cell: it => it.material, compare: (a, b) => compareNames(a.material, b.material) || byLot(a, b) },
-      { name: "amount", title: "On hand", number: true, cell: it => amount(it.amount, it.measure), compare: (a, b) => compareNumbers(a.amount, b.amount) || byLot(a, b) },
-      { name: "disposition", title: "Disposition", cell: it => chip(it.disposition), compare: (a, b) => compareNames(a.disposition, b.disposition) || byLot(a, b) },
+      { name: "amount", title: "On hand", number: true, cell: it => amount(it.amount, it.measure), compare: byAmount },
+      { name: "disposition", title: "Disposition", cell: it => chip(it.disposition), compare: byDisposition },
     ],
   });
 }
@@ -58,15 +61,18 @@ export function sums(lots) {
 }
 
 function materialsOf(page, lots) {
-  const sum = (name, title) => ({ name, title, number: true, cell: it => amount(it[name], it.measure), compare: (a, b) => compareNumbers(a[name], b[name]) || compareNames(a.material, b.material) });
+  const byMaterial = (a, b) => compareNames(a.material, b.material);
+  const sum = (name, title) => ({
+    name, title, number: true, cell: it => amount(it[name], it.measure), compare: (a, b) => compareNumbers(a[name], b[name]) || byMaterial(a, b),
+  });
   return new Finder(page, {
     caption: "Stock by material",
     what: ["material", "materials"],
     rows: sums(lots),
     search: it => it.material,
     columns: [
-      { name: "material", title: "Material", cell: it => link(toStock({ material: it.material }), it.material), compare: (a, b) => compareNames(a.material, b.material) },
-      { name: "lots", title: "Lots", number: true, cell: it => number(it.lots), compare: (a, b) => a.lots - b.lots || compareNames(a.material, b.material) },
+      { name: "material", title: "Material", cell: it => link(toStock({ material: it.material }), it.material), compare: byMaterial },
+      { name: "lots", title: "Lots", number: true, cell: it => number(it.lots), compare: (a, b) => a.lots - b.lots || byMaterial(a, b) },
       sum("released", "Released"), sum("quarantined", "Quarantined"), sum("rejected", "Rejected"), sum("all", "On hand"),
     ],
   });

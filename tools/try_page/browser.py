@@ -10,6 +10,8 @@ import time
 
 ELEMENT = "element-6066-11e4-a52e-4f735466cecf"
 PATIENCE = 30
+# milliseconds: to look at all of a long list takes a while, where the machine is busy
+SCRIPT_PATIENCE = 110_000
 KEYS = {"tab": "\ue004", "enter": "\ue007", "escape": "\ue00c", "space": " ", "shift": "\ue008"}
 
 
@@ -24,7 +26,8 @@ class Browser:
         self.port = port
         self.size = (width, height)
         # a session of its own, so that all of the browser's processes can be ended
-        self.driver = subprocess.Popen(["chromedriver", f"--port={port}", "--silent"], stdout=subprocess.DEVNULL, stderr=subprocess.DEVNULL, start_new_session=True)
+        self.driver = subprocess.Popen(["chromedriver", f"--port={port}", "--silent"], start_new_session=True,
+                                       stdout=subprocess.DEVNULL, stderr=subprocess.DEVNULL)
         self.session = None
         try:
             self._begin(folder)
@@ -40,6 +43,7 @@ class Browser:
         asked = {"browserName": "chrome", "acceptInsecureCerts": True, "goog:loggingPrefs": {"browser": "ALL"}, "goog:chromeOptions": {"args": words}}
         until(lambda: self._answers(), "chromedriver answers")
         self.session = self._send("POST", "/session", {"capabilities": {"alwaysMatch": asked}})["sessionId"]
+        self.ask("POST", "/timeouts", script=SCRIPT_PATIENCE)
 
     def _answers(self):
         try:

@@ -1,10 +1,8 @@
 """The owners' lines of docs/day.toll, by clicks: they leave the same rows as over HTTP."""
 import json
-import os
-import pathlib
 import re
-import shutil
-import sqlite3
+
+from trial import content
 
 from .browser import until
 from .site import ROOT, Office
@@ -24,8 +22,9 @@ def day(t):
     run_day(t, clicked, lines, lambda *line: clicks.do(*line, *next(by_page)))
     print(f"a day by clicks: {clicks.done} of {len(asked)} lines done and seen, {clicks.none} that no click asks for", flush=True)
     clicks.close()
-    t.expect(rows_of(straight.file) == rows_of(clicked.file), "the day by clicks leaves other rows than over HTTP")
-    t.expect(rows_of(clicked.file)["orders"] != [], "the day leaves no orders")
+    left, wanted = content(str(clicked.file)), content(str(straight.file))
+    t.expect(left == wanted, "the day by clicks leaves other rows than over HTTP")
+    t.expect({"orders", "lots", "moves"} <= {name for name, (_, rows) in left.items() if rows}, "the day leaves no rows")
     t.serve(small)
 
 
@@ -40,20 +39,6 @@ def run_day(t, office, lines, owner_asks):
             owner_asks(owner, key, method, target, body[0] if body else None)
         else:
             office.plant(line)
-
-
-def rows_of(file):
-    """All tables with all their rows, of a copy."""
-    copy = pathlib.Path(f"{file}.copy")
-    for end in ("", "-wal"):
-        if os.path.exists(f"{file}{end}"):
-            shutil.copyfile(f"{file}{end}", f"{copy}{end}")
-    it = sqlite3.connect(copy)
-    try:
-        tables = [name for name, in it.execute("SELECT name FROM sqlite_master WHERE type = 'table' ORDER BY name")]
-        return {name: sorted(it.execute(f'SELECT * FROM "{name}"').fetchall(), key=repr) for name in tables}
-    finally:
-        it.close()
 
 
 class Clicks:
@@ -146,7 +131,9 @@ class Clicks:
         if first == "trace":
             address, rest = ("#/plant" if rest[0] == "house" else "#/lots"), rest[1:]
         self.b.go(self.t.proxy.address + "/".join([address, *rest[:1]]))
-        wanted = ["There is no such page"] if first == "nowhere" else ["You have no lot"] if status == 404 else [f"{it:,}" if isinstance(it, int) and it > 99 else str(it) for it in leaves(told)]
+        wanted = [f"{it:,}" if isinstance(it, int) and it > 99 else str(it) for it in leaves(told)]
+        if status == 404:
+            wanted = ["There is no such page" if first == "nowhere" else "You have no lot"]
         if first == "trace":
             self.t.pictured()
             self.b.js("document.querySelector('details').open = true")

@@ -133,7 +133,8 @@ receive ACME R2 CASK C-0 BAY1 100 101
 def fill_large(office):
     """2,000 orders; a lot of salt that went into 2,189 lots of drums; and a chain of 32 casks."""
     office.asks("ACME", ("POST", "/lots/S-1/release"), ("POST", "/lots/C-0/release"),
-                ("POST", "/orders", {"order": "BIG", "recipe": "FILL", "batches": BATCHES}), ("POST", "/orders", {"order": "CHAIN", "recipe": "AGE", "batches": CHAIN}),
+                ("POST", "/orders", {"order": "BIG", "recipe": "FILL", "batches": BATCHES}),
+                ("POST", "/orders", {"order": "CHAIN", "recipe": "AGE", "batches": CHAIN}),
                 *(("POST", "/orders", {"order": f"ORDER-{it:04}", "recipe": "FILL" if it % 3 else "AGE", "batches": 1 + it % 20}) for it in range(1, 1999)))
     for batch in range(1, BATCHES + 1):
         office.plants(f"open ACME BIG U-{batch}\ndo ACME BIG {batch} start")

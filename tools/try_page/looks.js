@@ -7,23 +7,35 @@ const ratio = (a, b) => { const [dark, bright] = [light(a), light(b)].sort((x, y
 const isSeen = it => { const box = it.getBoundingClientRect(); return box.width > 1 && box.height > 1 && getComputedStyle(it).visibility !== "hidden" && it.checkVisibility(); };
 const words = it => it.textContent.trim().replace(/\s+/g, " ").slice(0, 40);
 
+const grounds = new Map();
+
 /** What is behind an element: all backgrounds from the outside in, the fill of a box of the picture among them. */
 function behind(element) {
-  const around = [];
-  for (let it = element; it; it = it.parentElement) around.unshift(it);
-  return around.reduce((ground, it) => {
-    const drawn = it.matches("g.flag, .genealogy .box") ? it.querySelector(":scope > rect, :scope > .outline") : null;
-    return over(colour(drawn ? getComputedStyle(drawn).fill : getComputedStyle(it).backgroundColor), ground);
-  }, [255, 255, 255]);
+  if (element === null) return [255, 255, 255];
+  if (grounds.has(element)) return grounds.get(element);
+  const drawn = element.matches("g.flag, .genealogy .box") ? element.querySelector(":scope > rect, :scope > .outline") : null;
+  const ground = over(colour(drawn ? getComputedStyle(drawn).fill : getComputedStyle(element).backgroundColor), behind(element.parentElement));
+  grounds.set(element, ground);
+  return ground;
+}
+
+/** Rows of long lists that are far out of sight: the browser lays them out when they are looked at, one by one. */
+function farRows() {
+  const long = [...document.querySelectorAll("tbody")].filter(it => it.rows.length > 300);
+  return new Set(long.flatMap(it => [...it.rows]).filter(it => {
+    const { top, bottom } = it.getBoundingClientRect();
+    return bottom < -innerHeight || top > 2 * innerHeight;
+  }));
 }
 
 function contrasts() {
   const wrong = [];
+  const far = farRows();
   const texts = document.createTreeWalker(document.body, NodeFilter.SHOW_TEXT);
   let least = 21;
   while (texts.nextNode()) {
     const it = texts.currentNode.parentElement;
-    if (texts.currentNode.data.trim() === "" || !isSeen(it) || it.closest(":disabled")) continue;
+    if (texts.currentNode.data.trim() === "" || far.has(it.closest("tr")) || !isSeen(it) || it.closest(":disabled")) continue;
     const style = getComputedStyle(it);
     const ground = behind(it);
     const found = ratio(over(colour(it.closest("svg") ? style.fill : style.color), ground), ground);
@@ -32,7 +44,7 @@ function contrasts() {
   }
   // the shapes of chips and boxes, and the frames of fields, are to be told from what is behind them
   for (const it of document.querySelectorAll(".shape .filled, input, select, .genealogy .way")) {
-    if (!isSeen(it)) continue;
+    if (far.has(it.closest("tr")) || !isSeen(it)) continue;
     const style = getComputedStyle(it);
     const line = it.matches("input, select") ? style.borderTopColor : it.matches(".way") ? style.stroke : style.fill;
     const found = ratio(over(colour(line), behind(it.parentElement)), behind(it.parentElement));

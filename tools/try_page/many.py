@@ -60,7 +60,12 @@ look();"""
 TYPED = """const [text, done] = arguments, tasks = [0], field = document.querySelector('input[type=search]');
 new PerformanceObserver(list => tasks.push(...list.getEntries().map(it => it.duration))).observe({type: 'longtask'});
 const steps = [...text].map((_, i) => text.slice(0, i + 1)).concat('');
-const next = () => steps.length > 0 ? (field.value = steps.shift(), field.dispatchEvent(new Event('input')), setTimeout(next, 120)) : setTimeout(() => done(Math.round(Math.max(...tasks))), 900);
+const next = () => {
+    if (steps.length === 0) return setTimeout(() => done(Math.round(Math.max(...tasks))), 900);
+    field.value = steps.shift();
+    field.dispatchEvent(new Event('input'));
+    setTimeout(next, 120);
+};
 next();"""
 
 

@@ -43,10 +43,10 @@ def listens(port):
 
 
 class Process:
-    """A program in the background, which is ended by its number."""
+    """A program in the background, which says nothing, and is ended by its number."""
 
-    def __init__(self, *words, **more):
-        self.it = subprocess.Popen([str(it) for it in words], start_new_session=True, **more)
+    def __init__(self, *words):
+        self.it = subprocess.Popen([str(it) for it in words], start_new_session=True, stdout=subprocess.DEVNULL, stderr=subprocess.DEVNULL)
 
     def end(self):
         if self.it.poll() is None:
@@ -88,7 +88,7 @@ class Office:
 
     def serve(self):
         # the port of a server that was ended may be kept for a moment
-        self.server = Process(self.toll, "--db", self.file, "serve", self.port, 1000000, stdout=subprocess.DEVNULL, stderr=subprocess.DEVNULL)
+        self.server = Process(self.toll, "--db", self.file, "serve", self.port, 1000000)
         until(lambda: listens(self.port), "the server listens")
 
     def end(self):
@@ -129,7 +129,7 @@ def taken(lock):
 
 
 class Proxy:
-    """nginx with the site of docs/operations.md, on a port and with a certificate of its own."""
+    """nginx with the site of packaging/nginx.conf, on a port and with a certificate of its own."""
 
     def __init__(self, folder, office_port):
         self.folder, self.port, self.it = pathlib.Path(folder), free_port(), None
@@ -148,10 +148,10 @@ class Proxy:
                         "-keyout", self.folder / "key.pem", "-out", self.folder / "certificate.pem"], check=True, capture_output=True)
 
     def _site(self, office_port):
-        """The site as the page has it; ports, the certificate and the page's folder are those of the trial."""
-        page = (ROOT / "docs" / "operations.md").read_text()
-        site = next(it for it in re.findall(r"^```nginx\n(.*?)^```", page, re.M | re.S) if "listen 443 ssl" in it)
-        for pattern, ours in ((r"listen \[::\][^;]*;", ""), (r"listen 443 ssl", f"listen 127.0.0.1:{self.port} ssl"), (r"listen 80\b", f"listen 127.0.0.1:{free_port()}"),
+        """The site as packages have it; ports, the certificate and the page's folder are those of the trial."""
+        site = (ROOT / "packaging" / "nginx.conf").read_text()
+        for pattern, ours in ((r"listen \[::\][^;]*;", ""), (r"listen 443 ssl", f"listen 127.0.0.1:{self.port} ssl"),
+                              (r"listen 80\b", f"listen 127.0.0.1:{free_port()}"),
                               (r"ssl_certificate [^;]*;", f"ssl_certificate {self.folder}/certificate.pem;"),
                               (r"ssl_certificate_key [^;]*;", f"ssl_certificate_key {self.folder}/key.pem;"),
                               (r"127\.0\.0\.1:8080", f"127.0.0.1:{office_port}"), (r"alias [^;]*/page/;", f"alias {ROOT}/page/;"),
@@ -160,7 +160,7 @@ class Proxy:
         return site
 
     def start(self):
-        self.it = Process("nginx", "-e", self.folder / "error.log", "-p", self.folder, "-c", self.folder / "nginx.conf", stdout=subprocess.DEVNULL, stderr=subprocess.DEVNULL)
+        self.it = Process("nginx", "-e", self.folder / "error.log", "-p", self.folder, "-c", self.folder / "nginx.conf")
         until(lambda: self.it.it.poll() is not None or listens(self.port), "nginx listens")
         if self.it.it.poll() is not None:
             raise SystemExit(f"try-page: nginx ended: {(self.folder / 'error.log').read_text()[-600:]}")

@@ -45,6 +45,10 @@ class Trial:
         """Enters as an owner, whatever is shown now."""
         self.browser.go("about:blank")
         self.browser.go(self.proxy.address)
+        self.fill_in(owner, key)
+
+    def fill_in(self, owner, key=None):
+        """Fills in the form to enter, and sends it."""
         self.browser.heading("Enter")
         self.browser.type("input[name=owner]", owner)
         self.browser.type("input[name=key]", key or f"{owner}KEY1")

@@ -1,0 +1,94 @@
+/** What a view is given: its address, who asks, and what it may ask and do. */
+
+import { Forbidden, Refused } from "./api.js";
+import { failed, tell, wordsOf } from "./notices.js";
+import { toOrders } from "./router.js";
+import { untilEnd, whoAsks } from "./session.js";
+
+const UNKNOWN = "Whether this was done isn't known: look before you do it again.";
+
+let acting = 0;
+
+/** Whether something that changes rows wasn't answered yet. */
+export const isActing = () => acting > 0;
+
+/** A view's place in the page. `app` has the office, show(), isShown(page) and sendAway(). */
+export class Page {
+  #app;
+  #leaving = new AbortController();
+  #over = untilEnd();
+  signal = this.#leaving.signal;
+  who = whoAsks();
+
+  constructor(route, app) {
+    this.route = route;
+    this.#app = app;
+  }
+
+  leave() {
+    this.#leaving.abort();
+  }
+
+  /** The value of a GET. It ends where the view is left. */
+  get(path) {
+    return this.#app.office.ask(this.who, "GET", path, { signal: this.signal });
+  }
+
+  /** Keeps what is searched and sorted in the address. */
+  remember(query) {
+    const set = Object.entries(query).filter(([, value]) => value);
+    const path = location.hash.split("?")[0] || toOrders();
+    history.replaceState(history.state, "", set.length > 0 ? `${path}?${new URLSearchParams(set)}` : path);
+  }
+
+  /**
+   * Does what a button asks for, and draws the view anew, refused or not: it may be that another window
+   * changed it. `stands` tells whether it is done already, where a reply was lost. Once the owner has left,
+   * it is given up, and nothing is told of it.
+   */
+  async act(button, path, { body, stands, said, refused }) {
+    const { office } = this.#app;
+    const get = it => office.ask(this.who, "GET", it, { signal: this.#over });
+    button.disabled = true;
+    acting += 1;
+    tell("");
+    try {
+      await office.carry(this.who, path, { body, signal: this.#over, stands: stands && (() => stands(get)) });
+      await this.#showAnew();
+      this.#tell(said);
+    } catch (it) {
+      await this.#notDone(it, refused);
+    } finally {
+      acting -= 1;
+      button.disabled = false;
+    }
+  }
+
+  async #notDone(error, refused) {
+    if (this.#over.aborted) return;
+    if (error instanceof Forbidden) return this.#app.sendAway();
+    if (error instanceof Refused && !refused) await this.#showAnew();
+    this.#tell(error instanceof Refused ? wordsOf(error) : `${error.message} ${UNKNOWN}`, true);
+    refused?.(error);
+  }
+
+  async #showAnew() {
+    if (this.#app.isShown(this)) await this.#app.show({ anew: true });
+  }
+
+  /** Tells the owner who asked, and nobody who entered after it. */
+  #tell(text, wrong) {
+    if (!this.#over.aborted) tell(text, wrong);
+  }
+
+  /** Draws a part of the view that comes later; what goes wrong stands in its place. */
+  async fill(place, doing) {
+    try {
+      await doing();
+    } catch (it) {
+      if (this.signal.aborted) return;
+      if (it instanceof Forbidden) this.#app.sendAway();
+      else place.append(failed(it, () => { place.replaceChildren(); this.fill(place, doing); }));
+    }
+  }
+}

@@ -1,0 +1,146 @@
+"""Owners who are competitors, at one browser: each sees its own rows alone, also who enters after another."""
+import time
+
+from .site import Office
+from .troubles import AWAY
+from .trial import TOLL
+from .views import row
+
+# What stands on ACME's views: its name and key, lots, materials, orders and amounts.
+OF_ACME = ("ACME", "B-1", "B-2", "BLEND", "BRINE", "DR-1", "S-1", "O-1", "O-LATE", "845", "990")
+
+
+def windows(t):
+    b = t.browser
+    t.entered()
+    t.place("O-TWO", "FILL", 1)
+    b.wait("Order O-TWO is placed")
+    first = b.window()
+    b.new_window()
+    t.enter("ACME")
+    b.heading("Orders")
+    b.click("button[data-key=cancel-O-TWO]")
+    b.click("dialog button", "Cancel the order")
+    b.wait("Order O-TWO is cancelled.")
+    b.turn(first)
+    b.click("button[data-key=cancel-O-TWO]")
+    b.click("dialog button", "Cancel the order")
+    b.wait("The order is cancelled already.")
+    t.expect("cancelled" in row(b, "O-TWO"), "a refusal doesn't read the list anew")
+    t.shot("23-two-windows", "another window cancelled the order meanwhile: told in words, and the list is read anew")
+    b.new_window()
+    t.enter("BOLT")
+    b.wait("No orders yet.")
+    t.shot("24-no-orders", "another owner in another window sees its own orders alone: none yet")
+    b.turn(first)
+    b.click("button.close")
+    b.click("button", "Read again")
+    t.expect(b.text("#who .owner") == "ACME" and row(b, "O-TWO") != "", "a window takes another one's owner")
+    for handle in b.ask("GET", "/window/handles"):
+        if handle != first:
+            b.turn(handle)
+            b.close_window(first)
+
+
+def leaving(t):
+    """Nothing of an owner stays in the window for who enters after it."""
+    b = t.browser
+    t.entered()
+    t.to_lot("BL-1")
+    t.pictured()
+    b.click("#who button", "Leave")
+    b.heading("Enter")
+    nothing_of_acme(t, "after leaving")
+    for _ in range(2):
+        b.back()
+        b.heading("Enter")
+        nothing_of_acme(t, "after going back")
+    t.shot("40-left", "the owner left and went back in the window's history: there is nothing but the form to enter")
+    t.fill_in("BOLT")
+    b.wait("No orders yet.")
+    nothing_of_acme(t, "when another has entered")
+    b.js("location.hash = '#/lots/BL-1'")
+    b.wait("You have no lot of this name")
+    nothing_of_acme(t, "at an address of the other's")
+    late_reply(t)
+    kept_page(t)
+    open_question(t)
+
+
+def nothing_of_acme(t, when):
+    shown = t.browser.js("return document.title + document.documentElement.outerHTML + [...document.querySelectorAll('input')].map(it => it.value)")
+    found = [it for it in OF_ACME if it in shown]
+    t.expect(not found, f"{when} {found} can be seen")
+
+
+def late_reply(t):
+    """An order that was asked again and again when its owner left is given up, and nothing is told of it to the next."""
+    b = t.browser
+    t.entered()
+    t.office.end()
+    t.place("O-LATE", "FILL", 1)
+    b.wait(AWAY, "#sign")
+    b.click("#who button", "Leave")
+    b.wait("You left before the office had answered.")
+    t.shot("41-left-early", "the owner left while the page still asked: what isn't known is told, without a name")
+    t.office.serve()
+    t.fill_in("BOLT")
+    b.wait("No orders yet.")
+    # longer than any rest between two tries so far
+    time.sleep(4)
+    t.expect(b.text("#who .owner") == "BOLT" and b.text("#told") + b.text("#wrong") + b.text("#sign") == "", "a late reply comes to the next owner")
+    nothing_of_acme(t, "after a late reply")
+    t.expect(t.office.ask("ACME", "ACMEKEY1", "GET", "/orders/O-LATE")[0] == 404, "what was given up is done")
+
+
+def kept_page(t):
+    """A page that the browser kept for going back, as it was, is brought back when another owner has entered."""
+    b = t.browser
+    t.entered()
+    t.to_lot("BL-1")
+    t.pictured()
+    b.js("window.kept = true")
+    b.go(f"{t.proxy.address}icon.svg")
+    b.go(t.proxy.address)
+    b.heading("Orders")
+    b.click("#who button", "Leave")
+    t.fill_in("BOLT")
+    b.wait("No orders yet.")
+    b.back()
+    b.back()
+    b.wait("You have no lot of this name")
+    nothing_of_acme(t, "on a page from before")
+    print("leaving: a page from before was", "kept as it was" if b.js("return window.kept ?? false") else "read anew", "by the browser", flush=True)
+    # the same by the events that the browser sends, kept or not
+    t.entered()
+    t.to_lot("BL-1")
+    t.pictured()
+    b.js("dispatchEvent(new PageTransitionEvent('pagehide', {persisted: true}))")
+    b.js("sessionStorage.setItem('hilpoven', JSON.stringify({owner: 'BOLT', key: 'BOLTKEY1'}))")
+    nothing_of_acme(t, "on a page that is put aside")
+    b.js("dispatchEvent(new PageTransitionEvent('pageshow', {persisted: true}))")
+    b.wait("You have no lot of this name")
+    nothing_of_acme(t, "on a page that was put aside")
+
+
+def open_question(t):
+    """A question is closed with its view: by going back, and where the key isn't taken any more."""
+    b = t.browser
+    t.entered()
+    t.to_lot("BL-1")
+    b.click("button", "Reject…")
+    b.find("dialog")
+    b.back()
+    b.heading("Stock")
+    b.gone("dialog")
+    t.to_lot("BL-1")
+    t.expect("released" in b.text("h1"), "a question that was left is answered by yes")
+    b.click("button", "Reject…")
+    b.find("dialog")
+    small, other = t.office, Office(TOLL, t.folder / "third.db", t.office_port)
+    other.plants("owner-add ACME OTHERKEY1")
+    t.serve(other)
+    b.js("document.querySelector('[data-key=again]').click()")
+    b.heading("Enter")
+    b.gone("dialog")
+    t.serve(small)

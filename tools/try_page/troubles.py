@@ -1,0 +1,246 @@
+"""What goes wrong between a person and the office, and what the page makes of it."""
+import contextlib
+import os
+import socket
+import subprocess
+import threading
+import time
+
+from .browser import until
+from .site import Office
+from .trial import TOLL
+
+BUSY, AWAY, NOT_THE_OFFICES = "The office is busy.", "The office can't be reached.", "What came isn't the office's answer"
+
+
+def forbidden(t):
+    b = t.browser
+    t.entered()
+    t.to_lot("B-1")
+    t.pictured()
+    small, other = t.office, Office(TOLL, t.folder / "other.db", t.office_port)
+    other.plants("owner-add ACME OTHERKEY1")
+    t.serve(other)
+    b.click("button", "Read again")
+    b.wait("The office doesn't take this name and key any more.")
+    b.heading("Enter")
+    t.shot("19-forbidden", "a 403 in between: the owner enters again, its name is there already")
+    t.expect(b.js("return sessionStorage.length") == 0, "a key that isn't taken is kept")
+    t.serve(small)
+    b.type("input[name=key]", "ACMEKEY1")
+    b.click("button", "Enter")
+    b.heading("Lot B-1")
+
+
+def busy(t):
+    b = t.browser
+    t.entered()
+    with t.office.locked():
+        b.click("#nav a", "Stock")
+        b.wait(BUSY, "#sign")
+        t.shot("20-busy", "503 since another program has the lock: a sign, and it is asked again by itself", whole=False)
+    b.heading("Stock")
+    until(lambda: b.text("#sign") == "", "the sign is gone")
+    t.to_lot("S-4")
+    with t.office.locked():
+        b.click("button", "Release")
+        b.wait(BUSY, "#sign")
+    b.wait("Lot S-4 is released.")
+    crowd(t)
+
+
+def crowd(t):
+    """Many others ask from the same address, so the proxy tells that there are too many requests."""
+    b, over, statuses = t.browser, threading.Event(), set()
+
+    def ask():
+        while not over.is_set():
+            words = ["-sk", "-o", os.devnull, "-w", "%{http_code}", f"https://127.0.0.1:{t.proxy.port}/stock"]
+            done = subprocess.run(["curl", *words], capture_output=True, text=True)
+            statuses.add(done.stdout)
+
+    crowd_of = [threading.Thread(target=ask) for _ in range(40)]
+    for it in crowd_of:
+        it.start()
+    try:
+        until(lambda: "429" in statuses, "the proxy tells 429")
+        until(lambda: turned_away(b), "the page is told 429 too")
+        t.shot("21-too-many", "the proxy tells 429: the same sign", whole=False)
+    finally:
+        over.set()
+        for it in crowd_of:
+            it.join()
+    until(lambda: b.text("#sign") == "" and b.seen("tbody tr"), "the crowd is gone")
+
+
+def turned_away(b):
+    """Whether the sign comes up within a second; a request may slip through the crowd."""
+    b.click("#nav a", "Stock" if b.text("h1") == "Orders" else "Orders")
+    for _ in range(20):
+        time.sleep(0.05)
+        if BUSY in b.text("#sign"):
+            return True
+    return False
+
+
+def away(t):
+    b = t.browser
+    t.entered()
+    t.office.end()
+    b.click("#nav a", "Stock")
+    b.wait(AWAY, "#sign")
+    t.shot("22-away", "the office's server is away: a sign, and it is asked again by itself", whole=False)
+    t.office.serve()
+    b.heading("Stock")
+    t.proxy.end()
+    b.click("#nav a", "Orders")
+    b.wait(AWAY, "#sign")
+    t.proxy.start()
+    b.heading("Orders")
+    # what changes something is asked again too, and done once
+    t.office.end()
+    t.place("O-AWAY", "FILL", 1)
+    b.wait(AWAY, "#sign")
+    t.office.serve()
+    b.wait("Order O-AWAY is placed")
+    # in the end it is told, and asked again by a click
+    t.office.end()
+    b.click("#nav a", "Stock")
+    until(lambda: b.seen("button", "Ask again"), "the page gives up", patience=120)
+    t.shot("22-gave-up", "the office was away for a minute: the page says so, and asks again by a click", whole=False)
+    t.office.serve()
+    b.click("button", "Ask again")
+    b.heading("Stock")
+
+
+def answer(status, kind, body, length=None):
+    """The bytes of a reply, which may say that it is longer than it is."""
+    return f"HTTP/1.1 {status} Told\r\ncontent-type: {kind}\r\ncontent-length: {length or len(body)}\r\nconnection: close\r\n\r\n{body}".encode()
+
+
+PAGE, JSON = "text/html", "application/json"
+WELCOME = "<html><body><h1>Welcome to our wireless network</h1><script>top.hit = 1</script></body></html>"
+TEXTS = '{"lots":[{"amount":1,"disposition":"<script>top.hit=2</script>","lot":"<img src=x onerror=top.hit=3>","material":"<b>BOLD</b>","measure":"kg"}]}'
+STRANGE = {
+    "a page in place of a reply": answer(200, PAGE, WELCOME),
+    "a page that is called JSON": answer(200, JSON, WELCOME),
+    "JSON that is cut": answer(200, JSON, '{"lots":[{"amount":1,"disposition":"released","lot"'),
+    "the reply to something else": answer(200, JSON, '{"orders":[]}'),
+    "a list that is none": answer(200, JSON, '{"lots":{"length":1}}'),
+    "nothing": answer(200, JSON, ""),
+    "names that would be HTML": answer(200, JSON, TEXTS),
+    "a proxy's 403": answer(403, PAGE, WELCOME),
+    "a proxy's 404": answer(404, PAGE, WELCOME),
+    "a proxy's 500": answer(500, PAGE, WELCOME),
+}
+
+
+@contextlib.contextmanager
+def another(port, bytes_told):
+    """Something else than the office on its port, which answers all by these bytes."""
+    def answer_all():
+        while True:
+            try:
+                peer, _ = listener.accept()
+            except OSError:
+                return
+            with peer, contextlib.suppress(OSError):
+                peer.recv(65536)
+                peer.sendall(bytes_told)
+
+    with socket.create_server(("127.0.0.1", port)) as listener:
+        answering = threading.Thread(target=answer_all)
+        answering.start()
+        try:
+            yield
+        finally:
+            listener.shutdown(socket.SHUT_RDWR)
+            answering.join()
+
+
+def garbled(t):
+    """What isn't the office's is told as such, whatever it is, and the page goes on when the office is back."""
+    b = t.browser
+    t.entered()
+    t.office.end()
+    for what, told in STRANGE.items():
+        with another(t.office_port, told):
+            b.click("#nav a", "Stock")
+            b.wait(NOT_THE_OFFICES)
+            look_sane(t, what)
+        b.js("location.hash = '#/nowhere'")
+        b.heading("There is no such page")
+    with another(t.office_port, STRANGE["a page in place of a reply"]):
+        b.click("#nav a", "Stock")
+        b.wait(NOT_THE_OFFICES)
+        t.shot("39-not-the-office", "a page of something else came in place of the reply: told in words, and asked again by a click")
+    t.office.serve()
+    b.click("button", "Ask again")
+    b.heading("Stock")
+    b.find("tbody a")
+    garbled_changes(t)
+    garbled_entering(t)
+
+
+def look_sane(t, what):
+    """The page stands, the owner is still entered, and nothing of what came is on it."""
+    b = t.browser
+    t.expect(b.text("h1") == "Stock" and b.seen("button", "Ask again") and b.seen("button", "Read again"), f"{what}: the view isn't one")
+    t.expect(b.js("return sessionStorage.length") == 1 and b.text("#who .owner") == "ACME", f"{what}: the owner is sent away")
+    t.expect(b.js("return [document.querySelectorAll('main img, main b, main script').length, window.hit ?? 0]") == [0, 0], f"{what} is read as HTML")
+    t.expect("Welcome" not in b.text("body") and "BOLD" not in b.text("body"), f"{what} is shown")
+
+
+def garbled_changes(t):
+    """An order whose reply is another's, or breaks off: what isn't known is told so, what is asked again is done once."""
+    b = t.browser
+    b.click("#nav a", "Orders")
+    b.heading("Orders")
+    t.office.end()
+    with another(t.office_port, STRANGE["a page in place of a reply"]):
+        t.place("O-CUT", "FILL", 1)
+        b.wait("Whether this was done isn't known")
+    with another(t.office_port, answer(200, JSON, '{"batches":1,', 400)):
+        t.place("O-CUT", "FILL", 1)
+        b.wait(AWAY, "#sign")
+    t.office.serve()
+    b.wait("Order O-CUT is placed")
+
+
+def garbled_entering(t):
+    """A proxy's page doesn't enter anybody, and is no wrong key."""
+    b = t.browser
+    b.click("#who button", "Leave")
+    b.heading("Enter")
+    t.office.end()
+    for what in ("a page in place of a reply", "a proxy's 403"):
+        with another(t.office_port, STRANGE[what]):
+            t.fill_in("ACME")
+            b.wait(NOT_THE_OFFICES)
+            t.expect(b.text("h1") == "Enter" and b.js("return sessionStorage.length") == 0, f"{what} enters somebody")
+    t.office.serve()
+    t.fill_in("ACME")
+    b.heading("Orders")
+
+
+def strange(t):
+    """Texts that would be HTML stay texts, and scripts and styles that aren't the page's own aren't taken."""
+    b = t.browser
+    t.entered()
+    said = b.later("""const done = arguments[0];
+        import('/owner/dom.js').then(({html, link}) => {
+            const text = '<img src=x onerror=top.hit=1><b>bold</b>';
+            document.querySelector('#view').append(html('p', {title: text}, text, link('#/stock', text)));
+            done([document.querySelectorAll('main img, main b').length, document.querySelector('#view > p').innerText]);
+        })""")
+    t.expect(said == [0, "<img src=x onerror=top.hit=1><b>bold</b>" * 2], f"a text is read as HTML: {said}")
+    t.shot("34-strange-texts", "texts that would be HTML are shown as they are")
+    said = b.js("try { document.body.insertAdjacentHTML('beforeend', '<p>'); return 'done'; } catch (it) { return it.name; }")
+    t.expect(said == "TypeError", f"HTML of a text is {said}")
+    said = b.js("""const it = document.createElement('p'); document.body.append(it); it.setAttribute('style', 'color: red');
+        try { it.setAttribute('onclick', 'window.hit = 3'); } catch { } it.click(); return [window.hit ?? 0, getComputedStyle(it).color]""")
+    t.expect(said == [0, "rgb(23, 33, 43)"], f"a script or a style within the page is taken: {said}")
+    b.reload()
+    headers = b.later("fetch('/owner/').then(it => arguments[0]([...it.headers]))")
+    policy = dict(headers).get("content-security-policy", "")
+    t.expect("default-src 'none'" in policy and "unsafe" not in policy, f"the policy is {policy}")

@@ -1,0 +1,139 @@
+"""Other ways to the page than a click: going back, keys, a phone's width, paper."""
+import shutil
+import subprocess
+
+from .browser import Failed, until
+
+
+def history(t):
+    b = t.browser
+    t.entered()
+    b.click("#nav a", "Stock")
+    b.heading("Stock")
+    b.type("input[type=search]", "S-")
+    b.click("button.sort", "On hand")
+    names = lambda: b.js("return [...document.querySelectorAll('tbody th')].map(it => it.textContent)")
+    until(lambda: all(it.startswith("S-") for it in names()), "the search")
+    found = names()
+    b.reload()
+    b.heading("Stock")
+    t.expect(found and names() == found, "a reload forgets the search")
+    t.expect(b.js("return document.querySelector('input[type=search]').value") == "S-", "a reload empties the field")
+    b.click("tbody a", "S-1")
+    b.heading("Lot S-1")
+    t.expect(b.js("return document.activeElement.tagName") == "H1", "the focus isn't on the heading")
+    t.pictured()
+    b.click(".genealogy a[data-id='ACME/B-1']")
+    b.heading("Lot B-1")
+    b.back()
+    b.heading("Lot S-1")
+    b.back()
+    b.heading("Stock")
+    t.expect(b.js("return document.querySelector('input[type=search]').value") == "S-", "going back forgets the search")
+    b.reload()
+    b.heading("Stock")
+
+
+def keyboard(t):
+    """Work by keys alone: entering, placing an order, deciding on a lot, going along the picture."""
+    b = t.browser
+    b.go(t.proxy.address)
+    if b.js("return sessionStorage.length") > 0:
+        b.click("#who button")
+    b.heading("Enter")
+    b.js("document.querySelector('input[name=owner]').focus()")
+    b.write("ACME")
+    b.press("tab")
+    b.write("ACMEKEY1")
+    b.press("enter")
+    b.heading("Orders")
+    tab_to(t, "input[name=order]")
+    b.write("O-KEYS")
+    b.press("tab")
+    b.write("FILL")
+    b.press("tab", "tab", "enter")
+    b.wait("Order O-KEYS is placed")
+    tab_to(t, "#nav a[href='#/stock']", back=True)
+    t.shot("25-focus", "what has the focus is marked, also in the bar", whole=False)
+    b.press("enter")
+    b.heading("Stock")
+    tab_to(t, "tbody a[href='#/lots/S-5']")
+    b.press("enter")
+    b.heading("Lot S-5")
+    decide_by_keys(t)
+    b.go(f"{t.proxy.address}#/lots/BL-1")
+    b.heading("Lot BL-1")
+    t.pictured()
+    tab_to(t, ".genealogy a[data-id='ACME/B-2']")
+    t.shot("26-focus-in-the-picture", "a box of the picture has the focus, and is followed by Enter")
+    b.press("enter")
+    b.heading("Lot B-2")
+    b.press("shift+tab")
+    t.expect(b.js("return document.activeElement !== document.body"), "there is no way back by keys")
+
+
+def decide_by_keys(t):
+    """Releases a lot; then begins to reject it, and thinks better of it."""
+    b = t.browser
+    tab_to(t, "[data-key=release]")
+    b.press("space")
+    b.wait("Lot S-5 is released.")
+    tab_to(t, "[data-key=reject]")
+    b.press("enter")
+    b.find("dialog")
+    t.expect(b.js("return document.activeElement.textContent") == "No, keep it", "the question's first answer isn't the harmless one")
+    b.press("tab", "tab", "tab")
+    within = b.js("const it = document.activeElement; return it === document.body || document.querySelector('dialog').contains(it)")
+    t.expect(within, "the focus leaves the question")
+    b.press("escape")
+    b.gone("dialog")
+    t.expect(b.js("return document.activeElement.dataset.key") == "reject", "the focus doesn't come back from the question")
+
+
+def tab_to(t, css, back=False):
+    """Presses tab until this has the focus."""
+    for _ in range(120):
+        if t.browser.js("return document.activeElement.matches(arguments[0])", css):
+            return
+        t.browser.press("shift+tab" if back else "tab")
+    raise Failed(f"tab doesn't lead to {css}")
+
+
+def phone(t):
+    b = t.browser
+    t.entered()
+    b.phone()
+    try:
+        b.reload()
+        b.heading("Orders")
+        t.shot("27-phone-orders", "a phone's width: the orders, each row a block of lines")
+        b.click("#nav a", "Stock")
+        b.heading("Stock")
+        t.shot("28-phone-stock", "a phone's width: the stock")
+        b.click("tbody a", "BL-1")
+        b.heading("Lot BL-1")
+        t.pictured()
+        t.shot("29-phone-lot", "a phone's width: a lot; the picture begins at the asked lot and is moved by a finger")
+        b.click("#nav a", "Orders")
+        b.heading("Orders")
+        b.click("tbody a", "O-1")
+        b.wait("Batch 5")
+        t.shot("30-phone-order", "a phone's width: an order with its batches")
+    finally:
+        b.no_phone()
+        b.reload()
+
+
+def paper(t):
+    """Prints three views; with pdftoppm (Debian's poppler-utils) their first sheets are kept as pictures too."""
+    b = t.browser
+    t.entered()
+    for name, what, lead in (("31-paper-order", "an order on paper", lambda: (t.to_order("O-1"), b.wait("Batch 5"))),
+                             ("32-paper-lot", "a lot on paper, its genealogy as a picture and as a table", lambda: (t.to_lot("BL-1"), t.pictured())),
+                             ("33-paper-stock", "the stock on paper", lambda: (b.click("#nav a", "Stock"), b.heading("Stock")))):
+        lead()
+        b.printed(t.pictures / f"{name}.pdf")
+        t.expect((t.pictures / f"{name}.pdf").read_bytes().startswith(b"%PDF"), f"{name} is no PDF")
+        if shutil.which("pdftoppm"):
+            subprocess.run(["pdftoppm", "-png", "-r", "80", "-f", "1", "-l", "1", "-singlefile", t.pictures / f"{name}.pdf", t.pictures / name], check=True)
+            t.shots.append((name, what))
