@@ -2,6 +2,7 @@
 import collections
 import contextlib
 import fcntl
+import pathlib
 import sqlite3
 import subprocess
 
@@ -44,7 +45,8 @@ def lock_of(path):
 def copy(path, target):
     """Copies the office's file, with what its log holds, as it stands at one moment."""
     try:
-        with lock_of(path), contextlib.closing(sqlite3.connect(f"file:{path}?mode=ro", uri=True)) as source:
+        address = f"{pathlib.Path(path).absolute().as_uri()}?mode=ro"
+        with lock_of(path), contextlib.closing(sqlite3.connect(address, uri=True)) as source:
             with contextlib.closing(sqlite3.connect(target)) as sink:
                 source.backup(sink)
     except sqlite3.Error as error:
@@ -53,22 +55,31 @@ def copy(path, target):
 
 def recall(program, path, lot):
     """The recall of the lot over a copy of the office, held against the edges of its tables."""
-    done = subprocess.run([program, "--db", path, "recall", *lot], capture_output=True, text=True, check=False)
-    if done.returncode != 0:
-        raise Failure((done.stdout + done.stderr).strip() or "toll said nothing", done.returncode)
-    lines = [line_of(it) for it in done.stdout.splitlines()[1:]]
+    told = recalled(program, path, lot)
+    lines = [line_of(it) for it in told.splitlines()[1:]]
     with contextlib.closing(sqlite3.connect(path)) as office:
         edges = {(Lot(a, b), Lot(c, d)) for a, b, c, d in office.execute(EDGES)}
         rows = office.execute(LOTS).fetchall()
     compare(lines, edges, lot)
     lots = {it.lot for it in lines}
     return Recall(
-        done.stdout,
+        told,
         lines,
         sorted(it for it in edges if lots.issuperset(it)),
         {Lot(owner, name): (material, measure) for owner, name, material, measure, *_ in rows},
         {Lot(owner, name): (owner, order, number) for owner, name, _, _, order, number in rows if order},
     )
+
+
+def recalled(program, path, lot):
+    """What toll prints of the recall."""
+    try:
+        done = subprocess.run([program, "--db", path, "recall", *lot], capture_output=True, text=True, check=False)
+    except OSError as error:
+        raise Failure(f"{program}: {error.strerror}", 3) from error
+    if done.returncode != 0:
+        raise Failure((done.stdout + done.stderr).strip() or "toll said nothing", done.returncode)
+    return done.stdout
 
 
 def line_of(text):

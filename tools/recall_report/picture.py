@@ -1,94 +1,153 @@
-"""The picture of a recall: its lots in columns by their fewest steps, and the edges between them."""
+"""The picture of a recall: its boxes in columns by their fewest steps, and the edges between them."""
 import collections
 import html
 
-MOST_LOTS = 60
-WIDTH, HEIGHT, ACROSS, DOWN, EDGE = 176, 62, 92, 18, 12
+from .boxes import boxes_of
+
+WIDTH, LINE, ACROSS, DOWN, EDGE, HEAD, LANE, BEND = 176, 15, 76, 16, 12, 26, 9, 7
+FORTH, BACK = -7, 9
+# what of a sheet of A4 is left for a picture, across and beneath a heading
+SHEET = (1000, 640)
 SHAPES = {
     "released": ("#e3f3e6", "#1d7a37", "M0 5 L4 9 L11 1"),
     "quarantined": ("#fdf1d3", "#8a5a00", "M5.5 0 L11 5.5 L5.5 11 L0 5.5 Z"),
     "rejected": ("#fbe3e1", "#a3231a", "M0 0 L10 10 M10 0 L0 10"),
     "mixed": ("#eef0f3", "#4a5568", "M0 3 H11 M0 8 H11"),
 }
-Box = collections.namedtuple("Box", "key steps title lines disposition is_asked")
+TIP = ('<defs><marker id="tip" viewBox="0 0 8 8" refX="8" refY="4" markerWidth="7" markerHeight="7" orient="auto">'
+       '<path class="tip" d="M0 0 L8 4 L0 8 Z"/></marker></defs>')
+Place = collections.namedtuple("Place", "column x y middle")
 
 
-def boxes_of(lines, recall, shows_owner):
-    """A box for each lot, or for each batch where there are many lots, and the box of each lot."""
-    groups = collections.defaultdict(list)
-    for line in lines:
-        is_folded = len(lines) > MOST_LOTS and line.steps > 0
-        key = recall.batches.get(line.lot, line.lot) if is_folded else line.lot
-        groups[key].append(line)
-    boxes = [box_of(key, group, recall, shows_owner) for key, group in groups.items()]
-    return sorted(boxes, key=lambda it: (it.steps, it.title)), {line.lot: key for key, group in groups.items() for line in group}
+class Layout:
+    """Where the boxes stand: a column for each number of steps, the boxes of a column by where what leads to them stands."""
+
+    def __init__(self, boxes, joined):
+        columns = collections.defaultdict(list)
+        for box in boxes:
+            columns[box.steps].append(box)
+        self.steps = sorted(columns)
+        self.height_of_box = 14 + LINE * (1 + max(len(it.lines) for it in boxes))
+        self.row = self.height_of_box + DOWN
+        self.rows = max(len(it) for it in columns.values())
+        self.bottom = HEAD + self.rows * self.row
+        self.width = EDGE + len(self.steps) * (WIDTH + ACROSS)
+        self.lanes = 0
+        self.places = {}
+        for column, steps in enumerate(self.steps):
+            self._place(column, self._ordered(columns[steps], joined), (self.rows - len(columns[steps])) // 2)
+
+    def _ordered(self, boxes, joined):
+        """The boxes of a column in the order of the middles of what leads to them, of those that stand already."""
+        middles = collections.defaultdict(list)
+        for source, target in joined:
+            if source in self.places:
+                middles[target].append(self.places[source].middle)
+        mean = {key: sum(it) / len(it) for key, it in middles.items()}
+        return sorted(boxes, key=lambda it: mean.get(it.key, 0))
+
+    def _place(self, column, boxes, first_row):
+        for row, box in enumerate(boxes, first_row):
+            y = HEAD + row * self.row
+            self.places[box.key] = Place(column, EDGE + column * (WIDTH + ACROSS), y, y + self.height_of_box // 2)
+
+    @property
+    def height(self):
+        return self.bottom + (self.lanes + 1) * LANE
+
+    def bands(self):
+        """Where the picture is cut for paper, between rows: from where to where each sheet has it."""
+        room = SHEET[1] * max(1, self.width / SHEET[0])
+        if self.height <= room:
+            return []
+        rows = max(1, int((room - HEAD) // self.row))
+        cuts = [HEAD + at * self.row - DOWN // 2 for at in range(0, self.rows, rows)]
+        return list(zip(cuts, [*cuts[1:], self.height]))
+
+    def edge(self, source, target):
+        """The way from one box to another, which passes behind none: between two columns, or beneath all boxes."""
+        a, b = self.places[source], self.places[target]
+        forth = b.column > a.column
+        port = FORTH if forth else BACK
+        y1, y2 = a.middle + port, b.middle + port
+        if a.column == b.column:
+            return around(a.x + WIDTH, y1, y2)
+        x1, x2 = (a.x + WIDTH, b.x) if forth else (a.x, b.x + WIDTH)
+        if abs(a.column - b.column) == 1:
+            half = (x1 + x2) / 2
+            return f"M{x1} {y1}C{half} {y1} {half} {y2} {x2} {y2}"
+        self.lanes += 1
+        return beneath(x1, y1, x2, y2, self.bottom + self.lanes * LANE, 1 if forth else -1, self.lanes)
 
 
-def box_of(key, group, recall, shows_owner):
-    first = group[0]
-    material, measure = recall.materials[first.lot]
-    front = f"{first.lot.owner} " if shows_owner else ""
-    kinds = {it.disposition for it in group}
-    disposition = kinds.pop() if len(kinds) == 1 else "mixed"
-    if len(group) == 1:
-        amount = f"{first.on_hand} {measure} here, {first.shipped} shipped"
-        return Box(key, first.steps, front + first.lot.name, [f"{material}, {disposition}", amount], disposition, first.steps == 0)
-    counts = collections.Counter(it.disposition for it in group)
-    told = ", ".join(f"{count} {word}" for word, count in sorted(counts.items()))
-    _, order, number = key
-    return Box(key, min(it.steps for it in group), f"{front}batch {order}/{number}", [f"{len(group)} lots", told], disposition, False)
+def around(x, y1, y2):
+    """From a box to one of the same column: a bow on the right side of both."""
+    reach = x + min(ACROSS - 14, 24 + abs(y2 - y1) // 8)
+    return f"M{x} {y1}C{reach} {y1} {reach} {y2} {x} {y2}"
 
 
-def places_of(boxes):
-    """Where each box stands: its column by its steps, one under another."""
-    columns = collections.defaultdict(list)
-    for box in boxes:
-        columns[box.steps].append(box)
-    tallest = max(len(it) for it in columns.values())
-    places = {}
-    for column, steps in enumerate(sorted(columns)):
-        above = (tallest - len(columns[steps])) * (HEIGHT + DOWN) // 2
-        for row, box in enumerate(columns[steps]):
-            places[box.key] = (EDGE + column * (WIDTH + ACROSS), EDGE + above + row * (HEIGHT + DOWN))
-    return places, len(columns), tallest
+def beneath(x1, y1, x2, y2, lane, way, number):
+    """Down between two columns, along a lane beneath all boxes, and up between two others."""
+    aside = (20 + number % 6 * 6) * way
+    down, up, bend = x1 + aside, x2 - aside, BEND * way
+    return (f"M{x1} {y1}H{down - bend}Q{down} {y1} {down} {y1 + BEND}V{lane - BEND}Q{down} {lane} {down + bend} {lane}"
+            f"H{up - bend}Q{up} {lane} {up} {lane - BEND}V{y2 + BEND}Q{up} {y2} {up + bend} {y2}H{x2}")
 
 
-def arrow(source, target):
-    """An arrow from the right side of a box to the left side of another, round the outside where it leads back."""
-    (x1, y1), (x2, y2) = source, target
-    x1, y1, y2 = x1 + WIDTH, y1 + HEIGHT // 2, y2 + HEIGHT // 2
-    reach = ACROSS // 2 if x2 > x1 else ACROSS
-    return f'<path class="edge" d="M{x1} {y1} C{x1 + reach} {y1} {x2 - reach} {y2} {x2} {y2}" marker-end="url(#tip)"/>'
+def wide(words, size):
+    """About how wide a text is, in any font of common width."""
+    return size * sum(0.36 if it in " ,.-/" else 0.72 if it.isupper() else 0.63 for it in words)
 
 
-def drawn_box(box, place):
-    x, y = place
+def text(words, x, y, size, room, kind=""):
+    """A text, which is pressed together where it may be wider than its room."""
+    pressed = f' textLength="{room}" lengthAdjust="spacingAndGlyphs"' if wide(words, size) > room else ""
+    return f'<text{kind} x="{x}" y="{y}"{pressed}>{html.escape(words)}</text>'
+
+
+def drawn_box(box, place, height):
     fill, ink, sign = SHAPES[box.disposition]
-    width = 3 if box.is_asked else 1
-    text = [f'<text class="name" x="{x + 28}" y="{y + 20}">{html.escape(box.title)}</text>']
-    text += [f'<text x="{x + 10}" y="{y + 37 + 15 * row}">{html.escape(it)}</text>' for row, it in enumerate(box.lines)]
-    word = html.escape(box.disposition)
-    return (f'<g><title>{html.escape(box.title)}: {word}</title>'
-            f'<rect x="{x}" y="{y}" width="{WIDTH}" height="{HEIGHT}" rx="6" fill="{fill}" stroke="{ink}" stroke-width="{width}"/>'
-            f'<path d="{sign}" transform="translate({x + 10} {y + 10})" fill="none" stroke="{ink}" stroke-width="2"/>{"".join(text)}</g>')
+    x, y = place.x, place.y
+    title = text(box.title, x + 28, y + 20, 13, WIDTH - 36, ' class="name"')
+    lines = [text(it, x + 10, y + 20 + LINE * row, 11, WIDTH - 18) for row, it in enumerate(box.lines, 1)]
+    frame = 3 if box.is_asked else 1
+    return (f'<g class="box"><rect x="{x}" y="{y}" width="{WIDTH}" height="{height}" rx="6" fill="{fill}" stroke="{ink}" stroke-width="{frame}"/>'
+            f'<path d="{sign}" transform="translate({x + 10} {y + 10})" fill="none" stroke="{ink}" stroke-width="2"/>'
+            f'{title}{"".join(lines)}</g>')
 
 
-def svg(lines, recall, shows_owner):
-    """The picture of these lines of the recall, and of the edges between their lots."""
+def figure(lines, recall, shows_owner):
+    """The picture of these lines of the recall and of the edges between their lots, with what its signs mean."""
     boxes, box_at = boxes_of(lines, recall, shows_owner)
-    places, columns, tallest = places_of(boxes)
-    edges = {(box_at[a], box_at[b]) for a, b in recall.edges if a in box_at and b in box_at}
-    arrows = [arrow(places[a], places[b]) for a, b in sorted(edges, key=str) if a != b]
-    width = 2 * EDGE + columns * (WIDTH + ACROSS)
-    height = 2 * EDGE + tallest * (HEIGHT + DOWN)
-    tip = '<defs><marker id="tip" viewBox="0 0 8 8" refX="8" refY="4" markerWidth="8" markerHeight="8" orient="auto"><path d="M0 0 L8 4 L0 8 Z"/></marker></defs>'
-    parts = [tip, *arrows, *(drawn_box(it, places[it.key]) for it in boxes)]
-    return f'<svg role="img" aria-label="The lots of the recall" viewBox="0 0 {width} {height}" width="{width}" height="{height}">{"".join(parts)}</svg>'
+    words = [it for it in SHAPES if it != "mixed" or any(box.disposition == it for box in boxes)]
+    asked = ", which has a thick frame" if any(it.is_asked for it in boxes) else ""
+    return (f"<figure>{svg(boxes, box_at, recall.edges)}<figcaption>Columns are the fewest steps from the lot that is recalled{asked}; "
+            f'an arrow leads from a lot to what was made of it.<br>{"".join(map(sign, words))}</figcaption></figure>')
 
 
-def legend():
-    """The signs of dispositions, each with its word."""
-    signs = [(word, *SHAPES[word]) for word in ("released", "quarantined", "rejected", "mixed")]
-    return "".join(
-        f'<span class="sign"><svg width="15" height="15" viewBox="-2 -2 15 15"><path d="{sign}" fill="none" stroke="{ink}" stroke-width="2"/></svg>{word}</span>'
-        for word, _, ink, sign in signs)
+def svg(boxes, box_at, edges):
+    """The picture, and behind it its bands for paper where it is higher than a sheet."""
+    joined = sorted({(box_at[a], box_at[b]) for a, b in edges if a in box_at and b in box_at and box_at[a] != box_at[b]}, key=str)
+    layout = Layout(boxes, joined)
+    title = {it.key: html.escape(it.title) for it in boxes}
+    ways = [f'<path class="edge" d="{layout.edge(a, b)}" marker-end="url(#tip)"><title>{title[a]} to {title[b]}</title></path>' for a, b in joined]
+    heads = [f'<text x="{EDGE + at * (WIDTH + ACROSS)}" y="14">{steps} {"step" if steps == 1 else "steps"}</text>' for at, steps in enumerate(layout.steps)]
+    drawn = [drawn_box(it, layout.places[it.key], layout.height_of_box) for it in boxes]
+    bands = "".join(band(layout, *it) for it in layout.bands())
+    inner = f'{TIP}<g id="heads">{"".join(heads)}</g><g id="boxes">{"".join([*ways, *drawn])}</g>'
+    return (f'<svg class="{"cut" if bands else "whole"}" role="img" aria-label="The lots of the recall, and what they went into" '
+            f'viewBox="0 0 {layout.width} {layout.height}" width="{layout.width}" height="{layout.height}">{inner}</svg>{bands}')
+
+
+def band(layout, top, bottom):
+    """A sheet's part of the picture, with the heads of its columns."""
+    width, height = layout.width, bottom - top
+    return (f'<svg class="band" aria-hidden="true" viewBox="0 0 {width} {HEAD + height}" width="{width}" height="{HEAD + height}"><use href="#heads"/>'
+            f'<svg y="{HEAD}" width="{width}" height="{height}" viewBox="0 {top} {width} {height}"><use href="#boxes"/></svg></svg>')
+
+
+def sign(word):
+    """The sign of a disposition with its word."""
+    _, ink, path = SHAPES[word]
+    return (f'<span class="sign"><svg width="15" height="15" viewBox="-2 -2 15 15" aria-hidden="true"><path d="{path}" fill="none" '
+            f'stroke="{ink}" stroke-width="2"/></svg>{word}</span>')

@@ -1,0 +1,1 @@
+"""What tools/try-recall-report fills and looks at."""
