@@ -1,4 +1,4 @@
-"""What tools/try-memory and tools/try-disk share: the program, the offices that are tried, and how files are looked at."""
+"""What the tools share that try the program or measure it: the program, the offices that are tried, and how files are looked at."""
 import argparse
 import concurrent.futures
 import contextlib
@@ -92,11 +92,18 @@ class Words(argparse.ArgumentParser):
 
     def __init__(self, usage):
         super().__init__(prog=NAME, description=usage, formatter_class=argparse.RawDescriptionHelpFormatter, allow_abbrev=False)
-        self.add_argument("--program", type=pathlib.Path, metavar="PATH", help="the built program; that of ./toll where it isn't said")
-        self.add_argument("--jobs", type=int, default=min(4, os.cpu_count()), metavar="N", help="so many runs at a time")
 
     def error(self, message):
         give_up(message)
+
+
+class WordsOfTrial(Words):
+    """Those of a tool that troubles one program, in many runs at a time."""
+
+    def __init__(self, usage):
+        super().__init__(usage)
+        self.add_argument("--program", type=pathlib.Path, metavar="PATH", help="the built program; that of ./toll where it isn't said")
+        self.add_argument("--jobs", type=int, default=min(4, os.cpu_count()), metavar="N", help="so many runs at a time")
 
     def read(self):
         words = self.parse_args()

@@ -1,0 +1,48 @@
+"""The plant's words: the lines of commands, and the values that are words of a list. The code has them once."""
+import pathlib
+import re
+
+ROOT = pathlib.Path(__file__).resolve().parent.parent
+CRATES = ROOT / "crates"
+COMMANDS = ROOT / "docs" / "commands.md"
+
+
+def lines_of_code():
+    """The names of the values of each command, in order."""
+    source = (CRATES / "toll_plant" / "src" / "line.rt").read_text()
+    names = dict(re.findall(r'const (\w+): Argument<.*?> = Argument {\s+name: "(.*?)"', source))
+    lines = re.findall(r'name: "([a-z-]+)",\s+command: \S+,\s+values: &\[(.*?)\]', source, re.S)
+    return {name: [names[it] for it in re.findall(r"\w+", values)] for name, values in lines}
+
+
+def lines_of_page():
+    """The same, as docs/commands.md has them."""
+    lines = re.findall(r"^    ([a-z-]+) ([A-Z].*)$", COMMANDS.read_text(), re.M)
+    return {name: values.split() for name, values in lines}
+
+
+def choices_of_code():
+    """The words of each value that is one of a list."""
+    argument = (CRATES / "toll_plant" / "src" / "argument.rt").read_text()
+    functions = {name: re.search(rf"^fn {name}\(.*?^}}", argument, re.M | re.S).group() for name in ("role_of", "way_of")}
+    commands = (CRATES / "toll_base" / "src" / "state_command.rt").read_text()
+    return {
+        "USE": re.findall(r'is_word\(word, "(\w+)"\)', functions["role_of"]),
+        "WAY": re.findall(r'is_word\(word, "(\w+)"\)', functions["way_of"]),
+        "COMMAND": re.findall(r'StateCommand::\w+ => "(\w+)"', commands),
+    }
+
+
+def choices_of_page():
+    """The same, as the table of docs/commands.md has them."""
+    rows = re.findall(r"^\| ([A-Z]+) \| ((?:`[a-z]+`(?:, | or )?)+) \|$", COMMANDS.read_text(), re.M)
+    return {name: re.findall(r"`(\w+)`", words) for name, words in rows}
+
+
+def differences():
+    """What docs/commands.md and the code don't have in common, a line each."""
+    def texts(lines, choices):
+        return {" ".join([name, *values]) for name, values in lines.items()} | {f"{name}: {', '.join(words)}" for name, words in choices.items()}
+
+    code, page = texts(lines_of_code(), choices_of_code()), texts(lines_of_page(), choices_of_page())
+    return [f"docs/commands.md and the code don't both have: {it}" for it in sorted(code ^ page)]
