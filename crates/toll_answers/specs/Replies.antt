@@ -1,11 +1,11 @@
 -- What an owner is told over a list of commands.
-use Rattle.std.specs.Prelude.{◌≡◌, ℕ, Bool, not, ◌&&◌, if◌then◌else◌, Option, Some, None, is_some, List, MatchBool}
+use Rattle.std.specs.Prelude.{◌≡◌, ◌↔◌, ℕ, Bool, not, ◌&&◌, if◌then◌else◌, Option, Some, None, is_some, List, MatchBool}
 use Rattle.toll_base.specs.Bytes.{Bytes, same_bytes, bytes_cmp}
 use Rattle.toll_base.specs.Values.{house_name}
 use Rattle.toll_base.specs.Words.{is_some_where}
 use Rattle.toll_base.specs.Keys.{RequirementKey, requirement_cmp, result_cmp, pair_cmp}
 use Rattle.toll_history.specs.Command.{Action, PlaceOrder, CancelOrder, Release, Reject, by}
-use Rattle.toll_history.specs.History.{History, acts, owner_key}
+use Rattle.toll_history.specs.History.{History, acts, owner_key, part}
 use Rattle.toll_history.specs.Work.{measure_of, order_of, batch_of}
 use Rattle.toll_base.specs.Lots.{lot_id}
 use Rattle.toll_history.specs.Tables.{tables_given, lot_row}
@@ -133,3 +133,11 @@ after_reply o key H q = if has_key o key H then after_answer o H q else H
 abbrev pub IsValidAsked : Asked → Type 0
 IsValidAsked (AskPlace order recipe batches) = IsValid (PlaceOrder order recipe batches)
 IsValidAsked _ = Unit {0}
+
+-- the owner's own part of the history says the same of the reply as all of it
+abbrev pub IsOwnReply : (o key : Bytes) → History → Asked → Told → Type 0
+IsOwnReply o key H q r = IsReply o key (part o H) q r ↔ IsReply o key H q r
+
+-- what the request makes of the owner's own part is the owner's part of what it makes of all of it
+abbrev pub IsOwnGrowth : (o key : Bytes) → History → Asked → Type 0
+IsOwnGrowth o key H q = after_reply o key (part o H) q ≡ part o (after_reply o key H q)

@@ -1,16 +1,16 @@
 //! What an owner is told comes from the owner's own commands.
-ghost use Rattle.std.specs.Prelude.{◌≡◌, ◌↔◌, false};
+ghost use Rattle.std.specs.Prelude.{◌≡◌, false};
 ghost use Rattle.toll_base.specs.Bytes.{Bytes, same_bytes};
 ghost use Rattle.toll_base.specs.Values.{house_name};
 ghost use Rattle.toll_history.specs.History.{History, part};
 ghost use Rattle.toll_history.specs.Verdict.{IsLawful};
-ghost use Rattle.toll_answers.specs.Replies.{IsReply, after_reply};
+ghost use Rattle.toll_answers.specs.Replies.{IsOwnGrowth, IsOwnReply};
 ghost use Rattle.toll_answers.specs.Told.{Asked, Told};
 
 /// Over every lawful history, each reply to an owner besides HOUSE is the reply over the owner's own
 /// part of it; and what a request makes of the history, cut to the owner, is what it makes of the
 /// part.
 pub fn replies_come_from_the_owners_part()
-    ensures reply { (H : History) (o key : Bytes) (q : Asked) (r : Told) → IsLawful H → same_bytes o house_name ≡ false → IsReply o key (part o H) q r ↔ IsReply o key H q r }
-    ensures growth { (H : History) (o key : Bytes) (q : Asked) → IsLawful H → same_bytes o house_name ≡ false → after_reply o key (part o H) q ≡ part o (after_reply o key H q) }
+    ensures reply { (H : History) (o key : Bytes) (q : Asked) (r : Told) → IsLawful H → same_bytes o house_name ≡ false → IsOwnReply o key H q r }
+    ensures growth { (H : History) (o key : Bytes) (q : Asked) → IsLawful H → same_bytes o house_name ≡ false → IsOwnGrowth o key H q }
 {}

@@ -1,9 +1,10 @@
 -- How many actuals each batch has, kept beside the movements.
-use Rattle.std.specs.Prelude.{◌≡◌, ℕ, ◌≤◌, true, Option, Some, None, is_some, List}
+use Rattle.std.specs.Prelude.{◌≡◌, ℕ, ◌+◌, ◌≤◌, true, if◌then◌else◌, Option, Some, None, is_some, List}
 use Rattle.std.specs.Option.{option_map_or}
 use Rattle.toll_base.specs.Bytes.{Bytes}
 use Rattle.toll_base.specs.Keys.{batch_cmp}
 use Rattle.toll_base.specs.Table.{row_at}
+use Rattle.toll_base.specs.Words.{is_some_where}
 use Rattle.toll_base.specs.SliceRules.{count_actuals, is_actual_of}
 use Rattle.toll_base.specs.declared.movement.MoveRow.{MoveRow}
 use Rattle.toll_base.specs.declared.movement.Move.{Move as Moved}
@@ -33,3 +34,13 @@ HaveSameBatches old new = (order : Bytes) (number : ℕ) → is_some (counted ne
 abbrev pub HasKnown : List ActualCount → Option MoveRow → Type 0
 HasKnown rows None = Unit {0}
 HasKnown rows (Some known) = HasRowFor rows known.what × ((order : Bytes) (number : ℕ) → is_actual_of order number known.what ≡ true → 1 ≤ count_of rows order number)
+
+-- how many actuals of the batch the movement is: one or none
+abbrev pub counts_for : Bytes → ℕ → Moved → ℕ
+counts_for order number what = if is_actual_of order number what then 1 else 0
+
+-- what counted for the known movement counts for this one
+abbrev pub AreRecounted : Option MoveRow → Moved → (old new : List ActualCount) → Type 0
+AreRecounted known what old new =
+    (order : Bytes) (number : ℕ) →
+    (if is_some_where (λ row. is_actual_of order number row.what) known then 1 else 0) + count_of new order number ≡ counts_for order number what + count_of old order number

@@ -3,6 +3,7 @@ pub mod Values
 pub mod Refusal
 pub mod Words
 pub mod Table
+pub mod Places
 pub mod Roles
 pub mod Keys
 pub mod Slice

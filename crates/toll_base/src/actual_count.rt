@@ -1,6 +1,6 @@
 //! How many actuals each batch has.
-ghost use Rattle.std.specs.Prelude.{◌≡◌, ℕ, ◌+◌, ◌<◌, ◌≤◌, ◌^◌, if◌then◌else◌, OnOk, OnErr, true, is_some};
-ghost use Rattle.toll_base.specs.ActualCounts.{counted, count_of, HasRowFor, HaveSameBatches};
+ghost use Rattle.std.specs.Prelude.{◌≡◌, ℕ, ◌+◌, ◌<◌, ◌≤◌, ◌^◌, OnOk, true, is_some};
+ghost use Rattle.toll_base.specs.ActualCounts.{counted, count_of, counts_for, HasRowFor, HaveSameBatches};
 ghost use Rattle.toll_base.specs.Bytes.{Bytes};
 ghost use Rattle.toll_base.specs.SliceRules.{is_actual_of};
 
@@ -60,7 +60,7 @@ pub fn add_row(counts: &mut Table<ActualCount>, what: &Move) -> Result<(), Alloc
 pub fn add_one(counts: &mut Table<ActualCount>, what: &Move)
     requires row { HasRowFor counts.old what.now }
     requires room { (order : Bytes) (number : ℕ) → count_of counts.old order number < 2 ^ 32 }
-    ensures count { (order : Bytes) (number : ℕ) → count_of counts.new order number ≡ (if is_actual_of order number what.now then 1 else 0) + count_of counts.old order number }
+    ensures count { (order : Bytes) (number : ℕ) → count_of counts.new order number ≡ counts_for order number what.now + count_of counts.old order number }
 {
     if let Move::Actual { order, number, .. } = what {
         let count = count_in(counts, order, *number) + 1;
@@ -76,7 +76,7 @@ pub fn add_one(counts: &mut Table<ActualCount>, what: &Move)
 pub fn take_one(counts: &mut Table<ActualCount>, what: &Move)
     requires row { HasRowFor counts.old what.now }
     requires counted { (order : Bytes) (number : ℕ) → is_actual_of order number what.now ≡ true → 1 ≤ count_of counts.old order number }
-    ensures count { (order : Bytes) (number : ℕ) → (if is_actual_of order number what.now then 1 else 0) + count_of counts.new order number ≡ count_of counts.old order number }
+    ensures count { (order : Bytes) (number : ℕ) → counts_for order number what.now + count_of counts.new order number ≡ count_of counts.old order number }
     ensures same { HaveSameBatches counts.old counts.new }
 {
     if let Move::Actual { order, number, .. } = what {

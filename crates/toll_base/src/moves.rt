@@ -1,10 +1,9 @@
 //! The movements of an owner.
-ghost use Rattle.std.specs.Prelude.{◌≡◌, ℕ, ◌+◌, ◌<◌, ◌≤◌, ◌^◌, length, if◌then◌else◌, List, [], OnOk, OnErr, IfOk};
-ghost use Rattle.toll_base.specs.ActualCounts.{count_of, HasRowFor, HasKnown};
+ghost use Rattle.std.specs.Prelude.{◌≡◌, ℕ, ◌<◌, ◌≤◌, ◌^◌, length, List, [], OnOk, OnErr, IfOk};
+ghost use Rattle.toll_base.specs.ActualCounts.{AreRecounted, HasKnown, HasRowFor, count_of};
 ghost use Rattle.toll_base.specs.Bytes.{Bytes, bytes_cmp};
-ghost use Rattle.toll_base.specs.SliceRules.{count_actuals, is_actual_of};
+ghost use Rattle.toll_base.specs.SliceRules.{count_actuals};
 ghost use Rattle.toll_base.specs.Table.{row_at, put_row, remove_row, has_room, IsInKeyOrder};
-ghost use Rattle.toll_base.specs.Words.{is_some_where};
 
 use crate::actual_count::{ActualCount, add_one, add_row, count_in, take_one};
 use crate::bounded::BatchNo;
@@ -123,7 +122,7 @@ fn recount(counts: &mut Table<ActualCount>, known: &Option<MoveRow>, what: &Move
     requires rows { HasRowFor counts.old what.now }
     requires known { HasKnown counts.old known.now }
     requires room { (order : Bytes) (number : ℕ) → count_of counts.old order number < 2 ^ 32 }
-    ensures { (order : Bytes) (number : ℕ) → (if is_some_where (λ row. is_actual_of order number row.what) known.now then 1 else 0) + count_of counts.new order number ≡ (if is_actual_of order number what.now then 1 else 0) + count_of counts.old order number }
+    ensures { AreRecounted known.now what.now counts.old counts.new }
 {
     if let Some(known) = known {
         take_one(counts, &known.what);

@@ -1,8 +1,7 @@
 //! Rows in the order of their keys.
-ghost use Rattle.std.specs.Prelude.{◌≡◌, ℕ, List, [], length, is_some, true, OnOk, OnErr, IfOk, MatchResult, vec_len};
-ghost use Rattle.std.specs.List.{HoldsAt};
-ghost use Rattle.std.specs.List.Sorted.{IsPartitionPoint, IsSearchInRange};
-ghost use Rattle.std.specs.declared.cmp.Ordering.TheVariants.{Less, Equal, Greater};
+ghost use Rattle.std.specs.Prelude.{◌≡◌, List, [], length, is_some, true, OnOk, OnErr, IfOk, MatchResult};
+ghost use Rattle.std.specs.List.Sorted.{IsSearchInRange};
+ghost use Rattle.toll_base.specs.Places.{HasKeyAt, IsPlaceFor};
 ghost use Rattle.toll_base.specs.Table.{row_at, put_row, remove_row, IsInKeyOrder, has_room};
 
 use crate::double_ended::DoubleEnded;
@@ -132,9 +131,7 @@ impl<R: Keyed> Table<R> {
     // Where the key is, or where it would go.
     fn search(&self, key: &R::Key) -> Result<usize, usize>
         ensures bound { IsSearchInRange result (length self.now) }
-        ensures place { MatchResult result
-            (HoldsAt (λ row. R.Key.cmp (R.key_of row) key.now ≡ Equal) self.now)
-            (IsPartitionPoint (λ row. R.Key.cmp (R.key_of row) key.now ≡ Less) (λ row. R.Key.cmp (R.key_of row) key.now ≡ Greater) self.now) }
+        ensures place { MatchResult result (HasKeyAt R.Key.cmp R.key_of self.now key.now) (IsPlaceFor R.Key.cmp R.key_of self.now key.now) }
     {
         self.rows().binary_search_by_key(key, |row| row.key())
     }

@@ -8,7 +8,7 @@ use Rattle.toll_base.specs.declared.lot.LotId.{LotId}
 use Rattle.toll_base.specs.declared.lot.Edge.{Edge}
 use Rattle.toll_base.specs.declared.movement.MoveRow.{MoveRow}
 use Rattle.toll_trace.specs.declared.way.Way.{Way}
-use Rattle.toll_trace.specs.Edges.{IsDrawn}
+use Rattle.toll_trace.specs.Edges.{AreEdges, IsDrawn}
 use Rattle.toll_trace.specs.Chain.{edge_of}
 
 -- of an owner's own actions: the movement was recorded, and its key isn't voided
@@ -20,9 +20,17 @@ pub record WasDone (own : List Action) (row : MoveRow) : Type 0 where
 abbrev pub IsOwnEdge : List Action → Edge → Type 0
 IsOwnEdge own e = IsDrawn (WasDone own) e
 
+-- the edges of an owner's batches, in order, each once
+abbrev pub AreOwnEdges : History → (o : Bytes) → List Edge → Type 0
+AreOwnEdges H o edges = AreEdges (IsOwnEdge (acts o H)) edges
+
 -- an edge of a batch of any owner
 abbrev pub IsPlantEdge : History → Edge → Type 0
 IsPlantEdge H e = (o : Bytes) × IsOwnEdge (acts o H) e
+
+-- the edges of all batches, in order, each once
+abbrev pub ArePlantEdges : History → List Edge → Type 0
+ArePlantEdges H edges = AreEdges (IsPlantEdge H) edges
 
 -- the lots joined by an owner's edges, and by all
 abbrev pub IsOwnJoined : List Action → Way → LotId → LotId → Type 0

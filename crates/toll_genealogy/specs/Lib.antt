@@ -1,3 +1,4 @@
+pub mod Agreement
 pub mod Edges
 pub mod Joints
 pub mod Recall

@@ -2,10 +2,11 @@
 use Rattle.std.specs.Prelude.{List, [], ◌∷◌, codes}
 use Rattle.toll_base.specs.Bytes.{Bytes}
 use Rattle.toll_base.specs.Values.{house_name}
-use Rattle.toll_history.specs.Command.{AddOwner, AddUnit, AddRecipe, PlaceOrder, OpenBatch, CommandBatch, Release, Command, by}
+use Rattle.toll_history.specs.Command.{AddOwner, AddUnit, AddRecipe, PlaceOrder, OpenBatch, CommandBatch, Release, Command, by, moves}
 use Rattle.toll_history.specs.History.{History}
 use Rattle.toll_base.specs.Lots.{lot_id}
-use Rattle.toll_history.specs.Worked.{after, acme, material, require, receives, moves}
+use Rattle.toll_history.specs.Worked.{after, acme, material, require, receives}
+use Rattle.toll_base.specs.declared.lot.Edge.{Edge}
 use Rattle.toll_base.specs.declared.lot.LotId.{LotId}
 use Rattle.toll_base.specs.declared.role.Role.TheVariants.{Consumed, Produced}
 use Rattle.toll_base.specs.declared.movement.Move.TheVariants.{Actual}
@@ -17,6 +18,26 @@ of_acme l = lot_id acme l
 
 abbrev pub of_house : Bytes → LotId
 of_house l = lot_id house_name l
+
+-- the lots that the examples speak of
+abbrev pub a : LotId
+a = of_acme (codes "A")
+
+abbrev pub p1 : LotId
+p1 = of_acme (codes "P1")
+
+abbrev pub q1 : LotId
+q1 = of_acme (codes "Q1")
+
+abbrev pub h1 : LotId
+h1 = of_house (codes "H-1")
+
+abbrev pub h2 : LotId
+h2 = of_house (codes "H-2")
+
+-- the first lot went into the second
+abbrev pub into : LotId → LotId → Edge
+into from to = record { from = from; to = to }
 
 -- batch X/1 of ACME produces P1, of which batch Y/1 makes Q1, which X/1 consumes
 abbrev pub consumed_in_a_circle : List Command

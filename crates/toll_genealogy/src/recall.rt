@@ -1,12 +1,11 @@
 //! Recalls.
-ghost use Rattle.std.specs.Prelude.{◌≡◌, false, List, map, Contains};
+ghost use Rattle.std.specs.Prelude.{◌≡◌, false};
 ghost use Rattle.toll_base.specs.Bytes.{Bytes, same_bytes};
 ghost use Rattle.toll_base.specs.Values.{house_name};
 ghost use Rattle.toll_base.specs.declared.lot.LotId.{LotId};
-ghost use Rattle.toll_history.specs.History.{History, part, acts};
+ghost use Rattle.toll_history.specs.History.{History};
 ghost use Rattle.toll_history.specs.Verdict.{IsLawful};
-ghost use Rattle.toll_genealogy.specs.Joints.{AreJoints};
-ghost use Rattle.toll_genealogy.specs.Recall.{IsRecall};
+ghost use Rattle.toll_genealogy.specs.Agreement.{IfPartsAgree, IsRecallOfJoints, RecallsAgree};
 ghost use Rattle.toll_genealogy.specs.declared.recall.RecallLine.{RecallLine};
 
 use toll_base::Disposition;
@@ -25,14 +24,11 @@ pub struct RecallLine {
 /// The recall of a lot of HOUSE has, of an owner's lots, just those on the owner's forward traces from
 /// the lots of HOUSE that HOUSE's own edges reach, each with the least sum of steps.
 pub fn recalls_within_an_owner_are_the_owners()
-    ensures { (H : History) (o : Bytes) (lot : LotId) (lines : List RecallLine) → IsLawful H → lot.owner ≡ house_name → IsRecall H lot lines →
-        AreJoints (acts house_name H) (acts o H) o lot (map (λ line. line.step) lines) }
+    ensures { (H : History) (o : Bytes) (lot : LotId) → IsLawful H → lot.owner ≡ house_name → IsRecallOfJoints H o lot }
 {}
 
 /// Two lawful histories in which the commands of HOUSE and of an owner are the same give the recalls
 /// of a lot of HOUSE equal lines of that owner's lots: the steps, the dispositions and the totals.
 pub fn recalls_agree_where_their_parts_do()
-    ensures { (G H : History) (o : Bytes) (lot : LotId) (xs ys : List RecallLine) → IsLawful G → IsLawful H → same_bytes o house_name ≡ false
-        → part o G ≡ part o H → part house_name G ≡ part house_name H → lot.owner ≡ house_name → IsRecall G lot xs → IsRecall H lot ys
-        → (line : RecallLine) → line.step.lot.owner ≡ o → Contains xs line → Contains ys line }
+    ensures { (G H : History) (o : Bytes) (lot : LotId) → IsLawful G → IsLawful H → same_bytes o house_name ≡ false → IfPartsAgree G H o (RecallsAgree G H o lot) }
 {}

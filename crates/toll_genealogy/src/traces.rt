@@ -1,20 +1,18 @@
 //! Genealogy of an owner, and of the plant, cut to one owner's lots.
-ghost use Rattle.std.specs.Prelude.{◌≡◌, ◌↔◌, ◌⊎◌, true, is_some, List, Contains};
+ghost use Rattle.std.specs.Prelude.{◌≡◌, ◌↔◌, List, Contains};
 ghost use Rattle.toll_base.specs.Bytes.{Bytes};
 ghost use Rattle.toll_base.specs.Slice.{Slice};
-ghost use Rattle.toll_base.specs.Values.{house_name};
 ghost use Rattle.toll_base.specs.declared.lot.Edge.{Edge};
 ghost use Rattle.toll_base.specs.declared.lot.LotId.{LotId};
 ghost use Rattle.toll_base.specs.declared.movement.MoveRow.{MoveRow};
 ghost use Rattle.toll_history.specs.History.{History, acts};
 ghost use Rattle.toll_history.specs.Movements.{standing};
-ghost use Rattle.toll_history.specs.Tables.{IsRowsOf, lot_row};
+ghost use Rattle.toll_history.specs.Tables.{IsRowsOf};
 ghost use Rattle.toll_history.specs.Verdict.{IsLawful};
 ghost use Rattle.toll_trace.specs.Edges.{AreEdges, IsEdge};
-ghost use Rattle.toll_trace.specs.Trace.{IsTrace};
-ghost use Rattle.toll_trace.specs.declared.step.Step.{Step};
 ghost use Rattle.toll_trace.specs.declared.way.Way.{Way};
-ghost use Rattle.toll_genealogy.specs.Edges.{WasDone, IsOwnEdge, IsOwnJoined, IsPlantJoined};
+ghost use Rattle.toll_genealogy.specs.Agreement.{AreKnown, IsWithin, TracesAgree};
+ghost use Rattle.toll_genealogy.specs.Edges.{WasDone, IsOwnEdge};
 
 /// A movement of an owner stands, which is that no later command voids it, just where it was recorded
 /// and no command at all voids its key.
@@ -25,8 +23,8 @@ pub fn a_movement_stands_unless_it_is_voided()
 /// An edge of an owner's batch leads to a lot of the owner, from one of the owner or of HOUSE, and
 /// both lots are known.
 pub fn lots_of_edges_are_known()
-    ensures owners { (H : History) (o : Bytes) (e : Edge) → IsLawful H → IsOwnEdge (acts o H) e → (e.to.owner ≡ o) × ((e.from.owner ≡ o) ⊎ (e.from.owner ≡ house_name)) }
-    ensures known { (H : History) (o : Bytes) (e : Edge) → IsLawful H → IsOwnEdge (acts o H) e → (is_some (lot_row H e.from.owner e.from.lot) ≡ true) × (is_some (lot_row H e.to.owner e.to.lot) ≡ true) }
+    ensures owners { (H : History) (o : Bytes) (e : Edge) → IsLawful H → IsOwnEdge (acts o H) e → IsWithin o e }
+    ensures known { (H : History) (o : Bytes) (e : Edge) → IsLawful H → IsOwnEdge (acts o H) e → AreKnown H e }
 {}
 
 /// The edges of a slice, as `toll_trace::edges_of` gives them, are its owner's edges over every lawful
@@ -39,6 +37,5 @@ pub fn edges_of_a_slice_are_the_owners()
 /// that the owner's own trace has there. So it is of HOUSE too: what leaves HOUSE's lots does not come
 /// back.
 pub fn plants_traces_within_an_owner_are_the_owners()
-    ensures { (H : History) (o : Bytes) (way : Way) (a : LotId) (plants own : List Step) → IsLawful H → a.owner ≡ o →
-        IsTrace (IsPlantJoined H way) a plants → IsTrace (IsOwnJoined (acts o H) way) a own → (s : Step) → s.lot.owner ≡ o → Contains plants s ↔ Contains own s }
+    ensures { (H : History) (o : Bytes) (way : Way) (a : LotId) → IsLawful H → a.owner ≡ o → TracesAgree H o way a }
 {}

@@ -5,6 +5,7 @@ use Rattle.toll_base.specs.declared.rows.MaterialRow.{MaterialRow}
 use Rattle.toll_base.specs.declared.rows.TestRow.{TestRow}
 use Rattle.toll_base.specs.declared.rows.RecipeRow.{RecipeRow}
 use Rattle.toll_base.specs.declared.rows.RequirementRow.{RequirementRow}
+use Rattle.toll_base.specs.declared.movement.Move.{Move}
 use Rattle.toll_base.specs.declared.movement.MoveRow.{MoveRow}
 use Rattle.toll_base.specs.declared.state_command.StateCommand.{StateCommand}
 
@@ -35,3 +36,7 @@ pub record Command : Type 0 where
 -- this owner's command
 abbrev pub by : Bytes → Action → Command
 by o action = record { owner = o; action = action }
+
+-- this owner's command that records the movement
+abbrev pub moves : Bytes → (key : Bytes) → Move → (amount day : ℕ) → Command
+moves o key what amount day = by o (Record (record { key = key; what = what; amount = amount; day = day }))

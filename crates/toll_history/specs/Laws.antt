@@ -1,19 +1,22 @@
 -- What every lawful history keeps, where it has a name.
-use Rattle.std.specs.Prelude.{◌≡◌, ℕ, ◌≤◌, Bool, true, false, ◌||◌, Option, Some, None, List, ◌∷◌, if◌then◌else◌}
+use Rattle.std.specs.Prelude.{◌≡◌, ℕ, ◌+◌, ◌-◌, ◌≤◌, Bool, true, false, ◌||◌, Option, Some, None, is_some, List, ◌∷◌, if◌then◌else◌}
 use Rattle.std.specs.List.{list_any}
 use Rattle.toll_base.specs.Bytes.{Bytes, same_bytes}
 use Rattle.toll_base.specs.Values.{house_name}
-use Rattle.toll_base.specs.Words.{is_some_where}
-use Rattle.toll_history.specs.Command.{Action, Record, Void, Command}
+use Rattle.toll_base.specs.Words.{total, is_some_where}
+use Rattle.toll_history.specs.Command.{Action, Record, Void, Command, by}
 use Rattle.toll_history.specs.History.{History, acts}
-use Rattle.toll_history.specs.Work.{count_materials, count_tests, count_recipes, count_requirements, count_orders}
+use Rattle.toll_history.specs.Work.{material_of, test_of, count_materials, count_tests, count_recipes, count_requirements, count_orders}
 use Rattle.toll_base.specs.Lots.{lot_id, same_lot}
-use Rattle.toll_history.specs.Movements.{Movement, Made, made_by, lot_made, movement_of, movement_recorded, movements, standing, stock, material_used, brings_into, takes_from, sublot_known, count_movements, count_actuals_of, count_lots, count_sublots}
-use Rattle.toll_history.specs.Dispositions.{count_results, count_results_of, releases, rejects, disposition_of, has_open_test}
+use Rattle.toll_history.specs.Movements.{Movement, Made, made_by, lot_made, movement_of, voided_in, movement_recorded, movements, standing, stock, material_used, brings_into, takes_from, sublot_known, count_movements, count_actuals_of, count_lots, count_sublots}
+use Rattle.toll_history.specs.Dispositions.{count_results, count_results_of, releases, rejects, disposition_of, has_open_test, passes}
+use Rattle.toll_history.specs.Tables.{tables_given, without_amounts, lot_row, sublot_row}
+use Rattle.toll_history.specs.Verdict.{Accepted, is_actual, verdict}
 use Rattle.toll_base.specs.declared.capacity.TheConstants.{MOST_ACTUALS, MOST_LOTS, MOST_MATERIALS, MOST_MOVEMENTS, MOST_ORDERS, MOST_RECIPES, MOST_REQUIREMENTS, MOST_RESULTS, MOST_SUBLOTS, MOST_TESTS}
 use Rattle.toll_base.specs.declared.lot.LotId.{LotId}
-use Rattle.toll_base.specs.declared.lot.Disposition.TheVariants.{Released}
+use Rattle.toll_base.specs.declared.lot.Disposition.TheVariants.{Quarantined, Released}
 use Rattle.toll_base.specs.declared.role.Role.TheVariants.{Consumed}
+use Rattle.toll_base.specs.declared.rows.TestRow.{TestRow}
 use Rattle.toll_base.specs.declared.movement.MoveRow.{MoveRow}
 use Rattle.toll_base.specs.declared.movement.Move.{Move}
 use Rattle.toll_base.specs.declared.movement.Move.TheVariants.{Ship, Actual}
@@ -98,3 +101,61 @@ pub record IsCleared (H : History) (id : LotId) : Type 0 where
   pub known : lot_made H id ≡ Some made
   pub released : disposition_of (acts id.owner H) made.material id.lot ≡ Released
   pub tested : has_open_test (acts id.owner H) made.material id.lot ≡ false
+
+-- the owner has the material
+abbrev pub IsKnownMaterial : History → (o material : Bytes) → Type 0
+IsKnownMaterial H o material = is_some (material_of (acts o H) material) ≡ true
+
+-- the key is of an actual
+abbrev pub IsOfActual : History → (o key : Bytes) → Type 0
+IsOfActual H o key = is_some_where (λ row. is_actual row.what) (movement_of (acts o H) key) ≡ true
+
+-- whatever its material, the lot is quarantined
+abbrev pub IsQuarantined : List Action → Bytes → Type 0
+IsQuarantined own l = (material : Bytes) → disposition_of own material l ≡ Quarantined
+
+-- each test of the material of the lot is passed
+abbrev pub PassesEach : List Action → Bytes → Made → Type 0
+PassesEach own l made = (test : Bytes) (row : TestRow) → test_of own (made.material, test) ≡ Some row → passes own l row ≡ true
+
+-- this is so where the owner's lot was made so and is released
+abbrev pub IfReleased : History → (o l : Bytes) → Made → Type 0 → Type 0
+IfReleased H o l made P = lot_made H (lot_id o l) ≡ Some made → disposition_of (acts o H) made.material l ≡ Released → P
+
+-- this is so where the owner's movement with the key is this one, and stands
+abbrev pub IfStands : History → (o key : Bytes) → MoveRow → Type 0 → Type 0
+IfStands H o key row P = movement_of (acts o H) key ≡ Some row → voided_in (acts o H) key ≡ false → P
+
+-- this is so where the owner's movement is accepted
+abbrev pub IfRecorded : History → (o : Bytes) → MoveRow → Type 0 → Type 0
+IfRecorded H o row P = verdict H (by o (Record row)) ≡ Accepted → P
+
+-- after the void of its key any sum over the movements that stand is less by what this movement adds to it
+abbrev pub IsTakenBack : History → (o key : Bytes) → MoveRow → Type 0
+IsTakenBack H o key row = (f : Movement → ℕ) → total f (standing H) ≡ f (o, row) + total f (standing (by o (Void key) ∷ H))
+
+-- where the movement comes into the lot, the lot is quarantined then, of the material and origin that it says
+abbrev pub ComesQuarantined : History → (o : Bytes) → MoveRow → (l : Bytes) → Made → Type 0
+ComesQuarantined H o row l made =
+    made_by (lot_id o l) o row.what ≡ Some made →
+    lot_row (by o (Record row) ∷ H) o l ≡ Some (record { lot = l; material = made.material; origin = made.origin; disposition = Quarantined })
+
+-- the sublot holds more by what the movement brings into it, and less by what it takes
+abbrev pub IsMoved : History → (o : Bytes) → MoveRow → LotId → Bytes → Type 0
+IsMoved H o row id sub = stock (by o (Record row) ∷ H) id sub ≡ stock H id sub + coming id sub o row - going id sub o row
+
+-- the sublot holds more by what the voided movement took from it, and less by what it brought
+abbrev pub IsMovedBack : History → (o key : Bytes) → MoveRow → LotId → Bytes → Type 0
+IsMovedBack H o key row id sub = stock (by o (Void key) ∷ H) id sub ≡ stock H id sub + going id sub o row - coming id sub o row
+
+-- the command leaves the owner's sublots as they are, but for those that it takes from or gives back to
+abbrev pub KeepsSublots : History → Command → (o : Bytes) → Type 0
+KeepsSublots H c o = (k : Bytes × Bytes) → is_taken_in H c (lot_id o k.0) k.1 ≡ false → sublot_row (c ∷ H) o k ≡ sublot_row H o k
+
+-- the command leaves the tables of an owner besides HOUSE as they are
+abbrev pub KeepsTables : History → Command → (o : Bytes) → Type 0
+KeepsTables H c o = same_bytes o house_name ≡ false → tables_given (c ∷ H) o ≡ tables_given H o
+
+-- the command leaves the tables of HOUSE as they are, but for the amounts in sublots
+abbrev pub KeepsHouse : History → Command → Type 0
+KeepsHouse H c = without_amounts (tables_given (c ∷ H) house_name) ≡ without_amounts (tables_given H house_name)

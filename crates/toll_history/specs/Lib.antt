@@ -6,8 +6,10 @@ pub mod Dispositions
 pub mod Holders
 pub mod Tables
 pub mod Verdict
+pub mod OverRows
 pub mod Bounds
 pub mod Decision
+pub mod Puts
 pub mod OwnChanges
 pub mod Amounts
 pub mod Laws

@@ -1,20 +1,20 @@
 -- Histories that worked examples begin with, and what is judged along further commands.
-use Rattle.std.specs.Prelude.{ℕ, pos, negsuc, List, [], ◌∷◌, ◌++◌, codes}
+use Rattle.std.specs.Prelude.{◌≡◌, ℕ, pos, negsuc, List, [], ◌∷◌, ◌++◌, map, codes}
 use Rattle.toll_base.specs.Bytes.{Bytes}
 use Rattle.toll_base.specs.Values.{house_name}
-use Rattle.toll_history.specs.Command.{Action, AddOwner, AddUnit, AddMaterial, AddTest, AddRecipe, Require, PlaceOrder, OpenBatch, CommandBatch, Record, RecordResult, Release, Command, by}
+use Rattle.toll_history.specs.Command.{Action, AddOwner, AddUnit, AddMaterial, AddTest, AddRecipe, Require, PlaceOrder, CancelOrder, OpenBatch, CommandBatch, CloseBatch, RecordResult, Release, Reject, Void, Command, by, moves}
 use Rattle.toll_history.specs.History.{History}
 use Rattle.toll_base.specs.Lots.{lot_id}
-use Rattle.toll_history.specs.Verdict.{Verdict, Accepted, verdict, grow}
+use Rattle.toll_history.specs.Verdict.{Verdict, Accepted, Repeated, Refused, verdict, grow}
 use Rattle.toll_base.specs.declared.lot.LotId.{LotId}
 use Rattle.toll_base.specs.declared.role.Role.{Role}
 use Rattle.toll_base.specs.declared.role.Role.TheVariants.{Consumed, Produced}
-use Rattle.toll_base.specs.declared.movement.Move.{Move}
-use Rattle.toll_base.specs.declared.movement.Move.TheVariants.{Receive, Scrap, Actual}
+use Rattle.toll_base.specs.declared.movement.Move.TheVariants.{Receive, Split, Ship, Scrap, Actual}
 use Rattle.toll_history.specs.Work.{state_of}
+use Rattle.toll_base.specs.declared.refusal.Refusal.TheVariants.{UnknownOwner, OwnerExists, UnitExists, UnitBusy, UnknownRecipe, RecipeInUse, OrderCancelled, NoMoreBatches, BadState, BatchClosed, UnknownLot, NotReleased, NotEnough, SameSublot, KeyConflict, TestsOpen, CrossOwner, UnknownKey, Voided, Rejected as WasRejected}
 use Rattle.toll_base.specs.declared.state.State.{State}
 use Rattle.toll_base.specs.declared.state_command.StateCommand.{StateCommand}
-use Rattle.toll_base.specs.declared.state_command.StateCommand.TheVariants.{Start}
+use Rattle.toll_base.specs.declared.state_command.StateCommand.TheVariants.{Done, Start, Stop, Hold, Restart, Reset, Pause}
 
 -- the history after these commands, the first one first
 abbrev pub after : History → List Command → History
@@ -39,9 +39,6 @@ material o m = by o (AddMaterial (record { material = m; measure = codes "kg" })
 
 abbrev pub require : Bytes → (recipe : Bytes) → (segment : ℕ) → Role → (source material : Bytes) → (amount : ℕ) → Command
 require o r g role source m amount = by o (Require (record { recipe = r; segment = g; role = role; source = source; material = m; amount = amount }))
-
-abbrev pub moves : Bytes → (key : Bytes) → Move → (amount day : ℕ) → Command
-moves o key what amount day = by o (Record (record { key = key; what = what; amount = amount; day = day }))
 
 abbrev pub receives : Bytes → (key material lot sublot : Bytes) → (amount day : ℕ) → Command
 receives o key m lot sublot amount day = moves o key (Receive m lot sublot) amount day
@@ -153,3 +150,130 @@ tested_lot =
 -- and then fails it
 abbrev pub failed_lot : History
 failed_lot = after tested_lot (by acme (RecordResult (codes "A") (codes "PH") (pos 9) 2) ∷ [])
+
+-- ---- what is told along commands, each with its verdict
+
+-- these commands, in order, are told these verdicts
+abbrev pub AreTold : History → List (Command × Verdict) → Type 0
+AreTold H told = verdicts H (map (λ t. t.0) told) ≡ map (λ t. t.1) told
+
+-- BOLT opens a batch on the unit that ACME's holds
+abbrev pub held_unit : List (Command × Verdict)
+held_unit =
+    (by bolt (AddRecipe (record { recipe = codes "R"; segments = 1 })), Accepted)
+    ∷ (by bolt (PlaceOrder (codes "O") (codes "R") 1), Accepted)
+    ∷ (by bolt (OpenBatch (codes "O") (codes "U1")), Refused UnitBusy)
+    ∷ []
+
+-- commands to a batch: those of its states, its closing, and the opening of one more
+abbrev pub states_gone_through : List (Command × Verdict)
+states_gone_through =
+    (by acme (CommandBatch (codes "O") 1 Pause), Accepted)
+    ∷ (by acme (CommandBatch (codes "O") 1 Hold), Accepted)
+    ∷ (by acme (CommandBatch (codes "O") 1 Done), Accepted)
+    ∷ (by acme (CommandBatch (codes "O") 1 Pause), Refused BadState)
+    ∷ (by acme (CommandBatch (codes "O") 1 Restart), Accepted)
+    ∷ (by acme (CommandBatch (codes "O") 1 Stop), Accepted)
+    ∷ (by acme (CommandBatch (codes "O") 1 Done), Accepted)
+    ∷ (by acme (CommandBatch (codes "O") 1 Reset), Accepted)
+    ∷ (by acme (CommandBatch (codes "O") 1 Start), Accepted)
+    ∷ (by acme (CloseBatch (codes "O") 1), Refused BadState)
+    ∷ (by acme (CommandBatch (codes "O") 1 Done), Accepted)
+    ∷ (by acme (CloseBatch (codes "O") 1), Accepted)
+    ∷ (by acme (CloseBatch (codes "O") 1), Refused BatchClosed)
+    ∷ (by acme (OpenBatch (codes "O") (codes "U1")), Refused NoMoreBatches)
+    ∷ []
+
+-- the same consumption twice, then with another amount, and one of more than is there
+abbrev pub stock_used_up : List (Command × Verdict)
+stock_used_up =
+    (actual (codes "K2") 1 Consumed (codes "M") (lot_id acme (codes "A")) (codes "S1") 100 11, Accepted)
+    ∷ (actual (codes "K2") 1 Consumed (codes "M") (lot_id acme (codes "A")) (codes "S1") 100 11, Repeated)
+    ∷ (actual (codes "K2") 1 Consumed (codes "M") (lot_id acme (codes "A")) (codes "S1") 99 11, Refused KeyConflict)
+    ∷ (actual (codes "K3") 1 Consumed (codes "M") (lot_id acme (codes "A")) (codes "S1") 1 11, Refused NotEnough)
+    ∷ []
+
+-- a lot with one test: its release before a result, within the limits at their end, and after one out of them
+abbrev pub results_and_releases : List (Command × Verdict)
+results_and_releases =
+    (by acme (AddOwner (codes "ACMEKEY1")), Accepted)
+    ∷ (material acme (codes "M"), Accepted)
+    ∷ (by acme (AddTest (record { material = codes "M"; test = codes "PH"; limits = record { low = negsuc 4; high = pos 8; ordered = _ } })), Accepted)
+    ∷ (receives acme (codes "K1") (codes "M") (codes "A") (codes "S") 10 1, Accepted)
+    ∷ (by acme (Release (codes "A")), Refused TestsOpen)
+    ∷ (by acme (RecordResult (codes "A") (codes "PH") (pos 8) 1), Accepted)
+    ∷ (by acme (Release (codes "A")), Accepted)
+    ∷ (by acme (RecordResult (codes "A") (codes "PH") (pos 9) 2), Accepted)
+    ∷ (moves acme (codes "K9") (Ship (codes "A") (codes "S")) 1 3, Refused NotReleased)
+    ∷ (by acme (Reject (codes "A")), Accepted)
+    ∷ (by acme (Reject (codes "A")), Refused WasRejected)
+    ∷ []
+
+-- a product is consumed before it is known, before it is released, and after it
+abbrev pub product_consumed_once_released : List (Command × Verdict)
+product_consumed_once_released =
+    (actual (codes "K2") 2 Consumed (codes "P") (lot_id acme (codes "P1")) (codes "S1") 1 11, Refused UnknownLot)
+    ∷ (actual (codes "K3") 1 Produced (codes "P") (lot_id acme (codes "P1")) (codes "S1") 30 11, Accepted)
+    ∷ (actual (codes "K2") 2 Consumed (codes "P") (lot_id acme (codes "P1")) (codes "S1") 1 11, Refused NotReleased)
+    ∷ (actual (codes "K3") 1 Produced (codes "P") (lot_id acme (codes "P1")) (codes "S1") 30 11, Repeated)
+    ∷ (by acme (Release (codes "P1")), Accepted)
+    ∷ (actual (codes "K2") 2 Consumed (codes "P") (lot_id acme (codes "P1")) (codes "S1") 1 11, Accepted)
+    ∷ (actual (codes "K3") 1 Produced (codes "P") (lot_id acme (codes "P1")) (codes "S1") 30 11, Repeated)
+    ∷ []
+
+-- a sublot is split, and its parts scrapped and shipped to their ends
+abbrev pub sublots_used_up : List (Command × Verdict)
+sublots_used_up =
+    (moves acme (codes "K4") (Split (codes "A") (codes "S1") (codes "S2")) 30 12, Accepted)
+    ∷ (moves acme (codes "K5") (Split (codes "A") (codes "S1") (codes "S1")) 1 12, Refused SameSublot)
+    ∷ (moves acme (codes "K6") (Scrap (codes "A") (codes "S2")) 30 12, Accepted)
+    ∷ (moves acme (codes "K7") (Ship (codes "A") (codes "S1")) 70 12, Accepted)
+    ∷ []
+
+-- an order is cancelled, placed again, and opened
+abbrev pub order_cancelled : List (Command × Verdict)
+order_cancelled =
+    (by acme (AddOwner (codes "ACMEKEY1")), Accepted)
+    ∷ (by acme (AddRecipe (record { recipe = codes "R-1"; segments = 2 })), Accepted)
+    ∷ (by acme (PlaceOrder (codes "O-1") (codes "R-1") 2), Accepted)
+    ∷ (by acme (CancelOrder (codes "O-1")), Accepted)
+    ∷ (by acme (PlaceOrder (codes "O-1") (codes "R-1") 2), Repeated)
+    ∷ (by acme (CancelOrder (codes "O-1")), Refused OrderCancelled)
+    ∷ (by house_name (AddUnit (codes "U1")), Accepted)
+    ∷ (by acme (OpenBatch (codes "O-1") (codes "U1")), Refused OrderCancelled)
+    ∷ []
+
+-- commands of the plant that are refused, and what they need
+abbrev pub plants_refusals : List (Command × Verdict)
+plants_refusals =
+    (by house_name (PlaceOrder (codes "HO") (codes "NONE") 1), Refused UnknownRecipe)
+    ∷ (by house_name (AddRecipe (record { recipe = codes "HB"; segments = 1 })), Accepted)
+    ∷ (by house_name (PlaceOrder (codes "HO") (codes "HB") 1), Accepted)
+    ∷ (by house_name (CancelOrder (codes "HO")), Accepted)
+    ∷ (by house_name (CancelOrder (codes "HO")), Refused OrderCancelled)
+    ∷ (require acme (codes "R") 1 Consumed bolt (codes "M") 1, Refused RecipeInUse)
+    ∷ (by acme (AddRecipe (record { recipe = codes "R2"; segments = 1 })), Accepted)
+    ∷ (require acme (codes "R2") 1 Consumed bolt (codes "M") 1, Refused CrossOwner)
+    ∷ (by house_name (Release (codes "H-1")), Refused UnknownLot)
+    ∷ (by house_name (Reject (codes "H-1")), Refused UnknownLot)
+    ∷ (by (codes "NOBODY") (CancelOrder (codes "O")), Refused UnknownOwner)
+    ∷ (by house_name (AddOwner (codes "HOUSEKEY1")), Refused OwnerExists)
+    ∷ (by house_name (AddUnit (codes "U1")), Refused UnitExists)
+    ∷ []
+
+-- voids of what is not there any more, of a consumption, once more, of what is no actual, and of a closed batch
+abbrev pub actuals_voided : List (Command × Verdict)
+actuals_voided =
+    (by acme (Void (codes "K3")), Refused NotEnough)
+    ∷ (by acme (Void (codes "K2")), Accepted)
+    ∷ (by acme (Void (codes "K2")), Refused Voided)
+    ∷ (actual (codes "K2") 1 Consumed (codes "M") (lot_id acme (codes "A")) (codes "S1") 40 11, Refused Voided)
+    ∷ (actual (codes "K2") 1 Consumed (codes "M") (lot_id acme (codes "A")) (codes "S1") 41 11, Refused KeyConflict)
+    ∷ (by acme (Void (codes "K1")), Refused UnknownKey)
+    ∷ (by acme (Void (codes "K9")), Refused UnknownKey)
+    ∷ (by acme (CommandBatch (codes "O") 1 Stop), Accepted)
+    ∷ (by acme (CommandBatch (codes "O") 1 Done), Accepted)
+    ∷ (by acme (CloseBatch (codes "O") 1), Accepted)
+    ∷ (by acme (Void (codes "K3")), Refused BatchClosed)
+    ∷ (by acme (Void (codes "K2")), Refused Voided)
+    ∷ []

@@ -4,6 +4,7 @@ ghost use Rattle.toll_base.specs.Bytes.{Bytes, same_bytes};
 ghost use Rattle.toll_base.specs.Values.{house_name};
 ghost use Rattle.toll_history.specs.Command.{Command};
 ghost use Rattle.toll_history.specs.History.{History, part};
+ghost use Rattle.toll_history.specs.Laws.{KeepsHouse, KeepsTables};
 ghost use Rattle.toll_history.specs.Tables.{tables_given, without_amounts};
 ghost use Rattle.toll_history.specs.Verdict.{IsLawful};
 
@@ -17,6 +18,6 @@ pub fn tables_come_from_the_owners_part()
 /// An accepted command of one owner leaves the tables of every other owner as they are, the amounts
 /// in HOUSE's sublots excepted.
 pub fn commands_keep_the_tables_of_others()
-    ensures owners { (H : History) (c : Command) (o : Bytes) → IsLawful (c ∷ H) → same_bytes c.owner o ≡ false → same_bytes o house_name ≡ false → tables_given (c ∷ H) o ≡ tables_given H o }
-    ensures house { (H : History) (c : Command) → IsLawful (c ∷ H) → same_bytes c.owner house_name ≡ false → without_amounts (tables_given (c ∷ H) house_name) ≡ without_amounts (tables_given H house_name) }
+    ensures owners { (H : History) (c : Command) (o : Bytes) → IsLawful (c ∷ H) → same_bytes c.owner o ≡ false → KeepsTables H c o }
+    ensures house { (H : History) (c : Command) → IsLawful (c ∷ H) → same_bytes c.owner house_name ≡ false → KeepsHouse H c }
 {}

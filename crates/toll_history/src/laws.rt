@@ -1,7 +1,7 @@
 //! Laws of all lawful histories: what holds of the rows that any accepted commands lead to.
 
-ghost use Rattle.std.specs.Prelude.{◌≡◌, ℕ, ◌+◌, ◌-◌, ◌*◌, ◌≤◌, true, false, Some, None, is_some, ◌∷◌, if◌then◌else◌};
 ghost use Rattle.std.specs.List.{All};
+ghost use Rattle.std.specs.Prelude.{◌≡◌, ℕ, ◌+◌, ◌-◌, ◌*◌, ◌≤◌, true, false, Some, None, is_some, ◌∷◌, if◌then◌else◌};
 ghost use Rattle.toll_base.specs.Bytes.{Bytes, same_bytes};
 ghost use Rattle.toll_base.specs.Keys.{RequirementKey};
 ghost use Rattle.toll_base.specs.Lots.{lot_id};
@@ -15,7 +15,7 @@ ghost use Rattle.toll_base.specs.declared.rows.TestRow.{TestRow};
 ghost use Rattle.toll_history.specs.Command.{Action, Record, Void, Command};
 ghost use Rattle.toll_history.specs.Dispositions.{disposition_of, has_open_test, passes};
 ghost use Rattle.toll_history.specs.History.{History, acts, count_owners, count_units};
-ghost use Rattle.toll_history.specs.Laws.{IsWithinLimits, IsUntouched, IsUnmoved, BringsOwn, TakesKnown, Agrees, has_this_key, coming, going, is_taken_in, records_or_voids, gives_from, IsCleared};
+ghost use Rattle.toll_history.specs.Laws.{IsWithinLimits, IsUntouched, IsUnmoved, BringsOwn, TakesKnown, Agrees, has_this_key, coming, going, is_taken_in, records_or_voids, gives_from, IsCleared, IsKnownMaterial, IsOfActual, IsQuarantined, PassesEach, IfReleased, IfStands, IfRecorded, IsTakenBack, ComesQuarantined, IsMoved, IsMovedBack, KeepsSublots};
 ghost use Rattle.toll_history.specs.Movements.{Movement, Made, made_by, brought, taken, stock, count_movements, sublot_known, lot_made, movements, standing, movement_of, voided_in};
 ghost use Rattle.toll_history.specs.Tables.{lot_row, sublot_row};
 ghost use Rattle.toll_history.specs.Verdict.{Accepted, IsLawful, is_actual, verdict};
@@ -56,8 +56,8 @@ pub fn movements_keep_to_their_owners_lots()
 
 /// A requirement names a material of its source, and a lot is of a material of its owner.
 pub fn lots_are_of_known_materials()
-    ensures required { (H : History) (o : Bytes) (k : RequirementKey) → IsLawful H → is_some (requirement_of (acts o H) k) ≡ true → is_some (material_of (acts k.3 H) k.4) ≡ true }
-    ensures made { (H : History) (id : LotId) (made : Made) → IsLawful H → lot_made H id ≡ Some made → is_some (material_of (acts id.owner H) made.material) ≡ true }
+    ensures required { (H : History) (o : Bytes) (k : RequirementKey) → IsLawful H → is_some (requirement_of (acts o H) k) ≡ true → IsKnownMaterial H k.3 k.4 }
+    ensures made { (H : History) (id : LotId) (made : Made) → IsLawful H → lot_made H id ≡ Some made → IsKnownMaterial H id.owner made.material }
 {}
 
 /// Each movement is the one that its owner and its key find, and no other has that key.
@@ -68,28 +68,26 @@ pub fn keys_are_unique()
 
 /// A voided key has a movement, which is an actual.
 pub fn voided_keys_are_of_actuals()
-    ensures { (H : History) (o key : Bytes) → IsLawful H → voided_in (acts o H) key ≡ true → is_some_where (λ row. is_actual row.what) (movement_of (acts o H) key) ≡ true }
+    ensures { (H : History) (o key : Bytes) → IsLawful H → voided_in (acts o H) key ≡ true → IsOfActual H o key }
 {}
 
 /// A void takes back exactly the movement with its key, whatever is summed over the movements that
 /// stand.
 pub fn a_void_takes_back_its_movement()
-    ensures { (H : History) (o key : Bytes) (row : MoveRow) → IsLawful H → movement_of (acts o H) key ≡ Some row → voided_in (acts o H) key ≡ false
-        → (f : Movement → ℕ) → total f (standing H) ≡ f (o, row) + total f (standing (record { owner = o; action = Void key } ∷ H)) }
+    ensures { (H : History) (o key : Bytes) (row : MoveRow) → IsLawful H → IfStands H o key row (IsTakenBack H o key row) }
 {}
 
 /// A lot that is not known has no results, and was neither released nor rejected.
 pub fn unknown_lots_are_untouched()
     ensures untouched { (H : History) (o l : Bytes) → IsLawful H → lot_made H (lot_id o l) ≡ None → IsUntouched (acts o H) l }
-    ensures quarantined { (H : History) (o l : Bytes) → IsLawful H → lot_made H (lot_id o l) ≡ None → (material : Bytes) → disposition_of (acts o H) material l ≡ Quarantined }
+    ensures quarantined { (H : History) (o l : Bytes) → IsLawful H → lot_made H (lot_id o l) ≡ None → IsQuarantined (acts o H) l }
 {}
 
 /// Of a released lot no test of its material is open: the latest value of each is there, and within
 /// its limits.
 pub fn released_lots_pass_their_tests()
-    ensures none { (H : History) (o l : Bytes) (made : Made) → IsLawful H → lot_made H (lot_id o l) ≡ Some made → disposition_of (acts o H) made.material l ≡ Released → has_open_test (acts o H) made.material l ≡ false }
-    ensures each { (H : History) (o l : Bytes) (made : Made) → IsLawful H → lot_made H (lot_id o l) ≡ Some made → disposition_of (acts o H) made.material l ≡ Released
-        → (test : Bytes) (row : TestRow) → test_of (acts o H) (made.material, test) ≡ Some row → passes (acts o H) l row ≡ true }
+    ensures none { (H : History) (o l : Bytes) (made : Made) → IsLawful H → IfReleased H o l made (has_open_test (acts o H) made.material l ≡ false) }
+    ensures each { (H : History) (o l : Bytes) (made : Made) → IsLawful H → IfReleased H o l made (PassesEach (acts o H) l made) }
 {}
 
 /// A lot comes from receipts or from one batch, never both, and is of one material: each movement
@@ -101,29 +99,25 @@ pub fn a_lot_has_one_origin()
 /// Material goes to a shipment or a batch only out of a lot that is released, and of which no test
 /// is open.
 pub fn material_is_given_from_cleared_lots()
-    ensures { (H : History) (o : Bytes) (row : MoveRow) (id : LotId) → IsLawful H → verdict H (record { owner = o; action = Record row }) ≡ Accepted → gives_from id o row.what ≡ true → IsCleared H id }
+    ensures { (H : History) (o : Bytes) (row : MoveRow) (id : LotId) → IsLawful H → IfRecorded H o row (gives_from id o row.what ≡ true → IsCleared H id) }
 {}
 
 /// Material comes only into a lot that is new or quarantined, and leaves it quarantined, of the
 /// material and the origin that the movement says.
 pub fn material_comes_into_quarantined_lots()
-    ensures { (H : History) (o : Bytes) (row : MoveRow) (l : Bytes) (made : Made) → IsLawful H → verdict H (record { owner = o; action = Record row }) ≡ Accepted → made_by (lot_id o l) o row.what ≡ Some made
-        → lot_row (record { owner = o; action = Record row } ∷ H) o l ≡ Some (record { lot = l; material = made.material; origin = made.origin; disposition = Quarantined }) }
+    ensures { (H : History) (o : Bytes) (row : MoveRow) (l : Bytes) (made : Made) → IsLawful H → IfRecorded H o row (ComesQuarantined H o row l made) }
 {}
 
 /// A sublot holds more by what a movement brings and less by what it takes, a void turns that round,
 /// and no other action changes movements, lots or stock.
 pub fn stock_changes_by_what_is_moved()
-    ensures recorded { (H : History) (o : Bytes) (row : MoveRow) (id : LotId) (sub : Bytes) → IsLawful H
-        → stock (record { owner = o; action = Record row } ∷ H) id sub ≡ stock H id sub + coming id sub o row - going id sub o row }
-    ensures voided { (H : History) (o key : Bytes) (row : MoveRow) (id : LotId) (sub : Bytes) → IsLawful H → movement_of (acts o H) key ≡ Some row → voided_in (acts o H) key ≡ false
-        → stock (record { owner = o; action = Void key } ∷ H) id sub ≡ stock H id sub + going id sub o row - coming id sub o row }
+    ensures recorded { (H : History) (o : Bytes) (row : MoveRow) (id : LotId) (sub : Bytes) → IsLawful H → IsMoved H o row id sub }
+    ensures voided { (H : History) (o key : Bytes) (row : MoveRow) (id : LotId) (sub : Bytes) → IsLawful H → IfStands H o key row (IsMovedBack H o key row id sub) }
     ensures unmoved { (H : History) (c : Command) → records_or_voids c.action ≡ false → IsUnmoved H c }
 {}
 
 /// An accepted command leaves each sublot of another owner as it is, but for those of HOUSE from
 /// which it takes, or to which a void gives back.
 pub fn commands_keep_the_sublots_of_others()
-    ensures { (H : History) (c : Command) (o : Bytes) → IsLawful H → verdict H c ≡ Accepted → same_bytes o c.owner ≡ false
-        → (k : Bytes × Bytes) → is_taken_in H c (lot_id o k.0) k.1 ≡ false → sublot_row (c ∷ H) o k ≡ sublot_row H o k }
+    ensures { (H : History) (c : Command) (o : Bytes) → IsLawful H → verdict H c ≡ Accepted → same_bytes o c.owner ≡ false → KeepsSublots H c o }
 {}

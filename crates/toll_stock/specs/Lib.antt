@@ -1,2 +1,3 @@
 pub mod LotRows
 pub mod LotTotals
+pub mod Plans

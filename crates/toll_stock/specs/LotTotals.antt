@@ -4,7 +4,7 @@ use Rattle.toll_base.specs.Bytes.{Bytes, same_bytes}
 use Rattle.toll_base.specs.Words.{total, where_so}
 use Rattle.toll_history.specs.Amounts.{on_hand, shipped}
 use Rattle.toll_history.specs.History.{History}
-use Rattle.toll_history.specs.Movements.{lot_made}
+use Rattle.toll_history.specs.Movements.{lot_made, sublot_known, stock}
 use Rattle.toll_base.specs.Slice.{Slice, lot_at}
 use Rattle.toll_base.specs.declared.lot.LotId.{LotId}
 use Rattle.toll_base.specs.declared.movement.Move.{Move}
@@ -13,6 +13,10 @@ use Rattle.toll_base.specs.declared.rows.SublotRow.{SublotRow}
 use Rattle.toll_stock.specs.declared.stock.Totals.{Totals}
 
 -- ---- over a history
+
+-- what is in a sublot that is known
+abbrev pub stock_given : History → LotId → (sublot : Bytes) → Option ℕ
+stock_given H id sub = where_so (sublot_known H id sub) (stock H id sub)
 
 -- the totals of a lot that is known; a split keeps them
 abbrev pub totals_given : History → LotId → Option Totals

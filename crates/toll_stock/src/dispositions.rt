@@ -1,7 +1,6 @@
 //! Dispositions of lots.
-ghost use Rattle.std.specs.Prelude.{◌≡◌, not, ◌&&◌, map, Some, [], IfOk};
 ghost use Rattle.std.specs.List.{list_any};
-ghost use Rattle.toll_base.specs.Bytes.{same_bytes};
+ghost use Rattle.std.specs.Prelude.{◌≡◌, not, ◌&&◌, map, Some, [], IfOk};
 ghost use Rattle.toll_base.specs.Changes.{changes_of};
 ghost use Rattle.toll_base.specs.SliceRules.{KeepsRules};
 ghost use Rattle.toll_base.specs.Words.{is_some_where};
@@ -13,6 +12,7 @@ ghost use Rattle.toll_history.specs.OwnChanges.{PutsOnly};
 ghost use Rattle.toll_history.specs.Tables.{tables_of, latest_in};
 ghost use Rattle.toll_history.specs.Verdict.{release_checks, reject_checks, tests_open};
 ghost use Rattle.toll_stock.specs.LotRows.{given_disposition};
+ghost use Rattle.toll_stock.specs.Plans.{IsDispositionPlan, is_open_test};
 
 use crate::results::{count_results, is_outside};
 use std::alloc::{AllocError, Global};
@@ -44,7 +44,7 @@ pub fn reject(alloc: Global, slice: &Slice, lot: Name) -> Result<Decision, Alloc
 }
 
 fn plan_release(alloc: Global, slice: &Slice, lot: &Name) -> Result<Decision, AllocError>
-    ensures plan { IfOk result (IsDecided (release_checks (tables_of slice.now) lot.now) (map (Change.Put slice.now.owner) (given_disposition (λ row. Disposition.Released) ((tables_of slice.now).lot lot.now)))) }
+    ensures plan { IfOk result (IsDispositionPlan (release_checks (tables_of slice.now) lot.now) slice.now lot.now Disposition.Released) }
     ensures kept { KeepsRules slice.now }
 {
     let owner = *slice.owner();
@@ -61,7 +61,7 @@ fn plan_release(alloc: Global, slice: &Slice, lot: &Name) -> Result<Decision, Al
 }
 
 fn plan_rejection(alloc: Global, slice: &Slice, lot: &Name) -> Result<Decision, AllocError>
-    ensures plan { IfOk result (IsDecided (reject_checks (tables_of slice.now) lot.now) (map (Change.Put slice.now.owner) (given_disposition (λ row. Disposition.Rejected) ((tables_of slice.now).lot lot.now)))) }
+    ensures plan { IfOk result (IsDispositionPlan (reject_checks (tables_of slice.now) lot.now) slice.now lot.now Disposition.Rejected) }
     ensures kept { KeepsRules slice.now }
 {
     let owner = *slice.owner();
@@ -102,7 +102,7 @@ fn are_tests_open(slice: &Slice, lot: &Name) -> bool
 
 // Whether a test of the material has no latest result of the lot within its limits.
 fn is_one_open(slice: &Slice, lot: &Name, material: &Name) -> bool
-    ensures { result ≡ list_any (λ row. same_bytes row.material material.now && not (is_some_where (λ value. not (is_outside row.limits value)) (latest_in slice.now lot.now row.test))) slice.now.tests }
+    ensures { result ≡ list_any (is_open_test slice.now lot.now material.now) slice.now.tests }
 {
     slice.tests().iter().any(|test| test.material == *material && !is_passed(slice, lot, test))
 }

@@ -1,9 +1,10 @@
 //! What the decisions on movements have in common.
-ghost use Rattle.std.specs.Prelude.{◌≡◌, ◌-◌, [], ◌∷◌, ◌++◌, nat_lt, Some, IfOk};
-ghost use Rattle.toll_base.specs.declared.refusal.Refusal.TheVariants as Refusal;
+ghost use Rattle.std.specs.Prelude.{◌≡◌, ◌-◌, ◌++◌, Some, IfOk};
 ghost use Rattle.toll_history.specs.Decision.{IsDecided, said};
+ghost use Rattle.toll_history.specs.Puts.{lost};
 ghost use Rattle.toll_history.specs.Tables.{tables_of};
-ghost use Rattle.toll_history.specs.Verdict.{Checks, first_of, key_checks, scrap_checks, movements_full, amount_in};
+ghost use Rattle.toll_history.specs.Verdict.{Checks, first_of, key_checks, scrap_checks};
+ghost use Rattle.toll_stock.specs.Plans.{enough_checks};
 
 use std::alloc::{AllocError, Global};
 use toll_base::{
@@ -46,7 +47,7 @@ pub fn check_taking(slice: &Slice, lot: &Name, sublot: &Name, amount: Amount) ->
 
 /// Whether there is enough in the sublot, and room for a movement.
 pub fn check_enough(slice: &Slice, lot: &Name, sublot: &Name, amount: Amount) -> Result<(), Refusal>
-    ensures { said result ≡ first_of ((nat_lt (amount_in (tables_of slice.now) lot.now sublot.now) amount, Some Refusal.NotEnough) ∷ (movements_full (tables_of slice.now), Some Refusal.LimitReached) ∷ []) }
+    ensures { said result ≡ first_of (enough_checks (tables_of slice.now) lot.now sublot.now amount) }
 {
     if slice.amount_in(lot, sublot) < amount.get() {
         return Err(Refusal::NotEnough);
@@ -59,7 +60,7 @@ pub fn check_enough(slice: &Slice, lot: &Name, sublot: &Name, amount: Amount) ->
 
 /// The sublot with the amount taken from it.
 pub fn taken_from(slice: &Slice, lot: Name, sublot: Name, amount: Amount) -> SublotRow
-    ensures { result ≡ record { lot = lot; sublot = sublot; amount = amount_in (tables_of slice.now) lot sublot - amount } }
+    ensures { result ≡ lost lot sublot amount (tables_of slice.now) }
 {
     SublotRow {
         lot,

@@ -1,18 +1,14 @@
 //! Receipts.
-ghost use Rattle.std.specs.Prelude.{◌≡◌, ◌+◌, [], ◌∷◌, ◌++◌, IfOk};
+ghost use Rattle.std.specs.Prelude.{◌≡◌, ◌+◌, IfOk};
 ghost use Rattle.toll_base.specs.Changes.{changes_of};
 ghost use Rattle.toll_base.specs.SliceRules.{KeepsRules};
-ghost use Rattle.toll_base.specs.declared.decision.Change.TheVariants as Change;
-ghost use Rattle.toll_base.specs.declared.lot.Disposition.TheVariants as Disposition;
-ghost use Rattle.toll_base.specs.declared.lot.Origin.TheVariants as Origin;
 ghost use Rattle.toll_base.specs.declared.movement.Move.TheVariants as Move;
-ghost use Rattle.toll_base.specs.declared.rows.Row.TheVariants as Row;
-ghost use Rattle.toll_history.specs.Bounds.{sublot_bounds};
-ghost use Rattle.toll_history.specs.Command.{Record, by};
-ghost use Rattle.toll_history.specs.Decision.{IsDecided, Decides, DecisionKeepsRules, said};
+ghost use Rattle.toll_history.specs.Command.{moves};
+ghost use Rattle.toll_history.specs.Decision.{Decides, DecisionKeepsRules, said};
 ghost use Rattle.toll_history.specs.OwnChanges.{PutsOnly};
 ghost use Rattle.toll_history.specs.Tables.{tables_of};
-ghost use Rattle.toll_history.specs.Verdict.{first_of, key_checks, receive_checks, amount_in};
+ghost use Rattle.toll_history.specs.Verdict.{first_of};
+ghost use Rattle.toll_stock.specs.Plans.{IsReceiptPlan, received_checks};
 
 use crate::movements::decide_movement;
 use std::alloc::{AllocError, Global};
@@ -39,7 +35,7 @@ pub fn receive(
     amount: Amount,
     day: Day,
 ) -> Result<Decision, AllocError>
-    ensures decides { IfOk result (Decides (by slice.now.owner (Record (record { key = key; what = Move.Receive material lot sublot; amount = amount; day = day }))) slice.now) }
+    ensures decides { IfOk result (Decides (moves slice.now.owner key (Move.Receive material lot sublot) amount day) slice.now) }
     ensures rules { IfOk result (DecisionKeepsRules slice.now) }
     ensures own { IfOk result (λ d. PutsOnly slice.now.owner (changes_of d)) }
 {
@@ -64,12 +60,7 @@ fn plan_receipt(
     lot: Name,
     sublot: Name,
 ) -> Result<Decision, AllocError>
-    ensures plan { IfOk result (IsDecided
-        (key_checks (tables_of slice.now) row.now ++ receive_checks (tables_of slice.now) material lot ++ sublot_bounds (tables_of slice.now) lot sublot row.now.amount)
-        (Change.Put slice.now.owner (Row.Move row.now)
-        ∷ Change.Put slice.now.owner (Row.Lot (record { lot = lot; material = material; origin = Origin.Receipts; disposition = Disposition.Quarantined }))
-        ∷ Change.Put slice.now.owner (Row.Sublot (record { lot = lot; sublot = sublot; amount = amount_in (tables_of slice.now) lot sublot + row.now.amount }))
-        ∷ [])) }
+    ensures plan { IfOk result (IsReceiptPlan slice.now row.now material lot sublot) }
     ensures kept { KeepsRules slice.now }
 {
     let owner = *slice.owner();
@@ -100,7 +91,7 @@ fn check_receipt(
     sublot: &Name,
     amount: Amount,
 ) -> Result<(), Refusal>
-    ensures { said result ≡ first_of (receive_checks (tables_of slice.now) material.now lot.now ++ sublot_bounds (tables_of slice.now) lot.now sublot.now amount) }
+    ensures { said result ≡ first_of (received_checks (tables_of slice.now) material.now lot.now sublot.now amount) }
 {
     if slice.material(material).is_none() {
         return Err(Refusal::UnknownMaterial);

@@ -1,5 +1,5 @@
 //! Results of tests.
-ghost use Rattle.std.specs.Prelude.{◌≡◌, ◌≤◌, ◌&&◌, if◌then◌else◌, [], ◌∷◌, map, length, IfOk};
+ghost use Rattle.std.specs.Prelude.{◌≡◌, ◌≤◌, ◌&&◌, if◌then◌else◌, [], ◌∷◌, length, IfOk};
 ghost use Rattle.toll_base.specs.Changes.{changes_of};
 ghost use Rattle.toll_base.specs.SliceRules.{KeepsRules};
 ghost use Rattle.toll_base.specs.declared.decision.Change.TheVariants as Change;
@@ -8,9 +8,8 @@ ghost use Rattle.toll_history.specs.Command.{RecordResult, by};
 ghost use Rattle.toll_history.specs.Decision.{IsDecided, Decides, DecisionKeepsRules};
 ghost use Rattle.toll_history.specs.Dispositions.{is_outside};
 ghost use Rattle.toll_history.specs.OwnChanges.{PutsOnly};
-ghost use Rattle.toll_history.specs.Tables.{tables_of, count_results_in};
-ghost use Rattle.toll_history.specs.Verdict.{result_checks, is_released};
-ghost use Rattle.toll_stock.specs.LotRows.{result_rows};
+ghost use Rattle.toll_history.specs.Tables.{count_results_in};
+ghost use Rattle.toll_stock.specs.Plans.{IsResultPlan, lot_after};
 
 use crate::lot_rows::results_of;
 use std::alloc::{AllocError, Global};
@@ -48,7 +47,7 @@ fn plan_result(
     value: Value,
     day: Day,
 ) -> Result<Decision, AllocError>
-    ensures plan { IfOk result (IsDecided (result_checks (tables_of slice.now) lot.now test.now) (map (Change.Put slice.now.owner) (result_rows lot.now test.now value day (tables_of slice.now)))) }
+    ensures plan { IfOk result (IsResultPlan slice.now lot.now test.now value day) }
     ensures kept { KeepsRules slice.now }
 {
     let owner = *slice.owner();
@@ -82,7 +81,7 @@ fn plan_result(
 
 // The lot's row after a result of this value.
 fn after_result(known: LotRow, limits: &Limits, value: Value) -> LotRow
-    ensures { result ≡ record known { disposition = if is_released known.disposition && is_outside limits.now value then Disposition.Quarantined else known.disposition } }
+    ensures { result ≡ lot_after limits.now value known }
 {
     let released = matches!(known.disposition, Disposition::Released);
     let disposition = if released && is_outside(limits, value) {

@@ -1,16 +1,14 @@
 //! Splits.
-ghost use Rattle.std.specs.Prelude.{◌≡◌, ◌+◌, ◌-◌, [], ◌∷◌, ◌++◌, IfOk};
+ghost use Rattle.std.specs.Prelude.{◌≡◌, ◌+◌, ◌-◌, IfOk};
 ghost use Rattle.toll_base.specs.Changes.{changes_of};
 ghost use Rattle.toll_base.specs.SliceRules.{KeepsRules};
-ghost use Rattle.toll_base.specs.declared.decision.Change.TheVariants as Change;
 ghost use Rattle.toll_base.specs.declared.movement.Move.TheVariants as Move;
-ghost use Rattle.toll_base.specs.declared.rows.Row.TheVariants as Row;
-ghost use Rattle.toll_history.specs.Bounds.{sublot_bounds};
-ghost use Rattle.toll_history.specs.Command.{Record, by};
-ghost use Rattle.toll_history.specs.Decision.{IsDecided, Decides, DecisionKeepsRules, said};
+ghost use Rattle.toll_history.specs.Command.{moves};
+ghost use Rattle.toll_history.specs.Decision.{Decides, DecisionKeepsRules, said};
 ghost use Rattle.toll_history.specs.OwnChanges.{PutsOnly};
 ghost use Rattle.toll_history.specs.Tables.{tables_of};
-ghost use Rattle.toll_history.specs.Verdict.{first_of, key_checks, split_checks, amount_in};
+ghost use Rattle.toll_history.specs.Verdict.{first_of};
+ghost use Rattle.toll_stock.specs.Plans.{IsSplitPlan, parted_checks};
 
 use crate::movements::{check_taking, decide_movement, taken_from};
 use std::alloc::{AllocError, Global};
@@ -35,7 +33,7 @@ pub fn split(
     amount: Amount,
     day: Day,
 ) -> Result<Decision, AllocError>
-    ensures decides { IfOk result (Decides (by slice.now.owner (Record (record { key = key; what = Move.Split lot sublot target; amount = amount; day = day }))) slice.now) }
+    ensures decides { IfOk result (Decides (moves slice.now.owner key (Move.Split lot sublot target) amount day) slice.now) }
     ensures rules { IfOk result (DecisionKeepsRules slice.now) }
     ensures own { IfOk result (λ d. PutsOnly slice.now.owner (changes_of d)) }
 {
@@ -60,12 +58,7 @@ fn plan_split(
     sublot: Name,
     target: Name,
 ) -> Result<Decision, AllocError>
-    ensures plan { IfOk result (IsDecided
-        (key_checks (tables_of slice.now) row.now ++ split_checks (tables_of slice.now) lot sublot target row.now.amount ++ sublot_bounds (tables_of slice.now) lot target row.now.amount)
-        (Change.Put slice.now.owner (Row.Move row.now)
-        ∷ Change.Put slice.now.owner (Row.Sublot (record { lot = lot; sublot = target; amount = amount_in (tables_of slice.now) lot target + row.now.amount }))
-        ∷ Change.Put slice.now.owner (Row.Sublot (record { lot = lot; sublot = sublot; amount = amount_in (tables_of slice.now) lot sublot - row.now.amount }))
-        ∷ [])) }
+    ensures plan { IfOk result (IsSplitPlan slice.now row.now lot sublot target) }
     ensures kept { KeepsRules slice.now }
 {
     let owner = *slice.owner();
@@ -91,7 +84,7 @@ fn check_split(
     target: &Name,
     amount: Amount,
 ) -> Result<(), Refusal>
-    ensures { said result ≡ first_of (split_checks (tables_of slice.now) lot.now sublot.now target.now amount ++ sublot_bounds (tables_of slice.now) lot.now target.now amount) }
+    ensures { said result ≡ first_of (parted_checks (tables_of slice.now) lot.now sublot.now target.now amount) }
 {
     if *sublot == *target {
         return Err(Refusal::SameSublot);

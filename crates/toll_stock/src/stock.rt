@@ -1,18 +1,17 @@
 //! What is on hand, and what was shipped.
-ghost use Rattle.std.specs.Prelude.{◌≡◌};
 ghost use Rattle.std.specs.Option.{option_map};
+ghost use Rattle.std.specs.Prelude.{◌≡◌};
 ghost use Rattle.toll_base.specs.Bytes.{bytes_cmp};
 ghost use Rattle.toll_base.specs.Keys.{pair_cmp};
 ghost use Rattle.toll_base.specs.Lots.{lot_id};
 ghost use Rattle.toll_base.specs.Slice.{sublot_at};
 ghost use Rattle.toll_base.specs.Table.{IsInKeyOrder};
-ghost use Rattle.toll_base.specs.Words.{where_so};
 ghost use Rattle.toll_history.specs.Amounts.{on_hand};
 ghost use Rattle.toll_history.specs.History.{History};
-ghost use Rattle.toll_history.specs.Movements.{sublot_known, stock};
+ghost use Rattle.toll_history.specs.Movements.{stock};
 ghost use Rattle.toll_history.specs.Tables.{IsRowsOf};
 ghost use Rattle.toll_history.specs.Verdict.{IsLawful};
-ghost use Rattle.toll_stock.specs.LotTotals.{totals_in, totals_given, on_hand_in, shipped_in, is_shipment_of};
+ghost use Rattle.toll_stock.specs.LotTotals.{totals_in, stock_given, totals_given, on_hand_in, shipped_in, is_shipment_of};
 
 use crate::lot_rows::sublots_of;
 use toll_base::{Move, MoveRow, Name, Slice};
@@ -31,7 +30,7 @@ pub struct Totals {
 /// such sublot.
 pub fn on_hand(slice: &Slice, lot: &Name, sublot: &Name) -> Option<u64>
     ensures rows { result ≡ option_map (λ row. row.amount) (sublot_at slice.now (lot.now, sublot.now)) }
-    ensures stock { (H : History) → IsRowsOf H slice.now → result ≡ where_so (sublot_known H (lot_id slice.now.owner lot.now) sublot.now) (stock H (lot_id slice.now.owner lot.now) sublot.now) }
+    ensures stock { (H : History) → IsRowsOf H slice.now → result ≡ stock_given H (lot_id slice.now.owner lot.now) sublot.now }
 {
     amount_at(slice, lot, sublot)
 }

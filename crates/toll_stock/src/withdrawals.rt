@@ -1,15 +1,14 @@
 //! Shipments and scrapping.
-ghost use Rattle.std.specs.Prelude.{◌≡◌, ◌-◌, [], ◌∷◌, ◌++◌, IfOk};
+ghost use Rattle.std.specs.Prelude.{◌≡◌, ◌-◌, IfOk};
 ghost use Rattle.toll_base.specs.Changes.{changes_of};
 ghost use Rattle.toll_base.specs.SliceRules.{KeepsRules};
-ghost use Rattle.toll_base.specs.declared.decision.Change.TheVariants as Change;
 ghost use Rattle.toll_base.specs.declared.movement.Move.TheVariants as Move;
-ghost use Rattle.toll_base.specs.declared.rows.Row.TheVariants as Row;
-ghost use Rattle.toll_history.specs.Command.{Record, by};
-ghost use Rattle.toll_history.specs.Decision.{IsDecided, Decides, DecisionKeepsRules, said};
+ghost use Rattle.toll_history.specs.Command.{moves};
+ghost use Rattle.toll_history.specs.Decision.{Decides, DecisionKeepsRules, said};
 ghost use Rattle.toll_history.specs.OwnChanges.{PutsOnly};
 ghost use Rattle.toll_history.specs.Tables.{tables_of};
-ghost use Rattle.toll_history.specs.Verdict.{Checks, first_of, key_checks, ship_checks, amount_in};
+ghost use Rattle.toll_history.specs.Verdict.{Checks, first_of, ship_checks};
+ghost use Rattle.toll_stock.specs.Plans.{IsWithdrawalPlan};
 
 use crate::movements::{check_enough, check_taking, decide_movement, taken_from};
 use std::alloc::{AllocError, Global};
@@ -32,7 +31,7 @@ pub fn ship(
     amount: Amount,
     day: Day,
 ) -> Result<Decision, AllocError>
-    ensures decides { IfOk result (Decides (by slice.now.owner (Record (record { key = key; what = Move.Ship lot sublot; amount = amount; day = day }))) slice.now) }
+    ensures decides { IfOk result (Decides (moves slice.now.owner key (Move.Ship lot sublot) amount day) slice.now) }
     ensures rules { IfOk result (DecisionKeepsRules slice.now) }
     ensures own { IfOk result (λ d. PutsOnly slice.now.owner (changes_of d)) }
 {
@@ -60,7 +59,7 @@ pub fn scrap(
     amount: Amount,
     day: Day,
 ) -> Result<Decision, AllocError>
-    ensures decides { IfOk result (Decides (by slice.now.owner (Record (record { key = key; what = Move.Scrap lot sublot; amount = amount; day = day }))) slice.now) }
+    ensures decides { IfOk result (Decides (moves slice.now.owner key (Move.Scrap lot sublot) amount day) slice.now) }
     ensures rules { IfOk result (DecisionKeepsRules slice.now) }
     ensures own { IfOk result (λ d. PutsOnly slice.now.owner (changes_of d)) }
 {
@@ -82,11 +81,7 @@ fn plan_withdrawal(
     sublot: Name,
     checked: Result<(), Refusal>,
 ) -> Result<Decision, AllocError>
-    ensures plan { (checks : Checks) → said checked ≡ first_of checks → IfOk result (IsDecided
-        (key_checks (tables_of slice.now) row.now ++ checks)
-        (Change.Put slice.now.owner (Row.Move row.now)
-        ∷ Change.Put slice.now.owner (Row.Sublot (record { lot = lot; sublot = sublot; amount = amount_in (tables_of slice.now) lot sublot - row.now.amount }))
-        ∷ [])) }
+    ensures plan { (checks : Checks) → said checked ≡ first_of checks → IfOk result (IsWithdrawalPlan checks slice.now row.now lot sublot) }
     ensures kept { KeepsRules slice.now }
 {
     let owner = *slice.owner();

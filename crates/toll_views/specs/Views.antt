@@ -2,7 +2,7 @@
 use Rattle.std.specs.Prelude.{◌≡◌, ℕ, Bool, false, not, ◌&&◌, if◌then◌else◌, Option, Some, None, List}
 use Rattle.std.specs.List.{list_any}
 use Rattle.std.specs.Option.{option_map}
-use Rattle.toll_base.specs.Bytes.{Bytes, same_bytes}
+use Rattle.toll_base.specs.Bytes.{Bytes, bytes_cmp, same_bytes}
 use Rattle.toll_base.specs.Keys.{result_cmp, pair_cmp}
 use Rattle.toll_base.specs.Lots.{lot_id, same_lot}
 use Rattle.toll_base.specs.Table.{AreRowsGiven}
@@ -29,6 +29,10 @@ use Rattle.toll_views.specs.declared.stock.StockLine.{StockLine}
 -- a lot of the owner, with how much of it is on hand
 abbrev pub stock_line : History → Bytes → Bytes → Option StockLine
 stock_line H o l = option_map (λ row. record { row = row; measure = measure_of (acts o H) row.material; amount = on_hand H (lot_id o l) }) (lot_row H o l)
+
+-- the stock of an owner, in the order of its lots
+abbrev pub AreStockLines : History → (o : Bytes) → List StockLine → Type 0
+AreStockLines H o lines = AreRowsGiven bytes_cmp (λ line. line.row.lot) (stock_line H o) lines
 
 -- ---- a lot
 

@@ -3,13 +3,11 @@ ghost use Rattle.std.specs.Prelude.{◌≡◌, ◌<◌, ◌^◌, map, IfOk};
 ghost use Rattle.std.specs.declared.cmp.Ordering.TheVariants.{Less};
 ghost use Rattle.toll_base.specs.Bytes.{Bytes, bytes_cmp};
 ghost use Rattle.toll_base.specs.Keys.{pair_cmp};
-ghost use Rattle.toll_base.specs.Table.{IsInKeyOrder, AreRowsGiven};
-ghost use Rattle.toll_history.specs.History.{History};
-ghost use Rattle.toll_history.specs.Tables.{IsRowsOf};
-ghost use Rattle.toll_history.specs.Verdict.{IsLawful};
+ghost use Rattle.toll_base.specs.Table.{IsInKeyOrder};
+ghost use Rattle.toll_history.specs.OverRows.{OverRows};
 ghost use Rattle.toll_stock.specs.LotTotals.{held_in};
 ghost use Rattle.toll_views.specs.InSlice.{line_in};
-ghost use Rattle.toll_views.specs.Views.{stock_line};
+ghost use Rattle.toll_views.specs.Views.{AreStockLines};
 
 use crate::lot::measure_of;
 use std::alloc::{AllocError, Global};
@@ -27,7 +25,7 @@ pub struct StockLine {
 /// All lots of the slice's owner, in the order of their names, each with how much of it is on hand.
 pub fn stock_lines(alloc: Global, slice: &Slice) -> Result<Vec<StockLine>, AllocError>
     ensures in_slice { IfOk result (λ lines. lines.items ≡ map (line_in slice.now) slice.now.lots) }
-    ensures over { (H : History) → IsLawful H → IsRowsOf H slice.now → IfOk result (λ lines. AreRowsGiven bytes_cmp (λ line. line.row.lot) (stock_line H slice.now.owner) lines.items) }
+    ensures over { OverRows slice.now (λ H. IfOk result (λ lines. AreStockLines H slice.now.owner lines.items)) }
 {
     lines_in_slice(alloc, slice)
 }

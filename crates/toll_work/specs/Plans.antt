@@ -1,15 +1,21 @@
--- The rows that an accepted command puts, as the owner's tables make them.
-use Rattle.std.specs.Prelude.{ℕ, ◌+◌, true, false, List, [], ◌∷◌}
+-- The rows that an accepted command puts, as the owner's tables make them, and the plans that put them.
+use Rattle.std.specs.Prelude.{ℕ, ◌+◌, Bool, true, false, not, List, [], ◌∷◌}
 use Rattle.std.specs.Option.{option_map_or}
 use Rattle.toll_base.specs.Bytes.{Bytes}
 use Rattle.toll_base.specs.States.{followed}
-use Rattle.toll_history.specs.Tables.{Tables}
+use Rattle.toll_base.specs.Slice.{Slice}
+use Rattle.toll_base.specs.declared.decision.Decision.{Decision}
+use Rattle.toll_base.specs.declared.rows.RequirementRow.{RequirementRow}
+use Rattle.toll_history.specs.Decision.{IsDecided}
+use Rattle.toll_history.specs.Puts.{puts}
+use Rattle.toll_history.specs.Tables.{Tables, tables_of}
+use Rattle.toll_history.specs.Verdict.{batch_command_checks, cancel_checks, close_checks, open_checks, order_checks, requirement_checks, tables_for}
 use Rattle.toll_base.specs.declared.state.State.TheVariants.{Idle}
 use Rattle.toll_base.specs.declared.state_command.StateCommand.{StateCommand}
 use Rattle.toll_base.specs.declared.rows.OrderRow.{OrderRow}
 use Rattle.toll_base.specs.declared.rows.BatchRow.{BatchRow}
 use Rattle.toll_base.specs.declared.rows.Row.{Row}
-use Rattle.toll_base.specs.declared.rows.Row.TheVariants.{Order, Batch}
+use Rattle.toll_base.specs.declared.rows.Row.TheVariants.{Batch, Order, Requirement}
 
 -- the order, cancelled
 abbrev pub cancelled_row : OrderRow → OrderRow
@@ -36,3 +42,31 @@ closed_row row = record row { closed = true }
 -- the batch, changed so
 abbrev pub changed_rows : (BatchRow → BatchRow) → (order : Bytes) → (number : ℕ) → Tables → List Row
 changed_rows change order number t = option_map_or (λ row. Batch (change row) ∷ []) (t.batch (order, number)) []
+
+-- ---- plans: the checks of each decision, and the rows that it puts where none applies
+
+-- an order is placed as this row
+abbrev pub IsOrderPlan : Slice → OrderRow → Decision → Type 0
+IsOrderPlan s row d = IsDecided (order_checks (tables_of s) row.order row.recipe row.batches) (puts s.owner (Order row ∷ [])) d
+
+abbrev pub IsCancelPlan : Slice → (order : Bytes) → Decision → Type 0
+IsCancelPlan s order d = IsDecided (cancel_checks (tables_of s) order) (puts s.owner (cancelled_rows order (tables_of s))) d
+
+-- a batch is opened on a unit of which this was told
+abbrev pub IsOpeningPlan : Slice → (order unit : Bytes) → (is_known is_free : Bool) → Decision → Type 0
+IsOpeningPlan s order unit is_known is_free d =
+    IsDecided (open_checks (tables_of s) order is_known (not is_free)) (puts s.owner (opened_rows order unit (tables_of s))) d
+
+-- a batch is led on by the command
+abbrev pub IsCommandPlan : Slice → (order : Bytes) → (number : ℕ) → StateCommand → Decision → Type 0
+IsCommandPlan s order number command d =
+    IsDecided (batch_command_checks (tables_of s) order number command) (puts s.owner (changed_rows (commanded_row command) order number (tables_of s))) d
+
+abbrev pub IsClosingPlan : Slice → (order : Bytes) → (number : ℕ) → Decision → Type 0
+IsClosingPlan s order number d = IsDecided (close_checks (tables_of s) order number) (puts s.owner (changed_rows closed_row order number (tables_of s))) d
+
+-- a recipe requires what this row says
+abbrev pub IsRequirementPlan : (own house : Slice) → RequirementRow → Decision → Type 0
+IsRequirementPlan own house row d =
+    let source = tables_for own.owner (tables_of own) (tables_of house) row.source in
+    IsDecided (requirement_checks own.owner (tables_of own) source row) (puts own.owner (Requirement row ∷ [])) d

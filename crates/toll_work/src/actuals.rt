@@ -1,25 +1,19 @@
 //! Actuals.
-ghost use Rattle.std.specs.Prelude.{◌≡◌, ◌+◌, ◌-◌, true, false, [], ◌∷◌, ◌++◌, nat_lt, is_none, Some, None, IfOk, IfSome};
+ghost use Rattle.std.specs.Prelude.{◌≡◌, ◌+◌, ◌-◌, true, false, ◌++◌, nat_lt, Some, None, IfOk, IfSome};
 ghost use Rattle.toll_base.specs.Bytes.{same_bytes};
 ghost use Rattle.toll_base.specs.Changes.{changes_of};
-ghost use Rattle.toll_base.specs.Slice.{recipe_at, requirement_at, batch_at};
+ghost use Rattle.toll_base.specs.Slice.{recipe_at};
 ghost use Rattle.toll_base.specs.SliceRules.{KeepsRules};
-ghost use Rattle.toll_base.specs.States.{is_idle};
 ghost use Rattle.toll_base.specs.Words.{is_some_where};
-ghost use Rattle.toll_base.specs.declared.decision.Change.TheVariants as Change;
-ghost use Rattle.toll_base.specs.declared.lot.Disposition.TheVariants as Disposition;
-ghost use Rattle.toll_base.specs.declared.lot.Origin.TheVariants as Origin;
 ghost use Rattle.toll_base.specs.declared.movement.Move.TheVariants as Move;
-ghost use Rattle.toll_base.specs.declared.refusal.Refusal.TheVariants as Refusal;
 ghost use Rattle.toll_base.specs.declared.role.Role.TheVariants as Role;
-ghost use Rattle.toll_base.specs.declared.rows.Row.TheVariants as Row;
-ghost use Rattle.toll_history.specs.Bounds.{lot_bounds};
 ghost use Rattle.toll_history.specs.Command.{Record, by};
-ghost use Rattle.toll_history.specs.Decision.{IsDecided, DecidesWith, DecisionKeepsRules, said};
+ghost use Rattle.toll_history.specs.Decision.{DecidesWith, DecisionKeepsRules, said};
 ghost use Rattle.toll_history.specs.OwnChanges.{sublot_named, PutsOnlyWith};
 ghost use Rattle.toll_history.specs.Tables.{tables_of};
-ghost use Rattle.toll_history.specs.Verdict.{first_of, key_checks, actual_checks, consumed_checks, produced_checks, open_batch_checks, recipe_of_order, tables_for, amount_in, actuals_full, is_actual};
+ghost use Rattle.toll_history.specs.Verdict.{first_of, recipe_of_order, tables_for, actuals_full, is_actual};
 ghost use Rattle.toll_history.specs.Verdict as verdict;
+ghost use Rattle.toll_work.specs.ActualPlans.{IsConsumptionPlan, IsProductionPlan, recipe_checks_of, running_checks, source_checks, target_checks, use_checks};
 
 use crate::crossing::crosses;
 use std::alloc::{AllocError, Global};
@@ -109,13 +103,7 @@ fn plan_consumption(
     row: &MoveRow,
     used: &Use,
 ) -> Result<Decision, AllocError>
-    ensures plan { IfOk result (IsDecided
-        (key_checks (tables_of own.now) row.now
-        ++ actual_checks own.now.owner (tables_of own.now) used.now.order used.now.number used.now.segment Role.Consumed used.now.material used.now.lot
-        ++ consumed_checks (tables_of own.now) (tables_for own.now.owner (tables_of own.now) (tables_of house.now) used.now.lot.owner) used.now.order used.now.number used.now.material used.now.lot.lot used.now.sublot row.now.amount)
-        (Change.Put own.now.owner (Row.Move row.now)
-        ∷ Change.Put used.now.lot.owner (Row.Sublot (record { lot = used.now.lot.lot; sublot = used.now.sublot; amount = amount_in (tables_for own.now.owner (tables_of own.now) (tables_of house.now) used.now.lot.owner) used.now.lot.lot used.now.sublot - row.now.amount }))
-        ∷ [])) }
+    ensures plan { IfOk result (IsConsumptionPlan own.now house.now row.now used.now) }
     ensures kept { KeepsRules own.now }
     ensures house_kept { KeepsRules house.now }
 {
@@ -149,15 +137,7 @@ fn plan_production(
     row: &MoveRow,
     used: &Use,
 ) -> Result<Decision, AllocError>
-    ensures plan { IfOk result (IsDecided
-        (key_checks (tables_of own.now) row.now
-        ++ actual_checks own.now.owner (tables_of own.now) used.now.order used.now.number used.now.segment Role.Produced used.now.material used.now.lot
-        ++ produced_checks (tables_of own.now) used.now.order used.now.number used.now.material used.now.lot.lot
-        ++ lot_bounds (tables_of own.now) used.now.material used.now.lot.lot used.now.sublot row.now.amount)
-        (Change.Put own.now.owner (Row.Move row.now)
-        ∷ Change.Put own.now.owner (Row.Lot (record { lot = used.now.lot.lot; material = used.now.material; origin = Origin.Batch used.now.order used.now.number; disposition = Disposition.Quarantined }))
-        ∷ Change.Put own.now.owner (Row.Sublot (record { lot = used.now.lot.lot; sublot = used.now.sublot; amount = amount_in (tables_of own.now) used.now.lot.lot used.now.sublot + row.now.amount }))
-        ∷ [])) }
+    ensures plan { IfOk result (IsProductionPlan own.now row.now used.now) }
     ensures kept { KeepsRules own.now }
 {
     let owner = *own.owner();
@@ -199,8 +179,7 @@ pub fn slice_for<'a>(own: &'a Slice, house: &'a Slice, owner: &Name) -> &'a Slic
 }
 
 fn check_consumption(own: &Slice, source: &Slice, used: &Use, amount: Amount) -> Result<(), Refusal>
-    ensures { said result ≡ first_of (actual_checks own.now.owner (tables_of own.now) used.now.order used.now.number used.now.segment Role.Consumed used.now.material used.now.lot
-        ++ consumed_checks (tables_of own.now) (tables_of source.now) used.now.order used.now.number used.now.material used.now.lot.lot used.now.sublot amount) }
+    ensures { said result ≡ first_of (use_checks own.now used.now Role.Consumed ++ source_checks own.now (tables_of source.now) used.now amount) }
 {
     match check_use(own, used, Role::Consumed) {
         Err(why) => Err(why),
@@ -209,9 +188,7 @@ fn check_consumption(own: &Slice, source: &Slice, used: &Use, amount: Amount) ->
 }
 
 fn check_production(own: &Slice, used: &Use, amount: Amount) -> Result<(), Refusal>
-    ensures { said result ≡ first_of (actual_checks own.now.owner (tables_of own.now) used.now.order used.now.number used.now.segment Role.Produced used.now.material used.now.lot
-        ++ produced_checks (tables_of own.now) used.now.order used.now.number used.now.material used.now.lot.lot
-        ++ lot_bounds (tables_of own.now) used.now.material used.now.lot.lot used.now.sublot amount) }
+    ensures { said result ≡ first_of (use_checks own.now used.now Role.Produced ++ target_checks own.now used.now amount) }
 {
     match check_use(own, used, Role::Produced) {
         Err(why) => Err(why),
@@ -221,7 +198,7 @@ fn check_production(own: &Slice, used: &Use, amount: Amount) -> Result<(), Refus
 
 // Whether the batch takes actuals, and its recipe this one.
 fn check_use(own: &Slice, used: &Use, role: Role) -> Result<(), Refusal>
-    ensures { said result ≡ first_of (actual_checks own.now.owner (tables_of own.now) used.now.order used.now.number used.now.segment role used.now.material used.now.lot) }
+    ensures { said result ≡ first_of (use_checks own.now used.now role) }
 {
     match check_running(own, &used.order, used.number) {
         Err(why) => Err(why),
@@ -231,7 +208,7 @@ fn check_use(own: &Slice, used: &Use, role: Role) -> Result<(), Refusal>
 
 // The recipe of the batch, where it takes actuals.
 fn check_running(own: &Slice, order: &Name, number: BatchNo) -> Result<Name, Refusal>
-    ensures checks { said result ≡ first_of (open_batch_checks (tables_of own.now) order.now number ++ (is_some_where (λ row. is_idle row.state) (batch_at own.now (order.now, number)), Some Refusal.BatchIdle) ∷ []) }
+    ensures checks { said result ≡ first_of (running_checks own.now order.now number) }
     ensures recipe { IfOk result (λ recipe. recipe ≡ recipe_of_order (tables_of own.now) order.now) }
 {
     let Some(known) = own.order(order) else {
@@ -251,10 +228,7 @@ fn check_running(own: &Slice, order: &Name, number: BatchNo) -> Result<Name, Ref
 
 // Whether the recipe has this use.
 fn check_in_recipe(own: &Slice, recipe: &Name, used: &Use, role: Role) -> Result<(), Refusal>
-    ensures { said result ≡ first_of ((is_some_where (λ row. nat_lt row.segments used.now.segment) (recipe_at own.now recipe.now), Some Refusal.BadSegment)
-        ∷ (verdict.crosses own.now.owner role used.now.lot.owner, Some Refusal.CrossOwner)
-        ∷ (is_none (requirement_at own.now (recipe.now, used.now.segment, role, used.now.lot.owner, used.now.material)), Some Refusal.NotInRecipe)
-        ∷ []) }
+    ensures { said result ≡ first_of (recipe_checks_of own.now recipe.now used.now role) }
 {
     if is_above(own, recipe, used.segment) {
         return Err(Refusal::BadSegment);
@@ -281,7 +255,7 @@ fn is_above(own: &Slice, recipe: &Name, segment: Segment) -> bool
 
 // Whether the sublot has what is consumed from it.
 fn check_source(own: &Slice, source: &Slice, used: &Use, amount: Amount) -> Result<(), Refusal>
-    ensures { said result ≡ first_of (consumed_checks (tables_of own.now) (tables_of source.now) used.now.order used.now.number used.now.material used.now.lot.lot used.now.sublot amount) }
+    ensures { said result ≡ first_of (source_checks own.now (tables_of source.now) used.now amount) }
 {
     let Some(lot) = source.lot(&used.lot.lot) else {
         return Err(Refusal::UnknownLot);
@@ -306,8 +280,7 @@ fn check_source(own: &Slice, source: &Slice, used: &Use, amount: Amount) -> Resu
 
 // Whether the sublot takes what is produced into it.
 fn check_target(own: &Slice, used: &Use, amount: Amount) -> Result<(), Refusal>
-    ensures { said result ≡ first_of (produced_checks (tables_of own.now) used.now.order used.now.number used.now.material used.now.lot.lot
-        ++ lot_bounds (tables_of own.now) used.now.material used.now.lot.lot used.now.sublot amount) }
+    ensures { said result ≡ first_of (target_checks own.now used.now amount) }
 {
     if let Some(lot) = own.lot(&used.lot.lot) {
         if !is_made_by(&lot.origin, &used.order, used.number) {

@@ -1,17 +1,16 @@
 //! Batches.
-ghost use Rattle.std.specs.Prelude.{◌≡◌, ◌+◌, nat_le, not, Some, None, if◌then◌else◌, map, IfOk};
+ghost use Rattle.std.specs.Prelude.{◌≡◌, ◌+◌, nat_le, Some, None, if◌then◌else◌, IfOk};
 ghost use Rattle.toll_base.specs.Changes.{changes_of};
 ghost use Rattle.toll_base.specs.Slice.{batch_at};
 ghost use Rattle.toll_base.specs.SliceRules.{KeepsRules};
 ghost use Rattle.toll_base.specs.States as states;
-ghost use Rattle.toll_base.specs.declared.decision.Change.TheVariants as Change;
 ghost use Rattle.toll_history.specs.Command.{CommandBatch, CloseBatch, by};
-ghost use Rattle.toll_history.specs.Decision.{IsDecided, Decides, DecisionKeepsRules, said};
+ghost use Rattle.toll_history.specs.Decision.{Decides, DecisionKeepsRules, said};
 ghost use Rattle.toll_history.specs.OwnChanges.{PutsOnly};
 ghost use Rattle.toll_history.specs.Tables.{tables_of};
-ghost use Rattle.toll_history.specs.Verdict.{first_of, open_checks, open_batch_checks, batch_command_checks, close_checks};
+ghost use Rattle.toll_history.specs.Verdict.{first_of, open_batch_checks};
 ghost use Rattle.toll_work.specs.Opening.{DecidesOpening};
-ghost use Rattle.toll_work.specs.Plans.{opened_rows, commanded_row, closed_row, changed_rows};
+ghost use Rattle.toll_work.specs.Plans.{IsClosingPlan, IsCommandPlan, IsOpeningPlan};
 
 use crate::orders::{count_opened, find_standing};
 use crate::states::next;
@@ -48,7 +47,7 @@ fn plan_opening(
     unit_known: bool,
     unit_free: bool,
 ) -> Result<Decision, AllocError>
-    ensures plan { IfOk result (IsDecided (open_checks (tables_of slice.now) order.now unit_known (not unit_free)) (map (Change.Put slice.now.owner) (opened_rows order.now unit.now (tables_of slice.now)))) }
+    ensures plan { IfOk result (IsOpeningPlan slice.now order.now unit.now unit_known unit_free) }
     ensures kept { KeepsRules slice.now }
 {
     let owner = *slice.owner();
@@ -110,7 +109,7 @@ fn plan_command(
     number: BatchNo,
     command: StateCommand,
 ) -> Result<Decision, AllocError>
-    ensures plan { IfOk result (IsDecided (batch_command_checks (tables_of slice.now) order.now number command) (map (Change.Put slice.now.owner) (changed_rows (commanded_row command) order.now number (tables_of slice.now)))) }
+    ensures plan { IfOk result (IsCommandPlan slice.now order.now number command) }
     ensures kept { KeepsRules slice.now }
 {
     let owner = *slice.owner();
@@ -165,7 +164,7 @@ fn plan_closing(
     order: &Name,
     number: BatchNo,
 ) -> Result<Decision, AllocError>
-    ensures plan { IfOk result (IsDecided (close_checks (tables_of slice.now) order.now number) (map (Change.Put slice.now.owner) (changed_rows closed_row order.now number (tables_of slice.now)))) }
+    ensures plan { IfOk result (IsClosingPlan slice.now order.now number) }
     ensures kept { KeepsRules slice.now }
 {
     let owner = *slice.owner();

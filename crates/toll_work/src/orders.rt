@@ -1,16 +1,14 @@
 //! Orders.
-ghost use Rattle.std.specs.Prelude.{◌≡◌, true, is_some, Some, [], ◌∷◌, map, IfOk};
+ghost use Rattle.std.specs.Prelude.{◌≡◌, true, is_some, Some, [], IfOk};
 ghost use Rattle.toll_base.specs.Changes.{changes_of};
 ghost use Rattle.toll_base.specs.Slice.{order_at};
 ghost use Rattle.toll_base.specs.SliceRules.{KeepsRules};
-ghost use Rattle.toll_base.specs.declared.decision.Change.TheVariants as Change;
-ghost use Rattle.toll_base.specs.declared.rows.Row.TheVariants as Row;
 ghost use Rattle.toll_history.specs.Command.{PlaceOrder, CancelOrder, by};
-ghost use Rattle.toll_history.specs.Decision.{IsDecided, Decides, DecisionKeepsRules, said};
+ghost use Rattle.toll_history.specs.Decision.{Decides, DecisionKeepsRules, said};
 ghost use Rattle.toll_history.specs.OwnChanges.{PutsOnly};
 ghost use Rattle.toll_history.specs.Tables.{tables_of};
-ghost use Rattle.toll_history.specs.Verdict.{first_of, order_checks, standing_order_checks, cancel_checks};
-ghost use Rattle.toll_work.specs.Plans.{cancelled_rows};
+ghost use Rattle.toll_history.specs.Verdict.{first_of, standing_order_checks};
+ghost use Rattle.toll_work.specs.Plans.{IsCancelPlan, IsOrderPlan};
 
 use std::alloc::{AllocError, Global};
 use toll_base::{BatchNo, Change, Decision, MOST_ORDERS, Name, OrderRow, Refusal, Row, Slice};
@@ -42,7 +40,7 @@ pub fn place_order(
 }
 
 fn plan_order(alloc: Global, slice: &Slice, row: &OrderRow) -> Result<Decision, AllocError>
-    ensures plan { IfOk result (IsDecided (order_checks (tables_of slice.now) row.now.order row.now.recipe row.now.batches) (Change.Put slice.now.owner (Row.Order row.now) ∷ [])) }
+    ensures plan { IfOk result (IsOrderPlan slice.now row.now) }
     ensures kept { KeepsRules slice.now }
 {
     let owner = *slice.owner();
@@ -74,7 +72,7 @@ pub fn cancel_order(alloc: Global, slice: &Slice, order: Name) -> Result<Decisio
 }
 
 fn plan_cancelling(alloc: Global, slice: &Slice, order: &Name) -> Result<Decision, AllocError>
-    ensures plan { IfOk result (IsDecided (cancel_checks (tables_of slice.now) order.now) (map (Change.Put slice.now.owner) (cancelled_rows order.now (tables_of slice.now)))) }
+    ensures plan { IfOk result (IsCancelPlan slice.now order.now) }
     ensures kept { KeepsRules slice.now }
 {
     let owner = *slice.owner();

@@ -8,7 +8,8 @@ ghost use Rattle.toll_history.specs.Command.{AddRecipe, Require, by};
 ghost use Rattle.toll_history.specs.Decision.{IsDecided, Decides, DecidesWith, DecisionKeepsRules};
 ghost use Rattle.toll_history.specs.OwnChanges.{PutsOnly};
 ghost use Rattle.toll_history.specs.Tables.{tables_of};
-ghost use Rattle.toll_history.specs.Verdict.{recipe_checks, requirement_checks, tables_for};
+ghost use Rattle.toll_history.specs.Verdict.{recipe_checks, tables_for};
+ghost use Rattle.toll_work.specs.Plans.{IsRequirementPlan};
 
 use crate::crossing::crosses;
 use std::alloc::{AllocError, Global};
@@ -74,7 +75,7 @@ fn plan_requirement(
     house: &Slice,
     row: &RequirementRow,
 ) -> Result<Decision, AllocError>
-    ensures plan { IfOk result (IsDecided (requirement_checks own.now.owner (tables_of own.now) (tables_for own.now.owner (tables_of own.now) (tables_of house.now) row.now.source) row.now) (Change.Put own.now.owner (Row.Requirement row.now) ∷ [])) }
+    ensures plan { IfOk result (IsRequirementPlan own.now house.now row.now) }
     ensures kept { KeepsRules own.now }
 {
     let owner = *own.owner();

@@ -1,17 +1,15 @@
 //! Voids.
-ghost use Rattle.std.specs.Prelude.{◌≡◌, ◌+◌, ◌-◌, false, nat_lt, is_none, Some, [], ◌∷◌, ◌++◌, IfOk};
+ghost use Rattle.std.specs.Prelude.{◌≡◌, ◌+◌, ◌-◌, false, Some, IfOk};
 ghost use Rattle.toll_base.specs.Bytes.{same_bytes};
 ghost use Rattle.toll_base.specs.Changes.{changes_of};
 ghost use Rattle.toll_base.specs.Slice.{move_at};
-ghost use Rattle.toll_base.specs.declared.decision.Change.TheVariants as Change;
-ghost use Rattle.toll_base.specs.declared.refusal.Refusal.TheVariants as Refusal;
-ghost use Rattle.toll_base.specs.declared.rows.Row.TheVariants as Row;
 ghost use Rattle.toll_history.specs.Command.{Void, by};
-ghost use Rattle.toll_history.specs.Decision.{IsDecided, DecidesWith, DecisionKeepsRules, said};
+ghost use Rattle.toll_history.specs.Decision.{DecidesWith, DecisionKeepsRules, said};
 ghost use Rattle.toll_history.specs.OwnChanges.{PutsOnlyWith};
 ghost use Rattle.toll_history.specs.Tables.{tables_of};
-ghost use Rattle.toll_history.specs.Verdict.{first_of, tables_for, amount_in};
-ghost use Rattle.toll_work.specs.Voiding.{open_checks, giving_bounds, actual_sublot};
+ghost use Rattle.toll_history.specs.Verdict.{first_of};
+ghost use Rattle.toll_work.specs.ActualPlans.{IsGivingPlan, IsTakingPlan};
+ghost use Rattle.toll_work.specs.Voiding.{open_checks, actual_sublot};
 
 use crate::actuals::{Use, slice_for, use_of};
 use crate::crossing::crosses;
@@ -60,12 +58,7 @@ fn give_back(
     used: &Use,
     amount: Amount,
 ) -> Result<Decision, AllocError>
-    ensures plan { IfOk result (IsDecided
-        (open_checks (tables_of own.now) key used.now.order used.now.number
-        ++ giving_bounds own.now.owner (tables_for own.now.owner (tables_of own.now) (tables_of house.now) used.now.lot.owner) used.now.lot used.now.sublot amount)
-        (Change.Put own.now.owner (Row.Void (record { key = key }))
-        ∷ Change.Put used.now.lot.owner (Row.Sublot (record { lot = used.now.lot.lot; sublot = used.now.sublot; amount = amount_in (tables_for own.now.owner (tables_of own.now) (tables_of house.now) used.now.lot.owner) used.now.lot.lot used.now.sublot + amount }))
-        ∷ [])) }
+    ensures plan { IfOk result (IsGivingPlan own.now house.now key used.now amount) }
 {
     if let Err(why) = check_open(own, &key, &used.order, used.number) {
         return Ok(Decision::Refuse(why));
@@ -98,14 +91,7 @@ fn take_out(
     used: &Use,
     amount: Amount,
 ) -> Result<Decision, AllocError>
-    ensures plan { IfOk result (IsDecided
-        (open_checks (tables_of own.now) key used.now.order used.now.number
-        ++ (nat_lt (amount_in (tables_of own.now) used.now.lot.lot used.now.sublot) amount, Some Refusal.NotEnough)
-        ∷ (is_none ((tables_of own.now).sublot (used.now.lot.lot, used.now.sublot)), Some Refusal.LimitReached)
-        ∷ [])
-        (Change.Put own.now.owner (Row.Void (record { key = key }))
-        ∷ Change.Put own.now.owner (Row.Sublot (record { lot = used.now.lot.lot; sublot = used.now.sublot; amount = amount_in (tables_of own.now) used.now.lot.lot used.now.sublot - amount }))
-        ∷ [])) }
+    ensures plan { IfOk result (IsTakingPlan own.now key used.now amount) }
 {
     if let Err(why) = check_open(own, &key, &used.order, used.number) {
         return Ok(Decision::Refuse(why));

@@ -1,0 +1,21 @@
+use Rattle.std.proofs.Common.{rules, ◌+◌, [], ◌∷◌, ◌++◌}
+use Rattle.std.specs.Prelude.{IfOk}
+use Rattle.toll_base.specs.declared.decision.Change.TheVariants.{Put}
+use Rattle.toll_base.specs.declared.lot.Disposition.TheVariants.{Quarantined}
+use Rattle.toll_base.specs.declared.lot.Origin.TheVariants.{Receipts}
+use Rattle.toll_base.specs.declared.rows.Row.TheVariants.{Lot, Move, Sublot}
+use Rattle.toll_history.specs.Bounds.{sublot_bounds}
+use Rattle.toll_history.specs.Decision.{IsDecided}
+use Rattle.toll_history.specs.Tables.{tables_of}
+use Rattle.toll_history.specs.Verdict.{amount_in, key_checks, receive_checks}
+use Rattle.toll_stock.proofs.receipts.plan_receipt.Goals as goal
+
+pub returns-clause-plan : goal.returns-clause-plan
+returns-clause-plan c =
+    let t = tables_of c.args.slice.now in
+    let o = c.args.slice.now.owner in
+    let row = c.args.row.now in
+    let lot = c.args.lot in
+    let old : IfOk c.decide_movement.result (IsDecided (key_checks t row ++ receive_checks t c.args.material lot ++ sublot_bounds t lot c.args.sublot row.amount)
+    (Put o (Move row) ∷ Put o (Lot (record { lot = lot; material = c.args.material; origin = Receipts; disposition = Quarantined })) ∷ Put o (Sublot (record { lot = lot; sublot = c.args.sublot; amount = amount_in t lot c.args.sublot + row.amount })) ∷ [])) = search rules in
+    old
