@@ -1,17 +1,15 @@
 -- The edges made from the uses of lots are those that two standing actuals draw.
-use Rattle.std.proofs.Common.{◌≡◌, ℕ, Bool, true, false, Some, None, is_some, List, [], ◌∷◌, map, refl, ap, ◌∙◌, subst, inl, inr}
+use Rattle.std.proofs.Common.{◌≡◌, ℕ, ◌≤◌, Bool, true, false, Some, None, is_some, List, [], ◌∷◌, map, refl, ap, ◌∙◌, subst, inl, inr, arith}
 use mathlib.Core.Bool.{false≢true}
 use Rattle.std.specs.Prelude.{Contains, filter, if◌then◌else◌}
 use Rattle.std.specs.List.{flat_map}
 use Rattle.std.specs.List.Sorted.{IsStrictlySortedBy, IsPermutation}
-use Rattle.std.specs.Cmp.{IsTotalOrder}
-use Rattle.std.specs.Ordering.{nat_cmp, is_eq, ordering_reverse}
+use Rattle.std.specs.Ordering.{is_eq, ordering_reverse}
 use Rattle.std.specs.declared.cmp.Ordering.{Ordering}
 use Rattle.std.specs.declared.cmp.Ordering.TheVariants.{Less, Equal, Greater}
 use Rattle.std.proofs.lemmas.Bool.{leb-true, le-leb}
-use Rattle.std.proofs.lemmas.Cmp.{tied_itself, nat_cmp_total, nat_list_cmp_total, then_total, on_total}
+use Rattle.std.proofs.lemmas.Cmp.{tied_itself, nat_list_cmp_total}
 use Rattle.std.proofs.lemmas.List.Sorted.{Contains-permutation, IsPermutation-sym}
-use Rattle.std.proofs.lemmas.Map.Lookups.{CmpEqualImpliesEq, exact_bytes, exact_unsigned, exact_pairs}
 use Rattle.std.proofs.lemmas.Map.Views.{tells_apart}
 use Rattle.toll_base.specs.Bytes.{Bytes, bytes_cmp}
 use Rattle.toll_base.specs.Keys.{batch_cmp}
@@ -29,9 +27,10 @@ use Rattle.toll_trace.specs.declared.edges.Use.{Use}
 use Rattle.toll_trace.specs.InOrder.{IsInOrder}
 use Rattle.toll_base.specs.Lots.{edge_cmp}
 use Rattle.toll_trace.specs.Edges.{IsActual, IsDrawn, Stands, IsEdge, AreEdges}
-use Rattle.toll_trace.specs.Uses.{Batch, use_as, standing_use, uses, is_not_above, edge_between, edges_from}
+use Rattle.toll_trace.specs.Uses.{Batch, AreLeft, use_as, standing_use, uses, is_not_above, edge_between, edges_from}
 use Rattle.toll_trace.proofs.Members.{Contains-none, Contains-here, Contains-later, Contains-cases, Contains-map, Contains-from_map, Contains-filter, Contains-from_filter, Contains-filter_map, Contains-from_filter_map, Contains-flat_map, Contains-from_flat_map, member_of_all, kept_in_order, some_of}
 use Rattle.toll_trace.proofs.Orders.{edges_exact}
+use Rattle.toll_trace.proofs.Extremes.{batches_total, exact_batches}
 
 -- ==== rows by their key
 
@@ -64,12 +63,6 @@ exact_role Produced Produced h = refl
 pub same_role-refl : (a : Role) → same_role a a ≡ true
 same_role-refl Consumed = refl
 same_role-refl Produced = refl
-
-batches_total : IsTotalOrder batch_cmp
-batches_total = then_total (on_total (λ (b : Batch). b.0) nat_list_cmp_total) (on_total (λ (b : Batch). b.1) nat_cmp_total)
-
-exact_batches : CmpEqualImpliesEq batch_cmp
-exact_batches = exact_pairs bytes_cmp nat_cmp exact_bytes exact_unsigned
 
 pub used_is : (role : Role) (row : MoveRow) (what : Move) (u : Batch × Use) → row.what ≡ what → use_as role what ≡ Some u → IsActual u.0.0 u.0.1 u.1.segment role u.1.lot row
 used_is role row (Actual order number segment recorded material lot sublot) u is h =
@@ -135,27 +128,30 @@ module _ (stands : MoveRow → Type 0) (consumptions productions : List (Batch �
       })
 
   pub edge_listed :
-      ((row : MoveRow) (order : Bytes) (number segment : ℕ) (lot : LotId) → stands row → IsActual order number segment Consumed lot row → Contains consumptions ((order, number), record { segment = segment; lot = lot }))
-      → ((row : MoveRow) (order : Bytes) (number segment : ℕ) (lot : LotId) → stands row → IsActual order number segment Produced lot row → Contains productions ((order, number), record { segment = segment; lot = lot }))
+      ((row : MoveRow) (order : Bytes) (number segment : ℕ) (lot : LotId) → stands row → IsActual order number segment Consumed lot row → (n : ℕ) × Contains consumptions ((order, number), record { segment = n; lot = lot }) × (n ≤ segment))
+      → ((row : MoveRow) (order : Bytes) (number segment : ℕ) (lot : LotId) → stands row → IsActual order number segment Produced lot row → (n : ℕ) × Contains productions ((order, number), record { segment = n; lot = lot }) × (segment ≤ n))
       → (e : Edge) → IsDrawn stands e → Contains (flat_map (edges_from productions) consumptions) e
   edge_listed consumed produced e fed =
-      let c : Batch × Use = ((fed.order, fed.number), record { segment = fed.consumed_in; lot = e.from }) in
-      let p : Batch × Use = ((fed.order, fed.number), record { segment = fed.produced_in; lot = e.to }) in
-      let listed = produced fed.production fed.order fed.number fed.produced_in e.to fed.production_stands fed.produces in
-      let of_batch = Contains-filter (λ (production : Batch × Use). is_eq (batch_cmp production.0 c.0)) productions p listed (ap is_eq (tied_itself batches_total c.0)) in
-      let above = Contains-filter (is_not_above c.1) (filter (λ production. is_eq (batch_cmp production.0 c.0)) productions) p of_batch (le-leb _ _ fed.not_above) in
-      Contains-flat_map (edges_from productions) consumptions c e (consumed fed.consumption fed.order fed.number fed.consumed_in e.from fed.consumption_stands fed.consumes)
+      let lowest = consumed fed.consumption fed.order fed.number fed.consumed_in e.from fed.consumption_stands fed.consumes in
+      let highest = produced fed.production fed.order fed.number fed.produced_in e.to fed.production_stands fed.produces in
+      let c : Batch × Use = ((fed.order, fed.number), record { segment = lowest.0; lot = e.from }) in
+      let p : Batch × Use = ((fed.order, fed.number), record { segment = highest.0; lot = e.to }) in
+      let not_above : lowest.0 ≤ highest.0 = omega (arith, lowest.2, fed.not_above, highest.2) in
+      let of_batch = Contains-filter (λ production. is_eq (batch_cmp production.0 c.0)) productions p highest.1 (ap is_eq (tied_itself batches_total c.0)) in
+      let above = Contains-filter (is_not_above c.1) (filter (λ production. is_eq (batch_cmp production.0 c.0)) productions) p of_batch (le-leb _ _ not_above) in
+      Contains-flat_map (edges_from productions) consumptions c e lowest.1
       (Contains-map (edge_between c.1) (filter (is_not_above c.1) (filter (λ production. is_eq (batch_cmp production.0 c.0)) productions)) p above)
 
-pub edges_are : (s : Slice) (productions : List (Batch × Use)) (sorted : List Edge) → IsInKeyOrder bytes_cmp (λ row. row.key) s.moves → IsPermutation (uses Produced s) productions → IsInOrder edge_cmp (flat_map (edges_from productions) (uses Consumed s)) sorted → AreEdges (IsEdge s) sorted
-edges_are s productions sorted order moved in_order = record {
-  only = λ e i. edge_drawn (Stands s) (uses Consumed s) productions
-      (λ u i. use_recorded Consumed s u order i)
-      (λ u i. use_recorded Produced s u order (Contains-permutation productions (uses Produced s) u (IsPermutation-sym (uses Produced s) productions moved) i))
+-- by the uses that are left: of consumptions the lowest, of productions the highest
+pub edges_are : (s : Slice) (consumptions left productions : List (Batch × Use)) (sorted : List Edge) → IsInKeyOrder bytes_cmp (λ row. row.key) s.moves → AreLeft (λ lowest segment. lowest ≤ segment) (uses Consumed s) consumptions → AreLeft (λ highest segment. segment ≤ highest) (uses Produced s) left → IsPermutation left productions → IsInOrder edge_cmp (flat_map (edges_from productions) consumptions) sorted → AreEdges (IsEdge s) sorted
+edges_are s consumptions left productions sorted order lowest highest moved in_order = record {
+  only = λ e i. edge_drawn (Stands s) consumptions productions
+      (λ u i. use_recorded Consumed s u order (lowest.none_new u i))
+      (λ u i. use_recorded Produced s u order (highest.none_new u (Contains-permutation productions left u (IsPermutation-sym left productions moved) i)))
       e (in_order.none_new e i);
-  every = λ e fed. kept_in_order edge_cmp edges_exact _ sorted in_order e (edge_listed (Stands s) (uses Consumed s) productions
-      (use_listed Consumed s)
-      (λ row order number segment lot stands is. Contains-permutation (uses Produced s) productions _ moved (use_listed Produced s row order number segment lot stands is))
+  every = λ e fed. kept_in_order edge_cmp edges_exact _ sorted in_order e (edge_listed (Stands s) consumptions productions
+      (λ row order number segment lot stands is. lowest.none_lost (order, number) lot segment (use_listed Consumed s row order number segment lot stands is))
+      (λ row order number segment lot stands is. let l = highest.none_lost (order, number) lot segment (use_listed Produced s row order number segment lot stands is) in (l.0, Contains-permutation left productions _ moved l.1, l.2))
       e fed);
   ordered = in_order.ordered;
 }

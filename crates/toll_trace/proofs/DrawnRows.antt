@@ -1,5 +1,5 @@
 -- The edges that movements of a list draw, as a list.
-use Rattle.std.proofs.Common.{ℕ, Some, None, List, refl, ap, ◌∙◌}
+use Rattle.std.proofs.Common.{ℕ, Some, None, List, refl, ap, ◌∙◌, arith}
 use Rattle.std.specs.Prelude.{Contains, if◌then◌else◌}
 use Rattle.std.specs.List.{filter_map, flat_map}
 use Rattle.toll_base.specs.Bytes.{Bytes}
@@ -34,4 +34,7 @@ pub listed_drawn : (rows : List MoveRow) (e : Edge) → Contains (drawn rows) e 
 listed_drawn rows e i = edge_drawn (Contains rows) (used Consumed rows) (used Produced rows) (used_recorded Consumed rows) (used_recorded Produced rows) e i
 
 pub drawn_listed : (rows : List MoveRow) (e : Edge) → IsDrawn (Contains rows) e → Contains (drawn rows) e
-drawn_listed rows e is = edge_listed (Contains rows) (used Consumed rows) (used Produced rows) (used_listed Consumed rows) (used_listed Produced rows) e is
+drawn_listed rows e is = edge_listed (Contains rows) (used Consumed rows) (used Produced rows)
+    (λ row order number segment lot i is. (segment, used_listed Consumed rows row order number segment lot i is, omega arith))
+    (λ row order number segment lot i is. (segment, used_listed Produced rows row order number segment lot i is, omega arith))
+    e is

@@ -19,7 +19,7 @@ use Rattle.toll_trace.specs.declared.way.Way.TheVariants.{Back, Forward}
 use Rattle.toll_trace.specs.Chain.{ends, edge_of, IsJoined}
 use Rattle.toll_trace.specs.Graph.{IsGraphOf, index_of}
 use Rattle.toll_trace.specs.InOrder.{IsInOrder}
-use Rattle.toll_trace.specs.Neighbours.{neighbours, new_neighbours}
+use Rattle.toll_trace.specs.Neighbours.{Leads, neighbours, new_neighbours}
 use Rattle.toll_base.specs.Lots.{lot_cmp}
 use Rattle.toll_trace.specs.Search.{step_at, is_found, IsLevel}
 use Rattle.toll_trace.specs.Trace.{lots_of, IsTrace}
@@ -38,10 +38,6 @@ new_neighbours_more pairs found front i a run old new lt is of_a before added =
     let by_run = ap (λ r. old ++ filter (λ b. not (is_found found b)) (map (λ pair. pair.1) r)) of_a in
     let by_old = ap (λ o. o ++ more a) before in
     added ∙ by_run ∙ by_old ∙ step ∙ ap (flat_map more) (sym grown)
-
--- the pairs as a relation
-abbrev pub Leads : List (LotId × LotId) → LotId → LotId → Type 0
-Leads pairs a b = Contains pairs (a, b)
 
 -- a lot is among the new neighbours just where it is not found and a lot of the front leads to it
 neighbour_led : (pairs : List (LotId × LotId)) (found : List Step) (front : List LotId) (b : LotId) → Contains (new_neighbours pairs found front) b → (is_found found b ≡ false) × ((a : LotId) × Contains front a × Leads pairs a b)
@@ -84,22 +80,26 @@ level_next pairs found front k lots level order = level_of (Leads pairs) more (n
       | inr new ↦ neighbour_listed pairs more front a b new j n
     ]
 
--- ==== a graph's index joins the lots that its edges join
+-- ==== an index joins the lots that its edges join
 
+pub trace_of_index : (edges : List Edge) (way : Way) (index : List (LotId × LotId)) → IsPermutation (map (ends way) edges) index → (from : LotId) (trace : List Step) → IsTrace (Leads index) from trace → IsTrace (IsJoined edges way) from trace
+trace_of_index edges way index moved from trace t = trace_same (Leads index) (IsJoined edges way) joined leads from trace t
+  where
+    joined : (a b : LotId) → Leads index a b → IsJoined edges way a b
+    joined a b i =
+        let e = Contains-from_map (ends way) edges (a, b) (Contains-permutation index (map (ends way) edges) (a, b) (IsPermutation-sym (map (ends way) edges) index moved) i) in
+        let is : e.0 ≡ edge_of way a b = sym (edge_of_ends way e.0) ∙ ap (λ (p : LotId × LotId). edge_of way p.0 p.1) e.2 in
+        subst (Contains edges) is e.1
+
+    leads : (a b : LotId) → IsJoined edges way a b → Leads index a b
+    leads a b j =
+        Contains-permutation (map (ends way) edges) index (a, b) moved
+        (subst (λ p. Contains (map (ends way) edges) p) (ends_of way a b) (Contains-map (ends way) edges (edge_of way a b) j))
+
+-- so does a graph's index for that way
 index_is : (edges : List Edge) (graph : Graph) → IsGraphOf edges graph → (way : Way) → IsPermutation (map (ends way) edges) (index_of way graph)
 index_is edges graph of_edges Back = of_edges.back
 index_is edges graph of_edges Forward = of_edges.forward
 
 pub trace_of_graph : (edges : List Edge) (graph : Graph) → IsGraphOf edges graph → (way : Way) (from : LotId) (trace : List Step) → IsTrace (Leads (index_of way graph)) from trace → IsTrace (IsJoined edges way) from trace
-trace_of_graph edges graph of_edges way from trace t = trace_same (Leads (index_of way graph)) (IsJoined edges way) joined leads from trace t
-  where
-    joined : (a b : LotId) → Leads (index_of way graph) a b → IsJoined edges way a b
-    joined a b i =
-        let e = Contains-from_map (ends way) edges (a, b) (Contains-permutation (index_of way graph) (map (ends way) edges) (a, b) (IsPermutation-sym (map (ends way) edges) (index_of way graph) (index_is edges graph of_edges way)) i) in
-        let is : e.0 ≡ edge_of way a b = sym (edge_of_ends way e.0) ∙ ap (λ (p : LotId × LotId). edge_of way p.0 p.1) e.2 in
-        subst (Contains edges) is e.1
-
-    leads : (a b : LotId) → IsJoined edges way a b → Leads (index_of way graph) a b
-    leads a b j =
-        Contains-permutation (map (ends way) edges) (index_of way graph) (a, b) (index_is edges graph of_edges way)
-        (subst (λ p. Contains (map (ends way) edges) p) (ends_of way a b) (Contains-map (ends way) edges (edge_of way a b) j))
+trace_of_graph edges graph of_edges way = trace_of_index edges way (index_of way graph) (index_is edges graph of_edges way)

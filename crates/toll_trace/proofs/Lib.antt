@@ -4,6 +4,7 @@ pub mod Ends
 pub mod Levels
 pub mod Rounds
 pub mod Runs
+pub mod Extremes
 pub mod Drawn
 pub mod Unique
 pub mod Fronts

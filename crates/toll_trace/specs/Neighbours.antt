@@ -1,11 +1,15 @@
 -- The neighbours of lots, by a list of pairs of lots that one step joins.
-use Rattle.std.specs.Prelude.{not, List, map, filter}
+use Rattle.std.specs.Prelude.{not, List, Contains, map, filter}
 use Rattle.std.specs.List.{flat_map}
 use Rattle.std.specs.Ordering.{is_eq}
 use Rattle.toll_base.specs.declared.lot.LotId.{LotId}
 use Rattle.toll_trace.specs.declared.step.Step.{Step}
 use Rattle.toll_base.specs.Lots.{lot_cmp}
 use Rattle.toll_trace.specs.Search.{is_found}
+
+-- one of the pairs leads from `a` to `b`
+abbrev pub Leads : List (LotId × LotId) → LotId → LotId → Type 0
+Leads pairs a b = Contains pairs (a, b)
 
 -- the lots that a step comes to from this one
 abbrev pub neighbours : List (LotId × LotId) → LotId → List LotId

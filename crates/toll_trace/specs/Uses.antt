@@ -1,11 +1,13 @@
 -- What actuals use: the lists from which edges are made.
-use Rattle.std.specs.Prelude.{ℕ, Bool, nat_le, Option, Some, None, is_some, List, map, filter, if◌then◌else◌}
+use Rattle.std.specs.Prelude.{ℕ, Bool, ◌==◌, ◌&&◌, nat_le, Option, Some, None, is_some, List, Contains, map, filter, if◌then◌else◌}
 use Rattle.std.specs.List.{filter_map}
 use Rattle.std.specs.Ordering.{is_eq}
-use Rattle.toll_base.specs.Bytes.{Bytes}
+use Rattle.toll_base.specs.Bytes.{Bytes, same_bytes}
 use Rattle.toll_base.specs.Keys.{batch_cmp}
+use Rattle.toll_base.specs.Lots.{same_lot}
 use Rattle.toll_base.specs.Roles.{same_role}
 use Rattle.toll_base.specs.Slice.{Slice, void_at}
+use Rattle.toll_base.specs.declared.lot.LotId.{LotId}
 use Rattle.toll_base.specs.declared.lot.Edge.{Edge}
 use Rattle.toll_base.specs.declared.role.Role.{Role}
 use Rattle.toll_base.specs.declared.movement.MoveRow.{MoveRow}
@@ -29,6 +31,15 @@ standing_use role s row = if is_some (void_at s row.key) then None else use_as r
 -- what the standing actuals of this role use
 abbrev pub uses : Role → Slice → List (Batch × Use)
 uses role s = filter_map (standing_use role s) s.moves
+
+-- one batch uses one lot
+abbrev pub same_use : Batch × Use → Batch × Use → Bool
+same_use u v = (same_bytes u.0.0 v.0.0 && (u.0.1 == v.0.1)) && same_lot u.1.lot v.1.lot
+
+-- of the uses these are left: for each one of that lot by that batch, in a segment that stands so to its own
+pub record AreLeft (so : ℕ → ℕ → Type 0) (uses left : List (Batch × Use)) : Type 0 where
+  pub none_new : (u : Batch × Use) → Contains left u → Contains uses u
+  pub none_lost : (batch : Batch) (lot : LotId) (segment : ℕ) → Contains uses (batch, record { segment = segment; lot = lot }) → (n : ℕ) × Contains left (batch, record { segment = n; lot = lot }) × so n segment
 
 -- the consumption's segment is not above the production's
 abbrev pub is_not_above : Use → Batch × Use → Bool

@@ -1,10 +1,10 @@
 //! The edges between lots.
-ghost use Rattle.std.specs.Prelude.{◌≡◌, ◌++◌, IfOk, OnOk, filter, map};
-ghost use Rattle.std.specs.List.{flat_map};
+ghost use Rattle.std.specs.Prelude.{◌≡◌, ◌≤◌, ◌++◌, IfOk, OnOk, filter, map};
+ghost use Rattle.std.specs.List.{flat_map, dedup};
 ghost use Rattle.toll_base.specs.Bytes.{bytes_cmp};
 ghost use Rattle.toll_base.specs.Table.{IsInKeyOrder};
 ghost use Rattle.toll_trace.specs.Edges.{AreEdges, IsEdge};
-ghost use Rattle.toll_trace.specs.Uses.{use_as, standing_use, uses, is_not_above, edge_between, edges_from};
+ghost use Rattle.toll_trace.specs.Uses.{AreLeft, use_as, standing_use, uses, same_use, is_not_above, edge_between, edges_from};
 
 use crate::in_order::put_in_order;
 use crate::index::Index;
@@ -14,24 +14,53 @@ use toll_base::{BatchNo, Edge, LotId, Move, MoveRow, Name, Role, Segment, Slice}
 /// A batch within its owner: an order, and the batch's number.
 type Batch = (Name, BatchNo);
 
-/// A segment of a batch uses a lot, to consume it or to produce it.
-#[derive(Clone, Copy)]
+/// A segment of a batch uses a lot, to consume it or to produce it. Uses are ordered by their lot, then
+/// by their segment.
+#[derive(Clone, Copy, PartialEq, Eq, PartialOrd, Ord)]
 struct Use {
-    segment: Segment,
     lot: LotId,
+    segment: Segment,
 }
 
 /// The pairs of lots such that two standing actuals of one batch of the slice's owner consume the
 /// one and produce the other, the consumption's segment not above the production's: in order, each
 /// once. An actual stands where no void has its key.
+///
+/// A batch's lots are paired, each once, and not its actuals: a lot draws an edge from the lowest segment
+/// that consumes it or from none, and to the highest that produces it or to none.
 pub fn edges_of(alloc: Global, slice: &Slice) -> Result<Vec<Edge>, AllocError>
     ensures { IfOk result (λ edges. AreEdges (IsEdge slice.now) edges.items) }
 {
-    let consumptions = uses(alloc, slice, Role::Consumed)?;
-    let productions = Index::new(uses(alloc, slice, Role::Produced)?);
-    let mut edges = edges_among(alloc, &consumptions, &productions)?;
+    let mut consumptions = uses(alloc, slice, Role::Consumed)?;
+    leave_lowest(&mut consumptions);
+    let mut productions = uses(alloc, slice, Role::Produced)?;
+    leave_highest(&mut productions);
+    let mut edges = edges_among(alloc, &consumptions, &Index::new(productions))?;
     put_in_order(&mut edges);
     Ok(edges)
+}
+
+/// Of the uses of a lot by a batch leaves one, in the lowest of their segments.
+fn leave_lowest(uses: &mut Vec<(Batch, Use)>)
+    ensures { AreLeft (λ lowest segment. lowest ≤ segment) uses.old.items uses.new.items }
+{
+    uses.sort_unstable();
+    leave_first(uses);
+}
+
+/// Of the uses of a lot by a batch leaves one, in the highest of their segments.
+fn leave_highest(uses: &mut Vec<(Batch, Use)>)
+    ensures { AreLeft (λ highest segment. segment ≤ highest) uses.old.items uses.new.items }
+{
+    uses.sort_unstable_by(|a, b| b.cmp(a));
+    leave_first(uses);
+}
+
+/// Of uses of one lot by one batch that stand together leaves the first.
+fn leave_first(uses: &mut Vec<(Batch, Use)>)
+    ensures { uses.new.items ≡ dedup same_use uses.old.items }
+{
+    uses.dedup_by(|later, first| later.0 == first.0 && later.1.lot == first.1.lot);
 }
 
 /// The edges from what is consumed to what its batch produces, with repeats.

@@ -4,7 +4,7 @@ ghost use Rattle.std.specs.List.Sorted.{IsPermutation};
 ghost use Rattle.toll_base.specs.Lots.{lot_cmp};
 ghost use Rattle.toll_trace.specs.Chain.{ends, IsJoined};
 ghost use Rattle.toll_trace.specs.InOrder.{IsInOrder};
-ghost use Rattle.toll_trace.specs.Neighbours.{new_neighbours};
+ghost use Rattle.toll_trace.specs.Neighbours.{Leads, new_neighbours};
 ghost use Rattle.toll_trace.specs.Search.{is_found};
 ghost use Rattle.toll_trace.specs.Trace.{IsTrace};
 
@@ -42,16 +42,7 @@ impl Graph {
     pub fn trace(&self, alloc: Global, from: &LotId, way: Way) -> Result<Vec<Step>, AllocError>
         ensures { IfOk result (λ trace. (edges : List Edge) → IsGraphOf edges self.now → IsTrace (IsJoined edges way) from.now trace.items) }
     {
-        let index = self.index(way);
-        let mut found = Found::new(alloc, from)?;
-        let mut front = next_front(alloc, index, &found, &[*from])?;
-        let mut steps = 0;
-        'levels: while !front.is_empty() {
-            steps += 1;
-            found.add(steps, &front)?;
-            front = next_front(alloc, index, &found, &front)?;
-        }
-        Ok(found.into_steps())
+        search(alloc, self.index(way), from)
     }
 
     /// The index for that way.
@@ -63,6 +54,34 @@ impl Graph {
             Way::Forward => &self.forward,
         }
     }
+}
+
+/// Every lot that ends a chain of these edges from the lot, as [`crate::plain_trace`] answers it, by an
+/// index of the one way that is asked: for one trace where there are many edges.
+pub fn trace_one_way(
+    alloc: Global,
+    edges: &[Edge],
+    from: &LotId,
+    way: Way,
+) -> Result<Vec<Step>, AllocError>
+    ensures { IfOk result (λ trace. IsTrace (IsJoined edges.now way) from.now trace.items) }
+{
+    search(alloc, &index_of(alloc, edges, way)?, from)
+}
+
+/// Every lot that ends a chain of the index's pairs from the lot.
+fn search(alloc: Global, index: &Index<LotId, LotId>, from: &LotId) -> Result<Vec<Step>, AllocError>
+    ensures { IfOk result (λ trace. IsTrace (Leads index.now) from.now trace.items) }
+{
+    let mut found = Found::new(alloc, from)?;
+    let mut front = next_front(alloc, index, &found, &[*from])?;
+    let mut steps = 0;
+    'levels: while !front.is_empty() {
+        steps += 1;
+        found.add(steps, &front)?;
+        front = next_front(alloc, index, &found, &front)?;
+    }
+    Ok(found.into_steps())
 }
 
 /// The index for that way of these edges.

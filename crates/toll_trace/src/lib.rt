@@ -14,7 +14,7 @@ mod step;
 mod way;
 
 pub use edges::edges_of;
-pub use graph::Graph;
+pub use graph::{Graph, trace_one_way};
 pub use in_order::put_in_order;
 pub use laws::traces_are_unique;
 pub use plain::plain_trace;

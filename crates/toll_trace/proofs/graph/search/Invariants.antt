@@ -1,8 +1,8 @@
 use Rattle.std.proofs.Common.{◌<◌, ◌^◌, length, map}
+use Rattle.toll_trace.specs.Neighbours.{Leads}
 use Rattle.toll_trace.specs.Search.{IsLevel}
-use Rattle.toll_trace.proofs.Fronts.{Leads}
 use Rattle.toll_trace.proofs.Levels.{IsReached, unfound}
-use Rattle.toll_trace.proofs.graph.Graph.trace.Given as goal
+use Rattle.toll_trace.proofs.graph.search.Given as goal
 
 abbrev pub invariant-levels : goal.invariant-levels
 invariant-levels l = record {
