@@ -6,7 +6,7 @@ use Rattle.toll_keep.specs.Goes.{IsReading}
 use Rattle.toll_keep.specs.declared.fault.KeepFault.{KeepFault}
 use Rattle.toll_keep.specs.declared.fault.KeepFault.TheVariants.{Damaged}
 use Rattle.toll_desk.specs.Questions.{IsGoing}
-use Rattle.toll_desk.proofs.Calls.{reads_then, read_ok, read_fault}
+use Rattle.toll_keep.proofs.Calls.{reads_then, read_ok, read_fault}
 
 module _ {K : Type 0} (meaning : Meaning K) (old new : K) where
   abbrev ReadsTo : {X : Type 0} → K → K → Result X KeepFault → Type 0

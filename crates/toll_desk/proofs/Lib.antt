@@ -1,5 +1,4 @@
 pub mod Lift
-pub mod Calls
 pub mod Found
 pub mod OwnerAdded
 pub mod UnitAdded

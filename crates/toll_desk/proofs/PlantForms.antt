@@ -5,7 +5,8 @@ use Rattle.toll_history.specs.History.{History}
 use Rattle.toll_answers.specs.PlantAnswers.{CannotRead, PlantTold, after_plant}
 use Rattle.toll_keep.specs.Meaning.{Meaning}
 use Rattle.toll_keep.specs.Content.{Content}
-use Rattle.toll_keep.specs.Goes.{Keeps, IsReading}
+use Rattle.toll_keep.proofs.Calls.{Rests, settles}
+use Rattle.toll_keep.specs.Goes.{Keeps, IsReading, Settles}
 use Rattle.toll_standing.specs.Standing.{StandsFor}
 use Rattle.toll_keep.specs.declared.fault.KeepFault.{KeepFault}
 use Rattle.toll_desk.specs.PlantForms.{asked_by_question}
@@ -44,6 +45,10 @@ module _ {K : Type 0} (meaning : Meaning K) (old new : K) (outcome : Result Plan
   pub question_honest : IsGoing meaning old new outcome → meaning.is_honest new → meaning.is_honest old
   question_honest (inl reads) now = reads.goes.honest now
   question_honest (inr damaged) now = damaged.1.goes.honest now
+
+  pub question_settles : Rests meaning → IsGoing meaning old new outcome → Settles meaning old new
+  question_settles settled (inl reads) = settles meaning old new outcome settled reads.goes
+  question_settles settled (inr damaged) = settles meaning old new _ settled damaged.1.goes
 
   -- a question is done where its answer is so
   pub question_done : (c : Content) (H : History) (q : Question) (IsTold : PlantTold → Type 0) → StandsFor c H → meaning.holds old c → Keeps meaning old new → IfOk outcome IsTold → IsDone (meaning.holds new) (meaning.is_live old) (meaning.leaves new) c (after_plant H (asked_by_question q)) outcome IsTold

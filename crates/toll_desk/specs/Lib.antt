@@ -1,5 +1,6 @@
 pub mod Reads
 pub mod Plans
+pub mod Clauses
 pub mod PlantServed
 pub mod Forms
 pub mod PlantForms

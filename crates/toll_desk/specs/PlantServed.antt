@@ -1,12 +1,14 @@
 -- What is so of a command or question of the plant that was answered over a keep.
-use Rattle.std.specs.Prelude.{◌≡◌, ◌≢◌, Bool, false, List, Ok, Err}
+use Rattle.std.specs.Prelude.{◌≡◌, ◌≢◌, false, Ok, Err}
 use Rattle.toll_base.specs.declared.refusal.Refusal.{Refusal}
 use Rattle.toll_history.specs.Verdict.{Refused}
 use Rattle.toll_keep.specs.Meaning.{Meaning}
 use Rattle.toll_keep.specs.Content.{Content, ContentKeepsRules}
+use Rattle.toll_keep.specs.Goes.{Settles}
 use Rattle.toll_keep.specs.declared.fault.KeepFault.TheVariants.{Damaged}
-use Rattle.toll_answers.specs.PlantAnswers.{CannotRead, Judged, IsPlantAnswer, after_plant}
-use Rattle.toll_desk.specs.Plans.{asked_by, asks_recall, is_accepted, plant_told, GoesFor, IsDone, IsValidDeed}
+use Rattle.toll_answers.specs.PlantAnswers.{CannotRead, Judged}
+use Rattle.toll_desk.specs.Plans.{asked_by, asks_recall, is_accepted, plant_told, GoesFor, IsValidDeed}
+use Rattle.toll_desk.specs.Clauses.{IsPlantDone}
 use Rattle.toll_desk.specs.Reads.{Over}
 use Rattle.toll_desk.specs.declared.plant_cmd.PlantCmd.{PlantCmd}
 use Rattle.toll_desk.specs.declared.plant_cmd.PlantReply.{PlantReply}
@@ -17,8 +19,9 @@ module _ {K : Type 0} (meaning : Meaning K) where
     pub honest : meaning.is_honest new → meaning.is_honest old
     pub unread : (why : Refusal) → asked_by command ≡ CannotRead why → (plant_told reply ≡ Ok (Judged (Refused why))) × (new ≡ old)
     pub goes : GoesFor meaning old new (asked_by command) (plant_told reply)
+    pub settles : Settles meaning old new
     pub whole : asks_recall (asked_by command) ≡ false → meaning.is_honest new → (c : Content) → meaning.holds old c → ContentKeepsRules c → plant_told reply ≢ Err Damaged
     pub undamaged : Over meaning old new (λ c H. plant_told reply ≢ Err Damaged)
     pub valid : IsValidDeed (asked_by command)
     pub quiet : meaning.is_honest new → (c : Content) → meaning.holds old c → is_accepted (plant_told reply) ≡ false → meaning.holds new c
-    pub done : Over meaning old new (λ c H. IsDone (meaning.holds new) (meaning.is_live old) (meaning.leaves new) c (after_plant H (asked_by command)) (plant_told reply) (IsPlantAnswer H (asked_by command)))
+    pub done : IsPlantDone meaning old new (asked_by command) (plant_told reply)

@@ -1,5 +1,5 @@
 -- What traces, recalls and questions of the plant look at.
-use Rattle.std.specs.Prelude.{◌≡◌, ◌⊎◌, Bool, ◌&&◌, true, false, Option, Some, None, is_some, List, map, Contains, Result, Ok, Err, Vec}
+use Rattle.std.specs.Prelude.{◌≡◌, ◌⊎◌, Bool, ◌&&◌, true, false, Option, Some, None, is_some, List, map, Contains, Result, Err, Vec}
 use Rattle.std.specs.Global.{Global}
 use Rattle.toll_base.specs.Bytes.{Bytes}
 use Rattle.toll_base.specs.Lots.{lot_id}
@@ -13,8 +13,8 @@ use Rattle.toll_genealogy.specs.Recall.{IsRecall, recall_line}
 use Rattle.toll_genealogy.specs.declared.recall.RecallLine.{RecallLine}
 use Rattle.toll_views.specs.Views.{has_consumed}
 use Rattle.toll_keep.specs.Meaning.{Meaning}
-use Rattle.toll_keep.specs.Content.{Content}
 use Rattle.toll_keep.specs.Goes.{IsReading}
+use Rattle.toll_keep.specs.Reads.{HaveRead}
 use Rattle.toll_keep.specs.Slices.{has_slice}
 use Rattle.toll_keep.specs.declared.fault.KeepFault.{KeepFault}
 use Rattle.toll_keep.specs.declared.fault.KeepFault.TheVariants.{Damaged}
@@ -32,17 +32,9 @@ may_trace H o (HouseForward lot) = has_consumed (acts o H) (lot_id house_name lo
 -- ---- how a recall goes
 
 module _ {K : Type 0} (meaning : Meaning K) (old new : K) where
-  -- reading calls led from the one to the other, and each was answered
-  abbrev pub HaveRead : Type 0
-  HaveRead = IsReading {X = Unit {0}} meaning old new (Ok tt)
-
   -- it goes as a reading call; or each call was answered, and what was read is told to be damaged
   abbrev pub IsGoing : {X : Type 0} → Result X KeepFault → Type 0
-  IsGoing result = IsReading meaning old new result ⊎ ((result ≡ Err Damaged) × HaveRead)
-
--- a keep that is honest now was so, and holds what it held
-abbrev pub IsKept : {K : Type 0} → (meaning : Meaning K) → (old new : K) → Type 0
-IsKept meaning old new = meaning.is_honest new → meaning.is_honest old × ((c : Content) → meaning.holds old c → meaning.holds new c)
+  IsGoing result = IsReading meaning old new result ⊎ ((result ≡ Err Damaged) × HaveRead meaning old new)
 
 -- ---- what a recall looks at
 

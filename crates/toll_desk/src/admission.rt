@@ -4,11 +4,9 @@ ghost use Rattle.toll_base.specs.Bytes.{bytes_cmp, same_bytes};
 ghost use Rattle.toll_base.specs.Table.{row_at};
 ghost use Rattle.toll_base.specs.Values.{house_name};
 ghost use Rattle.toll_base.specs.Words.{where_so};
-ghost use Rattle.toll_history.specs.History.{History};
-ghost use Rattle.toll_answers.specs.Replies.{has_key};
-ghost use Rattle.toll_keep.specs.Content.{Content};
 ghost use Rattle.toll_keep.specs.Goes.{IsReading};
-ghost use Rattle.toll_standing.specs.Standing.{StandsFor};
+ghost use Rattle.toll_keep.specs.Meaning.{OverHeld};
+ghost use Rattle.toll_desk.specs.Clauses.{IsFoundBy};
 ghost use Rattle.toll_desk.specs.Plans.{is_admitted};
 
 use std::alloc::Global;
@@ -66,7 +64,7 @@ pub fn admit<K: Keep>(
 ) -> Result<Option<Name>, KeepFault>
     ensures reads { IsReading K.meaning keep.old keep.new result }
     ensures named { IfOk result (λ found. IfSome found (λ name. name ≡ owner.now)) }
-    ensures found { K.meaning.is_honest keep.new → (c : Content) (H : History) → K.meaning.holds keep.old c → StandsFor c H → IfOk result (λ found. found ≡ where_so (has_key owner.now key.now H) owner.now) }
+    ensures found { OverHeld K.meaning keep.old keep.new (λ c. IsFoundBy c owner.now key.now result) }
 {
     match keep.owners(alloc) {
         Ok(rows) => Ok(admitted(&rows, owner, key)),

@@ -5,8 +5,8 @@ ghost use Rattle.toll_history.specs.Command.{OpenBatch, by};
 ghost use Rattle.toll_history.specs.Holders.{holder};
 ghost use Rattle.toll_history.specs.Verdict.{IsValid};
 ghost use Rattle.toll_work.specs.Opening.{IsToldOfUnit};
-ghost use Rattle.toll_keep.specs.Content.{Content};
 ghost use Rattle.toll_keep.specs.Goes.{IsReading};
+ghost use Rattle.toll_keep.specs.Meaning.{OverHeld};
 ghost use Rattle.toll_desk.specs.Plans.{IsDeedDecision, IsOwnDecision};
 ghost use Rattle.toll_desk.specs.PlantForms.{command_in, own_action, shared_action};
 ghost use Rattle.toll_desk.specs.Reads.{AreBoth, Over};
@@ -95,7 +95,7 @@ fn decide_both<K: Keep>(
 // The rows of the owner, where it is known, and HOUSE's.
 fn both_of<K: Keep>(alloc: Global, keep: &mut K, owner: &Name) -> Result<Option<Both>, KeepFault>
     ensures reads { IsReading K.meaning keep.old keep.new result }
-    ensures both { K.meaning.is_honest keep.new → (c : Content) → K.meaning.holds keep.old c → IfOk result (AreBoth c owner.now) }
+    ensures both { OverHeld K.meaning keep.old keep.new (λ c. IfOk result (AreBoth c owner.now)) }
 {
     match keep.slice(alloc, owner) {
         Ok(Some(own)) => with_house(alloc, keep, own),
@@ -107,7 +107,7 @@ fn both_of<K: Keep>(alloc: Global, keep: &mut K, owner: &Name) -> Result<Option<
 // These rows, and HOUSE's, which is always known.
 fn with_house<K: Keep>(alloc: Global, keep: &mut K, own: Slice) -> Result<Option<Both>, KeepFault>
     ensures reads { IsReading K.meaning keep.old keep.new result }
-    ensures both { K.meaning.is_honest keep.new → (c : Content) → K.meaning.holds keep.old c → IfOk result (λ both. both ≡ Some (record { own = own; house = c.rows house_name })) }
+    ensures both { OverHeld K.meaning keep.old keep.new (λ c. IfOk result (λ both. both ≡ Some (record { own = own; house = c.rows house_name }))) }
 {
     match keep.slice(alloc, &Name::house()) {
         Ok(Some(house)) => Ok(Some(Both { own, house })),

@@ -1,10 +1,11 @@
 //! What the plant does.
-ghost use Rattle.std.specs.Prelude.{◌≡◌, ◌≢◌, [], false, Err, IfOk, OnErr};
-ghost use Rattle.toll_history.specs.Verdict.{IsValid, grow, verdict};
-ghost use Rattle.toll_answers.specs.PlantAnswers.{Judged};
-ghost use Rattle.toll_keep.specs.Content.{Content, ContentKeepsRules};
+ghost use Rattle.std.specs.Prelude.{◌≡◌, ◌≢◌, [], false, Err, OnErr};
+ghost use Rattle.toll_history.specs.Verdict.{IsValid};
+ghost use Rattle.toll_keep.specs.Content.{ContentKeepsRules};
 ghost use Rattle.toll_keep.specs.Goes.{Goes, IsReading};
-ghost use Rattle.toll_desk.specs.Plans.{IsDone, LeadsTo, is_accepted, plant_told};
+ghost use Rattle.toll_keep.specs.Meaning.{OverHeld};
+ghost use Rattle.toll_desk.specs.Clauses.{IsDeedDone, IsDeedPlanned};
+ghost use Rattle.toll_desk.specs.Plans.{is_accepted, plant_told};
 ghost use Rattle.toll_desk.specs.PlantForms.{command_in};
 ghost use Rattle.toll_desk.specs.Reads.{Over};
 
@@ -19,9 +20,9 @@ use toll_keep::{Keep, KeepFault};
 pub fn do_deed<K: Keep>(alloc: Global, keep: &mut K, deed: &Deed) -> PlantReply
     requires { IsValid (command_in deed.now).action }
     ensures goes { Goes K.meaning keep.old keep.new (plant_told result) }
-    ensures whole { K.meaning.is_honest keep.new → (c : Content) → K.meaning.holds keep.old c → ContentKeepsRules c → plant_told result ≢ Err KeepFault.Damaged }
-    ensures quiet { K.meaning.is_honest keep.new → (c : Content) → K.meaning.holds keep.old c → is_accepted (plant_told result) ≡ false → K.meaning.holds keep.new c }
-    ensures done { Over K.meaning keep.old keep.new (λ c H. IsDone (K.meaning.holds keep.new) (K.meaning.is_live keep.old) (K.meaning.leaves keep.new) c (grow H (command_in deed.now)) (plant_told result) (λ told. told ≡ Judged (verdict H (command_in deed.now)))) }
+    ensures whole { OverHeld K.meaning keep.old keep.new (λ c. ContentKeepsRules c → plant_told result ≢ Err KeepFault.Damaged) }
+    ensures quiet { OverHeld K.meaning keep.old keep.new (λ c. is_accepted (plant_told result) ≡ false → K.meaning.holds keep.new c) }
+    ensures done { IsDeedDone K.meaning keep.old keep.new (command_in deed.now) (plant_told result) }
 {
     let planned = plan(alloc, keep, deed);
     let made = carry(alloc, keep, &planned.changes);
@@ -34,7 +35,7 @@ fn plan<K: Keep>(alloc: Global, keep: &mut K, deed: &Deed) -> PlantPlan
     ensures reads { IsReading K.meaning keep.old keep.new (plant_told result.reply) }
     ensures none { OnErr (plant_told result.reply) (result.changes.items ≡ []) }
     ensures quiet { is_accepted (plant_told result.reply) ≡ false → result.changes.items ≡ [] }
-    ensures plan { Over K.meaning keep.old keep.new (λ c H. IfOk (plant_told result.reply) (λ told. (told ≡ Judged (verdict H (command_in deed.now))) × LeadsTo c result.changes.items (grow H (command_in deed.now)))) }
+    ensures plan { Over K.meaning keep.old keep.new (λ c H. IsDeedPlanned c H (command_in deed.now) result) }
 {
     match decide(alloc, keep, deed) {
         Ok(decision) => PlantPlan::of(alloc, decision),

@@ -1,14 +1,10 @@
 //! Owners' requests over a keep.
-ghost use Rattle.std.specs.Prelude.{◌≡◌, ◌≢◌, ℕ, true, false, is_some, [], Err, IfOk, OnErr};
-ghost use Rattle.toll_base.specs.Bytes.{Bytes, same_bytes};
-ghost use Rattle.toll_base.specs.Slice.{order_at};
-ghost use Rattle.toll_base.specs.Values.{house_name};
-ghost use Rattle.toll_history.specs.History.{owner_known};
-ghost use Rattle.toll_answers.specs.Replies.{IsReply, after_reply};
-ghost use Rattle.toll_answers.specs.Told.{AskPlace};
-ghost use Rattle.toll_keep.specs.Content.{Content, ContentKeepsRules};
-ghost use Rattle.toll_keep.specs.Goes.{Goes, IsReading};
-ghost use Rattle.toll_desk.specs.Plans.{IsDone, IsPlan, IsPlanFor, asked_of, may_change, told_of};
+ghost use Rattle.std.specs.Prelude.{◌≡◌, ◌≢◌, false, [], Err, OnErr};
+ghost use Rattle.toll_keep.specs.Content.{ContentKeepsRules};
+ghost use Rattle.toll_keep.specs.Goes.{Goes, IsReading, Settles};
+ghost use Rattle.toll_keep.specs.Meaning.{OverHeld};
+ghost use Rattle.toll_desk.specs.Clauses.{IfPlacedAgain, IsOwnerDone, IsPlannedBy, IsPlannedFor, OverOwner};
+ghost use Rattle.toll_desk.specs.Plans.{asked_of, may_change, told_of};
 ghost use Rattle.toll_desk.specs.Reads.{Over};
 
 use crate::admission::admit;
@@ -35,8 +31,8 @@ pub fn owner_plan<K: Keep>(
     ensures reads { IsReading K.meaning keep.old keep.new (told_of result.reply) }
     ensures none { OnErr (told_of result.reply) (result.changes.items ≡ []) }
     ensures quiet { may_change (asked_of request.now) (told_of result.reply) ≡ false → result.changes.items ≡ [] }
-    ensures once { K.meaning.is_honest keep.new → (c : Content) → K.meaning.holds keep.old c → (order recipe : Bytes) (batches : ℕ) → asked_of request.now ≡ AskPlace order recipe batches → is_some (order_at (c.rows owner.now) order) ≡ true → result.changes.items ≡ [] }
-    ensures plan { Over K.meaning keep.old keep.new (λ c H. IfOk (told_of result.reply) (λ told. IsPlan c H owner.now key.now (asked_of request.now) told result.changes.items)) }
+    ensures once { OverHeld K.meaning keep.old keep.new (λ c. IfPlacedAgain (c.rows owner.now) (asked_of request.now) (result.changes.items ≡ [])) }
+    ensures plan { Over K.meaning keep.old keep.new (λ c H. IsPlannedBy c H owner.now key.now (asked_of request.now) result) }
 {
     match admit(alloc, keep, owner, key) {
         Ok(Some(owner)) => plan_for(alloc, keep, &owner, request),
@@ -50,8 +46,8 @@ fn plan_for<K: Keep>(alloc: Global, keep: &mut K, owner: &Name, request: &Reques
     ensures reads { IsReading K.meaning keep.old keep.new (told_of result.reply) }
     ensures none { OnErr (told_of result.reply) (result.changes.items ≡ []) }
     ensures quiet { may_change (asked_of request.now) (told_of result.reply) ≡ false → result.changes.items ≡ [] }
-    ensures once { K.meaning.is_honest keep.new → (c : Content) → K.meaning.holds keep.old c → (order recipe : Bytes) (batches : ℕ) → asked_of request.now ≡ AskPlace order recipe batches → is_some (order_at (c.rows owner.now) order) ≡ true → result.changes.items ≡ [] }
-    ensures plan { Over K.meaning keep.old keep.new (λ c H. owner_known H owner.now ≡ true → same_bytes owner.now house_name ≡ false → IfOk (told_of result.reply) (λ told. IsPlanFor c H owner.now (asked_of request.now) told result.changes.items)) }
+    ensures once { OverHeld K.meaning keep.old keep.new (λ c. IfPlacedAgain (c.rows owner.now) (asked_of request.now) (result.changes.items ≡ [])) }
+    ensures plan { OverOwner K.meaning keep.old keep.new owner.now (λ c H. IsPlannedFor c H owner.now (asked_of request.now) result) }
 {
     match form_of(request) {
         Form::Read(reading) => {
@@ -73,10 +69,11 @@ pub fn owner_do<K: Keep>(
     request: &Request,
 ) -> Reply
     ensures goes { Goes K.meaning keep.old keep.new (told_of result) }
-    ensures whole { K.meaning.is_honest keep.new → (c : Content) → K.meaning.holds keep.old c → ContentKeepsRules c → told_of result ≢ Err KeepFault.Damaged }
-    ensures quiet { K.meaning.is_honest keep.new → (c : Content) → K.meaning.holds keep.old c → may_change (asked_of request.now) (told_of result) ≡ false → K.meaning.holds keep.new c }
-    ensures once { K.meaning.is_honest keep.new → (c : Content) → K.meaning.holds keep.old c → (order recipe : Bytes) (batches : ℕ) → asked_of request.now ≡ AskPlace order recipe batches → is_some (order_at (c.rows owner.now) order) ≡ true → K.meaning.holds keep.new c }
-    ensures done { Over K.meaning keep.old keep.new (λ c H. IsDone (K.meaning.holds keep.new) (K.meaning.is_live keep.old) (K.meaning.leaves keep.new) c (after_reply owner.now key.now H (asked_of request.now)) (told_of result) (IsReply owner.now key.now H (asked_of request.now))) }
+    ensures settles { Settles K.meaning keep.old keep.new }
+    ensures whole { OverHeld K.meaning keep.old keep.new (λ c. ContentKeepsRules c → told_of result ≢ Err KeepFault.Damaged) }
+    ensures quiet { OverHeld K.meaning keep.old keep.new (λ c. may_change (asked_of request.now) (told_of result) ≡ false → K.meaning.holds keep.new c) }
+    ensures once { OverHeld K.meaning keep.old keep.new (λ c. IfPlacedAgain (c.rows owner.now) (asked_of request.now) (K.meaning.holds keep.new c)) }
+    ensures done { IsOwnerDone K.meaning keep.old keep.new owner.now key.now (asked_of request.now) (told_of result) }
 {
     let planned = owner_plan(alloc, keep, owner, key, request);
     let made = carry(alloc, keep, &planned.changes);

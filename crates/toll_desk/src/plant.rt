@@ -2,9 +2,11 @@
 ghost use Rattle.std.specs.Prelude.{◌≡◌, ◌≢◌, false, Ok, Err};
 ghost use Rattle.toll_base.specs.declared.refusal.Refusal.{Refusal};
 ghost use Rattle.toll_history.specs.Verdict.{Refused};
-ghost use Rattle.toll_answers.specs.PlantAnswers.{CannotRead, IsPlantAnswer, Judged, after_plant};
-ghost use Rattle.toll_keep.specs.Content.{Content, ContentKeepsRules};
-ghost use Rattle.toll_desk.specs.Plans.{GoesFor, IsDone, IsValidDeed, asked_by, asks_recall, is_accepted, plant_told};
+ghost use Rattle.toll_answers.specs.PlantAnswers.{CannotRead, Judged};
+ghost use Rattle.toll_keep.specs.Goes.{FindsNoDamage, Settles};
+ghost use Rattle.toll_keep.specs.Meaning.{OverHeld};
+ghost use Rattle.toll_desk.specs.Clauses.{IsPlantDone};
+ghost use Rattle.toll_desk.specs.Plans.{GoesFor, IsValidDeed, asked_by, asks_recall, is_accepted, plant_told};
 ghost use Rattle.toll_desk.specs.Reads.{Over};
 
 use crate::deeds::do_deed;
@@ -22,11 +24,12 @@ pub fn plant_do<K: Keep>(alloc: Global, keep: &mut K, command: &PlantCmd) -> Pla
     ensures honest { K.meaning.is_honest keep.new → K.meaning.is_honest keep.old }
     ensures unread { (why : Refusal) → asked_by command.now ≡ CannotRead why → (plant_told result ≡ Ok (Judged (Refused why))) × (keep.new ≡ keep.old) }
     ensures goes { GoesFor K.meaning keep.old keep.new (asked_by command.now) (plant_told result) }
-    ensures whole { asks_recall (asked_by command.now) ≡ false → K.meaning.is_honest keep.new → (c : Content) → K.meaning.holds keep.old c → ContentKeepsRules c → plant_told result ≢ Err KeepFault.Damaged }
+    ensures settles { Settles K.meaning keep.old keep.new }
+    ensures whole { asks_recall (asked_by command.now) ≡ false → FindsNoDamage K.meaning keep.old keep.new (plant_told result) }
     ensures undamaged { Over K.meaning keep.old keep.new (λ c H. plant_told result ≢ Err KeepFault.Damaged) }
     ensures valid { IsValidDeed (asked_by command.now) }
-    ensures quiet { K.meaning.is_honest keep.new → (c : Content) → K.meaning.holds keep.old c → is_accepted (plant_told result) ≡ false → K.meaning.holds keep.new c }
-    ensures done { Over K.meaning keep.old keep.new (λ c H. IsDone (K.meaning.holds keep.new) (K.meaning.is_live keep.old) (K.meaning.leaves keep.new) c (after_plant H (asked_by command.now)) (plant_told result) (IsPlantAnswer H (asked_by command.now))) }
+    ensures quiet { OverHeld K.meaning keep.old keep.new (λ c. is_accepted (plant_told result) ≡ false → K.meaning.holds keep.new c) }
+    ensures done { IsPlantDone K.meaning keep.old keep.new (asked_by command.now) (plant_told result) }
 {
     match form_of(command) {
         PlantForm::Do(deed) => do_deed(alloc, keep, &deed),

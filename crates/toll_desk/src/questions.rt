@@ -1,12 +1,14 @@
 //! Questions of the plant.
-ghost use Rattle.std.specs.Prelude.{◌≡◌, ◌≢◌, true, false, Err, IfOk, IfErr};
-ghost use Rattle.toll_history.specs.History.{History, owner_known};
+ghost use Rattle.std.specs.Prelude.{◌≡◌, ◌≢◌, false, Err, IfOk};
+ghost use Rattle.toll_history.specs.History.{History};
+ghost use Rattle.toll_history.specs.OverRows.{OverOwnRows};
 ghost use Rattle.toll_history.specs.Tables.{IsRowsOf};
 ghost use Rattle.toll_history.specs.Verdict.{IsLawful, Refused};
 ghost use Rattle.toll_trace.specs.Edges.{AreEdges};
-ghost use Rattle.toll_genealogy.specs.Edges.{IsPlantEdge};
-ghost use Rattle.toll_answers.specs.PlantAnswers.{IsPlantAnswer, AreOrdersShown, IsTraceShown, AsksTrace, AsksRecall, AsksBatch, Shows, Judged};
+ghost use Rattle.toll_genealogy.specs.Edges.{ArePlantEdges, IsPlantEdge};
+ghost use Rattle.toll_answers.specs.PlantAnswers.{IsPlantAnswer, AreOrdersShown, IsTraceShown, AsksTrace, AsksRecall, AsksBatch, Shows};
 ghost use Rattle.toll_keep.specs.Goes.{IsReading, Keeps};
+ghost use Rattle.toll_desk.specs.Clauses.{IsRefusedAs, IsTextAs};
 ghost use Rattle.toll_desk.specs.Plans.{plant_told, asks_recall, is_accepted};
 ghost use Rattle.toll_desk.specs.PlantForms.{asked_of_rows, asked_by_question};
 ghost use Rattle.toll_desk.specs.Questions.{IsGoing, is_known_lot};
@@ -64,8 +66,8 @@ fn ask_rows<K: Keep>(alloc: Global, keep: &mut K, owner: &Name, shown: &Shown) -
 
 // The text of the rows of the slice's owner, or why there is none.
 fn show(alloc: Global, slice: &Slice, shown: &Shown) -> Result<Result<Vec<u8>, Refusal>, AllocError>
-    ensures text { (H : History) → IsLawful H → owner_known H slice.now.owner ≡ true → IsRowsOf H slice.now → IfOk result (λ told. IfOk told (λ text. IsPlantAnswer H (asked_of_rows slice.now.owner shown.now) (Shows text.items))) }
-    ensures refused { (H : History) → IsLawful H → owner_known H slice.now.owner ≡ true → IsRowsOf H slice.now → IfOk result (λ told. IfErr told (λ why. IsPlantAnswer H (asked_of_rows slice.now.owner shown.now) (Judged (Refused why)))) }
+    ensures text { OverOwnRows slice.now (λ H. IsTextAs H (asked_of_rows slice.now.owner shown.now) result) }
+    ensures refused { OverOwnRows slice.now (λ H. IsRefusedAs H (asked_of_rows slice.now.owner shown.now) result) }
 {
     match shown {
         Shown::Orders => Ok(Ok(orders_in(alloc, slice)?)),
@@ -87,8 +89,8 @@ fn show_batch(
     order: &Name,
     number: BatchNo,
 ) -> Result<Result<Vec<u8>, Refusal>, AllocError>
-    ensures text { (H : History) → IsLawful H → owner_known H slice.now.owner ≡ true → IsRowsOf H slice.now → IfOk result (λ told. IfOk told (λ text. IsPlantAnswer H (AsksBatch slice.now.owner order.now number) (Shows text.items))) }
-    ensures refused { (H : History) → IsLawful H → owner_known H slice.now.owner ≡ true → IsRowsOf H slice.now → IfOk result (λ told. IfErr told (λ why. IsPlantAnswer H (AsksBatch slice.now.owner order.now number) (Judged (Refused why)))) }
+    ensures text { OverOwnRows slice.now (λ H. IsTextAs H (AsksBatch slice.now.owner order.now number) result) }
+    ensures refused { OverOwnRows slice.now (λ H. IsRefusedAs H (AsksBatch slice.now.owner order.now number) result) }
 {
     match batch_view(alloc, slice, order, number)? {
         Some(view) => Ok(Ok(batch_text(alloc, &view)?)),
@@ -134,7 +136,7 @@ fn trace_alone<K: Keep>(
 ) -> PlantReply
     ensures reads { IsReading K.meaning keep.old keep.new (plant_told result) }
     ensures shown { is_accepted (plant_told result) ≡ false }
-    ensures over { Over K.meaning keep.old keep.new (λ c H. AreEdges (IsPlantEdge H) edges.now → IfOk (plant_told result) (IsPlantAnswer H (AsksTrace lot.now way))) }
+    ensures over { Over K.meaning keep.old keep.new (λ c H. ArePlantEdges H edges.now → IfOk (plant_told result) (IsPlantAnswer H (AsksTrace lot.now way))) }
 {
     match keep.slice(alloc, &lot.owner) {
         Ok(Some(slice)) => {

@@ -1,15 +1,15 @@
 //! What owners are told of their rows.
 ghost use Rattle.std.specs.Prelude.{◌≡◌, true, IfOk, is_ok};
-ghost use Rattle.toll_history.specs.History.{History, acts, owner_known};
+ghost use Rattle.toll_history.specs.History.{History, acts};
+ghost use Rattle.toll_history.specs.OverRows.{OverRows};
 ghost use Rattle.toll_history.specs.Tables.{IsRowsOf, lot_row};
-ghost use Rattle.toll_history.specs.Verdict.{IsLawful};
 ghost use Rattle.toll_history.specs.Work.{order_of};
 ghost use Rattle.toll_answers.specs.Replies.{IsAnswer, IsLotOr, IsOrderOr};
 ghost use Rattle.toll_answers.specs.Told.{AskBatch, AskOrders};
 ghost use Rattle.toll_keep.specs.Goes.{IsReading};
+ghost use Rattle.toll_desk.specs.Clauses.{IsReadAs, OverKnown};
 ghost use Rattle.toll_desk.specs.Forms.{asked_to_read};
 ghost use Rattle.toll_desk.specs.Plans.{told_of};
-ghost use Rattle.toll_desk.specs.Reads.{Over};
 
 use crate::form::Reading;
 use crate::request::Reply;
@@ -22,7 +22,7 @@ use toll_work::batch_view;
 /// What an owner is told of its rows.
 pub fn read_rows<K: Keep>(alloc: Global, keep: &mut K, owner: &Name, reading: &Reading) -> Reply
     ensures reads { IsReading K.meaning keep.old keep.new (told_of result) }
-    ensures over { Over K.meaning keep.old keep.new (λ c H. owner_known H owner.now ≡ true → IfOk (told_of result) (IsAnswer owner.now H (asked_to_read reading.now))) }
+    ensures over { OverKnown K.meaning keep.old keep.new owner.now (λ c H. IfOk (told_of result) (IsAnswer owner.now H (asked_to_read reading.now))) }
 {
     match keep.slice(alloc, owner) {
         Ok(Some(slice)) => match read_over(alloc, &slice, reading) {
@@ -36,7 +36,7 @@ pub fn read_rows<K: Keep>(alloc: Global, keep: &mut K, owner: &Name, reading: &R
 
 fn read_over(alloc: Global, slice: &Slice, reading: &Reading) -> Result<Reply, AllocError>
     ensures told { IfOk result (λ reply. is_ok (told_of reply) ≡ true) }
-    ensures over { (H : History) → IsLawful H → IsRowsOf H slice.now → IfOk result (λ reply. IfOk (told_of reply) (IsAnswer slice.now.owner H (asked_to_read reading.now))) }
+    ensures over { OverRows slice.now (λ H. IsReadAs H slice.now.owner (asked_to_read reading.now) result) }
 {
     match reading {
         Reading::Orders => orders_shown(alloc, slice),
@@ -52,7 +52,7 @@ fn read_over(alloc: Global, slice: &Slice, reading: &Reading) -> Result<Reply, A
 
 fn orders_shown(alloc: Global, slice: &Slice) -> Result<Reply, AllocError>
     ensures told { IfOk result (λ reply. is_ok (told_of reply) ≡ true) }
-    ensures over { (H : History) → IsLawful H → IsRowsOf H slice.now → IfOk result (λ reply. IfOk (told_of reply) (IsAnswer slice.now.owner H AskOrders)) }
+    ensures over { OverRows slice.now (λ H. IsReadAs H slice.now.owner AskOrders result) }
 {
     match copied(alloc, slice.orders()) {
         Ok(orders) => Ok(Reply::Orders(orders)),
@@ -84,7 +84,7 @@ fn batch_shown(
     number: BatchNo,
 ) -> Result<Reply, AllocError>
     ensures told { IfOk result (λ reply. is_ok (told_of reply) ≡ true) }
-    ensures over { (H : History) → IsLawful H → IsRowsOf H slice.now → IfOk result (λ reply. IfOk (told_of reply) (IsAnswer slice.now.owner H (AskBatch order.now number))) }
+    ensures over { OverRows slice.now (λ H. IsReadAs H slice.now.owner (AskBatch order.now number) result) }
 {
     if slice.order(order).is_none() {
         return Ok(Reply::Refused(Refusal::UnknownOrder));
@@ -99,7 +99,7 @@ fn batch_shown(
 /// The lot as it stands.
 pub fn lot_shown(alloc: Global, slice: &Slice, lot: &Name) -> Result<Reply, AllocError>
     ensures told { IfOk result (λ reply. is_ok (told_of reply) ≡ true) }
-    ensures over { (H : History) → IsLawful H → IsRowsOf H slice.now → IfOk result (λ reply. IfOk (told_of reply) (IsLotOr H slice.now.owner (lot_row H slice.now.owner lot.now))) }
+    ensures over { OverRows slice.now (λ H. IfOk result (λ reply. IfOk (told_of reply) (IsLotOr H slice.now.owner (lot_row H slice.now.owner lot.now)))) }
 {
     match lot_view(alloc, slice, lot) {
         Ok(Some(view)) => Ok(Reply::Lot(view)),

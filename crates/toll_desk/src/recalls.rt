@@ -1,19 +1,19 @@
 //! Recalls.
-ghost use Rattle.std.specs.Prelude.{◌≡◌, ◌≢◌, ◌++◌, ◌∷◌, [], true, List, Contains, Err, IfOk, OnOk, position};
 ghost use Rattle.std.specs.Option.{option_map};
+ghost use Rattle.std.specs.Prelude.{◌≡◌, ◌≢◌, true, List, Contains, Err, IfOk, position};
 ghost use Rattle.toll_base.specs.Slice.{lot_at};
 ghost use Rattle.toll_base.specs.declared.lot.LotId.{LotId};
 ghost use Rattle.toll_history.specs.History.{History};
 ghost use Rattle.toll_history.specs.Tables.{IsRowsOf};
 ghost use Rattle.toll_history.specs.Verdict.{IsLawful};
-ghost use Rattle.toll_trace.specs.Trace.{IsTrace};
 ghost use Rattle.toll_trace.specs.declared.step.Step.{Step};
 ghost use Rattle.toll_trace.specs.declared.way.Way.TheVariants.{Forward};
-ghost use Rattle.toll_genealogy.specs.Edges.{IsPlantJoined};
 ghost use Rattle.toll_genealogy.specs.Recall.{IsRecall, recall_line};
 ghost use Rattle.toll_keep.specs.Goes.{IsReading};
+ghost use Rattle.toll_keep.specs.Reads.{HaveRead, IsKept};
 ghost use Rattle.toll_keep.specs.Slices.{is_of};
-ghost use Rattle.toll_desk.specs.Questions.{HaveRead, IsGoing, IsKept, AreSlicesFor, AreLinesOf, IsLineOf, IsRecallOf, is_known_lot};
+ghost use Rattle.toll_desk.specs.Clauses.{AreMoreSlices, IsRecallOver, IsUndamagedRecall, OverFirst};
+ghost use Rattle.toll_desk.specs.Questions.{IsGoing, AreSlicesFor, AreLinesOf, IsLineOf, IsRecallOf, is_known_lot};
 ghost use Rattle.toll_desk.specs.Reads.{Over};
 
 use crate::tracing::trace_over;
@@ -80,8 +80,8 @@ fn recall_steps<K: Keep>(
 ) -> Result<Vec<RecallLine>, KeepFault>
     ensures going { (first : K) → HaveRead K.meaning first keep.old → IsGoing K.meaning first keep.new result }
     ensures kept { IsKept K.meaning keep.old keep.new }
-    ensures whole { (first : K) → HaveRead K.meaning first keep.old → Over K.meaning first keep.new (λ c H. (lot : LotId) → IsRowsOf H own → is_known_lot H lot ≡ true → IsTrace (IsPlantJoined H Forward) lot steps.now → result ≢ Err KeepFault.Damaged) }
-    ensures over { (first : K) → HaveRead K.meaning first keep.old → Over K.meaning first keep.new (λ c H. (lot : LotId) → IsRowsOf H own → IsTrace (IsPlantJoined H Forward) lot steps.now → IfOk result (λ lines. IsRecall H lot lines.items)) }
+    ensures whole { OverFirst K.meaning keep.old keep.new (λ c H. IsUndamagedRecall H own steps.now result) }
+    ensures over { OverFirst K.meaning keep.old keep.new (λ c H. IsRecallOver H own steps.now result) }
 {
     match slices_of(alloc, keep, steps, own) {
         Ok(slices) => match lines_of(alloc, &slices, steps) {
@@ -125,7 +125,7 @@ fn add_slice<K: Keep>(
 ) -> Result<(), KeepFault>
     ensures reads { (first : K) → HaveRead K.meaning first keep.old → IsReading K.meaning first keep.new result }
     ensures kept { IsKept K.meaning keep.old keep.new }
-    ensures over { Over K.meaning keep.old keep.new (λ c H. (before : List Step) → AreSlicesFor H before slices.old.items → OnOk result (AreSlicesFor H (before ++ step.now ∷ []) slices.new.items)) }
+    ensures over { Over K.meaning keep.old keep.new (λ c H. AreMoreSlices H step.now slices.old.items slices.new.items result) }
 {
     if place_of(slices, &step.lot.owner).is_some() {
         return Ok(());

@@ -1,36 +1,31 @@
 //! Owners' traces.
-ghost use Rattle.std.specs.Prelude.{◌≡◌, ◌||◌, true, false, IfOk};
 ghost use Rattle.std.specs.List.{list_any};
-ghost use Rattle.toll_base.specs.Bytes.{same_bytes};
+ghost use Rattle.std.specs.Prelude.{◌≡◌, ◌||◌, IfOk};
 ghost use Rattle.toll_base.specs.Lots.{same_lot};
-ghost use Rattle.toll_base.specs.Values.{house_name};
-ghost use Rattle.toll_history.specs.History.{History, acts, owner_known};
+ghost use Rattle.toll_history.specs.History.{History};
 ghost use Rattle.toll_history.specs.Tables.{IsRowsOf};
 ghost use Rattle.toll_history.specs.Verdict.{IsLawful};
 ghost use Rattle.toll_trace.specs.Chain.{IsJoined};
-ghost use Rattle.toll_trace.specs.Edges.{AreEdges};
 ghost use Rattle.toll_trace.specs.Trace.{IsTrace};
-ghost use Rattle.toll_genealogy.specs.Edges.{IsOwnEdge};
-ghost use Rattle.toll_answers.specs.Replies.{IsAnswer};
 ghost use Rattle.toll_keep.specs.Goes.{IsReading};
+ghost use Rattle.toll_desk.specs.Clauses.{IsToldAs, IsTracedOver, OverOwner};
 ghost use Rattle.toll_desk.specs.Forms.{asked_to_trace, traced_from, traced_way};
 ghost use Rattle.toll_desk.specs.Plans.{told_of};
 ghost use Rattle.toll_desk.specs.Questions.{may_trace};
-ghost use Rattle.toll_desk.specs.Reads.{Over};
 
 use crate::form::Tracing;
 use crate::request::Reply;
 use std::alloc::{AllocError, Global};
 use toll_base::{Edge, LotId, Name, Refusal, Slice};
 use toll_keep::{Keep, KeepFault};
-use toll_trace::{Graph, Step, Way};
+use toll_trace::{Step, Way, trace_one_way};
 use toll_views::has_consumed;
 
 /// The trace of an owner that was admitted, over the edges of its own batches. [`Refusal::UnknownLot`]
 /// where the owner has no such lot; of a lot of HOUSE, where no batch of the owner consumed it.
 pub fn trace_own<K: Keep>(alloc: Global, keep: &mut K, owner: &Name, tracing: &Tracing) -> Reply
     ensures reads { IsReading K.meaning keep.old keep.new (told_of result) }
-    ensures over { Over K.meaning keep.old keep.new (λ c H. owner_known H owner.now ≡ true → same_bytes owner.now house_name ≡ false → IfOk (told_of result) (IsAnswer owner.now H (asked_to_trace tracing.now))) }
+    ensures over { OverOwner K.meaning keep.old keep.new owner.now (λ c H. IsToldAs H owner.now (asked_to_trace tracing.now) (told_of result)) }
 {
     let lot = traced_from(owner, tracing);
     match keep.edges(alloc, owner) {
@@ -54,7 +49,7 @@ fn trace_apart<K: Keep>(
     edges: &[Edge],
 ) -> Reply
     ensures reads { IsReading K.meaning keep.old keep.new (told_of result) }
-    ensures over { Over K.meaning keep.old keep.new (λ c H. owner_known H owner.now ≡ true → AreEdges (IsOwnEdge (acts owner.now H)) edges.now → IfOk (told_of result) (IsAnswer owner.now H (asked_to_trace tracing.now))) }
+    ensures over { IsTracedOver K.meaning keep.old keep.new owner.now edges.now (asked_to_trace tracing.now) (told_of result) }
 {
     match keep.slice(alloc, owner) {
         Ok(Some(slice)) => {
@@ -108,7 +103,7 @@ pub fn trace_over(
 ) -> Result<Vec<Step>, AllocError>
     ensures { IfOk result (λ steps. IsTrace (IsJoined edges.now way) from.now steps.items) }
 {
-    Graph::build(alloc, edges)?.trace(alloc, from, way)
+    trace_one_way(alloc, edges, from, way)
 }
 
 fn traced_from(owner: &Name, tracing: &Tracing) -> LotId

@@ -1,17 +1,13 @@
 //! Owners' requests that are decided.
-ghost use Rattle.std.specs.Prelude.{◌≡◌, ℕ, true, false, is_some, [], IfOk, is_ok};
-ghost use Rattle.toll_base.specs.Bytes.{Bytes};
+ghost use Rattle.std.specs.Prelude.{◌≡◌, true, false, is_some, [], IfOk, is_ok};
 ghost use Rattle.toll_base.specs.Slice.{order_at};
-ghost use Rattle.toll_history.specs.Command.{Action};
-ghost use Rattle.toll_history.specs.History.{History, owner_known};
-ghost use Rattle.toll_history.specs.Tables.{IsRowsOf};
-ghost use Rattle.toll_history.specs.Verdict.{IsLawful};
-ghost use Rattle.toll_answers.specs.Told.{AskCancel, AskPlace, AskReject, AskRelease, Asked};
-ghost use Rattle.toll_keep.specs.Content.{Content};
+ghost use Rattle.toll_history.specs.OverRows.{OverOwnRows};
+ghost use Rattle.toll_answers.specs.Told.{AskCancel, AskPlace, AskReject, AskRelease};
 ghost use Rattle.toll_keep.specs.Goes.{IsReading};
+ghost use Rattle.toll_keep.specs.Meaning.{OverHeld};
+ghost use Rattle.toll_desk.specs.Clauses.{IfPlacedAgain, IsDisposedOver, IsPlannedFor, IsPlannedOver, OverKnown};
 ghost use Rattle.toll_desk.specs.Forms.{asked_to_write};
-ghost use Rattle.toll_desk.specs.Plans.{Disposes, IsOwnDecision, IsPlanFor, IsPlanOver, is_granted, told_of};
-ghost use Rattle.toll_desk.specs.Reads.{Over};
+ghost use Rattle.toll_desk.specs.Plans.{is_granted, told_of};
 
 use crate::form::Writing;
 use crate::reading::{lot_shown, order_shown};
@@ -27,8 +23,8 @@ use toll_work::{cancel_order, place_order};
 pub fn plan_write<K: Keep>(alloc: Global, keep: &mut K, owner: &Name, writing: &Writing) -> Planned
     ensures reads { IsReading K.meaning keep.old keep.new (told_of result.reply) }
     ensures quiet { is_granted (told_of result.reply) ≡ false → result.changes.items ≡ [] }
-    ensures once { K.meaning.is_honest keep.new → (c : Content) → K.meaning.holds keep.old c → (order recipe : Bytes) (batches : ℕ) → asked_to_write writing.now ≡ AskPlace order recipe batches → is_some (order_at (c.rows owner.now) order) ≡ true → result.changes.items ≡ [] }
-    ensures plan { Over K.meaning keep.old keep.new (λ c H. owner_known H owner.now ≡ true → IfOk (told_of result.reply) (λ told. IsPlanFor c H owner.now (asked_to_write writing.now) told result.changes.items)) }
+    ensures once { OverHeld K.meaning keep.old keep.new (λ c. IfPlacedAgain (c.rows owner.now) (asked_to_write writing.now) (result.changes.items ≡ [])) }
+    ensures plan { OverKnown K.meaning keep.old keep.new owner.now (λ c H. IsPlannedFor c H owner.now (asked_to_write writing.now) result) }
 {
     match keep.slice(alloc, owner) {
         Ok(Some(slice)) => match write_over(alloc, &slice, writing) {
@@ -43,8 +39,8 @@ pub fn plan_write<K: Keep>(alloc: Global, keep: &mut K, owner: &Name, writing: &
 fn write_over(alloc: Global, slice: &Slice, writing: &Writing) -> Result<Planned, AllocError>
     ensures told { IfOk result (λ planned. is_ok (told_of planned.reply) ≡ true) }
     ensures quiet { IfOk result (λ planned. is_granted (told_of planned.reply) ≡ false → planned.changes.items ≡ []) }
-    ensures once { (order recipe : Bytes) (batches : ℕ) → asked_to_write writing.now ≡ AskPlace order recipe batches → is_some (order_at slice.now order) ≡ true → IfOk result (λ planned. planned.changes.items ≡ []) }
-    ensures over { (H : History) → IsLawful H → owner_known H slice.now.owner ≡ true → IsRowsOf H slice.now → IfOk result (λ planned. IfOk (told_of planned.reply) (λ told. IsPlanOver H slice.now (asked_to_write writing.now) told planned.changes.items)) }
+    ensures once { IfPlacedAgain slice.now (asked_to_write writing.now) (IfOk result (λ planned. planned.changes.items ≡ [])) }
+    ensures over { OverOwnRows slice.now (λ H. IsPlannedOver H slice.now (asked_to_write writing.now) result) }
 {
     match *writing {
         Writing::Place {
@@ -70,7 +66,7 @@ fn plan_order(
     ensures told { IfOk result (λ planned. is_ok (told_of planned.reply) ≡ true) }
     ensures quiet { IfOk result (λ planned. is_granted (told_of planned.reply) ≡ false → planned.changes.items ≡ []) }
     ensures once { is_some (order_at slice.now order) ≡ true → IfOk result (λ planned. planned.changes.items ≡ []) }
-    ensures over { (H : History) → IsLawful H → owner_known H slice.now.owner ≡ true → IsRowsOf H slice.now → IfOk result (λ planned. IfOk (told_of planned.reply) (λ told. IsPlanOver H slice.now (AskPlace order recipe batches) told planned.changes.items)) }
+    ensures over { OverOwnRows slice.now (λ H. IsPlannedOver H slice.now (AskPlace order recipe batches) result) }
 {
     // The proof is told of the bounds.
     let _within = batches.get();
@@ -94,7 +90,7 @@ fn plan_order(
 fn plan_cancelling(alloc: Global, slice: &Slice, order: Name) -> Result<Planned, AllocError>
     ensures told { IfOk result (λ planned. is_ok (told_of planned.reply) ≡ true) }
     ensures quiet { IfOk result (λ planned. is_granted (told_of planned.reply) ≡ false → planned.changes.items ≡ []) }
-    ensures over { (H : History) → IsLawful H → owner_known H slice.now.owner ≡ true → IsRowsOf H slice.now → IfOk result (λ planned. IfOk (told_of planned.reply) (λ told. IsPlanOver H slice.now (AskCancel order) told planned.changes.items)) }
+    ensures over { OverOwnRows slice.now (λ H. IsPlannedOver H slice.now (AskCancel order) result) }
 {
     let Some(row) = slice.order(&order) else {
         return Ok(Planned::unchanged(alloc, Reply::Refused(Refusal::UnknownOrder)));
@@ -118,7 +114,7 @@ fn plan_cancelling(alloc: Global, slice: &Slice, order: Name) -> Result<Planned,
 fn plan_release(alloc: Global, slice: &Slice, lot: Name) -> Result<Planned, AllocError>
     ensures told { IfOk result (λ planned. is_ok (told_of planned.reply) ≡ true) }
     ensures quiet { IfOk result (λ planned. is_granted (told_of planned.reply) ≡ false → planned.changes.items ≡ []) }
-    ensures over { (H : History) → IsLawful H → owner_known H slice.now.owner ≡ true → IsRowsOf H slice.now → IfOk result (λ planned. IfOk (told_of planned.reply) (λ told. IsPlanOver H slice.now (AskRelease lot) told planned.changes.items)) }
+    ensures over { OverOwnRows slice.now (λ H. IsPlannedOver H slice.now (AskRelease lot) result) }
 {
     match release(alloc, slice, lot) {
         Ok(decision) => disposed(alloc, slice, &lot, Disposition::Released, decision),
@@ -129,7 +125,7 @@ fn plan_release(alloc: Global, slice: &Slice, lot: Name) -> Result<Planned, Allo
 fn plan_rejection(alloc: Global, slice: &Slice, lot: Name) -> Result<Planned, AllocError>
     ensures told { IfOk result (λ planned. is_ok (told_of planned.reply) ≡ true) }
     ensures quiet { IfOk result (λ planned. is_granted (told_of planned.reply) ≡ false → planned.changes.items ≡ []) }
-    ensures over { (H : History) → IsLawful H → owner_known H slice.now.owner ≡ true → IsRowsOf H slice.now → IfOk result (λ planned. IfOk (told_of planned.reply) (λ told. IsPlanOver H slice.now (AskReject lot) told planned.changes.items)) }
+    ensures over { OverOwnRows slice.now (λ H. IsPlannedOver H slice.now (AskReject lot) result) }
 {
     match reject(alloc, slice, lot) {
         Ok(decision) => disposed(alloc, slice, &lot, Disposition::Rejected, decision),
@@ -147,8 +143,7 @@ fn disposed(
 ) -> Result<Planned, AllocError>
     ensures told { IfOk result (λ planned. is_ok (told_of planned.reply) ≡ true) }
     ensures quiet { IfOk result (λ planned. is_granted (told_of planned.reply) ≡ false → planned.changes.items ≡ []) }
-    ensures over { (H : History) → IsLawful H → owner_known H slice.now.owner ≡ true → IsRowsOf H slice.now → (q : Asked) (a : Action) → Disposes H slice.now.owner lot.now disposition q a → IsOwnDecision H slice.now a decision →
-        IfOk result (λ planned. IfOk (told_of planned.reply) (λ told. IsPlanOver H slice.now q told planned.changes.items)) }
+    ensures over { OverOwnRows slice.now (λ H. IsDisposedOver H slice.now lot.now disposition decision result) }
 {
     match decision {
         Decision::Accept(changes) => match lot_view(alloc, slice, lot) {

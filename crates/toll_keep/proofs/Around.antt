@@ -1,5 +1,5 @@
 -- A keep that remembers, around another one: what is so of it by what is so of the one inside.
-use Rattle.std.proofs.Common.{◌≡◌, ◌≢◌, false, Some, Result, Ok, Err, OnOk, OnErr, List, [], ◌∷◌, Vec, Global, refl, sym, ap, subst, ◌∙◌}
+use Rattle.std.proofs.Common.{◌≡◌, ◌≢◌, false, Some, Result, Ok, Err, OnOk, OnErr, List, [], ◌∷◌, Vec, Global, inl, refl, sym, ap, subst, ◌∙◌}
 use Rattle.std.specs.Result.{result_or}
 use mathlib.Core.Bool.{false≢true}
 use Rattle.std.proofs.Math.Logic.{∥∥₁_elim}
@@ -8,7 +8,7 @@ use Rattle.toll_base.specs.Slice.{Slice}
 use Rattle.toll_keep.specs.Content.{Content, ContentKeepsRules, slice_of}
 use Rattle.toll_keep.specs.Goes.{Goes, IsReading, closes}
 use Rattle.toll_keep.specs.Meaning.{Meaning, meaning_of}
-use Rattle.toll_keep.specs.Remembered.{AreOf}
+use Rattle.toll_keep.specs.Remembered.{AreOf, OnlyKnownHaveRows}
 use Rattle.toll_keep.specs.declared.fault.KeepFault.{KeepFault}
 use Rattle.toll_keep.specs.declared.fault.KeepFault.TheVariants.{Memory, Damaged}
 use Rattle.toll_keep.specs.declared.keep.Keep.{Ghosts}
@@ -52,7 +52,7 @@ module _ {T : Type 0} (K : Ghosts T) where
 
   -- what a keep that remembers means, around one of this meaning
   abbrev pub remembers : Meaning (Remembering T K)
-  remembers = record (meaning_of (λ r. r.keep) K.meaning) { holds = λ r c. K.meaning.holds r.keep c × AreOf c r.slices.items }
+  remembers = record (meaning_of (λ r. r.keep) K.meaning) { holds = λ r c. K.meaning.holds r.keep c × AreOf c r.slices.items × OnlyKnownHaveRows c }
 
   abbrev pub GoesInside : {X : Type 0} → T → T → Result X KeepFault → Type 0
   GoesInside before now answer = Goes K.meaning before now answer
@@ -94,9 +94,11 @@ module _ {T : Type 0} (K : Ghosts T) where
         closes = goes.closes;
         live = goes.live;
         shown = goes.shown;
+        lasts = goes.lasts;
         cause = goes.cause;
         since = λ honest later. goes.since honest later.keep;
         stays = goes.stays;
+        shut = goes.shut;
       }
 
   -- where the slices that stand by it now are the content's
@@ -105,7 +107,7 @@ module _ {T : Type 0} (K : Ghosts T) where
       record {
         goes = goes_around old new told answer same reads.goes;
         keeps = λ honest. record {
-          content = λ c held. ((reads.keeps honest).content c held.0, kept honest c held.0 held.1);
+          content = λ c held. ((reads.keeps honest).content c held.0, kept honest c held.0 held.1, held.2);
           crash = λ lives c held. (reads.keeps honest).crash lives c held.0;
         };
         whole = λ honest c held. subst (λ r. ContentKeepsRules c → r ≢ Err Damaged) (sym same) (reads.whole honest c held.0);
@@ -132,9 +134,11 @@ module _ {T : Type 0} (K : Ghosts T) where
           cause = λ honest e. absurd (cc (quiet.only_memory _ e));
           since = λ honest later. subst (λ k. K.meaning.has_cause k later.keep) same;
           stays = λ closed. absurd (false≢true (sym open_there ∙ closed));
+          shut = λ honest not cs left. subst (λ k. K.meaning.leaves k cs) (sym same) left;
+          lasts = λ honest lived. inl (subst K.meaning.is_live (sym same) lived);
         };
         keeps = λ honest. record {
-          content = λ c held. (subst (λ k. K.meaning.holds k c) (sym same) held.0, kept c held.1);
+          content = λ c held. (subst (λ k. K.meaning.holds k c) (sym same) held.0, kept c held.1, held.2);
           crash = λ lives c held. subst (λ k. K.meaning.leaves k (c ∷ [])) (sym same) (settled old.keep c (subst K.meaning.is_honest same honest) lives held.0);
         };
         whole = λ honest c held rules e. absurd (cc (quiet.only_memory _ e));

@@ -1,5 +1,5 @@
 -- What changes leave as it was: whose a slice is, and who is known.
-use Rattle.std.proofs.Common.{◌≡◌, Bool, true, false, ◌||◌, List, [], ◌∷◌, cond, refl}
+use Rattle.std.proofs.Common.{◌≡◌, Bool, true, false, ◌||◌, [], ◌∷◌, cond, refl}
 use Rattle.std.specs.Cmp.Lexicographic.{nat_list_cmp_total}
 use Rattle.toll_base.specs.Bytes.{Bytes, bytes_cmp, same_bytes}
 use Rattle.toll_base.specs.Values.{house_name}

@@ -7,3 +7,5 @@ pub mod Changed
 pub mod Undoing
 pub mod RememberedLemmas
 pub mod Around
+mod FromOwners
+pub mod Calls

@@ -3,15 +3,21 @@ use Rattle.std.proofs.Common.{◌≡◌, ℕ, Bool, true, false, cond, map, Some
 use Rattle.std.specs.Prelude.{position}
 use Rattle.std.proofs.lemmas.List.Elements.{All-get_or, All-push, All-weaker, All-map}
 use Rattle.std.proofs.lemmas.List.Quantifiers.{position-Some}
-use Rattle.toll_base.specs.Bytes.{Bytes}
-use Rattle.toll_base.specs.Slice.{Slice}
+use mathlib.Core.Bool.{false≢true}
+use Rattle.toll_base.specs.Bytes.{Bytes, same_bytes}
+use Rattle.toll_base.specs.Slice.{Slice, empty_slice, with_row}
 use Rattle.toll_base.specs.Changes.{after_change, after_changes}
 use Rattle.toll_base.specs.declared.decision.Change.{Change}
 use Rattle.toll_base.specs.declared.decision.Change.TheVariants.{Owner, Unit as UnitAdded, Put}
+use Rattle.std.specs.List.Sorted.{IsStrictlySortedBy}
+use Rattle.toll_base.specs.declared.lot.Edge.{Edge}
+use Rattle.toll_trace.specs.Edges.{AreEdges, IsEdge}
+use Rattle.toll_trace.proofs.Members.{Contains-none}
 use Rattle.toll_base.proofs.Texts.{same_bytes-exact}
-use Rattle.toll_keep.specs.Content.{Content, knows, slice_of, after}
-use Rattle.toll_keep.specs.Remembered.{AreOf}
+use Rattle.toll_keep.specs.Content.{Content, knows, slice_of, after, ChangeFits, Fits}
+use Rattle.toll_keep.specs.Remembered.{AreOf, OnlyKnownHaveRows}
 use Rattle.toll_keep.specs.Slices.{is_of}
+use Rattle.toll_keep.proofs.AllOwners.{no_edges}
 use Rattle.toll_keep.proofs.Changed.{own_after, known_after}
 
 -- ---- looked up
@@ -22,6 +28,14 @@ remembered_there c slices o at d h all =
     let found = position-Some (is_of o) slices at d h in
     subst (λ owner. slice_of c owner ≡ Some (get_or slices at d)) (same_bytes-exact (get_or slices at d).owner o found.1) (All-get_or (λ s. slice_of c s.owner ≡ Some s) slices at d found.0 all)
 
+-- a slice that is there has the owner's rows
+of_known : (known : Bool) (rows s : Slice) → cond known (Some rows) None ≡ Some s → (known ≡ true) × (rows ≡ s)
+of_known true rows s e = (refl, cc)
+of_known false rows s e = absurd (cc e)
+
+pub rows_there : (c : Content) (o : Bytes) (s : Slice) → slice_of c o ≡ Some s → c.rows o ≡ s
+rows_there c o s e = (of_known (knows c o) (c.rows o) s e).1
+
 -- ---- added
 
 -- one more of the content's, where there was room
@@ -30,10 +44,6 @@ perhaps_more c slices new s o true own is more all = subst (AreOf c) (sym more) 
 perhaps_more c slices new s o false own is more all = subst (AreOf c) (sym more) all
 
 -- ---- after changes
-
-of_known : (known : Bool) (rows s : Slice) → cond known (Some rows) None ≡ Some s → (known ≡ true) × (rows ≡ s)
-of_known true rows s e = (refl, cc)
-of_known false rows s e = absurd (cc e)
 
 after_one : (change : Change) (c : Content) (s : Slice) → slice_of c s.owner ≡ Some s → slice_of (after (change ∷ []) c) (after_change change s).owner ≡ Some (after_change change s)
 after_one change c s e =
@@ -53,3 +63,43 @@ pub all_after : (changes : List Change) (c : Content) (slices : List Slice) → 
 all_after changes c slices all =
     All-map (λ s. slice_of (after changes c) s.owner ≡ Some s) (after_changes changes) slices
     (All-weaker (λ s. slice_of c s.owner ≡ Some s) (λ s. slice_of (after changes c) (after_changes changes s).owner ≡ Some (after_changes changes s)) (after_each changes c) slices all)
+
+-- ---- who is not known
+
+unknown_before : (change : Change) (c : Content) (o : Bytes) → knows (after (change ∷ []) c) o ≡ false → knows c o ≡ false
+unknown_before change c o h = go (knows c o) refl
+  where
+    go : (b : Bool) → knows c o ≡ b → b ≡ false
+    go true e = absurd (false≢true (sym h ∙ known_after change c o e))
+    go false e = refl
+
+only_known_one : (change : Change) (c : Content) → ChangeFits c change → OnlyKnownHaveRows c → OnlyKnownHaveRows (after (change ∷ []) c)
+only_known_one (Owner row) c fits only o h = only o (unknown_before (Owner row) c o h)
+only_known_one (UnitAdded row) c fits only o h = only o h
+only_known_one (Put p row) c fits only o h = ap (after_change (Put p row)) none ∙ go (same_bytes p o) refl
+  where
+    none : c.rows o ≡ empty_slice o
+    none = only o h
+
+    go : (b : Bool) → same_bytes p o ≡ b → cond b (with_row (empty_slice o) row) (empty_slice o) ≡ empty_slice o
+    go true e = absurd (false≢true (sym h ∙ ap (knows c) (sym (same_bytes-exact p o e)) ∙ fits.0))
+    go false e = refl
+
+-- changes that fit put no rows for who is not known
+pub only_known_after : (changes : List Change) (c : Content) → Fits c changes → OnlyKnownHaveRows c → OnlyKnownHaveRows (after changes c)
+only_known_after [] c fits only = only
+only_known_after (Owner row ∷ changes) c fits only = only_known_after changes (after (Owner row ∷ []) c) fits.1 (only_known_one (Owner row) c fits.0 only)
+only_known_after (UnitAdded row ∷ changes) c fits only = only_known_after changes (after (UnitAdded row ∷ []) c) fits.1 (only_known_one (UnitAdded row) c fits.0 only)
+only_known_after (Put o row ∷ changes) c fits only = only_known_after changes (after (Put o row ∷ []) c) fits.1 (only_known_one (Put o row) c fits.0 only)
+
+not_known : (known : Bool) (rows : Slice) → cond known (Some rows) None ≡ None → known ≡ false
+not_known true rows e = absurd (cc e)
+not_known false rows e = refl
+
+-- who is not known has no edges
+pub no_edges_there : (c : Content) (o : Bytes) (edges : List Edge) → OnlyKnownHaveRows c → slice_of c o ≡ None → edges ≡ [] → AreEdges (IsEdge (c.rows o)) edges
+unfolding IsStrictlySortedBy
+no_edges_there c o edges only none is =
+    subst (AreEdges (IsEdge (c.rows o))) (sym is)
+    (subst (λ s. AreEdges (IsEdge s) []) (sym (only o (not_known (knows c o) (c.rows o) none)))
+    (record { only = λ e i. absurd (Contains-none e i); every = λ e edge. absurd (no_edges o e edge); ordered = tt }))

@@ -2,7 +2,7 @@
 use Rattle.std.specs.Prelude.{◌≡◌, ◌≢◌, ◌↔◌, ◌⊎◌, Bool, true, false, IsTrue, List, [], ◌∷◌, ◌++◌, Result, Ok, Err, OnOk}
 use Rattle.std.proofs.Common.{inl, inr}
 use Rattle.toll_keep.specs.Content.{Content, ContentKeepsRules}
-use Rattle.toll_keep.specs.Meaning.{Meaning}
+use Rattle.toll_keep.specs.Meaning.{Meaning, OverHeld}
 use Rattle.toll_keep.specs.declared.fault.KeepFault.{KeepFault}
 use Rattle.toll_keep.specs.declared.fault.KeepFault.TheVariants.{Memory, Disk, Damaged, Closed}
 
@@ -26,11 +26,14 @@ module _ {K : Type 0} where
     -- a store that lives now has always done so, and a call that succeeds shows it
     pub live : meaning.is_honest new → meaning.is_live new → meaning.is_live old
     pub shown : meaning.is_honest new → OnOk result (meaning.is_live new)
+    -- whatever was answered, a store that lived lives on, or met a cause of Disk
+    pub lasts : meaning.is_honest new → meaning.is_live old → meaning.is_live new ⊎ meaning.has_cause old new
     -- Disk has a cause, and a later cause is one from here on too
     pub cause : meaning.is_honest new → result ≡ Err Disk → meaning.has_cause old new
     pub since : meaning.is_honest new → (later : K) → meaning.has_cause new later → meaning.has_cause old later
-    -- what a stop may leave of a closed keep stays
+    -- what a stop may leave of a closed keep stays, and of one whose store has shut itself
     pub stays : IsTrue (meaning.is_closed old) → (cs : List Content) → meaning.leaves old cs → meaning.leaves new cs
+    pub shut : meaning.is_honest new → ¬ (meaning.is_live old) → (cs : List Content) → meaning.leaves old cs → meaning.leaves new cs
 
   -- a reading call leaves the content, and what a stop leaves is that
   pub record Keeps (meaning : Meaning K) (old new : K) : Type 0 where
@@ -42,6 +45,14 @@ module _ {K : Type 0} where
     pub goes : Goes meaning old new result
     pub keeps : meaning.is_honest new → Keeps meaning old new
     pub whole : meaning.is_honest new → (c : Content) → meaning.holds old c → ContentKeepsRules c → result ≢ Err Damaged
+
+-- once a call has returned, whatever it answered, a store that lived lives on and a stop leaves the content that is held and no other; or it met a cause of Disk
+abbrev pub Settles : {K : Type 0} → Meaning K → K → K → Type 0
+Settles meaning old new = meaning.is_honest new → meaning.is_live old → (c : Content) → meaning.holds new c → (meaning.is_live new × meaning.leaves new (c ∷ [])) ⊎ meaning.has_cause old new
+
+-- no damage is found in rows that keep the rules
+abbrev pub FindsNoDamage : {K X : Type 0} → Meaning K → (old new : K) → Result X KeepFault → Type 0
+FindsNoDamage meaning old new result = OverHeld meaning old new (λ c. ContentKeepsRules c → result ≢ Err Damaged)
 
 -- one of these is such
 abbrev pub IsAmong : (Content → Type 0) → List Content → Type 0

@@ -1,5 +1,5 @@
 -- The batch that holds a unit, and the edges of all owners, as a content has them.
-use Rattle.std.specs.Prelude.{◌≡◌, ℕ, Bool, true, false, not, ◌&&◌, Option, Some, None, List, Contains, All, Any}
+use Rattle.std.specs.Prelude.{◌≡◌, ◌⊎◌, ℕ, Bool, true, not, ◌&&◌, Option, Some, None, List, Contains, All, Any}
 use Rattle.toll_base.specs.Bytes.{Bytes, same_bytes}
 use Rattle.toll_base.specs.Words.{is_some_where, none_or}
 use Rattle.toll_base.specs.Slice.{Slice, batch_at}
@@ -39,3 +39,9 @@ pub record IsEdgeOfSome (c : Content) (e : Edge) : Type 0 where
 pub record AreGathered (slices : List Slice) (edges : List Edge) : Type 0 where
   pub only : (e : Edge) → Contains edges e → Any (λ s. IsEdge s e) slices
   pub every : (s : Slice) (e : Edge) → Contains slices s → IsEdge s e → Contains edges e
+
+-- the edges are those from before, and those of the slice
+pub record AreMore (s : Slice) (old new : List Edge) : Type 0 where
+  pub only : (e : Edge) → Contains new e → Contains old e ⊎ IsEdge s e
+  pub before : (e : Edge) → Contains old e → Contains new e
+  pub own : (e : Edge) → IsEdge s e → Contains new e

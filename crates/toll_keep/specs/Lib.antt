@@ -6,3 +6,4 @@ pub mod Holding
 pub mod Slices
 pub mod Drafts
 pub mod Remembered
+pub mod Reads

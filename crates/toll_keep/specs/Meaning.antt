@@ -1,5 +1,5 @@
 -- What a keep means. Who must trust a keep reads which record its type has here.
-use Rattle.std.specs.Prelude.{Bool, List}
+use Rattle.std.specs.Prelude.{◌≡◌, Bool, false, List}
 use Rattle.toll_keep.specs.Content.{Content}
 
 pub record Meaning (K : Type 0) : Type 1 where
@@ -26,3 +26,15 @@ meaning_of inside meaning = record {
   has_cause = λ old new. meaning.has_cause (inside old) (inside new);
   leaves = λ k cs. meaning.leaves (inside k) cs;
 }
+
+-- what is so of whatever content the keep held before, where it is honest after
+abbrev pub OverHeld : {K : Type 0} → Meaning K → (old new : K) → (Content → Type 0) → Type 0
+OverHeld meaning old new P = meaning.is_honest new → (c : Content) → meaning.holds old c → P c
+
+-- the same where its store lived before
+abbrev pub OverLive : {K : Type 0} → Meaning K → (old new : K) → (Content → Type 0) → Type 0
+OverLive meaning old new P = meaning.is_honest new → meaning.is_live old → (c : Content) → meaning.holds old c → P c
+
+-- no keep of the type is ever closed
+abbrev pub NeverCloses : {K : Type 0} → Meaning K → Type 0
+NeverCloses {K} meaning = (k : K) → meaning.is_closed k ≡ false

@@ -3,24 +3,21 @@ ghost use Rattle.std.specs.Prelude.{◌≡◌};
 ghost use Rattle.toll_keep.specs.Fault.{name_of};
 
 use std::alloc::AllocError;
+use std::fmt;
 use thiserror::Error;
 
 /// Why a keep did not answer.
 #[derive(Clone, Copy, Debug, PartialEq, Eq, Error)]
 pub enum KeepFault {
     /// There was no memory. Nothing changed, and the keep goes on.
-    #[error("Memory")]
     Memory,
     /// The disk failed, or refused. From now on the keep answers [`KeepFault::Closed`]; opened again,
     /// its store has the rows from before a change that was cut off, or those after all of it.
-    #[error("Disk")]
     Disk,
     /// A stored row is no value of its kind, or breaks the rules of its owner's rows. From now on the
     /// keep answers [`KeepFault::Closed`].
-    #[error("Damaged")]
     Damaged,
     /// After a Disk or a Damaged, until the store is opened again.
-    #[error("Closed")]
     Closed,
 }
 
@@ -35,6 +32,18 @@ impl KeepFault {
             KeepFault::Damaged => "Damaged",
             KeepFault::Closed => "Closed",
         }
+    }
+}
+
+/// Its word.
+impl fmt::Display for KeepFault {
+    ghost use Rattle.std.specs.Prelude.{Some};
+    ghost use Rattle.toll_keep.specs.Fault.{name_of};
+
+    ghost output = { λ fault. Some (name_of fault) };
+
+    fn fmt<W: fmt::Write>(&self, f: &mut fmt::Formatter<W>) -> fmt::Result {
+        f.write_str(self.name())
     }
 }
 

@@ -1,10 +1,10 @@
 //! What keeps the rows of the office.
-ghost use Rattle.std.specs.Prelude.{◌≡◌, ◌≢◌, Bool, Err, List, [], ◌∷◌, ◌++◌, IfOk, OnOk, OnErr};
+ghost use Rattle.std.specs.Prelude.{◌≡◌, ◌≢◌, Err, List, [], ◌∷◌, ◌++◌, IfOk, OnOk, OnErr};
 ghost use Rattle.toll_trace.specs.Edges.{AreEdges, IsEdge};
 ghost use Rattle.toll_keep.specs.Content.{Content, slice_of, after, Fits, ContentKeepsRules};
 ghost use Rattle.toll_keep.specs.Goes.{Goes, IsReading};
 ghost use Rattle.toll_keep.specs.Holding.{IsHolder, IsEdgeOfSome};
-ghost use Rattle.toll_keep.specs.Meaning.{Meaning};
+ghost use Rattle.toll_keep.specs.Meaning.{Meaning, OverHeld, OverLive};
 
 use crate::fault::KeepFault;
 use crate::holder::Holder;
@@ -13,7 +13,8 @@ use toll_base::{Change, Edge, Name, OwnerRow, Slice, UnitRow};
 
 /// What keeps the rows of the plant and of each owner.
 ///
-/// A call that answers [`KeepFault::Memory`] changed nothing, and the keep goes on. After
+/// A call that answers [`KeepFault::Memory`] changed nothing, and the keep goes on: where its store lived
+/// it lives on, and a stop leaves what it holds, unless the store met a cause of Disk meanwhile. After
 /// [`KeepFault::Disk`] or [`KeepFault::Damaged`] every call answers [`KeepFault::Closed`], and the keep
 /// is said to hold the rows from before the call that failed; what its store has when it is opened
 /// again is said by `leaves`.
@@ -24,32 +25,32 @@ pub trait Keep {
     /// All rows of an owner: `None` for an unknown one. HOUSE is always known.
     fn slice(&mut self, alloc: Global, owner: &Name) -> Result<Option<Slice>, KeepFault>
         ensures reading { IsReading meaning self.old self.new result }
-        ensures reads { meaning.is_honest self.new → (c : Content) → meaning.holds self.old c → IfOk result (λ slice. slice ≡ slice_of c owner.now) };
+        ensures reads { OverHeld meaning self.old self.new (λ c. IfOk result (λ slice. slice ≡ slice_of c owner.now)) };
 
     /// The owners besides HOUSE, in the order of their names.
     fn owners(&mut self, alloc: Global) -> Result<Vec<OwnerRow>, KeepFault>
         ensures reading { IsReading meaning self.old self.new result }
-        ensures reads { meaning.is_honest self.new → (c : Content) → meaning.holds self.old c → IfOk result (λ rows. rows.items ≡ c.owners) };
+        ensures reads { OverHeld meaning self.old self.new (λ c. IfOk result (λ rows. rows.items ≡ c.owners)) };
 
     /// The units, in the order of their names.
     fn units(&mut self, alloc: Global) -> Result<Vec<UnitRow>, KeepFault>
         ensures reading { IsReading meaning self.old self.new result }
-        ensures reads { meaning.is_honest self.new → (c : Content) → meaning.holds self.old c → IfOk result (λ rows. rows.items ≡ c.units) };
+        ensures reads { OverHeld meaning self.old self.new (λ c. IfOk result (λ rows. rows.items ≡ c.units)) };
 
     /// The batch that holds the unit, of any owner: `None` where none does.
     fn holder(&mut self, alloc: Global, unit: &Name) -> Result<Option<Holder>, KeepFault>
         ensures reading { IsReading meaning self.old self.new result }
-        ensures reads { meaning.is_honest self.new → (c : Content) → meaning.holds self.old c → IfOk result (IsHolder c unit.now) };
+        ensures reads { OverHeld meaning self.old self.new (λ c. IfOk result (IsHolder c unit.now)) };
 
     /// The genealogy of an owner's own batches, in order, each edge once: empty for an unknown owner.
     fn edges(&mut self, alloc: Global, owner: &Name) -> Result<Vec<Edge>, KeepFault>
         ensures reading { IsReading meaning self.old self.new result }
-        ensures reads { meaning.is_honest self.new → (c : Content) → meaning.holds self.old c → IfOk result (λ edges. AreEdges (IsEdge (c.rows owner.now)) edges.items) };
+        ensures reads { OverHeld meaning self.old self.new (λ c. IfOk result (λ edges. AreEdges (IsEdge (c.rows owner.now)) edges.items)) };
 
     /// The genealogy of all batches, in order, each edge once.
     fn all_edges(&mut self, alloc: Global) -> Result<Vec<Edge>, KeepFault>
         ensures reading { IsReading meaning self.old self.new result }
-        ensures reads { meaning.is_honest self.new → (c : Content) → meaning.holds self.old c → IfOk result (λ edges. AreEdges (IsEdgeOfSome c) edges.items) };
+        ensures reads { OverHeld meaning self.old self.new (λ c. IfOk result (λ edges. AreEdges (IsEdgeOfSome c) edges.items)) };
 
     /// Makes all of these changes, in order, or none.
     ///
@@ -59,10 +60,10 @@ pub trait Keep {
     /// has, when it is opened again, the rows from before or those after all changes, never some.
     fn apply(&mut self, alloc: Global, changes: &[Change]) -> Result<(), KeepFault>
         ensures goes { Goes meaning self.old self.new result }
-        ensures all { meaning.is_honest self.new → (c : Content) → meaning.holds self.old c → Fits c changes.now → OnOk result (meaning.holds self.new (after changes.now c)) }
-        ensures none { meaning.is_honest self.new → (c : Content) → meaning.holds self.old c → OnErr result (meaning.holds self.new c) }
-        ensures whole { meaning.is_honest self.new → (c : Content) → meaning.holds self.old c → ContentKeepsRules c → result ≢ Err KeepFault.Damaged }
-        ensures crash { meaning.is_honest self.new → meaning.is_live self.old → (c : Content) → meaning.holds self.old c → Fits c changes.now → meaning.leaves self.new (c ∷ after changes.now c ∷ []) };
+        ensures all { OverHeld meaning self.old self.new (λ c. Fits c changes.now → OnOk result (meaning.holds self.new (after changes.now c))) }
+        ensures none { OverHeld meaning self.old self.new (λ c. OnErr result (meaning.holds self.new c)) }
+        ensures whole { OverHeld meaning self.old self.new (λ c. ContentKeepsRules c → result ≢ Err KeepFault.Damaged) }
+        ensures crash { OverLive meaning self.old self.new (λ c. Fits c changes.now → meaning.leaves self.new (c ∷ after changes.now c ∷ [])) };
 
     // While the store lives, a stop between two calls leaves the content and nothing else.
     ghost settled: { (k : Self) (c : Content) → meaning.is_honest k → meaning.is_live k → meaning.holds k c → meaning.leaves k (c ∷ []) };

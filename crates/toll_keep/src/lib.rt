@@ -4,9 +4,11 @@
 mod draft;
 mod everyone;
 mod fault;
+mod gathering;
 mod ghosts;
 mod holder;
 mod keep;
+mod known;
 mod mem_keep;
 mod opening;
 mod refusing;

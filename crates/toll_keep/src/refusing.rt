@@ -1,8 +1,8 @@
 //! A keep that once has no memory.
 ghost use Rattle.std.specs.Prelude.{◌≡◌, ◌≢◌, true, false, Err, [], ◌∷◌, IsErr, OnOk, OnErr};
-ghost use Rattle.toll_keep.specs.Content.{Content, after, ContentKeepsRules, Fits};
+ghost use Rattle.toll_keep.specs.Content.{after, ContentKeepsRules, Fits};
 ghost use Rattle.toll_keep.specs.Goes.{Goes};
-ghost use Rattle.toll_keep.specs.Meaning.{meaning_of};
+ghost use Rattle.toll_keep.specs.Meaning.{OverHeld, OverLive, meaning_of};
 
 use crate::fault::KeepFault;
 use crate::holder::Holder;
@@ -72,10 +72,10 @@ impl<K: Keep> Keep for Refusing<K> {
     // A closed keep answers Closed, and whether it is closed is seen only by asking it.
     fn apply(&mut self, alloc: Global, changes: &[Change]) -> Result<(), KeepFault>
         ensures goes { Goes (meaning_of (λ r. r.keep) K.meaning) self.old self.new result }
-        ensures all { K.meaning.is_honest self.new.keep → (c : Content) → K.meaning.holds self.old.keep c → Fits c changes.now → OnOk result (K.meaning.holds self.new.keep (after changes.now c)) }
-        ensures none { K.meaning.is_honest self.new.keep → (c : Content) → K.meaning.holds self.old.keep c → OnErr result (K.meaning.holds self.new.keep c) }
-        ensures whole { K.meaning.is_honest self.new.keep → (c : Content) → K.meaning.holds self.old.keep c → ContentKeepsRules c → result ≢ Err KeepFault.Damaged }
-        ensures crash { K.meaning.is_honest self.new.keep → K.meaning.is_live self.old.keep → (c : Content) → K.meaning.holds self.old.keep c → Fits c changes.now → K.meaning.leaves self.new.keep (c ∷ after changes.now c ∷ []) }
+        ensures all { OverHeld K.meaning self.old.keep self.new.keep (λ c. Fits c changes.now → OnOk result (K.meaning.holds self.new.keep (after changes.now c))) }
+        ensures none { OverHeld K.meaning self.old.keep self.new.keep (λ c. OnErr result (K.meaning.holds self.new.keep c)) }
+        ensures whole { OverHeld K.meaning self.old.keep self.new.keep (λ c. ContentKeepsRules c → result ≢ Err KeepFault.Damaged) }
+        ensures crash { OverLive K.meaning self.old.keep self.new.keep (λ c. Fits c changes.now → K.meaning.leaves self.new.keep (c ∷ after changes.now c ∷ [])) }
         ensures refused { self.old.refuses ≡ true → IsErr result }
         ensures once { self.new.refuses ≡ false }
     {

@@ -1,17 +1,25 @@
 //! Slices that are remembered, each with rows that its copies share.
 ghost use Rattle.std.specs.Prelude.{◌≡◌, ◌≢◌, [], Some, OnOk, IfOk, IfSome, is_some, map, position};
 ghost use Rattle.toll_base.specs.Changes.{after_change, after_changes};
-ghost use Rattle.toll_base.specs.Slice.{with_row};
+ghost use Rattle.toll_trace.specs.Edges.{AreEdges, IsEdge};
 ghost use Rattle.toll_keep.specs.Content.{Content, slice_of};
 ghost use Rattle.toll_keep.specs.Remembered.{AreOf};
 ghost use Rattle.toll_keep.specs.Slices.{is_of};
 
-use crate::slices::{place_of, shared};
+use crate::known::Known;
+use crate::slices::shared;
 use std::alloc::{AllocError, Global};
-use toll_base::{Change, Name, Row, Slice};
+use toll_base::{Change, Edge, Name, Row, Slice};
+
+// Where the owner's slice is.
+fn place_of(slices: &[Known], owner: &Name) -> Option<usize>
+    ensures { result ≡ position (is_of owner.now) slices.now }
+{
+    slices.iter().position(|slice| *slice.owner() == *owner)
+}
 
 /// The owner's slice, where it is remembered.
-pub fn remembered<'a>(slices: &'a [Slice], owner: &Name) -> Option<&'a Slice>
+pub fn remembered<'a>(slices: &'a [Known], owner: &Name) -> Option<&'a Known>
     ensures found { is_some result ≡ is_some (position (is_of owner.now) slices.now) }
     ensures own { IfSome result (λ slice. (c : Content) → AreOf c slices.now → slice_of c owner.now ≡ Some slice.now) }
     ensures some { IfSome result (λ _. slices.now ≢ []) }
@@ -19,11 +27,25 @@ pub fn remembered<'a>(slices: &'a [Slice], owner: &Name) -> Option<&'a Slice>
     Some(&slices[place_of(slices, owner)?])
 }
 
+/// The edges of the owner's slice, where that is remembered.
+pub fn remembered_edges(
+    alloc: Global,
+    slices: &mut Vec<Known>,
+    owner: &Name,
+) -> Option<Result<Vec<Edge>, AllocError>>
+    ensures same { slices.new.items ≡ slices.old.items }
+    ensures own { IfSome result (λ told. IfOk told (λ edges. (c : Content) → AreOf c slices.old.items → AreEdges (IsEdge (c.rows owner.now)) edges.items)) }
+    ensures some { IfSome result (λ _. slices.old.items ≢ []) }
+{
+    let at = place_of(slices, owner)?;
+    Some(slices[at].edges(alloc))
+}
+
 /// Remembers the slice that was read for the owner, where it is the owner's and there is memory, and
 /// gives it on: the two share their rows.
 pub fn remember(
     alloc: Global,
-    slices: &mut Vec<Slice>,
+    slices: &mut Vec<Known>,
     owner: &Name,
     read: Option<Slice>,
 ) -> Option<Slice>
@@ -37,15 +59,36 @@ pub fn remember(
     let Ok(copied) = shared(alloc, &mut slice) else {
         return Some(slice);
     };
-    let _ = slices.push(copied);
+    let _ = slices.push(Known::of(copied));
     Some(slice)
+}
+
+/// The edges of the slice that was read for the owner. The two are remembered together, where the slice
+/// is the owner's and there is memory.
+pub fn remember_edges(
+    alloc: Global,
+    slices: &mut Vec<Known>,
+    owner: &Name,
+    mut read: Slice,
+) -> Result<Vec<Edge>, AllocError>
+    ensures edges { IfOk result (λ edges. AreEdges (IsEdge read) edges.items) }
+    ensures own { (c : Content) → slice_of c owner.now ≡ Some read → AreOf c slices.old.items → AreOf c slices.new.items }
+{
+    read.share(alloc)?;
+    let mut known = Known::of(read);
+    let edges = known.edges(alloc)?;
+    if *known.owner() != *owner {
+        return Ok(edges);
+    }
+    let _ = slices.push(known);
+    Ok(edges)
 }
 
 /// Makes the changes in all of these slices, each in place where no other copy has its rows. Where
 /// there is no memory, or a row does not fit, the slices are of no more use.
 pub fn follow_all(
     alloc: Global,
-    slices: &mut Vec<Slice>,
+    slices: &mut Vec<Known>,
     changes: &[Change],
 ) -> Result<(), AllocError>
     ensures { OnOk result (slices.new.items ≡ map (after_changes changes.now) slices.old.items) }
@@ -56,7 +99,7 @@ pub fn follow_all(
     Ok(())
 }
 
-fn follow(alloc: Global, slice: &mut Slice, changes: &[Change]) -> Result<(), AllocError>
+fn follow(alloc: Global, slice: &mut Known, changes: &[Change]) -> Result<(), AllocError>
     ensures { OnOk result (slice.new ≡ after_changes changes.now slice.old) }
 {
     for change in changes {
@@ -65,23 +108,13 @@ fn follow(alloc: Global, slice: &mut Slice, changes: &[Change]) -> Result<(), Al
     Ok(())
 }
 
-fn follow_one(alloc: Global, slice: &mut Slice, change: &Change) -> Result<(), AllocError>
+fn follow_one(alloc: Global, slice: &mut Known, change: &Change) -> Result<(), AllocError>
     ensures { OnOk result (slice.new ≡ after_change change.now slice.old) }
 {
+    // Named for the proof: a change may have a row.
+    let _row: Option<Row> = None;
     match change {
-        Change::Put(owner, row) if *owner == *slice.owner() => put_in_place(alloc, slice, row),
+        Change::Put(owner, row) if *owner == *slice.owner() => slice.put(alloc, row),
         _ => Ok(()),
     }
-}
-
-fn put_in_place(alloc: Global, slice: &mut Slice, row: &Row) -> Result<(), AllocError>
-    ensures { OnOk result (slice.new ≡ with_row slice.old row.now) }
-{
-    let mut rows = slice.take(alloc)?;
-    if !rows.fits(row) {
-        return Err(AllocError);
-    }
-    rows.put(*row)?;
-    *slice = Slice::of(alloc, rows);
-    slice.share(alloc)
 }

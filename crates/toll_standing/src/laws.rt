@@ -1,18 +1,16 @@
 //! Laws of contents.
 ghost use Rattle.std.specs.Prelude.{◌≡◌, Option, List, []};
-ghost use Rattle.std.specs.Option.{option_map};
 ghost use Rattle.toll_base.specs.Bytes.{Bytes};
 ghost use Rattle.toll_base.specs.declared.decision.Change.{Change};
 ghost use Rattle.toll_base.specs.declared.lot.Edge.{Edge};
-ghost use Rattle.toll_history.specs.Decision.{ChangesKeepRules};
-ghost use Rattle.toll_history.specs.History.{History, acts, owner_known};
-ghost use Rattle.toll_history.specs.Holders.{OpenedBatch, holder};
+ghost use Rattle.toll_history.specs.History.{History, owner_known};
+ghost use Rattle.toll_history.specs.Holders.{OpenedBatch};
 ghost use Rattle.toll_history.specs.Verdict.{IsLawful};
-ghost use Rattle.toll_trace.specs.Edges.{IsEdge, AreEdges};
-ghost use Rattle.toll_genealogy.specs.Edges.{IsOwnEdge, IsPlantEdge};
+ghost use Rattle.toll_trace.specs.Edges.{AreEdges};
+ghost use Rattle.toll_genealogy.specs.Edges.{AreOwnEdges, IsPlantEdge};
 ghost use Rattle.toll_keep.specs.Content.{Content, nothing, knows, ContentKeepsRules, Fits, PutsToKnown};
 ghost use Rattle.toll_keep.specs.Holding.{IsHolder, IsEdgeOfSome};
-ghost use Rattle.toll_standing.specs.Held.{HoldsUnit, on_unit};
+ghost use Rattle.toll_standing.specs.Held.{AreEdgesHeld, EachKeepsRules, HasOwnersRows, HoldsUnit, IsHeldIn};
 ghost use Rattle.toll_standing.specs.Standing.{StandsFor};
 ghost use Rattle.toll_keep.specs.declared.holder.Holder.{Holder};
 
@@ -40,12 +38,12 @@ pub fn a_unit_is_held_by_one_batch()
 /// The batch that holds a unit is the one that holds it in the history, and none does where none does
 /// there.
 pub fn units_are_held_alike()
-    ensures { (H : History) (c : Content) (unit : Bytes) (answer : Option Holder) → IsLawful H → StandsFor c H → IsHolder c unit answer → holder H unit ≡ option_map (on_unit unit) answer }
+    ensures { (H : History) (c : Content) (unit : Bytes) (answer : Option Holder) → IsLawful H → StandsFor c H → IsHolder c unit answer → IsHeldIn H unit answer }
 {}
 
 /// The edges of an owner's rows are the owner's in the history: none for who is not known.
 pub fn edges_are_the_owners()
-    ensures { (H : History) (c : Content) (o : Bytes) (edges : List Edge) → IsLawful H → StandsFor c H → AreEdges (IsEdge (c.rows o)) edges → AreEdges (IsOwnEdge (acts o H)) edges }
+    ensures { (H : History) (c : Content) (o : Bytes) (edges : List Edge) → IsLawful H → StandsFor c H → AreEdgesHeld c o edges → AreOwnEdges H o edges }
 {}
 
 /// The edges of all rows are the plant's in the history.
@@ -55,5 +53,5 @@ pub fn all_edges_are_the_plants()
 
 /// Changes fit where they keep the rules of each owner's rows, and put rows of known owners alone.
 pub fn changes_that_keep_the_rules_fit()
-    ensures { (c : Content) (changes : List Change) → ((o : Bytes) → (c.rows o).owner ≡ o) → ((o : Bytes) → ChangesKeepRules changes (c.rows o)) → PutsToKnown c changes → Fits c changes }
+    ensures { (c : Content) (changes : List Change) → HasOwnersRows c → EachKeepsRules c changes → PutsToKnown c changes → Fits c changes }
 {}

@@ -1,5 +1,6 @@
 use Rattle.std.proofs.Common.{◌≡◌, [], OnErr, sym, subst, ◌∙◌}
 use Rattle.std.proofs.lemmas.Result.{on_ok_weaker, IfOk-weaker}
+use Rattle.toll_keep.proofs.Calls.{settles}
 use Rattle.toll_keep.specs.Goes.{Goes}
 use Rattle.toll_answers.specs.Replies.{IsReply, after_reply}
 use Rattle.toll_desk.specs.Plans.{asked_of, told_of, may_change}
@@ -15,6 +16,9 @@ returns-clause-goes g c =
     subst (λ r. Goes K.meaning c.args.keep.now carried.new.keep r) (sym c.finished.ensures)
     (goes_on K.meaning c.args.keep.now planned.new.keep carried.new.keep outcome c.deref.result.now carried.result planned.ensures.reads.goes
     (subst (λ changes. OnErr outcome (changes ≡ [])) (sym c.deref.ensures.value) planned.ensures.none) carried.ensures.idle carried.ensures.goes)
+
+pub returns-clause-settles : goal.returns-clause-settles
+returns-clause-settles g c = settles g.K.Keep.meaning c.args.keep.now c.carry-made.new.keep (told_of c.finished.result) g.met.K.Keep.settled (returns-clause-goes g c)
 
 pub returns-clause-quiet : goal.returns-clause-quiet
 returns-clause-quiet g c honest content held none =

@@ -17,7 +17,7 @@ returns-in-Ok-Some-clause-plan g c honest content H held stands lawful =
     let q = asked_of c.args.request.now in
     let changes = c.plan_for.result.changes.items in
     let before = c.plan_for.ensures.reads.goes.honest honest in
-    let found = right_key o c.in-Ok-Some.owner (has_key o key H) (sym c.in-Ok-Some.field-0-is ∙ c.in-Ok-Some.ensures.found before content H held stands) in
+    let found = right_key o c.in-Ok-Some.owner (has_key o key H) (sym c.in-Ok-Some.field-0-is ∙ c.in-Ok-Some.ensures.found before content held H stands) in
     let known = key_known content H o key stands found.0 in
     IfOk-weaker (told_of c.plan_for.result.reply) _ _ (λ told plan. plan_admitted content H o key q told changes found.0 (subst (λ p. IsPlanFor content H p q told changes) found.1 plan))
     (c.plan_for.ensures.plan honest content H ((c.in-Ok-Some.ensures.reads.keeps before).content content held) stands lawful (subst (λ p. owner_known H p ≡ true) (sym found.1) known)
@@ -27,7 +27,7 @@ pub returns-in-Ok-None-clause-plan : goal.returns-in-Ok-None-clause-plan
 returns-in-Ok-None-clause-plan g c honest content H held stands lawful =
     let o = c.args.owner.now in
     let key = c.args.key.now in
-    let wrong = wrong_key o (has_key o key H) (sym c.in-Ok-None.field-0-is ∙ c.in-Ok-None.ensures.found honest content H held stands) in
+    let wrong = wrong_key o (has_key o key H) (sym c.in-Ok-None.field-0-is ∙ c.in-Ok-None.ensures.found honest content held H stands) in
     rw (c.unchanged.ensures.reply, c.unchanged.ensures.changes) (plan_forbidden content H o key (asked_of c.args.request.now) stands wrong)
 
 pub returns-in-Ok-Some-clause-once : goal.returns-in-Ok-Some-clause-once

@@ -1,6 +1,7 @@
 use Rattle.std.proofs.Common.{take}
 use Rattle.toll_history.specs.Tables.{IsRowsOf}
-use Rattle.toll_desk.specs.Questions.{HaveRead, IsKept, AreSlicesFor}
+use Rattle.toll_keep.specs.Reads.{HaveRead, IsKept}
+use Rattle.toll_desk.specs.Questions.{AreSlicesFor}
 use Rattle.toll_desk.specs.Reads.{Over}
 use Rattle.toll_desk.proofs.recalls.slices_of.Given as goal
 

@@ -1,10 +1,10 @@
 -- One call of a keep after another, and the same under another answer.
-use Rattle.std.proofs.Common.{◌≡◌, Bool, List, Result, Ok, Err, refl, subst, ◌∙◌}
+use Rattle.std.proofs.Common.{◌≡◌, Bool, List, [], ◌∷◌, Result, Ok, Err, inl, inr, refl, subst, ◌∙◌}
 use Rattle.std.specs.Prelude.{◌≢◌, IsTrue}
 use mathlib.Core.Bool.{false≢true}
 use Rattle.toll_keep.specs.Meaning.{Meaning}
 use Rattle.toll_keep.specs.Content.{Content, ContentKeepsRules}
-use Rattle.toll_keep.specs.Goes.{Goes, Keeps, IsReading, closes}
+use Rattle.toll_keep.specs.Goes.{Goes, Keeps, IsReading, Settles, closes}
 use Rattle.toll_keep.specs.declared.fault.KeepFault.{KeepFault}
 use Rattle.toll_keep.specs.declared.fault.KeepFault.TheVariants.{Memory, Disk, Damaged, Closed}
 
@@ -33,10 +33,23 @@ module _ {K : Type 0} (meaning : Meaning K) where
     closes = second.closes;
     live = λ now lives. first.live (second.honest now) (second.live now lives);
     shown = second.shown;
+    lasts = λ now lived. elim (second.lasts now (first.shown (second.honest now))) [ inl lives ↦ inl lives | inr cause ↦ inr (first.since (second.honest now) new cause) ];
     cause = λ now is. first.since (second.honest now) new (second.cause now is);
     since = λ now later cause. first.since (second.honest now) later (second.since now later cause);
     stays = λ was cs left. absurd (open_before old middle x first was);
+    shut = λ now not cs left. let before = second.honest now in absurd (not (first.live before (first.shown before)));
   }
+
+  -- while the store lives, a stop between two calls leaves what is held
+  abbrev pub Rests : Type 0
+  Rests = (k : K) (c : Content) → meaning.is_honest k → meaning.is_live k → meaning.holds k c → meaning.leaves k (c ∷ [])
+
+  -- so it does once a call has returned, or the store met a cause of Disk
+  pub settles : {X : Type 0} (old new : K) (r : Result X KeepFault) → Rests → GoesTo old new r → Settles meaning old new
+  settles old new r settled goes = λ now lived c held. elim (goes.lasts now lived) [ inl lives ↦ inl (lives, settled new c now lives held) | inr cause ↦ inr cause ]
+
+  pub settles_still : (k : K) → Rests → Settles meaning k k
+  settles_still k settled = λ now lived c held. inl (lived, settled k c now lived held)
 
   pub reads_then : {X Y : Type 0} (old middle new : K) (x : X) (r : Result Y KeepFault) → ReadsTo old middle (answered x) → ReadsTo middle new r → ReadsTo old new r
   reads_then old middle new x r first second = record {
@@ -56,9 +69,11 @@ module _ {K : Type 0} (meaning : Meaning K) where
     closes = goes.closes;
     live = goes.live;
     shown = goes.shown;
+    lasts = goes.lasts;
     cause = λ now is. (cc);
     since = goes.since;
     stays = goes.stays;
+    shut = goes.shut;
   }
 
   pub goes_fault : {X Y : Type 0} (old new : K) (fault : KeepFault) → GoesTo {X = X} old new (failed fault) → GoesTo {X = Y} old new (failed fault)
@@ -68,9 +83,11 @@ module _ {K : Type 0} (meaning : Meaning K) where
     closes = goes.closes ∙ closes_alike fault;
     live = goes.live;
     shown = λ now. tt;
+    lasts = goes.lasts;
     cause = λ now is. goes.cause now (cc);
     since = goes.since;
     stays = goes.stays;
+    shut = goes.shut;
   }
     where
       closes_alike : (fault : KeepFault) → closes {X = X} (Err fault) ≡ closes {X = Y} (Err fault)
@@ -86,9 +103,11 @@ module _ {K : Type 0} (meaning : Meaning K) where
     closes = goes.closes;
     live = goes.live;
     shown = λ now. tt;
+    lasts = goes.lasts;
     cause = λ now is. (cc);
     since = goes.since;
     stays = goes.stays;
+    shut = goes.shut;
   }
 
   abbrev KeepsTo : K → K → Type 0

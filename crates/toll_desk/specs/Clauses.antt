@@ -1,0 +1,137 @@
+-- What the desk's functions say of what they answer, where several say the same.
+use Rattle.std.specs.Prelude.{◌≡◌, ◌≢◌, ◌++◌, [], ◌∷◌, List, OnOk, true, false, is_some, ℕ, Option, Result, IfOk, IfErr, Vec, Err}
+use Rattle.std.specs.Global.{Global}
+use Rattle.std.specs.declared.alloc.AllocError.{AllocError}
+use Rattle.toll_base.specs.Bytes.{Bytes, same_bytes}
+use Rattle.toll_base.specs.Slice.{Slice, order_at}
+use Rattle.toll_base.specs.Values.{house_name}
+use Rattle.toll_base.specs.Words.{where_so}
+use Rattle.toll_base.specs.declared.decision.Decision.{Decision}
+use Rattle.toll_base.specs.declared.lot.Edge.{Edge}
+use Rattle.toll_base.specs.declared.lot.LotId.{LotId}
+use Rattle.toll_history.specs.Tables.{IsRowsOf}
+use Rattle.toll_trace.specs.declared.step.Step.{Step}
+use Rattle.toll_trace.specs.declared.way.Way.TheVariants.{Forward}
+use Rattle.toll_genealogy.specs.Agreement.{IsPlantTrace}
+use Rattle.toll_genealogy.specs.Edges.{AreOwnEdges}
+use Rattle.toll_genealogy.specs.Recall.{IsRecall}
+use Rattle.toll_genealogy.specs.declared.recall.RecallLine.{RecallLine}
+use Rattle.toll_keep.specs.Reads.{HaveRead}
+use Rattle.toll_keep.specs.declared.fault.KeepFault.TheVariants.{Damaged}
+use Rattle.toll_base.specs.declared.lot.Disposition.{Disposition}
+use Rattle.toll_base.specs.declared.refusal.Refusal.{Refusal}
+use Rattle.toll_history.specs.Command.{Action, Command}
+use Rattle.toll_history.specs.History.{History, owner_known}
+use Rattle.toll_history.specs.Verdict.{Refused, grow, verdict}
+use Rattle.toll_answers.specs.PlantAnswers.{IsPlantAnswer, Judged, PlantAsked, PlantTold, Shows, after_plant}
+use Rattle.toll_answers.specs.Replies.{IsAnswer, IsReply, after_reply, has_key}
+use Rattle.toll_answers.specs.Told.{AskPlace, Asked, Told}
+use Rattle.toll_keep.specs.Content.{Content}
+use Rattle.toll_keep.specs.Meaning.{Meaning}
+use Rattle.toll_keep.specs.declared.fault.KeepFault.{KeepFault}
+use Rattle.toll_standing.specs.Standing.{StandsFor}
+use Rattle.toll_desk.specs.Plans.{Disposes, IsDone, IsOwnDecision, IsPlan, IsPlanFor, IsPlanOver, LeadsTo, plant_told, told_of}
+use Rattle.toll_desk.specs.Questions.{AreSlicesFor, is_known_lot}
+use Rattle.toll_desk.specs.Reads.{Over}
+use Rattle.toll_desk.specs.declared.plant_cmd.PlantPlan.{PlantPlan}
+use Rattle.toll_desk.specs.declared.request.Planned.{Planned}
+use Rattle.toll_desk.specs.declared.request.Reply.{Reply}
+
+-- ---- over the histories that know an owner
+
+module _ {K : Type 0} (meaning : Meaning K) (old new : K) (o : Bytes) where
+  abbrev pub OverKnown : (Content → History → Type 0) → Type 0
+  OverKnown P = Over meaning old new (λ c H. owner_known H o ≡ true → P c H)
+
+  -- the same of an owner besides HOUSE
+  abbrev pub OverOwner : (Content → History → Type 0) → Type 0
+  OverOwner P = Over meaning old new (λ c H. owner_known H o ≡ true → same_bytes o house_name ≡ false → P c H)
+
+-- since the first of the keeps between which calls were answered
+abbrev pub OverFirst : {K : Type 0} → Meaning K → (old new : K) → (Content → History → Type 0) → Type 0
+OverFirst {K} meaning old new P = (first : K) → HaveRead meaning first old → Over meaning first new P
+
+-- ---- traces and recalls
+
+-- over the owner's edges, the trace is told as the answer
+abbrev pub IsTracedOver : {K : Type 0} → Meaning K → (old new : K) → (o : Bytes) → List Edge → Asked → Result Told KeepFault → Type 0
+IsTracedOver meaning old new o edges q told = OverKnown meaning old new o (λ c H. AreOwnEdges H o edges → IfOk told (IsAnswer o H q))
+
+-- over the rows of HOUSE or its owner, the recall of a lot that is known finds no damage
+abbrev pub IsUndamagedRecall : {X : Type 0} → History → Slice → List Step → Result X KeepFault → Type 0
+IsUndamagedRecall H own steps result = (lot : LotId) → IsRowsOf H own → is_known_lot H lot ≡ true → IsPlantTrace H Forward lot steps → result ≢ Err Damaged
+
+-- over these rows, the lines are those of the recall of the lot that the steps are traced from
+abbrev pub IsRecallOver : History → Slice → List Step → Result (Vec RecallLine Global) KeepFault → Type 0
+IsRecallOver H own steps result = (lot : LotId) → IsRowsOf H own → IsPlantTrace H Forward lot steps → IfOk result (λ lines. IsRecall H lot lines.items)
+
+-- with slices for some steps there are slices for one more
+abbrev pub AreMoreSlices : {X E : Type 0} → History → Step → (old new : List Slice) → Result X E → Type 0
+AreMoreSlices H step old new result = (before : List Step) → AreSlicesFor H before old → OnOk result (AreSlicesFor H (before ++ step ∷ []) new)
+
+-- ---- what is read
+
+-- where rows are shown, they are the answer to what is asked
+abbrev pub IsReadAs : History → (o : Bytes) → Asked → Result Reply AllocError → Type 0
+IsReadAs H o q result = IfOk result (λ reply. IfOk (told_of reply) (IsAnswer o H q))
+
+-- where a text is shown, it is the answer to what the plant asks
+abbrev pub IsTextAs : History → PlantAsked → Result (Result (Vec ℕ Global) Refusal) AllocError → Type 0
+IsTextAs H q result = IfOk result (λ told. IfOk told (λ text. IsPlantAnswer H q (Shows text.items)))
+
+-- where a question of the plant is refused, that is the answer to it
+abbrev pub IsRefusedAs : History → PlantAsked → Result (Result (Vec ℕ Global) Refusal) AllocError → Type 0
+IsRefusedAs H q result = IfOk result (λ told. IfErr told (λ why. IsPlantAnswer H q (Judged (Refused why))))
+
+-- ---- what is planned
+
+-- where a plan is made, it is the one for what is asked over the slice
+abbrev pub IsPlannedOver : History → Slice → Asked → Result Planned AllocError → Type 0
+IsPlannedOver H s q result = IfOk result (λ planned. IfOk (told_of planned.reply) (λ told. IsPlanOver H s q told planned.changes.items))
+
+-- where a decision on the disposition of a lot is right, so is the plan for what asks for it
+abbrev pub IsDisposedOver : History → Slice → (lot : Bytes) → Disposition → Decision → Result Planned AllocError → Type 0
+IsDisposedOver H s lot disposition decision result =
+    (q : Asked) (a : Action) → Disposes H s.owner lot disposition q a → IsOwnDecision H s a decision → IsPlannedOver H s q result
+
+-- where it is told, the plan is the one for what the owner asks
+abbrev pub IsPlannedFor : Content → History → (o : Bytes) → Asked → Planned → Type 0
+IsPlannedFor c H o q planned = IfOk (told_of planned.reply) (λ told. IsPlanFor c H o q told planned.changes.items)
+
+-- where it is told, the plan is the one for what is asked with this key
+abbrev pub IsPlannedBy : Content → History → (o key : Bytes) → Asked → Planned → Type 0
+IsPlannedBy c H o key q planned = IfOk (told_of planned.reply) (λ told. IsPlan c H o key q told planned.changes.items)
+
+-- this is so where an order is placed that is there already
+abbrev pub IfPlacedAgain : Slice → Asked → Type 0 → Type 0
+IfPlacedAgain s q P = (order recipe : Bytes) (batches : ℕ) → q ≡ AskPlace order recipe batches → is_some (order_at s order) ≡ true → P
+
+-- ---- what is done
+
+module _ {K : Type 0} (meaning : Meaning K) (old new : K) where
+  -- who asks as the owner with this key is answered over what was held, and what that makes of it is held
+  abbrev pub IsOwnerDone : (o key : Bytes) → Asked → Result Told KeepFault → Type 0
+  IsOwnerDone o key q told =
+      Over meaning old new (λ c H. IsDone (meaning.holds new) (meaning.is_live old) (meaning.leaves new) c (after_reply o key H q) told (IsReply o key H q))
+
+  -- what the plant asks is answered over what was held, and what that makes of it is held
+  abbrev pub IsPlantDone : PlantAsked → Result PlantTold KeepFault → Type 0
+  IsPlantDone q told =
+      Over meaning old new (λ c H. IsDone (meaning.holds new) (meaning.is_live old) (meaning.leaves new) c (after_plant H q) told (IsPlantAnswer H q))
+
+  -- the verdict on a command is told over what was held, and what it makes of it is held
+  abbrev pub IsDeedDone : Command → Result PlantTold KeepFault → Type 0
+  IsDeedDone command told =
+      Over meaning old new (λ c H. IsDone (meaning.holds new) (meaning.is_live old) (meaning.leaves new) c (grow H command) told (λ it. it ≡ Judged (verdict H command)))
+
+-- where it is told, the plan of a command is its verdict, and its changes lead to the content after it
+abbrev pub IsDeedPlanned : Content → History → Command → PlantPlan → Type 0
+IsDeedPlanned c H command plan = IfOk (plant_told plan.reply) (λ told. (told ≡ Judged (verdict H command)) × LeadsTo c plan.changes.items (grow H command))
+
+-- whatever history the content stands for, the name is found where the owner has this key
+abbrev pub IsFoundBy : Content → (o key : Bytes) → Result (Option Bytes) KeepFault → Type 0
+IsFoundBy c o key result = (H : History) → StandsFor c H → IfOk result (λ found. found ≡ where_so (has_key o key H) o)
+
+-- where it is told, it is the answer to the owner
+abbrev pub IsToldAs : History → (o : Bytes) → Asked → Result Told KeepFault → Type 0
+IsToldAs H o q told = IfOk told (IsAnswer o H q)

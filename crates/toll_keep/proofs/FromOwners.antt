@@ -1,0 +1,96 @@
+-- The edges of all owners, gathered owner by owner.
+use Rattle.std.proofs.Common.{◌≡◌, ℕ, ◌+◌, ◌<◌, Bool, true, false, ◌||◌, Some, is_some, List, [], ◌∷◌, ◌++◌, length, get_or, take, refl, sym, ap, subst, ◌∙◌, inl, inr}
+use mathlib.Core.Bool.{false≢true}
+use Rattle.std.specs.Prelude.{Contains, if◌then◌else◌}
+use Rattle.std.proofs.lemmas.List.{take_more}
+use Rattle.std.proofs.lemmas.List.Elements.{Contains-append_left, Contains-append_right, Contains-append_cases, Contains-push_cases}
+use Rattle.std.proofs.lemmas.Map.Lookups.{exact_bytes}
+use Rattle.std.proofs.lemmas.Map.Views.{tells_apart}
+use Rattle.std.specs.Ordering.{is_eq}
+use Rattle.toll_base.specs.Bytes.{Bytes, bytes_cmp, same_bytes}
+use Rattle.toll_base.specs.Lots.{edge_cmp}
+use Rattle.toll_base.specs.Slice.{Slice}
+use Rattle.toll_base.specs.Table.{row_at}
+use Rattle.toll_base.specs.Values.{house_name}
+use Rattle.toll_base.specs.declared.lot.Edge.{Edge}
+use Rattle.toll_base.specs.declared.rows.OwnerRow.{OwnerRow}
+use Rattle.toll_base.proofs.Texts.{same_bytes-exact}
+use Rattle.toll_trace.specs.Edges.{AreEdges, IsEdge}
+use Rattle.toll_trace.specs.InOrder.{IsInOrder}
+use Rattle.toll_trace.proofs.Members.{Contains-none, Contains-here, Contains-later, kept_in_order}
+use Rattle.toll_trace.proofs.Orders.{edges_exact}
+use Rattle.toll_keep.specs.Content.{Content, knows}
+use Rattle.toll_keep.specs.Holding.{IsEdgeOfSome, AreMore}
+use Rattle.toll_keep.specs.Remembered.{OnlyKnownHaveRows}
+use Rattle.toll_keep.proofs.AllOwners.{no_edges}
+
+-- the edges are those of HOUSE and of these owners
+pub record AreFrom (c : Content) (owners : List OwnerRow) (edges : List Edge) : Type 0 where
+  pub only : (e : Edge) → Contains edges e → IsEdgeOfSome c e
+  pub house : (e : Edge) → IsEdge (c.rows house_name) e → Contains edges e
+  pub each : (row : OwnerRow) → Contains owners row → (e : Edge) → IsEdge (c.rows row.owner) e → Contains edges e
+
+-- ---- one owner's
+
+-- an owner's edges that were added to others
+pub more_edges : (s : Slice) (old own new : List Edge) → AreEdges (IsEdge s) own → new ≡ old ++ own → AreMore s old new
+more_edges s old own new are is = subst (AreMore s old) (sym is) (record {
+  only = λ e i. elim (Contains-append_cases old own e i) [ inl before ↦ inl before | inr added ↦ inr (are.only e added) ];
+  before = λ e i. Contains-append_left old own e i;
+  own = λ e edge. Contains-append_right old own e (are.every e edge);
+})
+
+of_some : (c : Content) (o : Bytes) (e : Edge) → IsEdge (c.rows o) e → IsEdgeOfSome c e
+of_some c o e edge = record { owner = o; edge = edge }
+
+-- ---- HOUSE's, and then of one owner after another
+
+pub from_house : (c : Content) (none edges : List Edge) (house : Bytes) → house ≡ house_name → none ≡ [] → AreMore (c.rows house) none edges → AreFrom c [] edges
+from_house c none edges house named is more = record {
+  only = λ e i. elim (more.only e i) [ inl before ↦ absurd (Contains-none e (subst (λ es. Contains es e) is before)) | inr edge ↦ of_some c house e edge ];
+  house = λ e edge. more.own e (subst (λ o. IsEdge (c.rows o) e) (sym named) edge);
+  each = λ row i. absurd (Contains-none row i);
+}
+
+from_more : (c : Content) (owners : List OwnerRow) (row : OwnerRow) (old new : List Edge) → AreFrom c owners old → AreMore (c.rows row.owner) old new → AreFrom c (owners ++ row ∷ []) new
+from_more c owners row old new so_far more = record {
+  only = λ e i. elim (more.only e i) [ inl before ↦ so_far.only e before | inr edge ↦ of_some c row.owner e edge ];
+  house = λ e edge. more.before e (so_far.house e edge);
+  each = λ other i e edge. elim (Contains-push_cases owners row other i) [
+    | inl before ↦ more.before e (so_far.each other before e edge)
+    | inr same ↦ more.own e (subst (λ r. IsEdge (c.rows r.owner) e) (sym same) edge)
+  ];
+}
+
+pub from_next : (c : Content) (owners : List OwnerRow) (i : ℕ) (row : OwnerRow) (old new : List Edge) → i < length owners → row ≡ get_or owners i row → AreFrom c (take i owners) old → AreMore (c.rows row.owner) old new → AreFrom c (take (i + 1) owners) new
+from_next c owners i row old new lt is so_far more =
+    subst (λ front. AreFrom c front new) (sym (take_more owners i row lt ∙ ap (λ t. take i owners ++ t ∷ []) (sym is)))
+    (from_more c (take i owners) row old new so_far more)
+
+-- ---- in the end everybody's
+
+named_row : (rows : List OwnerRow) (o : Bytes) → is_some (row_at bytes_cmp (λ (row : OwnerRow). row.owner) rows o) ≡ true → (row : OwnerRow) × Contains rows row × (row.owner ≡ o)
+unfolding row_at
+named_row [] o h = absurd (false≢true h)
+named_row (row ∷ rows) o h = go (is_eq (bytes_cmp o row.owner)) refl h (named_row rows o)
+  where
+    go : (b : Bool) → is_eq (bytes_cmp o row.owner) ≡ b → is_some (if b then Some row else row_at bytes_cmp (λ (row : OwnerRow). row.owner) rows o) ≡ true → (is_some (row_at bytes_cmp (λ (row : OwnerRow). row.owner) rows o) ≡ true → (r : OwnerRow) × Contains rows r × (r.owner ≡ o)) → (r : OwnerRow) × Contains (row ∷ rows) r × (r.owner ≡ o)
+    go true e h ih = (row, Contains-here row rows, sym (tells_apart exact_bytes o row.owner e))
+    go false e h ih = let r = ih h in (r.0, Contains-later row rows r.0 r.1, r.2)
+
+pub from_all : (c : Content) (owners : List OwnerRow) (edges sorted : List Edge) → OnlyKnownHaveRows c → c.owners ≡ owners → AreFrom c owners edges → IsInOrder edge_cmp edges sorted → AreEdges (IsEdgeOfSome c) sorted
+from_all c owners edges sorted only are all in_order = record {
+  only = λ e i. all.only e (in_order.none_new e i);
+  every = λ e some. kept_in_order edge_cmp edges_exact edges sorted in_order e (own e some.owner some.edge (knows c some.owner) refl);
+  ordered = in_order.ordered;
+}
+  where
+    by_name : (e : Edge) (o : Bytes) → IsEdge (c.rows o) e → (house : Bool) → same_bytes o house_name ≡ house → (house || is_some (row_at bytes_cmp (λ row. row.owner) c.owners o)) ≡ true → Contains edges e
+    by_name e o edge true named h = all.house e (subst (λ p. IsEdge (c.rows p) e) (same_bytes-exact o house_name named) edge)
+    by_name e o edge false named h =
+        let row = named_row c.owners o h in
+        all.each row.0 (subst (λ rows. Contains rows row.0) are row.1) e (subst (λ p. IsEdge (c.rows p) e) (sym row.2) edge)
+
+    own : (e : Edge) (o : Bytes) → IsEdge (c.rows o) e → (known : Bool) → knows c o ≡ known → Contains edges e
+    own e o edge false unknown = absurd (no_edges o e (subst (λ s. IsEdge s e) (only o unknown) edge))
+    own e o edge true known = by_name e o edge (same_bytes o house_name) refl known

@@ -1,0 +1,7 @@
+use Rattle.std.proofs.Common.{sym, ◌∙◌}
+use Rattle.toll_keep.proofs.RememberedLemmas.{no_edges_there}
+use Rattle.toll_keep.proofs.remembering.read_edges.Goals as goal
+
+pub returns-in-Ok-None-clause-reads : goal.returns-in-Ok-None-clause-reads
+returns-in-Ok-None-clause-reads g c = λ honest content held only.
+    no_edges_there content c.args.owner.now c.new.result.items only (sym (c.in-Ok-None.ensures.reads honest content held) ∙ c.in-Ok-None.field-0-is) c.new.ensures.items

@@ -1,0 +1,118 @@
+//! The edges of all owners, by their slices.
+ghost use Rattle.std.specs.Prelude.{◌≡◌, IfOk, OnOk};
+ghost use Rattle.toll_trace.specs.Edges.{AreEdges, IsEdge};
+ghost use Rattle.toll_keep.specs.Goes.{IsReading};
+ghost use Rattle.toll_keep.specs.Holding.{IsEdgeOfSome, AreMore};
+ghost use Rattle.toll_keep.specs.Meaning.{OverHeld};
+ghost use Rattle.toll_keep.specs.Reads.{HaveRead, IsKept};
+ghost use Rattle.toll_keep.specs.Remembered.{IfOf, OnlyKnownHaveRows};
+
+use crate::fault::KeepFault;
+use crate::keep::Keep;
+use crate::known::Known;
+use crate::remembered::remembered_edges;
+use std::alloc::{AllocError, Global};
+use toll_base::{Edge, Name, OwnerRow, Slice};
+use toll_trace::{edges_of, put_in_order};
+
+/// The edges of all owners, in order, each once: of each owner by its slice, where that is remembered,
+/// or by one that is read and let go.
+pub fn read_all_edges<K: Keep>(
+    alloc: Global,
+    keep: &mut K,
+    slices: &mut Vec<Known>,
+) -> Result<Vec<Edge>, KeepFault>
+    ensures reading { IsReading K.meaning keep.old keep.new result }
+    ensures same { slices.new.items ≡ slices.old.items }
+    ensures reads { OverHeld K.meaning keep.old keep.new (λ c. IfOf c slices.old.items (IfOk result (λ edges. AreEdges (IsEdgeOfSome c) edges.items))) }
+{
+    match keep.owners(alloc) {
+        Ok(owners) => gather(alloc, keep, slices, &owners),
+        Err(fault) => Err(fault),
+    }
+}
+
+// The same of these owners and HOUSE.
+fn gather<K: Keep>(
+    alloc: Global,
+    keep: &mut K,
+    slices: &mut Vec<Known>,
+    owners: &[OwnerRow],
+) -> Result<Vec<Edge>, KeepFault>
+    ensures reads { (first : K) → HaveRead K.meaning first keep.old → IsReading K.meaning first keep.new result }
+    ensures kept { IsKept K.meaning keep.old keep.new }
+    ensures same { slices.new.items ≡ slices.old.items }
+    ensures told { OverHeld K.meaning keep.old keep.new (λ c. IfOf c slices.old.items (c.owners ≡ owners.now → IfOk result (λ edges. AreEdges (IsEdgeOfSome c) edges.items))) }
+{
+    let mut edges = Vec::new(alloc);
+    add_edges(alloc, keep, slices, &Name::house(), &mut edges)?;
+    for row in owners {
+        add_edges(alloc, keep, slices, &row.owner, &mut edges)?;
+    }
+    put_in_order(&mut edges);
+    Ok(edges)
+}
+
+// Adds the edges of the owner.
+fn add_edges<K: Keep>(
+    alloc: Global,
+    keep: &mut K,
+    slices: &mut Vec<Known>,
+    owner: &Name,
+    edges: &mut Vec<Edge>,
+) -> Result<(), KeepFault>
+    ensures reads { (first : K) → HaveRead K.meaning first keep.old → IsReading K.meaning first keep.new result }
+    ensures kept { IsKept K.meaning keep.old keep.new }
+    ensures same { slices.new.items ≡ slices.old.items }
+    ensures added { OverHeld K.meaning keep.old keep.new (λ c. IfOf c slices.old.items (OnOk result (AreMore (c.rows owner.now) edges.old.items edges.new.items))) }
+{
+    match own_edges(alloc, keep, slices, owner) {
+        Ok(own) => match edges.extend_from_slice(&own) {
+            Ok(()) => Ok(()),
+            Err(_) => Err(KeepFault::Memory),
+        },
+        Err(fault) => Err(fault),
+    }
+}
+
+// The edges of the owner.
+fn own_edges<K: Keep>(
+    alloc: Global,
+    keep: &mut K,
+    slices: &mut Vec<Known>,
+    owner: &Name,
+) -> Result<Vec<Edge>, KeepFault>
+    ensures reads { (first : K) → HaveRead K.meaning first keep.old → IsReading K.meaning first keep.new result }
+    ensures kept { IsKept K.meaning keep.old keep.new }
+    ensures same { slices.new.items ≡ slices.old.items }
+    ensures told { OverHeld K.meaning keep.old keep.new (λ c. IfOf c slices.old.items (IfOk result (λ edges. AreEdges (IsEdge (c.rows owner.now)) edges.items))) }
+{
+    match remembered_edges(alloc, slices, owner) {
+        Some(told) => match told {
+            Ok(edges) => Ok(edges),
+            Err(_) => Err(KeepFault::Memory),
+        },
+        None => edges_once(alloc, keep, owner),
+    }
+}
+
+// The same by a slice that is read and let go.
+fn edges_once<K: Keep>(alloc: Global, keep: &mut K, owner: &Name) -> Result<Vec<Edge>, KeepFault>
+    ensures reading { IsReading K.meaning keep.old keep.new result }
+    ensures reads { OverHeld K.meaning keep.old keep.new (λ c. OnlyKnownHaveRows c → IfOk result (λ edges. AreEdges (IsEdge (c.rows owner.now)) edges.items)) }
+{
+    match keep.slice(alloc, owner) {
+        Ok(Some(slice)) => match edges_in(alloc, slice) {
+            Ok(edges) => Ok(edges),
+            Err(_) => Err(KeepFault::Memory),
+        },
+        Ok(None) => Ok(Vec::new(alloc)),
+        Err(fault) => Err(fault),
+    }
+}
+
+fn edges_in(alloc: Global, read: Slice) -> Result<Vec<Edge>, AllocError>
+    ensures { IfOk result (λ edges. AreEdges (IsEdge read) edges.items) }
+{
+    edges_of(alloc, &read)
+}
