@@ -1,5 +1,5 @@
 -- What a text reads of a database, whatever its tables are.
-use Rattle.std.proofs.Common.{◌≡◌, ◌≢◌, ◌⊎◌, inl, inr, ℕ, true, false, List, [], Option, None, Ok, Err, Result, IfOk, IfErr, refl, sym, ap, subst, ◌∙◌}
+use Rattle.std.proofs.Common.{◌≡◌, ◌≢◌, ◌⊎◌, inl, inr, ℕ, true, false, List, [], None, Ok, Err, Result, IfOk, IfErr, refl, sym, ap, subst, ◌∙◌}
 use Rattle.sqlite.specs.Clock.{timed}
 use Rattle.sqlite.specs.Effect.{Database, RefusesToRead}
 use Rattle.sqlite.specs.Order.{Row}
@@ -12,12 +12,15 @@ use Rattle.sqlite_resolve.specs.declared.compiled.Compiled.{Compiled}
 use Rattle.sqlite_resolve.specs.declared.error.CompileError.{CompileError}
 use Rattle.sqlite_trees.specs.declared.error.StoreError.{StoreError}
 use Rattle.sqlite_trees.specs.declared.error.StoreError.TheVariants.{OutOfMemory, Io, Corrupt, Full, Broken, Unstorable}
-use Rattle.toll_sql.specs.Asked.{AreReadBy, IsUnreadBy, IsWholeText}
+use Rattle.toll_sql.specs.Asked.{AreReadBy, AreReadWith, IsUnreadBy, IsWholeText}
 use Rattle.toll_sql.specs.Causes.{is_disk_fault}
 
-pub read_by : (sql : List ℕ) (old new : State) (rows : List Row) → Shown sql [] old new rows → AreReadBy old.now sql rows
+pub read_with : (sql : List ℕ) (params : Row) (old new : State) (rows : List Row) → Shown sql params old new rows → AreReadWith old.now sql params rows
 unfolding Shown
-read_by sql old new rows h = (h.0, h.1.is, λ none. let it = (rw none at h.2) in (it.0, it.1, (h.1.now, it.2)))
+read_with sql params old new rows h = (h.0, h.1.is, λ none. let it = (rw none at h.2) in (it.0, it.1, (h.1.now, it.2)))
+
+pub read_by : (sql : List ℕ) (old new : State) (rows : List Row) → Shown sql [] old new rows → AreReadBy old.now sql rows
+read_by sql old new rows h = read_with sql [] old new rows h
 
 abbrev IsOther : Error → Type 0
 IsOther e = (e ≢ SqliteFailure code.OutOfMemory) × (is_disk_fault e ≡ false)

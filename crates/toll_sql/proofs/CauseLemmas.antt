@@ -12,6 +12,7 @@ use Rattle.sqlite_resolve.specs.declared.compiled.Compiled.{Compiled}
 use Rattle.sqlite.specs.State.{State, Fails, HasCause as StoreCause, store_error, IsNoStatement, IsNotRun, RunsCommand, RunsAlone, ExecutesIn, ExecutesInside, shows_rows, mode_of, text_of, Survives, HasCleanDisk}
 use Rattle.sqlite.specs.Steps.{FailsToCommit}
 use Rattle.toll_sql.specs.Causes.{IsCaused, is_disk_fault, Reason}
+use Rattle.toll_sql.proofs.Refusals.{doing}
 
 module _ (old new : State) where
   told : (U : Type 0) (e : Error) (kind : StoreError) → e ≡ store_error kind → IsTrue (is_disk_fault e) → StoreCause old new U kind → Reason old new
@@ -19,7 +20,7 @@ module _ (old new : State) where
   told U e Io is d h = inl h
   told U e Corrupt is d h = inl h
   told U e Full is d h = inl h
-  told U e Broken is d h = inr (inl h)
+  told U e Broken is d h = inr h
   told U e Unstorable is d h = absurd (let f : false ≡ true = sym (ap is_disk_fault is) ∙ d in cc)
 
   failed : (U : Type 0) (e : Error) → Fails old new U e → IsCaused old new e
@@ -44,7 +45,7 @@ module _ (old new : State) where
   pub command : (sql : List ℕ) (params : Row) (e : Error) (c : Compiled) → RunsCommand old new sql c params (Err e) → IsCaused old new e
   command sql params e c (inl h) = elim h.0 [
     | inl m ↦ elim m [ inl a ↦ other e _ a.0 refl | inr b ↦ other e _ b.0 refl ]
-    | inr does ↦ λ d. inr (inr (e, d, inl (old.step_limit, mode_of old, params, old.now, text_of sql c, c.returning, c.command, does.1)))
+    | inr does ↦ (λ d. absurd (let f : false ≡ true = sym (doing old.step_limit (mode_of old) params old.now (text_of sql c) c.returning c.command e does.1) ∙ d in cc))
   ]
   command sql params e c (inr h) = failed _ e h
 
@@ -76,14 +77,13 @@ module _ (old new : State) where
 -- a cause that came later is one from before
 pub reason_before : (a b c : State) (P Q : Trees → Type 0) → Survives a b P → Survives b c Q → HasCleanDisk c → Reason b c → Reason a c
 reason_before a b c P Q s t clean (inl more) = inl (omega (arith, more, s.counts))
-reason_before a b c P Q s t clean (inr (inl shut)) = elim (cases_Bool a.is_open) [
+reason_before a b c P Q s t clean (inr shut) = elim (cases_Bool a.is_open) [
   | inl was ↦ (let dirty : HasCleanDisk b = omega (arith, clean, t.clean) in elim (s.closes dirty was) [
     | inl live ↦ absurd (let f : false ≡ true = sym shut ∙ live in cc)
     | inr more ↦ inl (omega (arith, more, t.counts))
   ])
-  | inr not ↦ inr (inl not)
+  | inr not ↦ inr not
 ]
-reason_before a b c P Q s t clean (inr (inr it)) = inr (inr it)
 
 pub reason_after : (a b c : State) (Q : Trees → Type 0) → Survives b c Q → Reason a b → Reason a c
 reason_after a b c Q t (inl more) = inl (omega (arith, more, t.counts))

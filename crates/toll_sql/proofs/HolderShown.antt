@@ -42,7 +42,7 @@ use Rattle.toll_sql.specs.Select.{plain_query}
 use Rattle.toll_sql.specs.Tables.{ours, tree_of}
 use Rattle.toll_sql.specs.Valid.{IsBatch}
 use Rattle.toll_sql.specs.declared.table_kind.TableKind.TheVariants.{Batches}
-use Rattle.toll_sql.proofs.AskedTexts.{unit_text}
+use Rattle.toll_sql.specs.AskedTexts.{unit_text}
 use Rattle.toll_sql.proofs.JoinTests.{equals, texts_same, text_itself, numbers_same, number_itself, both}
 use Rattle.toll_sql.proofs.MemberRows.{AreRows, rows_kept, seen, under, named_owner}
 use Rattle.toll_sql.proofs.Orders.{batches_order}

@@ -16,7 +16,7 @@ use Rattle.sqlite_sql.specs.declared.ops.CompareOp.TheVariants.{Eq, Le}
 use Rattle.sqlite_tied.specs.Compute.{everything}
 use Rattle.toll_sql.specs.Tables.{ours, tree_of}
 use Rattle.toll_sql.specs.declared.table_kind.TableKind.TheVariants.{Moves, Voids}
-use Rattle.toll_sql.proofs.AskedTexts.{owners_text, all_text}
+use Rattle.toll_sql.specs.AskedTexts.{owners_text, all_text}
 
 abbrev same : Term → Term → Term
 same a b = op2 (Compare Eq Binary) a b

@@ -2,8 +2,10 @@ pub mod SelectLemmas
 pub mod TableLemmas
 pub mod Calls
 pub mod PutCommon
+pub mod Refusals
 pub mod CauseLemmas
 pub mod QueryLemmas
+pub mod OpenLemmas
 pub mod UpsertLemmas
 pub mod TextLemmas
 pub mod PutTexts
@@ -46,7 +48,6 @@ pub mod LookLemmas
 pub mod ReadOn
 pub mod ListLemmas
 pub mod KeepLemmas
-pub mod AskedTexts
 pub mod JoinQuery
 pub mod JoinRows
 pub mod MemberRows

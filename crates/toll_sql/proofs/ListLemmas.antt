@@ -1,5 +1,5 @@
 -- Stored rows listed as they are read.
-use Rattle.std.proofs.Common.{◌≡◌, ℕ, zero, suc, ◌+◌, ◌<◌, Bool, true, false, cond, ◌||◌, List, [], ◌∷◌, ◌++◌, map, take, length, get_or, Option, Some, is_some, refl, sym, ap, subst, ◌∙◌, arith, Ordering}
+use Rattle.std.proofs.Common.{◌≡◌, ℕ, zero, suc, ◌+◌, ◌<◌, ◌≤◌, Bool, true, false, cond, ◌||◌, List, [], ◌∷◌, ◌++◌, map, take, length, get_or, Option, Some, is_some, refl, sym, ap, subst, ◌∙◌, arith, Ordering}
 use Rattle.std.specs.List.{AllByRecursion, list_any}
 use Rattle.std.specs.Ordering.{is_eq}
 use Rattle.std.proofs.lemmas.List.{get_or-map, length-map, take_more}
@@ -45,6 +45,31 @@ module _ {X : Type 0} (k : TableKind) (cells : X → Row) (is_valid : X → Type
       take_all : (xs : List X) → take (length xs) xs ≡ xs
       take_all [] = refl
       take_all (x ∷ xs) = ap (λ ys. x ∷ ys) (take_all xs)
+
+-- ---- one more row
+
+map_more : {X Y : Type 0} (f : X → Y) (xs : List X) (x : X) → map f (xs ++ x ∷ []) ≡ map f xs ++ f x ∷ []
+map_more f [] x = refl
+map_more f (y ∷ ys) x = ap (λ zs. f y ∷ zs) (map_more f ys x)
+
+pub more_shown : {X : Type 0} (cells : X → Row) (show : Row → Row) (rows : List Row) (i : ℕ) → i < length rows → (row : Row) → row ≡ get_or rows i row → (listed : List X) (x : X) → map cells listed ≡ map show (take i rows) → show row ≡ cells x
+    → map cells (listed ++ x ∷ []) ≡ map show (take (i + 1) rows)
+more_shown cells show rows i lt row is listed x so_far read =
+    map_more cells listed x
+    ∙ ap (λ zs. zs ++ cells x ∷ []) so_far
+    ∙ ap (λ z. map show (take i rows) ++ z ∷ []) (sym read ∙ ap show is)
+    ∙ sym (map_more show (take i rows) (get_or rows i row))
+    ∙ ap (map show) (sym (take_more rows i row lt))
+
+pub more_valid : {X : Type 0} (P : X → Type 0) (xs : List X) (x : X) → AllByRecursion P xs → P x → AllByRecursion P (xs ++ x ∷ [])
+more_valid P [] x all it = (it, tt)
+more_valid P (y ∷ ys) x all it = (all.0, more_valid P ys x all.1 it)
+
+pub take_past : {X : Type 0} (xs : List X) (i : ℕ) → length xs ≤ i → take i xs ≡ xs
+take_past [] zero past = refl
+take_past [] (suc i) past = refl
+take_past (x ∷ xs) zero past = absurd (omega (arith, past))
+take_past (x ∷ xs) (suc i) past = ap (λ ys. x ∷ ys) (take_past xs i (omega (arith, past)))
 
 -- ---- a row with the key is there
 

@@ -1,5 +1,5 @@
 -- What a query does to a connection, whatever its text and the schema are.
-use Rattle.std.proofs.Common.{◌≡◌, inl, inr, ℕ, List, Option, None, Some, Ok, Err, Result, IsTrue, IfOk, IfErr, OnOk, sym, ◌∙◌}
+use Rattle.std.proofs.Common.{◌≡◌, inl, inr, ℕ, true, false, List, Option, None, Some, Ok, Err, Result, IsTrue, IfOk, IfErr, OnOk, sym, ◌∙◌}
 use Rattle.sqlite.specs.declared.error.Error.{Error}
 use Rattle.sqlite.specs.Order.{Row}
 use Rattle.sqlite_schema.specs.declared.command.Returning.{Returning}
@@ -7,6 +7,7 @@ use Rattle.sqlite_resolve.specs.declared.compiled.Compiled.{Compiled}
 use Rattle.sqlite.specs.State.{State, Fails, IsNotRun, RunsCommand, FailsToQuery, FailsToShow, IsUnchanged, Shown, ShowsRows}
 use Rattle.toll_sql.specs.Causes.{IsCaused}
 use Rattle.toll_sql.proofs.CauseLemmas.{not_run, command}
+use Rattle.toll_sql.proofs.Refusals.{reading}
 
 module _ (old new : State) where
   abbrev pub IsOpen : Type 0
@@ -36,10 +37,10 @@ module _ (old new : State) where
   stopped sql c params e (inr h) = failed _ e h
 
   unshown : (sql : List ℕ) (c : Compiled) (params : Row) (e : Error) (r : Option Returning) → FailsToShow old new sql c params e r → Stays × IsCaused old new e
-  unshown sql c params e None h = (unchanged h.3, λ d. inr (inr (e, d, inr (old.step_limit, c.command, h.0, params, h.2))))
+  unshown sql c params e None h = (unchanged h.3, λ d. absurd (let f : false ≡ true = sym (reading old.step_limit c.command h.0 params e h.2) ∙ d in cc))
   unshown sql c params e (Some what) h = (stopped sql c params e h, command old new sql params e c h)
 
-  missed : (sql : List ℕ) (params : Row) (e : Error) → IsNotRun old new sql params e → Stays
+  pub missed : (sql : List ℕ) (params : Row) (e : Error) → IsNotRun old new sql params e → Stays
   unfolding IsNotRun
   missed sql params e (inl h) = unchanged h.1
   missed sql params e (inr h) = failed ⊥ e h

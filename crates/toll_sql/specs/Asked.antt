@@ -9,10 +9,14 @@ use Rattle.sqlite_resolve.specs.declared.compiled.Compiled.{Compiled}
 use Rattle.toll_sql.specs.Tables.{select_text}
 use Rattle.toll_sql.specs.declared.table_kind.TableKind.TheVariants.{Meta}
 
--- the text, without parameters, reads these rows of the database; RETURNING, which no SELECT has, is left out
+-- the text, with these parameters, reads these rows of the database; RETURNING, which no SELECT has, is left out
+abbrev pub AreReadWith : Database → List ℕ → Row → List Row → Type 0
+AreReadWith db sql params rows =
+    (c : Compiled) × (understood db.schema sql ≡ Ok c) × (c.returning ≡ None → (source : Database) × IsSourceOf (reads_listing db.schema sql) db source × ((now : ℕ) × Reads c.command source (timed params c.formats now) rows))
+
+-- and without parameters
 abbrev pub AreReadBy : Database → List ℕ → List Row → Type 0
-AreReadBy db sql rows =
-    (c : Compiled) × (understood db.schema sql ≡ Ok c) × (c.returning ≡ None → (source : Database) × IsSourceOf (reads_listing db.schema sql) db source × ((now : ℕ) × Reads c.command source (timed [] c.formats now) rows))
+AreReadBy db sql rows = AreReadWith db sql [] rows
 
 -- the text is one statement that has no parameters and reads no time
 pub record IsWholeText (sql : List ℕ) (c : Compiled) : Type 0 where

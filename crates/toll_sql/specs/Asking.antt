@@ -27,3 +27,9 @@ pub record IsLooking {X : Type 0} (old new : State) (result : Result X KeepFault
   pub cause : HasCleanDisk new → result ≡ Err Disk → Reason old new
   pub unclosed : result ≢ Err Closed
   pub damaged : HasCleanDisk new → result ≡ Err Damaged → IsTrue new.is_open
+
+-- the store was asked whether it lies open, and for nothing else
+pub record IsFinding (old new : State) (result : Result (Unit {0}) KeepFault) : Type 0 where
+  pub looks : IsLooking old new result
+  pub undamaged : result ≢ Err Damaged
+  pub survives : Survives old new (λ _. ⊥)

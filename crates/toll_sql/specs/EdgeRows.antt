@@ -1,9 +1,11 @@
 -- Rows that show edges of genealogy.
-use Rattle.std.specs.Prelude.{◌≡◌, ◌≢◌, List, [], ◌∷◌, map, Contains}
+use Rattle.std.specs.Prelude.{◌≡◌, ◌≢◌, ℕ, List, [], ◌∷◌, map, Contains}
+use Rattle.sqlite.specs.Effect.{Database}
 use Rattle.sqlite.specs.Order.{Row}
 use Rattle.sqlite.specs.declared.types.Value.TheVariants.{Text}
 use Rattle.toll_base.specs.Lots.{edge_cmp}
 use Rattle.toll_base.specs.declared.lot.Edge.{Edge}
+use Rattle.toll_sql.specs.Asked.{AreReadWith}
 use Rattle.toll_sql.specs.Cells.{columns_from}
 use Rattle.toll_sql.specs.Valid.{IsLotId}
 use Rattle.toll_trace.specs.InOrder.{IsInOrder}
@@ -34,3 +36,7 @@ pub record AreReadFrom (rows : List Row) (edges : List Edge) : Type 0 where
   pub read : List Edge
   pub cells : map edge_cells read ≡ map (columns_from 0 4) rows
   pub in_order : IsInOrder edge_cmp read edges
+
+-- they are those of all rows that the text reads, by sqlite's own account of it
+abbrev pub AreEdgesOf : Database → List ℕ → Row → List Edge → Type 0
+AreEdgesOf db text params edges = (rows : List Row) × AreReadWith db text params rows × AreReadFrom rows edges

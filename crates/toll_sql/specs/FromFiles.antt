@@ -1,7 +1,7 @@
 -- A keep over the files that a path names.
 use Rattle.std.specs.Prelude.{◌≡◌, ◌⊎◌, Bool, true, false, None, Option, Result, IfSome, IsTrue}
 use Rattle.sqlite.specs.Closing.{IsCopied}
-use Rattle.sqlite.specs.Files.{FailsToOpenFiles, IsCleanLeft, IsClosed, IsOpened, LeavesFiles, file_state}
+use Rattle.sqlite.specs.Files.{FailsToOpenFiles, IsBlankAs, IsCleanLeft, IsClosed, IsOpened, LeavesFiles, file_state}
 use Rattle.sqlite.specs.Held.{Held, IsNew}
 use Rattle.sqlite.specs.Opening.{is_open_error}
 use Rattle.sqlite.specs.Start.{FindsIn}
@@ -42,10 +42,12 @@ pub record IsUnopened {D : Type 0} {g : Ghosts D} (e : Error) (left : Option (Le
   pub none : left ≡ None → (e ≡ SqliteFailure code.CannotOpen) ⊎ ((e ≡ SqliteFailure code.OutOfMemory) ⊎ (e ≡ SqliteFailure code.DatabaseBusy))
   pub some : IfSome left (λ rest. (files : Files D) × (IsCleanLeft rest → FailsToOpenFiles files rest e × LeavesFiles files rest))
 
--- a connection was opened that finds what the files hold
+-- a connection was opened that finds what the files hold, tests what it reads later, and gives a new file no sums
 pub record IsOpenedFrom {D : Type 0} {g : Ghosts D} (image : Image) (opened : Held (FileStore D g)) : Type 0 where
   pub fresh : IsNew opened
   pub found : HasCleanDisk (file_state opened) → IsOpened opened × FindsIn image (file_state opened)
+  pub sums : HasCleanDisk (file_state opened) → IsBlankAs false image → (view opened.store).has_sums ≡ false
+  pub guarded : HasCleanDisk (file_state opened) → (file_state opened).IsShielded
 
 -- the files could not be opened: by sqlite's own account, of which the fault tells what it is told as
 abbrev pub IsUnopenedFrom : {D : Type 0} (g : Ghosts D) → OpenFault → Type 0

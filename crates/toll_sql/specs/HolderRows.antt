@@ -1,5 +1,6 @@
 -- Rows that show the batch that holds a unit.
-use Rattle.std.specs.Prelude.{◌≡◌, ◌≢◌, pos, Option, Some, None, IsTrue, List, [], ◌∷◌, Contains}
+use Rattle.std.specs.Prelude.{◌≡◌, ◌≢◌, ℕ, pos, Option, Some, None, IsTrue, List, [], ◌∷◌, Contains}
+use Rattle.sqlite.specs.Effect.{Database}
 use Rattle.sqlite.specs.Order.{Row}
 use Rattle.sqlite.specs.declared.types.Value.TheVariants.{Int, Text}
 use Rattle.toll_base.specs.Bytes.{Bytes}
@@ -7,6 +8,7 @@ use Rattle.toll_base.specs.Values.{is_name, IsBatchNo}
 use Rattle.toll_keep.specs.Content.{Content}
 use Rattle.toll_keep.specs.Holding.{IsHolder}
 use Rattle.toll_keep.specs.declared.holder.Holder.{Holder}
+use Rattle.toll_sql.specs.Asked.{AreReadWith}
 use Rattle.toll_sql.specs.Cells.{columns_from}
 
 -- the batch's owner, its order and its number
@@ -36,3 +38,7 @@ ShowsNoHolder row = (h : Holder) → IsNamedHolder h → columns_from 0 3 row �
 -- one of the rows is such
 abbrev pub HasNoHolder : List Row → Type 0
 HasNoHolder rows = (row : Row) × Contains rows row × ShowsNoHolder row
+
+-- it is shown by one of the rows that the text reads, by sqlite's own account of it; or it reads none
+abbrev pub IsHolderOf : Database → List ℕ → Row → Option Holder → Type 0
+IsHolderOf db text params holder = (rows : List Row) × AreReadWith db text params rows × IsShownIn rows holder

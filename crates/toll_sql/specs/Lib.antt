@@ -16,8 +16,10 @@ pub mod Causes
 pub mod Moves
 pub mod Rows
 pub mod Asked
+pub mod AskedTexts
 pub mod Asking
 pub mod Stores
+pub mod Meant
 pub mod Reading
 pub mod Laws
 pub mod First

@@ -1,16 +1,21 @@
 -- Stored rows that are rows of the office.
-use Rattle.std.specs.Prelude.{◌≡◌, List, [], ◌∷◌, map, Result, OnOk}
+use Rattle.std.specs.Prelude.{◌≡◌, ◌||◌, false, is_some, List, [], ◌∷◌, map, Result, OnOk}
 use Rattle.std.specs.List.{AllByRecursion}
+use Rattle.sqlite.specs.Effect.{Database}
 use Rattle.sqlite.specs.Order.{Row, column}
 use Rattle.sqlite.specs.State.{State, HasCleanDisk}
 use Rattle.sqlite.specs.Tree.{Trees}
 use Rattle.sqlite.specs.declared.types.Value.TheVariants.{Text}
-use Rattle.toll_base.specs.Bytes.{Bytes}
+use Rattle.toll_base.specs.Bytes.{Bytes, bytes_cmp, same_bytes}
+use Rattle.toll_base.specs.Table.{row_at}
+use Rattle.toll_base.specs.Values.{house_name}
+use Rattle.toll_base.specs.declared.rows.OwnerRow.{OwnerRow}
 use Rattle.toll_keep.specs.declared.fault.KeepFault.{KeepFault}
+use Rattle.toll_sql.specs.Asked.{AreReadBy}
 use Rattle.toll_sql.specs.Bag.{owned_by}
 use Rattle.toll_sql.specs.Cells.{columns_from}
 use Rattle.toll_sql.specs.Encode.{material_cells, test_cells, recipe_cells, requirement_cells, order_cells, batch_cells, lot_cells, sublot_cells, move_cells, result_cells, void_cells}
-use Rattle.toll_sql.specs.Tables.{ours, tree_of, width_of}
+use Rattle.toll_sql.specs.Tables.{ours, select_text, tree_of, width_of}
 use Rattle.toll_sql.specs.Valid.{IsMaterial, IsTest, IsRecipe, IsRequirement, IsOrder, IsBatch, IsLot, IsSublot, IsMovement, IsResult, IsVoid}
 use Rattle.toll_sql.specs.declared.table_kind.TableKind.{TableKind}
 use Rattle.toll_sql.specs.declared.table_kind.TableKind.TheVariants.{Meta, Owners, Units, Materials, Tests, Recipes, Requirements, Orders, Batches, Lots, Sublots, Moves, Results, Voids}
@@ -47,6 +52,17 @@ tables_of_owners = Materials ∷ Tests ∷ Recipes ∷ Requirements ∷ Orders �
 -- tables that are ours, with nothing pending: where an answer was given, each stored row of the owner in these is a row of the office
 abbrev pub Shows : {X : Type 0} → List TableKind → Bytes → State → State → Result X KeepFault → Type 0
 Shows kinds o old new result = HasCleanDisk new → old.now.schema ≡ ours → old.now ≡ old.committed → OnOk result (AllByRecursion (AreRowsIn o old.now.trees) kinds)
+
+-- the rows told are those that sqlite's own account of the table's text gives, each of them, with values of their kinds
+pub record AreTold {X : Type 0} (k : TableKind) (cells : X → Row) (is_valid : X → Type 0) (db : Database) (told : List X) : Type 0 where
+  pub rows : List Row
+  pub read : AreReadBy db (select_text k) rows
+  pub shown : map cells told ≡ map (columns_from 0 (width_of k)) rows
+  pub valid : AllByRecursion is_valid told
+
+-- the owner is not HOUSE, and none of these names it
+abbrev pub IsUnknown : List OwnerRow → Bytes → Type 0
+IsUnknown owners o = (same_bytes o house_name || is_some (row_at bytes_cmp (λ row. row.owner) owners o)) ≡ false
 
 -- the rows are this owner's
 abbrev pub AreOwnedBy : Bytes → List Row → Type 0

@@ -3,14 +3,27 @@ ghost use Rattle.std.specs.Prelude.{◌≡◌, true, false, IfOk};
 ghost use Rattle.sqlite.specs.Held.{state};
 ghost use Rattle.sqlite.specs.State.{HasCleanDisk};
 ghost use Rattle.toll_sql.specs.Asked.{AreReadBy};
-ghost use Rattle.toll_sql.specs.Asking.{IsQuerying};
+ghost use Rattle.toll_sql.specs.Asking.{IsFinding, IsQuerying};
 ghost use Rattle.toll_sql.specs.Rows.{AreOfOwner, AreAll};
 ghost use Rattle.toll_sql.specs.Tables.{ours, is_owned, select_text};
 
+use crate::fault::fault_of;
 use crate::table_kind::TableKind;
 use sqlite::types::ValueRef;
 use sqlite::{Alter, Connection, Error, Row};
 use toll_base::Name;
+use toll_keep::KeepFault;
+
+/// Asks whether the store lies open, and reads nothing: Disk where it has shut itself, Memory where there
+/// is none to ask it.
+pub fn find_open<S: Alter>(conn: &mut Connection<S>) -> Result<(), KeepFault>
+    ensures { IsFinding (state S.Store conn.old) (state S.Store conn.new) result }
+{
+    match conn.prepare("") {
+        Ok(_statement) => Ok(()),
+        Err(error) => Err(fault_of(error)),
+    }
+}
 
 /// The owner's rows of the table, in the order of its key.
 pub fn owners_rows<S: Alter>(

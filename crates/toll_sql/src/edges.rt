@@ -1,13 +1,16 @@
 //! The genealogy of batches, asked of the tables.
-ghost use Rattle.std.specs.Prelude.{◌≡◌, ◌≢◌, Err, map, IfOk};
+ghost use Rattle.std.specs.Prelude.{◌≡◌, ◌≢◌, [], ◌∷◌, Err, map, IfOk};
 ghost use Rattle.sqlite.specs.Held.{state};
+ghost use Rattle.sqlite.specs.declared.types.Value.TheVariants.{Text};
 ghost use Rattle.sqlite.specs.State.{HasCleanDisk};
 ghost use Rattle.toll_trace.specs.Edges.{AreEdges, IsEdge};
 ghost use Rattle.toll_keep.specs.Content.{Content};
 ghost use Rattle.toll_keep.specs.Holding.{IsEdgeOfSome};
+ghost use Rattle.toll_sql.specs.Asked.{AreReadWith};
+ghost use Rattle.toll_sql.specs.AskedTexts.{all_text, owners_text};
 ghost use Rattle.toll_sql.specs.Asking.{IsLooking, IsQuerying};
 ghost use Rattle.toll_sql.specs.Cells.{columns_from};
-ghost use Rattle.toll_sql.specs.EdgeRows.{AreReadFrom, HasNoEdge, ShowEdges, edge_cells};
+ghost use Rattle.toll_sql.specs.EdgeRows.{AreEdgesOf, AreReadFrom, HasNoEdge, ShowEdges, edge_cells};
 ghost use Rattle.toll_sql.specs.Stores.{HoldsIn};
 
 use crate::edge_cells::edge_at;
@@ -21,7 +24,8 @@ use toll_trace::put_in_order;
 
 /// The genealogy of an owner's own batches, in order, each edge once: empty for an unknown owner.
 ///
-/// Memory and Disk are faults of the store; Damaged is a row that shows no two lots with names.
+/// Memory and Disk are faults of the store; Damaged is a row that shows no two lots with names. The edges are
+/// those of all rows that the store gives, whatever its tables have.
 pub fn read_edges<S: Alter>(
     conn: &mut Connection<S>,
     alloc: Global,
@@ -29,6 +33,7 @@ pub fn read_edges<S: Alter>(
 ) -> Result<Vec<Edge>, KeepFault>
     ensures looks { IsLooking (state S.Store conn.old) (state S.Store conn.new) result }
     ensures reads { HasCleanDisk (state S.Store conn.new) → (c : Content) → HoldsIn (state S.Store conn.old) c → IfOk result (λ edges. AreEdges (IsEdge (c.rows owner.now)) edges.items) }
+    ensures shown { HasCleanDisk (state S.Store conn.new) → IfOk result (λ edges. AreEdgesOf (state S.Store conn.old).now owners_text (Text owner.now ∷ []) edges.items) }
     ensures whole { HasCleanDisk (state S.Store conn.new) → (c : Content) → HoldsIn (state S.Store conn.old) c → result ≢ Err KeepFault.Damaged }
 {
     match owners_pairs(conn, owner) {
@@ -39,13 +44,15 @@ pub fn read_edges<S: Alter>(
 
 /// The genealogy of all batches, in order, each edge once.
 ///
-/// Memory and Disk are faults of the store; Damaged is a row that shows no two lots with names.
+/// Memory and Disk are faults of the store; Damaged is a row that shows no two lots with names. The edges are
+/// those of all rows that the store gives, whatever its tables have.
 pub fn read_all_edges<S: Alter>(
     conn: &mut Connection<S>,
     alloc: Global,
 ) -> Result<Vec<Edge>, KeepFault>
     ensures looks { IsLooking (state S.Store conn.old) (state S.Store conn.new) result }
     ensures reads { HasCleanDisk (state S.Store conn.new) → (c : Content) → HoldsIn (state S.Store conn.old) c → IfOk result (λ edges. AreEdges (IsEdgeOfSome c) edges.items) }
+    ensures shown { HasCleanDisk (state S.Store conn.new) → IfOk result (λ edges. AreEdgesOf (state S.Store conn.old).now all_text [] edges.items) }
     ensures whole { HasCleanDisk (state S.Store conn.new) → (c : Content) → HoldsIn (state S.Store conn.old) c → result ≢ Err KeepFault.Damaged }
 {
     match all_pairs(conn) {
@@ -58,6 +65,7 @@ pub fn read_all_edges<S: Alter>(
 // consumption's segment not above the production's.
 fn owners_pairs<S: Alter>(conn: &mut Connection<S>, owner: &Name) -> Result<Vec<Row>, Error>
     ensures asks { IsQuerying (state S.Store conn.old) (state S.Store conn.new) result }
+    ensures read { HasCleanDisk (state S.Store conn.new) → IfOk result (λ rows. AreReadWith (state S.Store conn.old).now owners_text (Text owner.now ∷ []) rows.items) }
     ensures rows { HasCleanDisk (state S.Store conn.new) → (c : Content) → HoldsIn (state S.Store conn.old) c → IfOk result (λ rows. ShowEdges (IsEdge (c.rows owner.now)) rows.items) }
 {
     conn.query_all(
@@ -69,6 +77,7 @@ fn owners_pairs<S: Alter>(conn: &mut Connection<S>, owner: &Name) -> Result<Vec<
 // The same of the batches of all owners.
 fn all_pairs<S: Alter>(conn: &mut Connection<S>) -> Result<Vec<Row>, Error>
     ensures asks { IsQuerying (state S.Store conn.old) (state S.Store conn.new) result }
+    ensures read { HasCleanDisk (state S.Store conn.new) → IfOk result (λ rows. AreReadWith (state S.Store conn.old).now all_text [] rows.items) }
     ensures rows { HasCleanDisk (state S.Store conn.new) → (c : Content) → HoldsIn (state S.Store conn.old) c → IfOk result (λ rows. ShowEdges (IsEdgeOfSome c) rows.items) }
 {
     conn.query_all(

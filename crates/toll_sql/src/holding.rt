@@ -1,12 +1,15 @@
 //! The batch that holds a unit, asked of the tables.
-ghost use Rattle.std.specs.Prelude.{◌≡◌, ◌≢◌, Err, None, IfOk, IfSome};
+ghost use Rattle.std.specs.Prelude.{◌≡◌, ◌≢◌, [], ◌∷◌, Err, None, IfOk, IfSome};
 ghost use Rattle.sqlite.specs.Held.{state};
+ghost use Rattle.sqlite.specs.declared.types.Value.TheVariants.{Text};
 ghost use Rattle.sqlite.specs.State.{HasCleanDisk};
 ghost use Rattle.toll_keep.specs.Content.{Content};
 ghost use Rattle.toll_keep.specs.Holding.{IsHolder};
+ghost use Rattle.toll_sql.specs.Asked.{AreReadWith};
+ghost use Rattle.toll_sql.specs.AskedTexts.{unit_text};
 ghost use Rattle.toll_sql.specs.Asking.{IsLooking, IsQuerying};
 ghost use Rattle.toll_sql.specs.Cells.{columns_from};
-ghost use Rattle.toll_sql.specs.HolderRows.{HasNoHolder, IsShownIn, ShowHolders, ShowsNoHolder, holder_cells};
+ghost use Rattle.toll_sql.specs.HolderRows.{HasNoHolder, IsHolderOf, IsShownIn, ShowHolders, ShowsNoHolder, holder_cells};
 ghost use Rattle.toll_sql.specs.Stores.{HoldsIn};
 
 use crate::cells::{bounded_at, name_at};
@@ -18,13 +21,15 @@ use toll_keep::{Holder, KeepFault};
 
 /// The batch that holds the unit, of any owner: `None` where none does.
 ///
-/// Memory and Disk are faults of the store; Damaged is a row that names no batch.
+/// Memory and Disk are faults of the store; Damaged is a row that names no batch. The batch is that of a row
+/// that the store gives, and where none is told it gives none, whatever its tables have.
 pub fn read_holder<S: Alter>(
     conn: &mut Connection<S>,
     unit: &Name,
 ) -> Result<Option<Holder>, KeepFault>
     ensures looks { IsLooking (state S.Store conn.old) (state S.Store conn.new) result }
     ensures reads { HasCleanDisk (state S.Store conn.new) → (c : Content) → HoldsIn (state S.Store conn.old) c → IfOk result (IsHolder c unit.now) }
+    ensures shown { HasCleanDisk (state S.Store conn.new) → IfOk result (IsHolderOf (state S.Store conn.old).now unit_text (Text unit.now ∷ [])) }
     ensures whole { HasCleanDisk (state S.Store conn.new) → (c : Content) → HoldsIn (state S.Store conn.old) c → result ≢ Err KeepFault.Damaged }
 {
     match open_batches(conn, unit) {
@@ -36,6 +41,7 @@ pub fn read_holder<S: Alter>(
 // The batches on the unit that are not closed, of all owners.
 fn open_batches<S: Alter>(conn: &mut Connection<S>, unit: &Name) -> Result<Vec<Row>, Error>
     ensures asks { IsQuerying (state S.Store conn.old) (state S.Store conn.new) result }
+    ensures read { HasCleanDisk (state S.Store conn.new) → IfOk result (λ rows. AreReadWith (state S.Store conn.old).now unit_text (Text unit.now ∷ []) rows.items) }
     ensures rows { HasCleanDisk (state S.Store conn.new) → (c : Content) → HoldsIn (state S.Store conn.old) c → IfOk result (λ rows. ShowHolders c unit.now rows.items) }
 {
     conn.query_all(

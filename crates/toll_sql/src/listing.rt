@@ -5,10 +5,15 @@ ghost use Rattle.sqlite.specs.State.{HasCleanDisk};
 ghost use Rattle.std.specs.List.{AllByRecursion};
 ghost use Rattle.toll_keep.specs.Content.{Content};
 ghost use Rattle.toll_sql.specs.Asking.{IsLooking};
+ghost use Rattle.toll_sql.specs.Cells.{columns_from};
+ghost use Rattle.toll_sql.specs.Encode.{owner_cells, unit_cells};
 ghost use Rattle.toll_sql.specs.Holds.{HasRows};
+ghost use Rattle.toll_sql.specs.Shown.{AreTold};
 ghost use Rattle.toll_sql.specs.StoredLaws.{StandAlone};
 ghost use Rattle.toll_sql.specs.Stores.{HoldsIn};
-ghost use Rattle.toll_sql.specs.Tables.{ours, tree_of};
+ghost use Rattle.toll_sql.specs.Tables.{ours, tree_of, width_of};
+ghost use Rattle.toll_sql.specs.Valid.{IsOwner, IsUnit};
+ghost use Rattle.toll_sql.specs.declared.table_kind.TableKind.TheVariants.{Owners, Units};
 
 use crate::asking::all_rows;
 use crate::fault::fault_of;
@@ -18,25 +23,29 @@ use std::alloc::Global;
 use toll_base::{OwnerRow, UnitRow};
 use toll_keep::KeepFault;
 
-/// The owners besides HOUSE, in the order of their names.
+/// The owners besides HOUSE, in the order of their names: each row that the store gives, whatever its
+/// tables have. A row that is none of the office's is Damaged.
 pub fn read_owners<S: Alter>(
     conn: &mut Connection<S>,
     alloc: Global,
 ) -> Result<Vec<OwnerRow>, KeepFault>
     ensures looks { IsLooking (state S.Store conn.old) (state S.Store conn.new) result }
     ensures reads { HasCleanDisk (state S.Store conn.new) → (c : Content) → HoldsIn (state S.Store conn.old) c → IfOk result (λ rows. rows.items ≡ c.owners) }
+    ensures shown { HasCleanDisk (state S.Store conn.new) → IfOk result (λ rows. AreTold Owners owner_cells IsOwner (state S.Store conn.old).now rows.items) }
     ensures whole { HasCleanDisk (state S.Store conn.new) → (c : Content) → HoldsIn (state S.Store conn.old) c → result ≢ Err KeepFault.Damaged }
 {
     read_all::<S, OwnerRow>(conn, alloc)
 }
 
-/// The units, in the order of their names.
+/// The units, in the order of their names: each row that the store gives, whatever its tables have. A row
+/// that is none of the office's is Damaged.
 pub fn read_units<S: Alter>(
     conn: &mut Connection<S>,
     alloc: Global,
 ) -> Result<Vec<UnitRow>, KeepFault>
     ensures looks { IsLooking (state S.Store conn.old) (state S.Store conn.new) result }
     ensures reads { HasCleanDisk (state S.Store conn.new) → (c : Content) → HoldsIn (state S.Store conn.old) c → IfOk result (λ rows. rows.items ≡ c.units) }
+    ensures shown { HasCleanDisk (state S.Store conn.new) → IfOk result (λ rows. AreTold Units unit_cells IsUnit (state S.Store conn.old).now rows.items) }
     ensures whole { HasCleanDisk (state S.Store conn.new) → (c : Content) → HoldsIn (state S.Store conn.old) c → result ≢ Err KeepFault.Damaged }
 {
     read_all::<S, UnitRow>(conn, alloc)
@@ -49,6 +58,7 @@ fn read_all<S: Alter, X: PlantRow>(
 ) -> Result<Vec<X>, KeepFault>
     ensures looks { StandAlone X.kind X.cells X.is_valid → IsLooking (state S.Store conn.old) (state S.Store conn.new) result }
     ensures reads { StandAlone X.kind X.cells X.is_valid → HasCleanDisk (state S.Store conn.new) → (state S.Store conn.old).now.schema ≡ ours → (l : List X) → HasRows X.kind (map X.cells l) ((state S.Store conn.old).now.trees (tree_of X.kind)) → AllByRecursion X.is_valid l → IfOk result (λ rows. rows.items ≡ l) }
+    ensures shown { HasCleanDisk (state S.Store conn.new) → IfOk result (λ rows. AreTold X.kind X.cells X.is_valid (state S.Store conn.old).now rows.items) }
     ensures whole { StandAlone X.kind X.cells X.is_valid → HasCleanDisk (state S.Store conn.new) → (state S.Store conn.old).now.schema ≡ ours → (l : List X) → HasRows X.kind (map X.cells l) ((state S.Store conn.old).now.trees (tree_of X.kind)) → AllByRecursion X.is_valid l → result ≢ Err KeepFault.Damaged }
 {
     match all_rows(conn, X::table()) {
@@ -60,6 +70,7 @@ fn read_all<S: Alter, X: PlantRow>(
 // The rows that these stored ones are.
 fn list_rows<X: PlantRow>(alloc: Global, rows: &[Stored]) -> Result<Vec<X>, KeepFault>
     ensures reads { StandAlone X.kind X.cells X.is_valid → (l : List X) → rows.now ≡ map X.cells l → AllByRecursion X.is_valid l → IfOk result (λ listed. listed.items ≡ l) }
+    ensures shown { IfOk result (λ listed. (map X.cells listed.items ≡ map (columns_from 0 (width_of X.kind)) rows.now) × AllByRecursion X.is_valid listed.items) }
     ensures whole { StandAlone X.kind X.cells X.is_valid → (l : List X) → rows.now ≡ map X.cells l → AllByRecursion X.is_valid l → result ≢ Err KeepFault.Damaged }
     ensures disk { result ≢ Err KeepFault.Disk }
     ensures closed { result ≢ Err KeepFault.Closed }

@@ -1,5 +1,5 @@
 //! A keep made over a store, and given back.
-ghost use Rattle.std.specs.Prelude.{◌≡◌, false, IfOk, IfErr, OnOk};
+ghost use Rattle.std.specs.Prelude.{◌≡◌, false, Err, codes, IfOk, IfErr, OnOk};
 ghost use Rattle.sqlite.specs.Held.{state};
 ghost use Rattle.sqlite.specs.Steps.{over_memory};
 ghost use Rattle.sqlite_wal.specs.Files.{image_at};
@@ -30,6 +30,7 @@ impl<S: Alter> SqlKeep<S> {
             Ok(()) => Ok(SqlKeep {
                 conn,
                 closed: false,
+                unsure: true,
             }),
             Err(fault) => Err((fault, conn)),
         }
@@ -48,6 +49,7 @@ impl<S: Alter> SqlKeep<S> {
             Ok(()) => Ok(SqlKeep {
                 conn,
                 closed: false,
+                unsure: true,
             }),
             Err(fault) => Err((fault, conn)),
         }
@@ -57,7 +59,11 @@ impl<S: Alter> SqlKeep<S> {
     pub fn into_connection(self) -> Connection<S>
         ensures { result ≡ self.conn }
     {
-        let SqlKeep { conn, closed: _ } = self;
+        let SqlKeep {
+            conn,
+            closed: _,
+            unsure: _,
+        } = self;
         conn
     }
 }
@@ -72,6 +78,7 @@ impl SqlKeep<MemStore> {
         Ok(SqlKeep {
             conn,
             closed: false,
+            unsure: true,
         })
     }
 }
@@ -90,14 +97,15 @@ impl<D: Disk + Drop> SqlKeep<FileStore<D>> {
 impl<S: Start> SqlKeep<FileStore<FileFrom<S>>> {
     /// A keep of the file: a `fresh` one has no tables yet, and they are made; else they are adopted.
     /// `start` stands for what the file holds. Memory where there is none, Disk where the file can't be
-    /// opened, NotOurs where it is no database; the other faults are those of [`SqlKeep::create`] and
-    /// [`SqlKeep::adopt`].
+    /// opened (the path `:memory:` names none), NotOurs where it is no database; the other faults are those
+    /// of [`SqlKeep::create`] and [`SqlKeep::adopt`].
     pub fn open_from(
         rt: &HostRuntime,
         path: &str,
         fresh: bool,
         start: S,
     ) -> Result<SqlKeep<FileStore<FileFrom<S>>>, OpenFault>
+        ensures memory { path.now ≡ codes ":memory:" → result ≡ Err OpenFault.Disk }
         ensures made { IfOk result (λ keep. IsKeptFrom fresh (image_at S.Start) keep.conn × (keep.closed ≡ false)) }
         ensures refused { IfErr result (IsRefusedFrom ⟦<FileFrom<S> as Disk>⟧ fresh (image_at S.Start)) }
     {
@@ -128,6 +136,7 @@ fn connect<S: Start>(
     path: &str,
     start: S,
 ) -> Result<Connection<FileStore<FileFrom<S>>>, OpenFault>
+    ensures memory { path.now ≡ codes ":memory:" → result ≡ Err OpenFault.Disk }
     ensures opened { IfOk result (IsOpenedFrom (image_at S.Start)) }
     ensures unopened { IfErr result (IsUnopenedFrom ⟦<FileFrom<S> as Disk>⟧) }
 {

@@ -1,19 +1,22 @@
 //! All rows of an owner, read from the tables.
-ghost use Rattle.std.specs.Prelude.{◌≡◌, ◌≢◌, ◌||◌, [], ◌∷◌, Err, IfOk, IfSome, is_some};
+ghost use Rattle.std.specs.Prelude.{◌≡◌, ◌≢◌, ◌||◌, List, [], ◌∷◌, None, Err, IfOk, IfSome, is_some};
 ghost use Rattle.sqlite.specs.Held.{state};
 ghost use Rattle.sqlite.specs.State.{HasCleanDisk};
 ghost use Rattle.std.specs.List.{AllByRecursion, list_any};
 ghost use Rattle.toll_base.specs.Bytes.{bytes_cmp, same_bytes};
 ghost use Rattle.toll_base.specs.Table.{row_at};
 ghost use Rattle.toll_base.specs.Values.{house_name};
+ghost use Rattle.toll_base.specs.declared.rows.OwnerRow.{OwnerRow as Owner};
 ghost use Rattle.toll_keep.specs.Content.{Content, ContentKeepsRules, slice_of};
 ghost use Rattle.toll_sql.specs.Asking.{IsLooking};
+ghost use Rattle.toll_sql.specs.Encode.{owner_cells};
 ghost use Rattle.toll_sql.specs.Fronts.{front};
 ghost use Rattle.toll_sql.specs.Reading.{ReadsOn};
-ghost use Rattle.toll_sql.specs.Shown.{AreRowsIn, Shows, tables_of_owners};
+ghost use Rattle.toll_sql.specs.Shown.{AreRowsIn, AreTold, IsUnknown, Shows, tables_of_owners};
 ghost use Rattle.toll_sql.specs.Stores.{HoldsIn};
 ghost use Rattle.toll_sql.specs.Tables.{ours};
-ghost use Rattle.toll_sql.specs.declared.table_kind.TableKind.TheVariants.{Materials, Tests, Recipes, Requirements, Orders, Batches, Lots, Sublots, Moves, Results, Voids};
+ghost use Rattle.toll_sql.specs.Valid.{IsOwner};
+ghost use Rattle.toll_sql.specs.declared.table_kind.TableKind.TheVariants.{Owners, Materials, Tests, Recipes, Requirements, Orders, Batches, Lots, Sublots, Moves, Results, Voids};
 
 use crate::listing::read_owners;
 use crate::reading::read_table;
@@ -27,7 +30,7 @@ use toll_keep::KeepFault;
 
 /// All rows of an owner: `None` for an unknown one. HOUSE is always known. Where rows are given, each that
 /// the tables have of the owner is a row of the office, its values values of their kinds: one that is none
-/// is Damaged.
+/// is Damaged. And an owner is told to be unknown only where no row that the store gives of owners names it.
 pub fn read_slice<S: Alter>(
     conn: &mut Connection<S>,
     alloc: Global,
@@ -36,6 +39,7 @@ pub fn read_slice<S: Alter>(
     ensures looks { IsLooking (state S.Store conn.old) (state S.Store conn.new) result }
     ensures reads { HasCleanDisk (state S.Store conn.new) → (c : Content) → HoldsIn (state S.Store conn.old) c → IfOk result (λ slice. slice ≡ slice_of c owner.now) }
     ensures shown { HasCleanDisk (state S.Store conn.new) → (state S.Store conn.old).now.schema ≡ ours → (state S.Store conn.old).now ≡ (state S.Store conn.old).committed → IfOk result (λ slice. IfSome slice (λ _. AllByRecursion (AreRowsIn owner.now (state S.Store conn.old).now.trees) tables_of_owners)) }
+    ensures known { HasCleanDisk (state S.Store conn.new) → IfOk result (λ slice. slice ≡ None → (owners : List Owner) × AreTold Owners owner_cells IsOwner (state S.Store conn.old).now owners × IsUnknown owners owner.now) }
     ensures whole { HasCleanDisk (state S.Store conn.new) → (c : Content) → HoldsIn (state S.Store conn.old) c → ContentKeepsRules c → result ≢ Err KeepFault.Damaged }
 {
     let owners = read_owners(conn, alloc)?;

@@ -1,11 +1,11 @@
 //! The keep over SQLite.
-ghost use Rattle.std.specs.Prelude.{◌≡◌, ◌≢◌, Err, false, None, IsTrue};
+ghost use Rattle.std.specs.Prelude.{◌≡◌, ◌≢◌, Err, true, false, None, IsTrue, OnOk};
 ghost use Rattle.sqlite.specs.Held.{state};
 ghost use Rattle.sqlite.specs.State.{HasCleanDisk};
-ghost use Rattle.toll_keep.specs.Goes.{closes};
-ghost use Rattle.toll_sql.specs.Causes.{HasCause};
-ghost use Rattle.toll_sql.specs.Stores.{HoldsIn, LeavesIn, LiesOpen};
+ghost use Rattle.toll_keep.specs.Goes.{closes, IsReading};
+ghost use Rattle.toll_sql.specs.Meant.{means};
 
+use crate::asking::find_open;
 use crate::edges::{read_all_edges, read_edges};
 use crate::holding::read_holder;
 use crate::listing::{read_owners, read_units};
@@ -22,13 +22,38 @@ use toll_keep::{Holder, Keep, KeepFault};
 pub struct SqlKeep<S: Alter> {
     pub(crate) conn: Connection<S>,
     pub(crate) closed: bool,
+    // Whether the store lies open is not known: nothing was answered yet, or the last call met a fault.
+    pub(crate) unsure: bool,
     ghost idle: { conn.in_transaction ≡ false },
     ghost unlimited: { conn.step_limit ≡ None },
+    ghost sure: { unsure ≡ false → HasCleanDisk (state S.Store conn) → IsTrue (state S.Store conn).is_open },
 }
 
 impl<S: Alter> SqlKeep<S> {
+    // What each call does first: a closed keep answers Closed, and where it isn't known whether the store
+    // lies open, that is asked.
+    fn begin(&mut self) -> Result<(), KeepFault>
+        ensures unsure { OnOk result (self.new.unsure ≡ true) }
+        ensures reading { IsReading (means (λ k. state S.Store k.conn) (λ k. k.closed)) self.old self.new result }
+    {
+        if self.closed {
+            return Err(KeepFault::Closed);
+        }
+        if !self.unsure {
+            self.unsure = true;
+            return Ok(());
+        }
+        let found = find_open(&mut self.conn);
+        self.closed = match &found {
+            Ok(()) | Err(KeepFault::Memory) => false,
+            Err(_) => true,
+        };
+        found
+    }
+
     // Passes the answer on, and is closed from now on where it is a fault of the disk or damage.
     fn told<X>(&mut self, answer: Result<X, KeepFault>) -> Result<X, KeepFault>
+        requires { HasCleanDisk (state S.Store self.old.conn) → OnOk answer (IsTrue (state S.Store self.old.conn).is_open) }
         ensures same { result ≡ answer }
         ensures conn { self.new.conn ≡ self.old.conn }
         ensures closed { self.new.closed ≡ closes answer }
@@ -37,75 +62,83 @@ impl<S: Alter> SqlKeep<S> {
             Ok(_) | Err(KeepFault::Memory) => false,
             Err(_) => true,
         };
+        self.unsure = answer.is_err();
         answer
     }
 }
 
 impl<S: Alter> Keep for SqlKeep<S> {
-    ghost meaning = { record {
-      holds = λ k c. LiesOpen (state S.Store k.conn) → HoldsIn (state S.Store k.conn) c;
-      is_honest = λ k. HasCleanDisk (state S.Store k.conn);
-      is_closed = λ k. k.closed;
-      is_live = λ k. LiesOpen (state S.Store k.conn);
-      has_cause = λ old new. HasCause (state S.Store old.conn) (state S.Store new.conn);
-      leaves = λ k cs. LeavesIn (state S.Store k.conn) cs;
-    } };
+    ghost meaning = { means (λ k. state S.Store k.conn) (λ k. k.closed) };
 
     fn slice(&mut self, alloc: Global, owner: &Name) -> Result<Option<Slice>, KeepFault> {
-        if self.closed {
-            return Err(KeepFault::Closed);
+        match self.begin() {
+            Ok(()) => {
+                let read = read_slice(&mut self.conn, alloc, owner);
+                self.told(read)
+            }
+            Err(fault) => Err(fault),
         }
-        let read = read_slice(&mut self.conn, alloc, owner);
-        self.told(read)
     }
 
     fn owners(&mut self, alloc: Global) -> Result<Vec<OwnerRow>, KeepFault> {
-        if self.closed {
-            return Err(KeepFault::Closed);
+        match self.begin() {
+            Ok(()) => {
+                let read = read_owners(&mut self.conn, alloc);
+                self.told(read)
+            }
+            Err(fault) => Err(fault),
         }
-        let read = read_owners(&mut self.conn, alloc);
-        self.told(read)
     }
 
     fn units(&mut self, alloc: Global) -> Result<Vec<UnitRow>, KeepFault> {
-        if self.closed {
-            return Err(KeepFault::Closed);
+        match self.begin() {
+            Ok(()) => {
+                let read = read_units(&mut self.conn, alloc);
+                self.told(read)
+            }
+            Err(fault) => Err(fault),
         }
-        let read = read_units(&mut self.conn, alloc);
-        self.told(read)
     }
 
     fn holder(&mut self, _alloc: Global, unit: &Name) -> Result<Option<Holder>, KeepFault> {
-        if self.closed {
-            return Err(KeepFault::Closed);
+        match self.begin() {
+            Ok(()) => {
+                let read = read_holder(&mut self.conn, unit);
+                self.told(read)
+            }
+            Err(fault) => Err(fault),
         }
-        let read = read_holder(&mut self.conn, unit);
-        self.told(read)
     }
 
     fn edges(&mut self, alloc: Global, owner: &Name) -> Result<Vec<Edge>, KeepFault> {
-        if self.closed {
-            return Err(KeepFault::Closed);
+        match self.begin() {
+            Ok(()) => {
+                let read = read_edges(&mut self.conn, alloc, owner);
+                self.told(read)
+            }
+            Err(fault) => Err(fault),
         }
-        let read = read_edges(&mut self.conn, alloc, owner);
-        self.told(read)
     }
 
     fn all_edges(&mut self, alloc: Global) -> Result<Vec<Edge>, KeepFault> {
-        if self.closed {
-            return Err(KeepFault::Closed);
+        match self.begin() {
+            Ok(()) => {
+                let read = read_all_edges(&mut self.conn, alloc);
+                self.told(read)
+            }
+            Err(fault) => Err(fault),
         }
-        let read = read_all_edges(&mut self.conn, alloc);
-        self.told(read)
     }
 
     // All or none: one transaction.
     fn apply(&mut self, _alloc: Global, changes: &[Change]) -> Result<(), KeepFault> {
-        if self.closed {
-            return Err(KeepFault::Closed);
+        match self.begin() {
+            Ok(()) => {
+                let made = make_changes(&mut self.conn, changes);
+                self.told(made)
+            }
+            Err(fault) => Err(fault),
         }
-        let made = make_changes(&mut self.conn, changes);
-        self.told(made)
     }
 
     ghost use Rattle.toll_keep.specs.Goes.{among-more};

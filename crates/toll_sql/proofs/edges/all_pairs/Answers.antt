@@ -2,8 +2,9 @@ use Rattle.std.proofs.Common.{[]}
 use Rattle.std.proofs.lemmas.Result.{IfOk-weaker}
 use Rattle.sqlite.specs.Held.{state}
 use Rattle.toll_sql.proofs.AskLemmas.{querying}
+use Rattle.toll_sql.proofs.AskedLemmas.{read_with}
 use Rattle.toll_sql.proofs.EdgesShown.{all_shown}
-use Rattle.toll_sql.proofs.AskedTexts.{all_text}
+use Rattle.toll_sql.specs.AskedTexts.{all_text}
 use Rattle.toll_sql.proofs.JoinQuery.{all_plain, all_answered}
 use Rattle.toll_sql.proofs.edges.all_pairs.Goals as goal
 
@@ -17,3 +18,9 @@ returns-clause-rows g c clean content held =
     let old = state g.S.Store c.args.conn.now in
     let new = state g.S.Store c.query_all.new.self in
     IfOk-weaker c.query_all.result _ _ (λ rows h. all_shown old.now.trees content held.rows rows.items (all_answered old new held.ours.schema [] rows.items h)) (c.query_all.ensures.ok clean)
+
+pub returns-clause-read : goal.returns-clause-read
+returns-clause-read g c clean =
+    let old = state g.S.Store c.args.conn.now in
+    let new = state g.S.Store c.query_all.new.self in
+    IfOk-weaker c.query_all.result _ _ (λ rows h. read_with all_text [] old new rows.items h) (c.query_all.ensures.ok clean)

@@ -4,8 +4,9 @@ use Rattle.sqlite.specs.Held.{state}
 use Rattle.sqlite.specs.State.{Shown}
 use Rattle.sqlite.specs.declared.types.Value.TheVariants.{Text}
 use Rattle.toll_sql.proofs.AskLemmas.{querying}
+use Rattle.toll_sql.proofs.AskedLemmas.{read_with}
 use Rattle.toll_sql.proofs.EdgesShown.{owners_shown}
-use Rattle.toll_sql.proofs.AskedTexts.{owners_text}
+use Rattle.toll_sql.specs.AskedTexts.{owners_text}
 use Rattle.toll_sql.proofs.JoinQuery.{owners_plain, owners_answered}
 use Rattle.toll_sql.proofs.edges.owners_pairs.Goals as goal
 
@@ -21,3 +22,11 @@ returns-clause-rows g c clean content held =
     let new = state g.S.Store c.query_all.new.self in
     let shown = subst (λ o. IfOk c.query_all.result (λ rows. Shown owners_text (Text o ∷ []) old new rows.items)) c.as_bytes.ensures.bytes (c.query_all.ensures.ok clean) in
     IfOk-weaker c.query_all.result _ _ (λ rows h. owners_shown old.now.trees content held.rows o rows.items (owners_answered old new held.ours.schema (Text o ∷ []) rows.items h)) shown
+
+pub returns-clause-read : goal.returns-clause-read
+returns-clause-read g c clean =
+    let o = c.args.owner.now in
+    let old = state g.S.Store c.args.conn.now in
+    let new = state g.S.Store c.query_all.new.self in
+    let shown = subst (λ o. IfOk c.query_all.result (λ rows. Shown owners_text (Text o ∷ []) old new rows.items)) c.as_bytes.ensures.bytes (c.query_all.ensures.ok clean) in
+    IfOk-weaker c.query_all.result _ _ (λ rows h. read_with owners_text (Text o ∷ []) old new rows.items h) shown

@@ -1,4 +1,5 @@
 use Rattle.std.proofs.Common.{IfOk, subst}
+use Rattle.std.proofs.lemmas.Result.{IfOk-weaker}
 use Rattle.sqlite.specs.Held.{state}
 use Rattle.toll_sql.specs.EdgeRows.{AreReadFrom, HasNoEdge}
 use Rattle.toll_sql.specs.declared.table_kind.TableKind.TheVariants.{Moves}
@@ -19,3 +20,8 @@ pub returns-in-Ok-clause-whole : goal.returns-in-Ok-clause-whole
 returns-in-Ok-clause-whole g c clean content held is =
     let s = content.rows c.args.owner.now in
     each_named (IsEdge s) c.in-Ok.rows.items (c.in-Ok.ensures.rows clean content held) (edge_named s ((held.rows.slices c.args.owner.now).valid Moves)) (subst HasNoEdge c.deref.ensures.value (c.edges_shown.ensures.damaged is))
+
+pub returns-in-Ok-clause-shown : goal.returns-in-Ok-clause-shown
+returns-in-Ok-clause-shown g c clean =
+    let r = c.edges_shown.result in
+    IfOk-weaker r _ _ (λ edges it. (c.in-Ok.rows.items, c.in-Ok.ensures.read clean, it)) (subst (λ rows. IfOk r (λ edges. AreReadFrom rows edges.items)) c.deref.ensures.value c.edges_shown.ensures.read)

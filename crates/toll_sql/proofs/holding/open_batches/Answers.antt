@@ -4,7 +4,8 @@ use Rattle.sqlite.specs.Held.{state}
 use Rattle.sqlite.specs.State.{Shown}
 use Rattle.sqlite.specs.declared.types.Value.TheVariants.{Text}
 use Rattle.toll_sql.proofs.AskLemmas.{querying}
-use Rattle.toll_sql.proofs.AskedTexts.{unit_text}
+use Rattle.toll_sql.proofs.AskedLemmas.{read_with}
+use Rattle.toll_sql.specs.AskedTexts.{unit_text}
 use Rattle.toll_sql.proofs.HolderShown.{unit_plain, unit_answered, holders_shown}
 use Rattle.toll_sql.proofs.holding.open_batches.Goals as goal
 
@@ -20,3 +21,11 @@ returns-clause-rows g c clean content held =
     let new = state g.S.Store c.query_all.new.self in
     let shown = subst (λ u. IfOk c.query_all.result (λ rows. Shown unit_text (Text u ∷ []) old new rows.items)) c.as_bytes.ensures.bytes (c.query_all.ensures.ok clean) in
     IfOk-weaker c.query_all.result _ _ (λ rows h. holders_shown old.now.trees content held.rows unit rows.items (unit_answered old new held.ours.schema (Text unit ∷ []) rows.items h)) shown
+
+pub returns-clause-read : goal.returns-clause-read
+returns-clause-read g c clean =
+    let unit = c.args.unit.now in
+    let old = state g.S.Store c.args.conn.now in
+    let new = state g.S.Store c.query_all.new.self in
+    let shown = subst (λ u. IfOk c.query_all.result (λ rows. Shown unit_text (Text u ∷ []) old new rows.items)) c.as_bytes.ensures.bytes (c.query_all.ensures.ok clean) in
+    IfOk-weaker c.query_all.result _ _ (λ rows h. read_with unit_text (Text unit ∷ []) old new rows.items h) shown

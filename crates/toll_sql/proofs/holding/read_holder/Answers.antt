@@ -1,4 +1,5 @@
 use Rattle.std.proofs.Common.{IfOk, subst}
+use Rattle.std.proofs.lemmas.Result.{IfOk-weaker}
 use Rattle.sqlite.specs.Held.{state}
 use Rattle.toll_sql.specs.HolderRows.{HasNoHolder, IsShownIn}
 use Rattle.toll_sql.proofs.HolderShown.{each_named, read_from}
@@ -16,3 +17,8 @@ returns-in-Ok-clause-reads g c clean content held =
 pub returns-in-Ok-clause-whole : goal.returns-in-Ok-clause-whole
 returns-in-Ok-clause-whole g c clean content held is =
     each_named content c.args.unit.now c.in-Ok.rows.items (c.in-Ok.ensures.rows clean content held) (subst HasNoHolder c.deref.ensures.value (c.first_holder.ensures.damaged is))
+
+pub returns-in-Ok-clause-shown : goal.returns-in-Ok-clause-shown
+returns-in-Ok-clause-shown g c clean =
+    let r = c.first_holder.result in
+    IfOk-weaker r _ _ (λ holder it. (c.in-Ok.rows.items, c.in-Ok.ensures.read clean, it)) (subst (λ rows. IfOk r (IsShownIn rows)) c.deref.ensures.value c.first_holder.ensures.read)

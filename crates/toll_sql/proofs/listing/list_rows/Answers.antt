@@ -1,20 +1,36 @@
-use Rattle.std.proofs.Common.{◌∙◌, rules}
-use Rattle.toll_sql.proofs.ListLemmas.{it, it_is, it_valid, read_it, with_it}
+use Rattle.std.proofs.Common.{◌∙◌, ap, map, rules}
+use Rattle.toll_sql.specs.Cells.{columns_from}
+use Rattle.toll_sql.specs.Tables.{width_of}
+use Rattle.toll_sql.proofs.ListLemmas.{it, it_is, it_valid, more_shown, more_valid, read_it, take_past, with_it}
 use Rattle.toll_sql.proofs.listing.list_rows.Goals as goal
 
 pub loop-row-preserved : goal.loop-row-preserved
-loop-row-preserved g c = λ alone l are valid.
+loop-row-preserved g c =
     let X = g.X.PlantRow in
     let i = c.loop-row.row-index in
     let lt = c.loop-row-test.true in
     let rows = c.args.rows.now in
-    let is = c.row-item.is ∙ it_is X.kind X.cells X.is_valid alone l rows are valid i lt c.row-item.result in
-    let same = read_it X.kind X.cells X.is_valid alone l rows are valid i lt c.row-item.result c.in-Some.it is c.in-Some.ensures.valid c.in-Some.ensures.some in
-    let more = with_it X.kind X.cells X.is_valid alone l rows are valid i lt c.loop-row.listed.items c.in-Some.it (c.loop-row.invariant alone l are valid) same in
     let pushed = c.push.ensures.items in
     let went = c.if-is_err.false in
     let told = c.is_err.ensures in
-    search rules
+    record {
+      reads = λ alone l are valid.
+          let is = c.row-item.is ∙ it_is X.kind X.cells X.is_valid alone l rows are valid i lt c.row-item.result in
+          let same = read_it X.kind X.cells X.is_valid alone l rows are valid i lt c.row-item.result c.in-Some.it is c.in-Some.ensures.valid c.in-Some.ensures.some in
+          let more = with_it X.kind X.cells X.is_valid alone l rows are valid i lt c.loop-row.listed.items c.in-Some.it (c.loop-row.invariant.reads alone l are valid) same in
+          search rules;
+      shown =
+          let more = more_shown X.cells (columns_from 0 (width_of X.kind)) rows i lt c.row-item.result c.row-item.is c.loop-row.listed.items c.in-Some.it c.loop-row.invariant.shown c.in-Some.ensures.some in
+          search rules;
+      valid =
+          let more = more_valid X.is_valid c.loop-row.listed.items c.in-Some.it c.loop-row.invariant.valid c.in-Some.ensures.valid in
+          search rules;
+    }
+
+pub returns-clause-shown : goal.returns-clause-shown
+returns-clause-shown g c =
+    let X = g.X.PlantRow in
+    (c.loop-row.invariant.shown ∙ ap (map (columns_from 0 (width_of X.kind))) (take_past c.args.rows.now c.loop-row.row-index c.loop-row-test.false), c.loop-row.invariant.valid)
 
 pub returns-in_default-clause-whole : goal.returns-in_default-clause-whole
 returns-in_default-clause-whole g c = λ alone l are valid.

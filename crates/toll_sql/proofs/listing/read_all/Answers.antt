@@ -1,7 +1,10 @@
-use Rattle.std.proofs.Common.{◌≡◌, false, map, sym, subst, ◌∙◌}
+use Rattle.std.proofs.Common.{◌≡◌, false, map, sym, ap, subst, ◌∙◌}
+use Rattle.std.proofs.lemmas.Result.{IfOk-weaker}
 use Rattle.sqlite.specs.Held.{state}
+use Rattle.toll_sql.specs.Asked.{AreReadBy}
+use Rattle.toll_sql.specs.Cells.{columns_from}
 use Rattle.toll_sql.specs.Rows.{AreAll}
-use Rattle.toll_sql.specs.Tables.{is_owned, tree_of}
+use Rattle.toll_sql.specs.Tables.{is_owned, select_text, tree_of, width_of}
 use Rattle.toll_sql.proofs.LookLemmas.{all_map, looking}
 use Rattle.toll_sql.proofs.ReadLemmas.{rows_read}
 use Rattle.toll_sql.proofs.listing.read_all.Goals as goal
@@ -28,3 +31,14 @@ returns-in-Ok-clause-whole g c alone clean has l held valid =
     let read = subst (λ k. AreAll k old.now.trees c.in-Ok.rows.items) c.table.ensures (c.in-Ok.ensures.rows own clean has) in
     let are = rows_read X.kind (old.now.trees (tree_of X.kind)) c.in-Ok.rows.items (map X.cells l) read held (all_map X.kind X.cells alone.fills l) in
     c.list_rows.ensures.whole alone l (c.deref.ensures.value ∙ are) valid
+
+pub returns-in-Ok-clause-shown : goal.returns-in-Ok-clause-shown
+returns-in-Ok-clause-shown g c clean =
+    let X = g.X.PlantRow in
+    let old = state g.S.Store c.args.conn.now in
+    IfOk-weaker c.list_rows.result _ _ (λ listed it. record {
+      rows = c.in-Ok.rows.items;
+      read = subst (λ k. AreReadBy old.now (select_text k) c.in-Ok.rows.items) c.table.ensures (c.in-Ok.ensures.read clean);
+      shown = it.0 ∙ ap (map (columns_from 0 (width_of X.kind))) c.deref.ensures.value;
+      valid = it.1;
+    }) c.list_rows.ensures.shown

@@ -1,8 +1,11 @@
-use Rattle.std.proofs.Common.{[], rules, Option, Ok, Err}
+use Rattle.std.proofs.Common.{[], rules, Option, Ok, Err, sym, subst, ◌∙◌}
 use Rattle.sqlite.specs.Held.{state}
 use Rattle.toll_base.specs.Slice.{Slice}
 use Rattle.toll_sql.specs.Asking.{IsLooking}
-use Rattle.toll_sql.specs.Shown.{tables_of_owners}
+use Rattle.toll_sql.specs.Encode.{owner_cells}
+use Rattle.toll_sql.specs.Shown.{AreTold, tables_of_owners}
+use Rattle.toll_sql.specs.Valid.{IsOwner}
+use Rattle.toll_sql.specs.declared.table_kind.TableKind.TheVariants.{Owners}
 use Rattle.toll_sql.proofs.ReadOn.{looks_then, looks_as, shows_then}
 use Rattle.toll_sql.proofs.slice_reading.read_slice.Goals as goal
 
@@ -31,3 +34,11 @@ returns-clause-shown g c =
     let one = state g.S.Store c.read_owners.new.conn in
     let two = state g.S.Store c.read_rows_of.new.conn in
     shows_then {Y = Slice} [] tables_of_owners c.args.owner.now old one two _ (Ok _) c.in_ok-owners.ensures.looks (λ clean has idle. tt) c.in_ok-slice.ensures.looks c.in_ok-slice.ensures.shown
+
+pub returns-then-not-is_known-clause-known : goal.returns-then-not-is_known-clause-known
+returns-then-not-is_known-clause-known g c clean none =
+    let old = state g.S.Store c.args.conn.now in
+    (c.deref.result.now, subst (λ owners. AreTold Owners owner_cells IsOwner old.now owners) (sym c.deref.ensures.value) (c.in_ok-owners.ensures.shown clean), sym c.is_known.ensures ∙ c.if-not-is_known.true)
+
+pub returns-clause-known : goal.returns-clause-known
+returns-clause-known g c clean none = absurd (cc none)

@@ -1,5 +1,5 @@
 -- The texts that ask for pairs of movements and for the batch on a unit.
-use Rattle.std.proofs.Common.{ℕ, List, codes}
+use Rattle.std.specs.Prelude.{ℕ, List, codes}
 
 -- pairs of one owner's movements
 abbrev pub owners_text : List ℕ

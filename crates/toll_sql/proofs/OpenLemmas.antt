@@ -1,0 +1,98 @@
+-- A store that is asked whether it lies open.
+use Rattle.std.proofs.Common.{◌≡◌, ◌⊎◌, inl, inr, ℕ, false, List, [], Ok, Err, Result, IsTrue, refl, arith}
+use Rattle.sqlite.proofs.StateLemmas.{survives_weaker}
+use Rattle.sqlite.specs.Order.{Row}
+use Rattle.sqlite.specs.State.{State, HasCleanDisk, IsNotRun, IsUnchanged, Survives}
+use Rattle.sqlite.specs.declared.error.Error.{Error}
+use Rattle.toll_keep.specs.declared.fault.KeepFault.{KeepFault}
+use Rattle.toll_keep.specs.declared.fault.KeepFault.TheVariants.{Memory, Disk, Damaged, Closed}
+use Rattle.toll_sql.specs.Asking.{IsFinding}
+use Rattle.toll_sql.specs.Causes.{is_disk_fault}
+use Rattle.toll_sql.proofs.CauseLemmas.{not_run}
+use Rattle.toll_sql.proofs.QueryLemmas.{missed}
+
+-- what an error is told as
+abbrev pub IsToldAs : Error → KeepFault → Type 0
+IsToldAs e fault = ((fault ≡ Memory) × (is_disk_fault e ≡ false)) ⊎ ((fault ≡ Disk) × IsTrue (is_disk_fault e))
+
+abbrev found : Result (Unit {0}) KeepFault
+found = Ok tt
+
+abbrev unfound : KeepFault → Result (Unit {0}) KeepFault
+unfound fault = Err fault
+
+disk_told : (e : Error) (fault : KeepFault) → IsToldAs e fault → fault ≡ Disk → IsTrue (is_disk_fault e)
+disk_told e fault (inl memory) is = absurd (let m = memory.0 in cc)
+disk_told e fault (inr disk) is = disk.1
+
+never_told : (e : Error) (fault : KeepFault) → IsToldAs e fault → (fault ≡ Closed) ⊎ (fault ≡ Damaged) → ⊥
+never_told e fault (inl memory) (inl is) = let m = memory.0 in cc
+never_told e fault (inl memory) (inr is) = let m = memory.0 in cc
+never_told e fault (inr disk) (inl is) = let d = disk.0 in cc
+never_told e fault (inr disk) (inr is) = let d = disk.0 in cc
+
+-- what was not asked stays as it is
+still : (s : State) → Survives s s (λ _. ⊥)
+still s = record {
+  clean = omega arith;
+  shield = λ h. h;
+  counts = omega arith;
+  limit = refl;
+  closes = λ _ live. inl live;
+  crash = λ _ db may. inl may;
+}
+
+pub found_still : (s : State) → (HasCleanDisk s → IsTrue s.is_open) → IsFinding s s found
+found_still s is = record {
+  looks = record {
+    asks = record {
+      live = λ _ live. live;
+      shown = is;
+      same = λ _ _ _ _. (refl, refl);
+      mode = λ outside. outside;
+      survives = survives_weaker s s (λ _. ⊥) _ (λ _ db h. absurd h) (still s);
+    };
+    cause = λ _ is. (cc);
+    unclosed = λ is. (cc);
+    damaged = λ _ is. (cc);
+  };
+  undamaged = λ is. (cc);
+  survives = still s;
+}
+
+module _ (old new : State) (mode : old.in_transaction ≡ false → new.in_transaction ≡ false) (survives : Survives old new (λ _. ⊥)) where
+  pub found_open : (HasCleanDisk new → IsUnchanged old new) → IsFinding old new found
+  found_open same = record {
+    looks = record {
+      asks = record {
+        live = λ clean _. (same clean).0.was_open;
+        shown = λ clean. (same clean).0.is_open;
+        same = λ clean _ _ _. ((same clean).0.now_is, (same clean).0.committed_is);
+        mode = mode;
+        survives = survives_weaker old new (λ _. ⊥) _ (λ _ db h. absurd h) survives;
+      };
+      cause = λ _ is. (cc);
+      unclosed = λ is. (cc);
+      damaged = λ _ is. (cc);
+    };
+    undamaged = λ is. (cc);
+    survives = survives;
+  }
+
+  pub not_found : (sql : List ℕ) (e : Error) (fault : KeepFault) → IsToldAs e fault → (HasCleanDisk new → (params : Row) → IsNotRun old new sql params e) → IsFinding old new (unfound fault)
+  not_found sql e fault told not = record {
+    looks = record {
+      asks = record {
+        live = λ clean live. (missed old new sql [] e (not clean [])).was_open live;
+        shown = λ _. tt;
+        same = λ clean _ live idle. (missed old new sql [] e (not clean [])).same live idle;
+        mode = mode;
+        survives = survives_weaker old new (λ _. ⊥) _ (λ _ db h. absurd h) survives;
+      };
+      cause = λ clean is. not_run old new sql [] e (not clean []) (disk_told e fault told (let same : fault ≡ Disk = cc in same));
+      unclosed = λ is. never_told e fault told (inl (let same : fault ≡ Closed = cc in same));
+      damaged = λ _ is. absurd (never_told e fault told (inr (let same : fault ≡ Damaged = cc in same)));
+    };
+    undamaged = λ is. never_told e fault told (inr (let same : fault ≡ Damaged = cc in same));
+    survives = survives;
+  }

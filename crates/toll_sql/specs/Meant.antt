@@ -1,0 +1,17 @@
+-- What the words of a keep mean of one whose rows are in a store of SQLite.
+use Rattle.std.specs.Prelude.{Bool}
+use Rattle.sqlite.specs.State.{State, HasCleanDisk}
+use Rattle.toll_keep.specs.Meaning.{Meaning}
+use Rattle.toll_sql.specs.Causes.{HasCause}
+use Rattle.toll_sql.specs.Stores.{HoldsIn, LeavesIn, LiesOpen}
+
+-- of a keep of which the store and the flag are given
+abbrev pub means : {K : Type 0} → (store : K → State) (closed : K → Bool) → Meaning K
+means store closed = record {
+  holds = λ k c. LiesOpen (store k) → HoldsIn (store k) c;
+  is_honest = λ k. HasCleanDisk (store k);
+  is_closed = closed;
+  is_live = λ k. LiesOpen (store k);
+  has_cause = λ old new. HasCause (store old) (store new);
+  leaves = λ k cs. LeavesIn (store k) cs;
+}
