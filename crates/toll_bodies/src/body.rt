@@ -1,9 +1,10 @@
 //! The body of a request for an order.
-ghost use Rattle.std.specs.Prelude.{◌≡◌, ◌≤◌, ℕ, List, IfOk, IfSome, codes, option_and_then, option_map};
+ghost use Rattle.std.specs.Prelude.{◌≡◌, ◌↔◌, ◌<◌, None, IfOk, IsErr, IsUtf8, OnErr, length};
+ghost use Rattle.serde_json.specs.Errors.{IsMemory};
 ghost use Rattle.serde_json.specs.View.{view};
 ghost use Rattle.toll_bodies.specs.Bodies.{AsksOrder, batches_at, name_at, order_in};
 
-use serde_json::Value;
+use serde_json::{Error, Value};
 use std::alloc::{AllocError, Global};
 use toll_base::{BatchNo, Name};
 
@@ -18,13 +19,30 @@ pub struct Placing {
 /// The order that a body asks for, if it asks for one: a JSON object (RFC 8259) with the members
 /// `order` and `recipe`, which are names, and `batches`, a number of batches from 1 to 99 without
 /// fraction or exponent. Of several members of one name the last counts.
+///
+/// Memory is wanted for what may be JSON: for no bytes, and for bytes that are no text, there is an answer.
 pub fn order_asked(alloc: Global, body: &[u8]) -> Result<Option<Placing>, AllocError>
-    ensures { IfOk result (AsksOrder body.now) }
+    ensures order { IfOk result (AsksOrder body.now) }
+    ensures memory { OnErr result (IsUtf8 body.now × (0 < length body.now)) }
 {
-    match Value::from_slice(alloc, body) {
+    let Ok(text) = str::from_utf8(body) else {
+        return Ok(None);
+    };
+    match Value::from_str(alloc, text) {
         Ok(value) => Ok(order_in(&value)),
-        Err(e) if e.is_memory() => Err(AllocError),
-        Err(_) => Ok(None),
+        Err(why) => unread(why),
+    }
+}
+
+// No order, unless it was for want of memory that nothing was read.
+fn unread(why: Error) -> Result<Option<Placing>, AllocError>
+    ensures memory { IsErr result ↔ IsMemory why }
+    ensures none { IfOk result (λ order. order ≡ None) }
+{
+    if why.is_memory() {
+        Err(AllocError)
+    } else {
+        Ok(None)
     }
 }
 

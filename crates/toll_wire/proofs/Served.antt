@@ -1,5 +1,5 @@
 -- Requests that are served, over any keep.
-use Rattle.std.proofs.Common.{◌≡◌, ℕ, Bool, true, false, ◌&&◌, cond, List, [], ◌∷◌, Some, None, Result, Ok, Err, IfOk, refl, sym, ap, subst}
+use Rattle.std.proofs.Common.{◌≡◌, ℕ, Bool, true, false, ◌&&◌, cond, List, [], ◌∷◌, Some, None, Result, Ok, Err, IfOk, refl, sym, ap, subst, inl, inr}
 use Rattle.std.specs.Global.{Vec}
 use Rattle.std.specs.Prelude.{◌≢◌, OnOk, OnErr, IsTrue, nat_eq, codes}
 use Rattle.std.specs.List.{starts_with}
@@ -18,7 +18,7 @@ use Rattle.toll_answers.specs.Told.{Asked, Told, TellForbidden, TellOrders, Tell
 use Rattle.toll_answers.specs.Replies.{has_key, IsReply, after_reply}
 use Rattle.toll_desk.specs.Plans.{finished, is_granted, may_change, writes, IsPlan, IsDone}
 use Rattle.toll_desk.specs.Reads.{Over}
-use Rattle.toll_desk.proofs.Calls.{goes_as, goes_fault, goes_memory}
+use Rattle.toll_keep.proofs.Calls.{Rests, goes_as, goes_fault, goes_memory, settles}
 use Rattle.toll_desk.proofs.Carried.{done_of, goes_on}
 use Rattle.toll_http.specs.Messages.{reply_text}
 use Rattle.toll_http.specs.declared.failure.Failure.{Failure}
@@ -100,6 +100,7 @@ module _ {K : Type 0} (meaning : Meaning K) where
     tells = so_of_reply out text (MayBeTold http (Nobody text)) is refl;
     goes = refl;
     honest = λ now. now;
+    settles = λ now lived c held. inl (lived, settled c now lived held);
     asks = λ now c held none. held;
     quiet = λ now c held not. held;
     served = λ now c H held stands lawful. none_to_do (meaning.holds k) (meaning.is_live k) (meaning.leaves k) c held H (outcome_of out) (IsTold http H (Nobody text)) stands (λ live. settled c now live held) (so_of_text out text (IsTold http H (Nobody text)) is refl);
@@ -110,6 +111,7 @@ module _ {K : Type 0} (meaning : Meaning K) where
     tells = so_of_reply out (text_of_failure Forbidden) (MayBeTold http (By o None asking)) is refl;
     goes = refl;
     honest = λ now. now;
+    settles = λ now lived c held. inl (lived, settled c now lived held);
     asks = λ now c held none. held;
     quiet = λ now c held not. held;
     served = λ now c H held stands lawful. none_to_do (meaning.holds k) (meaning.is_live k) (meaning.leaves k) c held H (outcome_of out) (IsTold http H (By o None asking)) stands (λ live. settled c now live held) (so_of_text out (text_of_failure Forbidden) (IsTold http H (By o None asking)) is refl);
@@ -149,11 +151,12 @@ module _ {K : Type 0} (meaning : Meaning K) where
     }
 
     -- no reply, after calls that answered or after a fault of one
-    pub untold : {X : Type 0} (asking : Asking) (r : Result X KeepFault) → ReadsTo old new r → Serves old new (By o (Some key) asking) Unavailable
-    untold asking r reads = record {
+    pub untold : {X : Type 0} → Rests meaning → (asking : Asking) (r : Result X KeepFault) → ReadsTo old new r → Serves old new (By o (Some key) asking) Unavailable
+    untold settled asking r reads = record {
       tells = tt;
       goes = goes_untold r reads;
       honest = reads.goes.honest;
+      settles = settles meaning old new r settled reads.goes;
       asks = λ now c held none. (reads.keeps now).content c held;
       quiet = λ now c held not. (reads.keeps now).content c held;
       served = λ now c H held stands lawful.
@@ -165,12 +168,13 @@ module _ {K : Type 0} (meaning : Meaning K) where
       failing = By o (Some key) (Fails (text_of_failure failure))
 
       -- who has the key is told which check failed, and everybody else that it is forbidden
-      pub refused : (out : Out) → IsText out (Some (cond b (text_of_failure failure) (text_of_failure Forbidden))) → Serves old new failing out
-      refused Unavailable is = untold (Fails (text_of_failure failure)) (Ok x) reads
-      refused (Text text) is = record {
+      pub refused : Rests meaning → (out : Out) → IsText out (Some (cond b (text_of_failure failure) (text_of_failure Forbidden))) → Serves old new failing out
+      refused settled Unavailable is = untold settled (Fails (text_of_failure failure)) (Ok x) reads
+      refused settled (Text text) is = record {
         tells = (b, tt, is);
         goes = goes_told x text reads.goes;
         honest = reads.goes.honest;
+        settles = settles meaning old new _ settled reads.goes;
         asks = λ now c held none. (reads.keeps now).content c held;
         quiet = λ now c held not. (reads.keeps now).content c held;
         served = λ now c H held stands lawful.
@@ -229,11 +233,12 @@ module _ {K : Type 0} (meaning : Meaning K) where
     served_out (Err fault) c H came = record { told = tt; done = tt; undone = came.undone; crash = came.crash }
 
     -- the text of a plan is told once its changes were made
-    pub told_after : (made : Result (Unit {0}) KeepFault) → Carries middle new changes made → Serves old new asking (text_if text made)
-    told_after made carries = record {
+    pub told_after : Rests meaning → (made : Result (Unit {0}) KeepFault) → Carries middle new changes made → Serves old new asking (text_if text made)
+    told_after settled made carries = record {
       tells = tells_out made;
       goes = goes_out made carries;
       honest = λ now. reads.goes.honest (carries.honest now);
+      settles = settles meaning old new (finished planned made) settled (goes_made made carries);
       asks = λ now c held none. still made carries now c held (quiet (asks_none q told none));
       quiet = quiet_out made carries;
       served = λ now c H held stands lawful.
@@ -247,8 +252,8 @@ module _ {K : Type 0} (meaning : Meaning K) where
     }
 
   -- the same for a plan that was told, whose changes are read through a reference
-  pub plan_told : (old middle new : K) (o key : Bytes) (q : Asked) (planned : Result Told KeepFault) (changes made_of : List Change) → made_of ≡ changes → ReadsTo old middle planned → (may_change q planned ≡ false → changes ≡ []) →
+  pub plan_told : Rests meaning → (old middle new : K) (o key : Bytes) (q : Asked) (planned : Result Told KeepFault) (changes made_of : List Change) → made_of ≡ changes → ReadsTo old middle planned → (may_change q planned ≡ false → changes ≡ []) →
       Over meaning old middle (λ c H. IfOk planned (λ told. IsPlan c H o key q told changes)) → (text : Vec ℕ) → IsText (Text text) (text_if_told planned) → (made : Result (Unit {0}) KeepFault) → Carries middle new made_of made → Serves old new (By o (Some key) (Asks q)) (text_if text made)
-  plan_told old middle new o key q (Ok told) changes made_of same reads quiet plan text is made carries =
-      told_after old middle new o key q told changes reads quiet plan text is made (subst (λ changes. Carries middle new changes made) same carries)
-  plan_told old middle new o key q (Err fault) changes made_of same reads quiet plan text is made carries = absurd is
+  plan_told settled old middle new o key q (Ok told) changes made_of same reads quiet plan text is made carries =
+      told_after old middle new o key q told changes reads quiet plan text is settled made (subst (λ changes. Carries middle new changes made) same carries)
+  plan_told settled old middle new o key q (Err fault) changes made_of same reads quiet plan text is made carries = absurd is

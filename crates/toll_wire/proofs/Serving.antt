@@ -1,5 +1,5 @@
 -- Events of the office, one after another, are a run.
-use Rattle.std.proofs.Common.{◌≡◌, Bool, false, List, [], ◌∷◌, ◌++◌, Result, Ok, Err, refl, sym, subst, ap, ◌∙◌, inl, inr}
+use Rattle.std.proofs.Common.{◌≡◌, ◌⊎◌, Bool, false, List, [], ◌∷◌, ◌++◌, Result, Ok, Err, refl, sym, subst, ap, ◌∙◌, inl, inr}
 use Rattle.std.specs.Global.{Vec}
 use Rattle.std.specs.List.{AllByRecursion}
 use Rattle.std.specs.Prelude.{ℕ}
@@ -9,7 +9,7 @@ use Rattle.toll_history.specs.History.{History}
 use Rattle.toll_history.specs.Verdict.{IsLawful}
 use Rattle.toll_keep.specs.Meaning.{Meaning}
 use Rattle.toll_keep.specs.Content.{Content}
-use Rattle.toll_keep.specs.Goes.{Goes}
+use Rattle.toll_keep.specs.Goes.{Goes, Settles}
 use Rattle.toll_standing.specs.Standing.{StandsFor}
 use Rattle.toll_keep.specs.declared.fault.KeepFault.{KeepFault}
 use Rattle.toll_keep.specs.declared.fault.KeepFault.TheVariants.{Memory, Disk, Damaged, Closed}
@@ -62,7 +62,7 @@ module _ {K : Type 0} (meaning : Meaning K) where
 
     module _ (old new : K) (now : meaning.is_honest new) (c : Content) (H : History) (held : meaning.holds old c) (stands : StandsFor c H) (lawful : IsLawful H) where
       abbrev Step : Event → Answer → Type 0
-      Step e a = IsStepOf (meaning.holds new) (meaning.is_live old) (meaning.leaves new) c H e a
+      Step e a = IsStepOf (meaning.holds new) (meaning.is_live old) (meaning.leaves new) (meaning.has_cause old new) c H e a
 
       -- its bytes were not read, and nothing happened
       unread_step : (bytes : Vec ℕ) → new ≡ old → Step (Owner bytes) (Reply NoText)
@@ -77,11 +77,16 @@ module _ {K : Type 0} (meaning : Meaning K) where
             step = refl;
             left = record { content = c; held = still; stands = stands };
             crash = λ live. record { others = []; stand = tt; left = settled new c now (subst meaning.is_live (sym same) live) still };
+            settled = λ live. inl (settled new c now (subst meaning.is_live (sym same) live) still);
           }
 
       -- what its bytes say was served
-      reply_step : (bytes : Vec ℕ) (saying : Saying) (out : Out) → Says bytes.items saying → IsServed (meaning.holds new) (meaning.is_live old) (meaning.leaves new) c H saying out → Step (Owner bytes) (Reply out)
-      reply_step bytes saying (OutText text) says served = record {
+      -- a stop behind it leaves what is held
+      behind : Settles meaning old new → (d : Content) → meaning.holds new d → meaning.is_live old → meaning.leaves new (d ∷ []) ⊎ meaning.has_cause old new
+      behind rests d there live = elim (rests now live d there) [ inl lives ↦ inl lives.1 | inr cause ↦ inr cause ]
+
+      reply_step : (bytes : Vec ℕ) (saying : Saying) (out : Out) → Settles meaning old new → Says bytes.items saying → IsServed (meaning.holds new) (meaning.is_live old) (meaning.leaves new) c H saying out → Step (Owner bytes) (Reply out)
+      reply_step bytes saying (OutText text) rests says served = record {
         happening = Request saying;
         told = Text text.items;
         shows = (says, refl);
@@ -90,8 +95,9 @@ module _ {K : Type 0} (meaning : Meaning K) where
         step = (served.told, refl);
         left = served.done;
         crash = served.crash;
+        settled = behind rests served.done.content served.done.held;
       }
-      reply_step bytes saying NoText says served = record {
+      reply_step bytes saying NoText rests says served = record {
         happening = Request saying;
         told = Unavailable;
         shows = (inl says, refl);
@@ -100,12 +106,13 @@ module _ {K : Type 0} (meaning : Meaning K) where
         step = refl;
         left = record { content = c; held = served.undone; stands = stands };
         crash = served.crash;
+        settled = behind rests c served.undone;
       }
 
       -- the plant was told something, or there was a fault
-      plant_step : (command : PlantCmd) (reply : PlantReply) (outcome : Result PlantTold KeepFault) → plant_told reply ≡ outcome → IsValidDeed (asked_by command) →
+      plant_step : (command : PlantCmd) (reply : PlantReply) (outcome : Result PlantTold KeepFault) → plant_told reply ≡ outcome → Settles meaning old new → IsValidDeed (asked_by command) →
           IsDone (meaning.holds new) (meaning.is_live old) (meaning.leaves new) c (after_plant H (asked_by command)) outcome (IsPlantAnswer H (asked_by command)) → Step (Command command) (CommandReply reply)
-      plant_step command reply (Ok told) outcome_is valid done = record {
+      plant_step command reply (Ok told) outcome_is rests valid done = record {
         happening = Plant (asked_by command);
         told = PlantTells told;
         shows = (refl, subst (λ r. PlantShows r (PlantTells told)) (sym outcome_is) refl);
@@ -114,8 +121,9 @@ module _ {K : Type 0} (meaning : Meaning K) where
         step = (done.told, refl);
         left = done.done;
         crash = done.crash;
+        settled = behind rests done.done.content done.done.held;
       }
-      plant_step command reply (Err fault) outcome_is valid done = record {
+      plant_step command reply (Err fault) outcome_is rests valid done = record {
         happening = Plant (asked_by command);
         told = PlantFault;
         shows = (refl, subst (λ r. PlantShows r PlantFault) (sym outcome_is) refl);
@@ -124,12 +132,13 @@ module _ {K : Type 0} (meaning : Meaning K) where
         step = refl;
         left = record { content = c; held = done.undone; stands = stands };
         crash = done.crash;
+        settled = behind rests c done.undone;
       }
 
       event_step : (e : Event) (a : Answer) → EventServed old new e a → Step e a
-      event_step (Owner bytes) (Reply out) (inl answered) = reply_step bytes answered.0 out answered.1 (answered.2.served now c H held stands lawful)
+      event_step (Owner bytes) (Reply out) (inl answered) = reply_step bytes answered.0 out answered.2.settles answered.1 (answered.2.served now c H held stands lawful)
       event_step (Owner bytes) (Reply out) (inr unread) = subst (λ out. Step (Owner bytes) (Reply out)) (sym unread.unavailable) (unread_step bytes unread.same)
-      event_step (Command command) (CommandReply reply) served = plant_step command reply (plant_told reply) refl served.valid (served.done now c H held stands lawful)
+      event_step (Command command) (CommandReply reply) served = plant_step command reply (plant_told reply) refl served.settles served.valid (served.done now c H held stands lawful)
       event_step (Owner bytes) (CommandReply reply) served = absurd served
       event_step (Command command) (Reply out) served = absurd served
 
@@ -139,8 +148,8 @@ module _ {K : Type 0} (meaning : Meaning K) where
     Steps old c H events answers new = AreSteps meaning old c H events answers new
 
     -- the history after a step is lawful
-    lawful_next : (was : Type 0) (after : Content → Type 0) (left : List Content → Type 0) (c : Content) (H : History) (e : Event) (a : Answer) → IsLawful H → (step : IsStepOf after was left c H e a) → IsLawful step.next
-    lawful_next was after left c H e a lawful step = lawful-step http H step.happening step.told step.next lawful step.valid step.step
+    lawful_next : (was : Type 0) (after : Content → Type 0) (left : List Content → Type 0) (met : Type 0) (c : Content) (H : History) (e : Event) (a : Answer) → IsLawful H → (step : IsStepOf after was left met c H e a) → IsLawful step.next
+    lawful_next was after left met c H e a lawful step = lawful-step http H step.happening step.told step.next lawful step.valid step.step
 
     pub steps_of : (old new : K) (events : List Event) (answers : List Answer) → Served old events answers new → meaning.is_honest new → (c : Content) (H : History) → meaning.holds old c → StandsFor c H → IsLawful H → Steps old c H events answers new
     steps_of old new [] [] served now c H held stands lawful = served
@@ -148,7 +157,7 @@ module _ {K : Type 0} (meaning : Meaning K) where
         let middle = served.0 in
         let then = all_honest middle new events answers served.2 now in
         let step = event_step old middle then c H held stands lawful e a served.1 in
-        (middle, step, steps_of middle new events answers served.2 now step.left.content step.next step.left.held step.left.stands (lawful_next (meaning.is_live old) (meaning.holds middle) (meaning.leaves middle) c H e a lawful step))
+        (middle, step, steps_of middle new events answers served.2 now step.left.content step.next step.left.held step.left.stands (lawful_next (meaning.is_live old) (meaning.holds middle) (meaning.leaves middle) (meaning.has_cause old middle) c H e a lawful step))
     steps_of old new [] (a ∷ answers) served now c H held stands lawful = absurd served
     steps_of old new (e ∷ events) [] served now c H held stands lawful = absurd served
 
@@ -166,7 +175,7 @@ module _ {K : Type 0} (meaning : Meaning K) where
     }
     run_of old new (e ∷ events) (a ∷ answers) c H held stands lawful steps =
         let step = steps.1 in
-        let rest = run_of steps.0 new events answers step.left.content step.next step.left.held step.left.stands (lawful_next (meaning.is_live old) (meaning.holds steps.0) (meaning.leaves steps.0) c H e a lawful step) steps.2 in
+        let rest = run_of steps.0 new events answers step.left.content step.next step.left.held step.left.stands (lawful_next (meaning.is_live old) (meaning.holds steps.0) (meaning.leaves steps.0) (meaning.has_cause old steps.0) c H e a lawful step) steps.2 in
         let run : IsRun http H (step.happening ∷ rest.happenings) (step.told ∷ rest.told) rest.last = (step.next, step.step, rest.run) in
         record {
           happenings = step.happening ∷ rest.happenings;
@@ -221,7 +230,7 @@ module _ {K : Type 0} (meaning : Meaning K) where
           let then = all_honest middle new events answers served.2 now in
           let step = event_step old middle then c H held stands lawful e a served.1 in (
             open_event old middle then c H held stands lawful e a served.1,
-            all_open middle new events answers served.2 now step.left.content step.next step.left.held step.left.stands (lawful_next (meaning.is_live old) (meaning.holds middle) (meaning.leaves middle) c H e a lawful step),
+            all_open middle new events answers served.2 now step.left.content step.next step.left.held step.left.stands (lawful_next (meaning.is_live old) (meaning.holds middle) (meaning.leaves middle) (meaning.has_cause old middle) c H e a lawful step),
           )
       all_open old new [] (a ∷ answers) served now c H held stands lawful = absurd served
       all_open old new (e ∷ events) [] served now c H held stands lawful = absurd served

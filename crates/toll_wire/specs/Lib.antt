@@ -7,3 +7,4 @@ pub mod Steps
 pub mod OfficeRuns
 pub mod Parts
 pub mod Printed
+pub mod Laws

@@ -56,8 +56,8 @@ tells (CommandReply reply) = plant_answered (plant_told reply)
 
 -- ---- one event
 
--- the event and its answer are a step from this history, whose rows were held, and what the step leaves is held; a stop on the way leaves the rows from before, or those that the event makes of them
-pub record IsStepOf (holds : Content → Type 0) (was_live : Type 0) (leaves : List Content → Type 0) (c : Content) (H : History) (event : Event) (answer : Answer) : Type 0 where
+-- the event and its answer are a step from this history, whose rows were held, and what the step leaves is held; a stop on the way leaves the rows from before, or those that the event makes of them, and one behind it just what the step left, or the store met a cause of Disk
+pub record IsStepOf (holds : Content → Type 0) (was_live : Type 0) (leaves : List Content → Type 0) (met : Type 0) (c : Content) (H : History) (event : Event) (answer : Answer) : Type 0 where
   pub happening : Happening
   pub told : Answered
   pub shows : Shows event answer happening told
@@ -66,6 +66,7 @@ pub record IsStepOf (holds : Content → Type 0) (was_live : Type 0) (leaves : L
   pub step : IsStep http H happening told next
   pub left : HoldsFor holds next
   pub crash : was_live → LeavesOr leaves c (after_event http H happening)
+  pub settled : was_live → leaves (left.content ∷ []) ⊎ met
 
 module _ {K : Type 0} (meaning : Meaning K) where
   -- the event got this answer
@@ -84,7 +85,7 @@ module _ {K : Type 0} (meaning : Meaning K) where
   abbrev pub AreSteps : K → Content → History → List Event → List Answer → K → Type 0
   AreSteps old c H [] [] new = new ≡ old
   AreSteps old c H (e ∷ events) (a ∷ answers) new =
-      (middle : K) × (step : IsStepOf (meaning.holds middle) (meaning.is_live old) (meaning.leaves middle) c H e a) × AreSteps middle step.left.content step.next events answers new
+      (middle : K) × (step : IsStepOf (meaning.holds middle) (meaning.is_live old) (meaning.leaves middle) (meaning.has_cause old middle) c H e a) × AreSteps middle step.left.content step.next events answers new
   AreSteps old c H _ _ new = ⊥
 
 -- the only fault that the plant is told is want of memory

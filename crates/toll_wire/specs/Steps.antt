@@ -5,7 +5,7 @@ use Rattle.toll_base.specs.Bytes.{Bytes}
 use Rattle.toll_history.specs.History.{History}
 use Rattle.toll_keep.specs.Meaning.{Meaning}
 use Rattle.toll_keep.specs.Content.{Content, ContentKeepsRules}
-use Rattle.toll_keep.specs.Goes.{Goes}
+use Rattle.toll_keep.specs.Goes.{Goes, Settles}
 use Rattle.toll_keep.specs.declared.fault.KeepFault.{KeepFault}
 use Rattle.toll_keep.specs.declared.fault.KeepFault.TheVariants.{Damaged}
 use Rattle.toll_desk.specs.Plans.{asked_of, writes, IsDone}
@@ -90,6 +90,8 @@ module _ {K : Type 0} (meaning : Meaning K) (old new : K) where
     -- how the calls of the keep went
     pub goes : OutGoesFor saying out
     pub honest : meaning.is_honest new → meaning.is_honest old
+    -- once it was served, a stop leaves what is held and nothing else
+    pub settles : Settles meaning old new
     -- what asks for no change, and what isn't told 200, leaves what is held, whatever rows there are
     pub asks : meaning.is_honest new → (c : Content) → meaning.holds old c → may_write saying ≡ false → meaning.holds new c
     pub quiet : meaning.is_honest new → (c : Content) → meaning.holds old c → ¬ (IsGranted out) → meaning.holds new c

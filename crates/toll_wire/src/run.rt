@@ -1,6 +1,7 @@
 //! Runs of events.
-ghost use Rattle.std.specs.Prelude.{◌≡◌, false, IfOk, OnErr};
 ghost use Rattle.std.specs.List.{AllByRecursion};
+ghost use Rattle.std.specs.Prelude.{◌≡◌, IfOk, OnErr};
+ghost use Rattle.toll_keep.specs.Meaning.{NeverCloses};
 ghost use Rattle.toll_desk.specs.Reads.{Over};
 ghost use Rattle.toll_wire.specs.OfficeRuns.{AreServed, AreSteps, IsEventServed, IsOpenAnswer, IsRunOf};
 
@@ -24,7 +25,7 @@ pub fn run_events<K: Keep>(
     ensures served { IfOk result (λ answers. AreServed K.meaning keep.old events.now answers.items keep.new) }
     ensures run { Over K.meaning keep.old keep.new (λ c H. IfOk result (λ answers. IsRunOf (K.meaning.holds keep.new) H events.now answers.items)) }
     ensures steps { Over K.meaning keep.old keep.new (λ c H. IfOk result (λ answers. AreSteps K.meaning keep.old c H events.now answers.items keep.new)) }
-    ensures open { ((k : K) → K.meaning.is_closed k ≡ false) → Over K.meaning keep.old keep.new (λ c H. IfOk result (λ answers. AllByRecursion IsOpenAnswer answers.items)) }
+    ensures open { NeverCloses K.meaning → Over K.meaning keep.old keep.new (λ c H. IfOk result (λ answers. AllByRecursion IsOpenAnswer answers.items)) }
 {
     let mut answers = Vec::with_capacity(alloc, events.len())?;
     for event in events {

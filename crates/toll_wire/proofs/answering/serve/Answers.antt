@@ -9,7 +9,7 @@ pub returns-in-Unavailable : goal.returns-in-Unavailable
 returns-in-Unavailable g c =
     let K = g.K.Keep in
     let planned = c.owner_plan-planned in
-    untold K.meaning c.args.keep.now planned.new.keep c.args.owner.now c.args.key.now (Asks (asked_of c.args.request.now)) (told_of planned.result.reply) planned.ensures.reads
+    untold K.meaning c.args.keep.now planned.new.keep c.args.owner.now c.args.key.now g.met.K.Keep.settled (Asks (asked_of c.args.request.now)) (told_of planned.result.reply) planned.ensures.reads
 
 pub returns : goal.returns
 returns g c =
@@ -18,6 +18,6 @@ returns g c =
     let made = c.carry-made in
     let carried = made.ensures in
     subst (λ out. IsServing K.meaning c.args.keep.now made.new.keep (By c.args.owner.now (Some c.args.key.now) (Asks (asked_of c.args.request.now))) out) (sym c.text_if.ensures)
-    (plan_told K.meaning c.args.keep.now planned.new.keep made.new.keep c.args.owner.now c.args.key.now (asked_of c.args.request.now) (told_of planned.result.reply) planned.result.changes.items _ c.deref.ensures.value
+    (plan_told K.meaning g.met.K.Keep.settled c.args.keep.now planned.new.keep made.new.keep c.args.owner.now c.args.key.now (asked_of c.args.request.now) (told_of planned.result.reply) planned.result.changes.items _ c.deref.ensures.value
     planned.ensures.reads planned.ensures.quiet planned.ensures.plan c.in-Text.text c.in-Text.ensures made.result
     (record { honest = carried.honest; idle = carried.idle; goes = carried.goes; all = carried.all; none = carried.none; whole = carried.whole; crash = carried.crash }))

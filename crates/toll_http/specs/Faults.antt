@@ -1,0 +1,14 @@
+-- The words of faults.
+use Rattle.std.specs.Prelude.{codes}
+use Rattle.toll_base.specs.Bytes.{Bytes}
+use Rattle.toll_http.specs.declared.reading.ReadFault.{ReadFault}
+use Rattle.toll_http.specs.declared.reading.ReadFault.TheVariants.{Io, Memory}
+
+-- why no request was read
+abbrev pub word_of_read_fault : ReadFault → Bytes
+word_of_read_fault Io = codes "Read"
+word_of_read_fault Memory = codes "Memory"
+
+-- a reply that was not written whole
+abbrev pub word_of_write_fault : Bytes
+word_of_write_fault = codes "Write"
