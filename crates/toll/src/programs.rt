@@ -7,10 +7,7 @@ use std::net::{Ipv4Addr, SocketAddrV4, TcpListener};
 use std::{env, io};
 use toll_office::{OfficeFault, Served, do_command, do_import, do_script, serve_all};
 use toll_plant::{MOST_FILE_BYTES, WordsFault, command_of};
-use toll_programs::{FrontFault, ScriptEnd, Status, Task, read_front, task_of, tell};
-
-const USAGE: &str =
-    "usage: toll script | toll --db FILE COMMAND.. | toll --db FILE import CSV | toll --db FILE serve PORT COUNT";
+use toll_programs::{FrontFault, Status, Task, read_front, task_of, tell, tell_end, usage_of, warn};
 
 /// How many standard streams there are.
 const STREAMS: usize = 3;
@@ -21,7 +18,7 @@ pub fn run(rt: &HostRuntime) -> u64 {
     let words = match read_words(rt) {
         Ok(words) => words,
         Err(fault) if fault.kind() == ErrorKind::InvalidData => {
-            return fail(rt, Status::Unread, USAGE);
+            return warn(&mut rt.stderr(), usage_of(&[]).as_bytes(), Status::Unread);
         }
         Err(_) => return fail(rt, Status::Failed, "fault Memory"),
     };
@@ -33,7 +30,7 @@ pub fn run(rt: &HostRuntime) -> u64 {
         Some(Task::Words { file, words }) => run_words(rt, file, words),
         Some(Task::Import { file, actuals }) => run_import(rt, file, actuals),
         Some(Task::Serve { file, port, count }) => run_serve(rt, file, port, count),
-        None => fail(rt, Status::Unread, USAGE),
+        None => warn(&mut rt.stderr(), usage_of(&words).as_bytes(), Status::Unread),
     }
 }
 
@@ -61,16 +58,8 @@ fn texts_of(alloc: Global, words: &[String]) -> Result<Vec<&str>, AllocError> {
 }
 
 fn run_script(rt: &HostRuntime) -> u64 {
-    match do_script(rt.alloc(), &mut rt.reader(), &mut io::writer(rt)) {
-        ScriptEnd::Done => u64::from(Status::Done.code()),
-        ScriptEnd::BadLine(number) => {
-            fail(rt, Status::Unread, format_args!("bad line {number}"))
-        }
-        ScriptEnd::TooLong => fail(rt, Status::Unread, "too long"),
-        ScriptEnd::Memory => fail(rt, Status::Failed, "fault Memory"),
-        ScriptEnd::ReadFault => fail(rt, Status::Failed, "fault Read"),
-        ScriptEnd::WriteFault => fail(rt, Status::Failed, "fault Write"),
-    }
+    let end = do_script(rt.alloc(), &mut rt.reader(), &mut io::writer(rt));
+    tell_end(end, &mut rt.stderr())
 }
 
 fn run_words(rt: &HostRuntime, file: &str, words: &[&str]) -> u64 {

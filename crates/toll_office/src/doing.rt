@@ -6,7 +6,7 @@ ghost use Rattle.toll_plant.specs.declared.import_fault.ImportFault.{ImportFault
 ghost use Rattle.toll_plant.specs.declared.report.ImportReport.{ImportReport};
 ghost use Rattle.toll_programs.specs.Inputs.{IsTooLong};
 ghost use Rattle.toll_programs.specs.Running.{HasBadLine, is_silent};
-ghost use Rattle.toll_programs.specs.Told.{IsImportTold, IsReplyTold};
+ghost use Rattle.toll_programs.specs.Told.{IsImportTold, IsReplyTold, streams_of};
 
 use crate::office::{Office, OfficeFault};
 use std::alloc::Global;
@@ -25,7 +25,7 @@ pub fn do_command<W: Sink, E: Sink>(
     output: &mut W,
     error: &mut E,
 ) -> Result<u64, OfficeFault>
-    ensures told { IfOk result (λ status. (reply : PlantReply) × IsReplyTold (record { output = W.held output.old; now_output = W.held output.new; error = E.held error.old; now_error = E.held error.new }) reply status) }
+    ensures told { IfOk result (λ status. (reply : PlantReply) × IsReplyTold (streams_of W.Sink E.Sink output.old output.new error.old error.new) reply status) }
     ensures untold { IsErr result → (output.new ≡ output.old) × (error.new ≡ error.old) }
 {
     let mut office = Office::open(rt, path)?;
@@ -43,7 +43,7 @@ pub fn do_import<W: Sink, E: Sink>(
     output: &mut W,
     error: &mut E,
 ) -> Result<u64, OfficeFault>
-    ensures told { IfOk result (λ status. (imported : Result ImportReport ImportFault) × IsImportTold (record { output = W.held output.old; now_output = W.held output.new; error = E.held error.old; now_error = E.held error.new }) imported status) }
+    ensures told { IfOk result (λ status. (imported : Result ImportReport ImportFault) × IsImportTold (streams_of W.Sink E.Sink output.old output.new error.old error.new) imported status) }
     ensures untold { IsErr result → (output.new ≡ output.old) × (error.new ≡ error.old) }
 {
     let mut office = Office::open(rt, path)?;

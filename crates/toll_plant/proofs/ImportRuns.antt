@@ -12,7 +12,7 @@ use Rattle.toll_history.specs.History.{History}
 use Rattle.toll_history.specs.Verdict.{Verdict, Accepted, Repeated, Refused, IsLawful, verdict}
 use Rattle.toll_keep.specs.Meaning.{Meaning}
 use Rattle.toll_keep.specs.Content.{Content}
-use Rattle.toll_keep.specs.Goes.{Goes}
+use Rattle.toll_keep.specs.Goes.{Goes, Settles}
 use Rattle.toll_standing.specs.Standing.{StandsFor}
 use Rattle.toll_keep.specs.declared.fault.KeepFault.{KeepFault}
 use Rattle.toll_keep.specs.declared.fault.KeepFault.TheVariants.{Memory, Disk, Damaged, Closed}
@@ -110,7 +110,7 @@ module _ {K : Type 0} (meaning : Meaning K) where
 
     module _ (old new : K) (now : meaning.is_honest new) (c : Content) (H : History) (held : meaning.holds old c) (stands : StandsFor c H) (lawful : IsLawful H) where
       abbrev Step : Option PlantCmd → Outcome → Type 0
-      Step command o = IsRecordStep (meaning.holds new) (meaning.is_live old) (meaning.leaves new) c H command o
+      Step command o = IsRecordStep (meaning.holds new) (meaning.is_live old) (meaning.leaves new) (meaning.has_cause old new) c H command o
 
       -- a record that gives no command leaves all as it was
       bad_step : (o : Outcome) → o ≡ came.BadRecord → new ≡ old → Step None o
@@ -122,33 +122,40 @@ module _ {K : Type 0} (meaning : Meaning K) where
             lawful = lawful;
             left = record { content = c; held = still; stands = stands };
             crash = λ live. record { others = []; stand = tt; left = settled new c now (subst meaning.is_live (sym same) live) still };
+            settled = λ live. inl (settled new c now (subst meaning.is_live (sym same) live) still);
           }
 
+      -- a stop behind it leaves what is held
+      rest : Settles meaning old new → (d : Content) → meaning.holds new d → meaning.is_live old → meaning.leaves new (d ∷ []) ⊎ meaning.has_cause old new
+      rest rests d there live = elim (rests now live d there) [ inl lives ↦ inl lives.1 | inr cause ↦ inr cause ]
+
       -- a command was judged, or there was a fault
-      told_step : (command : PlantCmd) → IsDeed (asked_by command) → IsValidDeed (asked_by command) → (outcome : Result PlantTold KeepFault) →
+      told_step : (command : PlantCmd) → Settles meaning old new → IsDeed (asked_by command) → IsValidDeed (asked_by command) → (outcome : Result PlantTold KeepFault) →
           IsDone (meaning.holds new) (meaning.is_live old) (meaning.leaves new) c (after_plant H (asked_by command)) outcome (IsPlantAnswer H (asked_by command)) → Step (Some command) (outcome_of outcome)
-      told_step command deed valid (Ok (Judged v)) done = record {
+      told_step command rests deed valid (Ok (Judged v)) done = record {
         next = after_plant H (asked_by command);
         comes = comes_judged H command v done.told;
         lawful = lawful_after (asked_by command) deed H lawful valid;
         left = done.done;
         crash = done.crash;
+        settled = rest rests done.done.content done.done.held;
       }
-      told_step command deed valid (Ok (Shows text)) done =
+      told_step command rests deed valid (Ok (Shows text)) done =
           let told = judges (asked_by command) deed H (Shows text) done.told in
           absurd (cc told.1)
-      told_step command deed valid (Err fault) done = record {
+      told_step command rests deed valid (Err fault) done = record {
         next = H;
         comes = refl;
         lawful = lawful;
         left = record { content = c; held = done.undone; stands = stands };
         crash = done.crash;
+        settled = rest rests c done.undone;
       }
 
       pub record_step : (command : Option PlantCmd) → IsDeedOrNone command → (o : Outcome) → RecordServed old new command o → Step command o
       record_step None deed o served = bad_step o served.0 served.1
       record_step (Some command) deed o served =
-          subst (Step (Some command)) (sym served.2) (told_step command deed served.1.valid (plant_told served.0) (served.1.done now c H held stands lawful))
+          subst (Step (Some command)) (sym served.2) (told_step command served.1.settles deed served.1.valid (plant_told served.0) (served.1.done now c H held stands lawful))
 
     -- ---- records in order
 
@@ -179,15 +186,15 @@ module _ {K : Type 0} (meaning : Meaning K) where
     abbrev Run : K → History → List (Option PlantCmd) → List Outcome → Type 0
     Run new H commands outcomes = IsImportOf (meaning.holds new) H commands outcomes
 
-    run_more : (b : Bool) (middle new : K) (was : Type 0) (left : List Content → Type 0) (c : Content) (H : History) (command : Option PlantCmd) (commands : List (Option PlantCmd)) (o : Outcome) (outcomes : List Outcome) → is_fault o ≡ b →
-        (step : IsRecordStep (meaning.holds middle) was left c H command o) (X : Type 0) → (X → Run new step.next commands outcomes) → MatchBool b ((outcomes ≡ []) × (new ≡ middle)) X → Run new H (command ∷ commands) (o ∷ outcomes)
-    run_more true middle new was left c H command commands o outcomes fault step X rest ends = record {
+    run_more : (b : Bool) (middle new : K) (was : Type 0) (left : List Content → Type 0) (met : Type 0) (c : Content) (H : History) (command : Option PlantCmd) (commands : List (Option PlantCmd)) (o : Outcome) (outcomes : List Outcome) → is_fault o ≡ b →
+        (step : IsRecordStep (meaning.holds middle) was left met c H command o) (X : Type 0) → (X → Run new step.next commands outcomes) → MatchBool b ((outcomes ≡ []) × (new ≡ middle)) X → Run new H (command ∷ commands) (o ∷ outcomes)
+    run_more true middle new was left met c H command commands o outcomes fault step X rest ends = record {
       last = step.next;
       imported = (step.next, step.comes, subst (λ b. MatchBool b ((outcomes ≡ []) × (step.next ≡ step.next)) (IsImport step.next commands outcomes step.next)) (sym fault) (ends.0, refl));
       lawful = step.lawful;
       left = record { content = step.left.content; held = subst (λ k. meaning.holds k step.left.content) (sym ends.1) step.left.held; stands = step.left.stands };
     }
-    run_more false middle new was left c H command commands o outcomes fault step X rest behind =
+    run_more false middle new was left met c H command commands o outcomes fault step X rest behind =
         let run = rest behind in
         record {
           last = run.last;
@@ -205,7 +212,7 @@ module _ {K : Type 0} (meaning : Meaning K) where
     }
     run_of old new (command ∷ commands) (o ∷ outcomes) c H held stands lawful steps =
         let step = steps.1 in
-        run_more (is_fault o) steps.0 new (meaning.is_live old) (meaning.leaves steps.0) c H command commands o outcomes refl step (Steps steps.0 step.left.content step.next commands outcomes new)
+        run_more (is_fault o) steps.0 new (meaning.is_live old) (meaning.leaves steps.0) (meaning.has_cause old steps.0) c H command commands o outcomes refl step (Steps steps.0 step.left.content step.next commands outcomes new)
         (run_of steps.0 new commands outcomes step.left.content step.next step.left.held step.left.stands step.lawful) steps.2
     run_of old new [] (o ∷ outcomes) c H held stands lawful steps = absurd steps
     run_of old new (command ∷ commands) [] c H held stands lawful steps = absurd steps

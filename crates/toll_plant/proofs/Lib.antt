@@ -10,6 +10,7 @@ pub mod FieldLemmas
 pub mod ImportRuns
 pub mod ActualLemmas
 pub mod FileLemmas
+pub mod ReaderLemmas
 pub mod LineLemmas
 pub mod ColumnLemmas
 pub mod KeyLemmas

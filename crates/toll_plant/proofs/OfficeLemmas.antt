@@ -1,6 +1,6 @@
 -- Words that fit a line are taken.
 use Rattle.std.proofs.Common.{◌≡◌, ◌∙◌, ℕ, ◌+◌, ◌<◌, ◌≤◌, Bool, true, false, cond, List, [], ◌∷◌, ◌++◌, length, map, drop, refl, sym, ap, subst, arith, append_assoc, Option, Some, None}
-use Rattle.std.specs.Prelude.{IfOk, Result, Ok, Err, ◌||◌, ◌==◌, not, find, fold, nat_lt, option_map, option_and_then, is_some, if◌then◌else◌}
+use Rattle.std.specs.Prelude.{IfOk, Result, Ok, Err, ◌&&◌, ◌||◌, ◌==◌, not, find, fold, nat_lt, option_map, option_and_then, is_some, if◌then◌else◌}
 use Rattle.std.specs.List.{list_all}
 use Rattle.std.specs.Str.{bytes_eq}
 use Rattle.std.proofs.lemmas.List.{append-nil}
@@ -251,6 +251,23 @@ fits lines [] l e = absurd (cc e)
 fits lines (name ∷ values) l e =
     let parts = line_taken (line_named lines name) values l e in
     record { name = name; values = values; whole = refl; found = parts.0; takes = parts.1 }
+
+alone : (l : Line) (name : Text) (values : List Text) → l.name ≡ name → takes_values l values ≡ true → line_of (l ∷ []) (name ∷ values) ≡ Some l
+alone l name values named takes =
+    let same : bytes_eq l.name name ≡ true = (bytes_eq-Decides l.name name).1 named in
+    ap (λ b. option_and_then (λ (m : Line). if takes_values m values then Some m else None) (cond b (Some l) None)) same
+    ∙ ap (λ b. if b then Some l else None) takes
+
+-- words that fit a line among others fit it alone
+pub fits_alone : (lines : List Line) (words : List Text) (l : Line) → are_sound lines ≡ true → line_of lines words ≡ Some l
+    → (is_sound l ≡ true) × (line_of (l ∷ []) words ≡ Some l)
+fits_alone lines words l sound e =
+    let f = fits lines words l e in
+    let is = found_line lines f.name l sound f.found in
+    (is.sound, subst (λ (ws : List Text). line_of (l ∷ []) ws ≡ Some l) (sym f.whole) (alone l f.name f.values is.name_is f.takes))
+
+pub alone_sound : (l : Line) → is_sound l ≡ true → are_sound (l ∷ []) ≡ true
+alone_sound l sound = ap (λ b. b && true) sound
 
 -- words that fit are taken
 pub takes_fitting : (lines : List Line) (words : List Text) (l : Line) → are_sound lines ≡ true → line_of lines words ≡ Some l

@@ -1,4 +1,7 @@
 -- Why a file of actuals is not imported.
+use Rattle.std.specs.Prelude.{⊤}
+use Rattle.csv.specs.declared.error.ErrorKind.{ErrorKind}
+use Rattle.csv.specs.declared.error.ErrorKind.TheVariants as csv
 use Rattle.toll_base.specs.Bytes.{Bytes}
 use Rattle.toll_plant.specs.Files.{HasHeader}
 use Rattle.toll_plant.specs.declared.import_fault.ImportFault.{ImportFault}
@@ -9,3 +12,12 @@ abbrev pub IsNoActualsOf : Bytes → ImportFault → Type 0
 IsNoActualsOf file Memory = Unit {0}
 IsNoActualsOf file TooLong = ⊥
 IsNoActualsOf file BadHeader = ¬ (HasHeader file)
+
+-- there was no memory, or the reader underneath failed: `csv` refused no record for a reason of its own
+abbrev pub IsOfReader : ErrorKind → Type 0
+IsOfReader csv.OutOfMemory = ⊤
+IsOfReader (csv.Io why) = ⊤
+IsOfReader (csv.UnequalLengths place expected found) = ⊥
+IsOfReader (csv.Utf8 place why) = ⊥
+IsOfReader (csv.Serialize text) = ⊥
+IsOfReader (csv.Deserialize place why) = ⊥

@@ -1,5 +1,6 @@
 -- What imports do with keys.
-use Rattle.std.specs.Prelude.{◌≡◌, ◌⊎◌, ◌+◌, ℕ, Bool, true, false, ◌&&◌, if◌then◌else◌, Option, Some, None, List, [], ◌∷◌, ◌++◌, option_map}
+use Rattle.std.specs.Prelude.{◌≡◌, ◌⊎◌, ◌+◌, ◌≤◌, ℕ, Bool, true, false, ◌&&◌, if◌then◌else◌, Option, Some, None, List, [], ◌∷◌, ◌++◌, option_map}
+use Rattle.std.specs.List.{AllByRecursion}
 use Rattle.toll_base.specs.Bytes.{Bytes, same_bytes}
 use Rattle.toll_base.specs.Moves.{same_movement}
 use Rattle.toll_base.specs.Words.{count, is_some_where, total}
@@ -72,3 +73,22 @@ IsKept outcome = (outcome ≡ Accepted) ⊎ (outcome ≡ Repeated)
 -- repeated, or a fault
 abbrev pub IsRepeatedOrFault : Outcome → Type 0
 IsRepeatedOrFault outcome = (outcome ≡ Repeated) ⊎ (is_fault outcome ≡ true)
+
+-- ---- what the laws say
+
+-- of the owner's movements with the key, one at most is in the history, or comes of the imports
+abbrev pub ActsOnce : (o key : Bytes) → History → List Imported → Type 0
+ActsOnce o key old imports = count_keyed o key old + all_accepted o key imports ≤ 1
+
+-- each of the records stands
+abbrev pub AllStand : History → List Fields → Type 0
+AllStand H records = AllByRecursion (IsStanding H) (commands_in records)
+
+-- the import of the records changes nothing, and repeats each up to a fault
+abbrev pub AreRepeated : History → List Fields → Type 0
+AreRepeated old records =
+    (new : History) (outcomes : List Outcome) → IsImport old (commands_in records) outcomes new → (new ≡ old) × AllByRecursion IsRepeatedOrFault outcomes
+
+-- where the import of the records leads there, and each was accepted or repeated, each stands there
+abbrev pub StandOnceImported : (old new : History) → List Fields → Type 0
+StandOnceImported old new records = (outcomes : List Outcome) → IsImport old (commands_in records) outcomes new → AllByRecursion IsKept outcomes → AllStand new records

@@ -1,6 +1,7 @@
 -- What comes of the records of a file of actuals.
-use Rattle.std.specs.Prelude.{◌≡◌, ◌≢◌, ◌+◌, ℕ, Bool, Option, Some, None, List, [], ◌∷◌, map}
+use Rattle.std.specs.Prelude.{◌≡◌, ◌≢◌, ◌+◌, ◌⊎◌, ℕ, Bool, Option, Some, None, List, [], ◌∷◌, map}
 use Rattle.std.specs.Bool.{MatchBool}
+use Rattle.toll_base.specs.Bytes.{Bytes}
 use Rattle.toll_history.specs.History.{History}
 use Rattle.toll_history.specs.Verdict.{Verdict, IsLawful}
 use Rattle.toll_keep.specs.Meaning.{Meaning}
@@ -12,11 +13,12 @@ use Rattle.toll_desk.specs.Plans.{asked_by, plant_told, HoldsFor, LeavesOr}
 use Rattle.toll_desk.specs.PlantServed.{IsPlantServed}
 use Rattle.toll_desk.specs.declared.plant_cmd.PlantCmd.{PlantCmd}
 use Rattle.toll_desk.specs.declared.plant_cmd.PlantReply.{PlantReply}
-use Rattle.toll_plant.specs.Files.{Fields, command_in}
+use Rattle.toll_plant.specs.Files.{Fields, HasActuals, command_in}
 use Rattle.toll_plant.specs.Outcomes.{judged, outcome_of, is_fault}
 use Rattle.toll_plant.specs.declared.outcome.Outcome.{Outcome}
 use Rattle.toll_plant.specs.declared.outcome.Outcome.TheVariants.{BadRecord, Fault}
 use Rattle.toll_plant.specs.declared.report.ImportLine.{ImportLine}
+use Rattle.toll_plant.specs.declared.report.ImportReport.{ImportReport}
 
 -- the commands of records, where they give one
 abbrev pub commands_in : List Fields → List (Option PlantCmd)
@@ -53,13 +55,14 @@ IsImport old _ _ new = ⊥
 
 -- ---- over a keep
 
--- over a history whose rows were held, this comes of the record, and what it leaves is held; a stop on the way leaves the rows from before, or those that the record makes of them
-pub record IsRecordStep (holds : Content → Type 0) (was_live : Type 0) (leaves : List Content → Type 0) (c : Content) (H : History) (command : Option PlantCmd) (outcome : Outcome) : Type 0 where
+-- over a history whose rows were held, this comes of the record, and what it leaves is held; a stop on the way leaves the rows from before, or those that the record makes of them, and one behind it just what it left, or the store met a cause of Disk
+pub record IsRecordStep (holds : Content → Type 0) (was_live : Type 0) (leaves : List Content → Type 0) (met : Type 0) (c : Content) (H : History) (command : Option PlantCmd) (outcome : Outcome) : Type 0 where
   pub next : History
   pub comes : Comes H command outcome next
   pub lawful : IsLawful next
   pub left : HoldsFor holds next
   pub crash : was_live → LeavesOr leaves c (after_record H command)
+  pub settled : was_live → leaves (left.content ∷ []) ⊎ met
 
 module _ {K : Type 0} (meaning : Meaning K) where
   -- the record got this outcome: its command was done, or the keep was not called where it gives none
@@ -78,7 +81,7 @@ module _ {K : Type 0} (meaning : Meaning K) where
   abbrev pub AreRecordSteps : K → Content → History → List (Option PlantCmd) → List Outcome → K → Type 0
   AreRecordSteps old c H [] [] new = new ≡ old
   AreRecordSteps old c H (command ∷ commands) (o ∷ outcomes) new =
-      (middle : K) × (step : IsRecordStep (meaning.holds middle) (meaning.is_live old) (meaning.leaves middle) c H command o)
+      (middle : K) × (step : IsRecordStep (meaning.holds middle) (meaning.is_live old) (meaning.leaves middle) (meaning.has_cause old middle) c H command o)
       × MatchBool (is_fault o) ((outcomes ≡ []) × (new ≡ middle)) (AreRecordSteps middle step.left.content step.next commands outcomes new)
   AreRecordSteps old c H _ _ new = ⊥
 
@@ -96,3 +99,7 @@ IsOpenOutcome outcome = (fault : KeepFault) → outcome ≡ Fault fault → faul
 -- no damage was found
 abbrev pub IsWholeOutcome : Outcome → Type 0
 IsWholeOutcome outcome = outcome ≢ Fault Damaged
+
+-- this is so of the commands of the file's records, and of what came of them
+abbrev pub OfRecords : Bytes → (List (Option PlantCmd) → List Outcome → Type 0) → ImportReport → Type 0
+OfRecords file P report = (records : List Fields) × HasActuals file records × P (commands_in records) (outcomes_in report.lines.items)

@@ -12,3 +12,4 @@ pub mod ImportFaults
 pub mod Imports
 pub mod ImportTexts
 pub mod ImportLaws
+pub mod FaultWords

@@ -1,5 +1,5 @@
 -- The commands that words ask for.
-use Rattle.std.specs.Prelude.{◌≡◌, List, [], ◌∷◌, drop, Result, Ok, Err, Option, Some, None, option_and_then}
+use Rattle.std.specs.Prelude.{◌≡◌, ◌<◌, List, [], ◌∷◌, drop, length, Result, Ok, Err, Option, Some, None, option_and_then}
 use Rattle.toll_base.specs.Bytes.{Bytes}
 use Rattle.toll_base.specs.declared.refusal.Refusal.{Refusal}
 use Rattle.toll_desk.specs.declared.plant_cmd.PlantCmd.{PlantCmd}
@@ -42,3 +42,8 @@ command_of_words words = option_and_then (λ line. command_with line (drop 1 wor
 abbrev pub IsUsageOnlyOf : List Bytes → WordsFault → Type 0
 IsUsageOnlyOf words Memory = Unit {0}
 IsUsageOnlyOf words (Usage text) = line_of plant_lines words ≡ None
+
+-- what Usage says is not empty
+abbrev pub HasText : WordsFault → Type 0
+HasText Memory = Unit {0}
+HasText (Usage text) = 0 < length text.items

@@ -1,12 +1,12 @@
 //! The words, as `clap` takes them.
-ghost use Rattle.std.specs.Prelude.{◌≡◌, ◌<◌, IfOk, Some, true, false, is_some, map, length, drop};
-ghost use Rattle.clap.specs.Words.{app_of, first_value, found_of, shape_of};
+ghost use Rattle.std.specs.Prelude.{◌≡◌, ◌↔◌, ◌∷◌, ◌<◌, [], IfOk, IsErr, Some, true, false, is_some, map, length, drop, string_bytes};
+ghost use Rattle.clap.specs.Words.{app_of, first_value, found_of, kind_of, shape_of};
 ghost use Rattle.clap.specs.declared.builder.command.Command.TheViews.{out-Command};
 ghost use Rattle.std.specs.List.{list_all};
-ghost use Rattle.toll_plant.specs.ClapWords.{are_sound, line_shape, office, start};
+ghost use Rattle.toll_plant.specs.ClapWords.{is_sound, line_shape, office, start};
 ghost use Rattle.toll_plant.specs.Lines.{line_of};
 ghost use Rattle.toll_plant.specs.Shown.{shown};
-ghost use Rattle.toll_plant.specs.Words.{IsUsageOnlyOf};
+ghost use Rattle.toll_plant.specs.Words.{HasText};
 
 use crate::argument::Argument;
 use crate::fault::WordsFault;
@@ -14,19 +14,20 @@ use crate::line::Line;
 use clap::error::ErrorKind;
 use clap::{Arg, ArgMatches, Command, Error};
 use std::alloc::{AllocError, Global};
+use std::slice;
 
-/// The values of the words, which fit the line.
+/// The values of the words, which fit the line. `clap` is given this one command.
 pub fn values_of<'a>(
     alloc: Global,
-    lines: &'a [Line<'a>],
-    line: &Line<'a>,
+    line: &'a Line<'a>,
     words: &'a [&'a str],
 ) -> Result<Vec<&'a str>, AllocError>
-    requires sound { are_sound (map shown lines.now) ≡ true }
-    requires fits { line_of (map shown lines.now) (map (λ w. w.now) words.now) ≡ Some (shown line.now) }
+    requires sound { is_sound (shown line.now) ≡ true }
+    requires fits { line_of (shown line.now ∷ []) (map (λ w. w.now) words.now) ≡ Some (shown line.now) }
     ensures { IfOk result (λ values. map (λ v. v.now) values.items ≡ drop 1 (map (λ w. w.now) words.entry.now)) }
 {
-    let matches = match office(alloc, lines)?.try_get_matches_from(words) {
+    let office = office(alloc, slice::from_ref(line))?;
+    let matches = match office.try_get_matches_from(words) {
         Ok(matches) => matches,
         Err(why) => match why.kind() {
             ErrorKind::OutOfMemory => return Err(AllocError),
@@ -59,9 +60,10 @@ fn values_in<'a>(
     Ok(values)
 }
 
-/// What `clap` says of words that are no command.
+/// What `clap` says of words that are no command. It is given all of them.
 pub fn usage_of<'a>(alloc: Global, lines: &'a [Line<'a>], words: &'a [&'a str]) -> WordsFault
     requires { 0 < length lines.now }
+    ensures { HasText result }
 {
     match usage_text(alloc, lines, words) {
         Ok(text) => WordsFault::Usage(text.into_bytes()),
@@ -76,11 +78,23 @@ fn usage_text<'a>(
     words: &'a [&'a str],
 ) -> Result<String, AllocError>
     requires { 0 < length lines.now }
+    ensures { IfOk result (λ text. 0 < length (string_bytes text)) }
 {
-    match error_of(alloc, lines, words)? {
-        Some(why) => text_of(alloc, &why),
-        None => office(alloc, lines)?.render_usage(),
+    let text = match error_of(alloc, lines, words)? {
+        Some(why) => text_of(alloc, &why)?,
+        None => office(alloc, lines)?.render_usage()?,
+    };
+    ended(text)
+}
+
+// The text, which ends its last line.
+fn ended(mut text: String) -> Result<String, AllocError>
+    ensures { IfOk result (λ text. 0 < length (string_bytes text)) }
+{
+    if !text.as_bytes().ends_with(b"\n") {
+        text.push('\n')?;
     }
+    Ok(text)
 }
 
 // What `clap` finds wrong with the words, if anything.
@@ -95,9 +109,17 @@ fn error_of<'a>(
 }
 
 fn text_of(alloc: Global, why: &Error) -> Result<String, AllocError> {
+    refused(why)?;
+    format!(in alloc; "{why}")
+}
+
+// Whether `clap` refused the words for a reason of its own: if not, there was no memory.
+fn refused(why: &Error) -> Result<(), AllocError>
+    ensures { IsErr result ↔ (kind_of why.now ≡ ErrorKind.OutOfMemory) }
+{
     match why.kind() {
         ErrorKind::OutOfMemory => Err(AllocError),
-        _ => format!(in alloc; "{why}"),
+        _ => Ok(()),
     }
 }
 

@@ -1,16 +1,30 @@
 //! Why words gave no command.
 use std::alloc::AllocError;
+use std::fmt;
 use thiserror::Error;
 
 /// Why words gave no command.
 #[derive(Debug, Drop, Error)]
 pub enum WordsFault {
     /// There was no memory.
-    #[error("Memory")]
     Memory,
     /// The words are no command. The text says how commands are written.
-    #[error("Usage")]
     Usage(Vec<u8>),
+}
+
+/// Its word.
+impl fmt::Display for WordsFault {
+    ghost use Rattle.std.specs.Prelude.{Some};
+    ghost use Rattle.toll_plant.specs.FaultWords.{word_of_words_fault};
+
+    ghost output = { λ fault. Some (word_of_words_fault fault) };
+
+    fn fmt<W: fmt::Write>(&self, f: &mut fmt::Formatter<W>) -> fmt::Result {
+        match self {
+            WordsFault::Memory => f.write_str("Memory"),
+            WordsFault::Usage(_) => f.write_str("Usage"),
+        }
+    }
 }
 
 impl From<AllocError> for WordsFault {

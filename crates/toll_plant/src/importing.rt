@@ -1,9 +1,10 @@
 //! Files of actuals are imported.
-ghost use Rattle.std.specs.Prelude.{◌≡◌, ◌≢◌, ◌↔◌, ◌<◌, ◌≤◌, false, Err, IfOk, OnErr, List, Option, length};
 ghost use Rattle.std.specs.List.{AllByRecursion};
+ghost use Rattle.std.specs.Prelude.{◌≡◌, ◌≢◌, ◌↔◌, ◌<◌, ◌≤◌, Err, IfOk, OnErr, Option, length};
+ghost use Rattle.toll_keep.specs.Meaning.{NeverCloses};
 ghost use Rattle.toll_desk.specs.Reads.{Over};
-ghost use Rattle.toll_plant.specs.Files.{Fields, HasActuals, HasHeader};
-ghost use Rattle.toll_plant.specs.Imports.{AreNumbered, AreRecordSteps, AreRecordsServed, IsImportOf, IsOpenOutcome, IsRecordServed, IsWholeOutcome, commands_in, outcomes_in};
+ghost use Rattle.toll_plant.specs.Files.{HasHeader};
+ghost use Rattle.toll_plant.specs.Imports.{AreNumbered, AreRecordSteps, AreRecordsServed, IsImportOf, IsOpenOutcome, IsRecordServed, IsWholeOutcome, OfRecords, outcomes_in};
 
 use crate::actuals::actuals;
 use crate::import_fault::ImportFault;
@@ -38,11 +39,11 @@ pub fn import_actuals<K: Keep>(
     ensures err { OnErr result (keep.new ≡ keep.old) }
     ensures honest { K.meaning.is_honest keep.new → K.meaning.is_honest keep.old }
     ensures numbered { IfOk result (λ report. AreNumbered 1 report.lines.items) }
-    ensures served { IfOk result (λ report. (records : List Fields) × HasActuals file.now records × AreRecordsServed K.meaning keep.old (commands_in records) (outcomes_in report.lines.items) keep.new) }
-    ensures run { Over K.meaning keep.old keep.new (λ c H. IfOk result (λ report. (records : List Fields) × HasActuals file.now records × IsImportOf (K.meaning.holds keep.new) H (commands_in records) (outcomes_in report.lines.items))) }
-    ensures steps { Over K.meaning keep.old keep.new (λ c H. IfOk result (λ report. (records : List Fields) × HasActuals file.now records × AreRecordSteps K.meaning keep.old c H (commands_in records) (outcomes_in report.lines.items) keep.new)) }
+    ensures served { IfOk result (OfRecords file.now (λ asked told. AreRecordsServed K.meaning keep.old asked told keep.new)) }
+    ensures run { Over K.meaning keep.old keep.new (λ c H. IfOk result (OfRecords file.now (IsImportOf (K.meaning.holds keep.new) H))) }
+    ensures steps { Over K.meaning keep.old keep.new (λ c H. IfOk result (OfRecords file.now (λ asked told. AreRecordSteps K.meaning keep.old c H asked told keep.new))) }
     ensures whole { Over K.meaning keep.old keep.new (λ c H. IfOk result (λ report. AllByRecursion IsWholeOutcome (outcomes_in report.lines.items))) }
-    ensures open { ((k : K) → K.meaning.is_closed k ≡ false) → Over K.meaning keep.old keep.new (λ c H. IfOk result (λ report. AllByRecursion IsOpenOutcome (outcomes_in report.lines.items))) }
+    ensures open { NeverCloses K.meaning → Over K.meaning keep.old keep.new (λ c H. IfOk result (λ report. AllByRecursion IsOpenOutcome (outcomes_in report.lines.items))) }
 {
     if file.len() > MOST_FILE_BYTES {
         return Err(ImportFault::TooLong);

@@ -1,14 +1,11 @@
 //! Laws of imports: which records act.
-ghost use Rattle.std.specs.Prelude.{◌≡◌, ◌+◌, ◌≤◌, List};
-ghost use Rattle.std.specs.List.{AllByRecursion};
+ghost use Rattle.std.specs.Prelude.{◌≡◌, List};
 ghost use Rattle.toll_base.specs.Bytes.{Bytes};
 ghost use Rattle.toll_history.specs.History.{History};
 ghost use Rattle.toll_history.specs.Verdict.{IsLawful};
 ghost use Rattle.toll_plant.specs.Files.{Fields, Reads};
-ghost use Rattle.toll_plant.specs.ImportLaws.{AreImports, Imported, IsKept, IsRepeatedOrFault, IsStanding, all_accepted, count_keyed};
-ghost use Rattle.toll_plant.specs.Imports.{IsImport, commands_in};
+ghost use Rattle.toll_plant.specs.ImportLaws.{ActsOnce, AllStand, AreImports, AreRepeated, Imported, StandOnceImported};
 ghost use Rattle.toll_plant.specs.declared.importing.TheConstants.{MOST_FILE_BYTES};
-ghost use Rattle.toll_plant.specs.declared.outcome.Outcome.{Outcome};
 
 /// A file of actuals has at most 1,048,576 bytes.
 pub fn a_file_has_a_limit()
@@ -23,19 +20,17 @@ pub fn a_file_has_one_list_of_records()
 /// Whatever files are imported, in whatever number, and whatever else is accepted between them: of an
 /// owner and a key at most one record is ever accepted, and none where a movement has the key before.
 pub fn a_key_is_imported_once()
-    ensures { (old new : History) (imports : List Imported) (o key : Bytes) → IsLawful new → AreImports old imports new → count_keyed o key old + all_accepted o key imports ≤ 1 }
+    ensures { (old new : History) (imports : List Imported) (o key : Bytes) → IsLawful new → AreImports old imports new → ActsOnce o key old imports }
 {}
 
 /// Where each record of a file is an actual that is there, equal in all and not voided, each is repeated,
 /// up to a fault, and nothing changes.
 pub fn what_stands_is_repeated()
-    ensures { (old new : History) (records : List Fields) (outcomes : List Outcome) → IsLawful old → AllByRecursion (IsStanding old) (commands_in records) → IsImport old (commands_in records) outcomes new
-        → (new ≡ old) × AllByRecursion IsRepeatedOrFault outcomes }
+    ensures { (old : History) (records : List Fields) → IsLawful old → AllStand old records → AreRepeated old records }
 {}
 
 /// Where each record of a file was accepted or repeated, each is there afterwards: so it is repeated
 /// when the file is imported again.
 pub fn what_was_imported_stands()
-    ensures { (old new : History) (records : List Fields) (outcomes : List Outcome) → IsLawful new → IsImport old (commands_in records) outcomes new → AllByRecursion IsKept outcomes
-        → AllByRecursion (IsStanding new) (commands_in records) }
+    ensures { (old new : History) (records : List Fields) → IsLawful new → StandOnceImported old new records }
 {}

@@ -1,13 +1,15 @@
 //! Records of a file, as `csv` reads them.
-ghost use Rattle.std.specs.Prelude.{◌≡◌, IfOk, map};
+ghost use Rattle.std.specs.Prelude.{◌≡◌, IfErr, IfOk, IsErr, Ok, map};
+ghost use Rattle.csv.specs.Reading.{error_kind};
 ghost use Rattle.csv.specs.Records.{fields_of};
 ghost use Rattle.toll_plant.specs.Files.{Reads};
+ghost use Rattle.toll_plant.specs.ImportFaults.{IsOfReader};
 
-use csv::{ByteRecord, ReaderBuilder};
+use csv::{ByteRecord, Error, ErrorKind, ReaderBuilder};
 use std::alloc::{AllocError, Global};
 
-/// Every record of the file, however many fields each has. The reader of bytes in memory fails for want
-/// of memory alone.
+/// Every record of the file, however many fields each has: `csv` refuses none. The reader of bytes in
+/// memory fails for want of memory alone.
 pub fn records(alloc: Global, file: &[u8]) -> Result<Vec<ByteRecord>, AllocError>
     ensures { IfOk result (λ records. Reads file.now (map fields_of records.items)) }
 {
@@ -17,12 +19,25 @@ pub fn records(alloc: Global, file: &[u8]) -> Result<Vec<ByteRecord>, AllocError
         .from_reader(alloc, file);
     let mut records = Vec::new(alloc);
     for row in reader.into_byte_records() {
-        match row {
-            Ok(row) => records.push(row)?,
-            Err(_) => return Err(AllocError),
-        }
+        let record = given(row)?;
+        records.push(record)?;
     }
     Ok(records)
+}
+
+// The record that `csv` gave, unless there was no memory. It refused none for a reason of its own.
+fn given(row: Result<ByteRecord, Error>) -> Result<ByteRecord, AllocError>
+    requires { IfErr row (λ why. IsOfReader (error_kind why)) }
+    ensures same { IfOk result (λ given. row ≡ Ok given) }
+    ensures memory { IsErr result → IsErr row }
+{
+    match row {
+        Ok(given) => Ok(given),
+        Err(why) => match why.kind() {
+            ErrorKind::OutOfMemory | ErrorKind::Io(_) => Err(AllocError),
+            _ => unreachable!(),
+        },
+    }
 }
 
 /// The fields of a record.

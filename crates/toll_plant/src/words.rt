@@ -4,7 +4,7 @@ ghost use Rattle.std.specs.List.{list_all};
 ghost use Rattle.std.specs.Str.{bytes_eq};
 ghost use Rattle.toll_plant.specs.Lines.{is_plain, line_of, takes_values};
 ghost use Rattle.toll_plant.specs.Shown.{shown};
-ghost use Rattle.toll_plant.specs.Words.{IsUsageOnlyOf, command_of_words};
+ghost use Rattle.toll_plant.specs.Words.{HasText, IsUsageOnlyOf, command_of_words};
 
 use crate::clap_words::{usage_of, values_of};
 use crate::fault::WordsFault;
@@ -19,15 +19,16 @@ use toll_desk::PlantCmd;
 ///
 /// Words that are a command's name and as many words as it has values are never
 /// [`WordsFault::Usage`], if none of these is empty, begins with `-` or is `help`. All other words
-/// give no command.
+/// give no command. The text of Usage is `clap`'s own, and not empty.
 pub fn command_of(alloc: Global, words: &[&str]) -> Result<PlantCmd, WordsFault>
     ensures command { IfOk result (λ command. command_of_words (map (λ w. w.now) words.entry.now) ≡ Some command) }
     ensures usage { IfErr result (IsUsageOnlyOf (map (λ w. w.now) words.entry.now)) }
+    ensures text { IfErr result HasText }
 {
     let lines = &LINES;
     match fitting(lines, words) {
         Some(line) => {
-            let values = values_of(alloc, lines, line, words)?;
+            let values = values_of(alloc, line, words)?;
             Ok(read(alloc, line, values.as_slice())?)
         }
         None => Err(usage_of(alloc, lines, words)),

@@ -1,9 +1,9 @@
 -- What the code gives for a line, and for a script.
-use Rattle.std.specs.Prelude.{◌≡◌, List, [], ◌∷◌, ◌++◌, map, Option, Some, None, Result, Ok, Err}
+use Rattle.std.specs.Prelude.{◌≡◌, Bool, true, List, [], ◌∷◌, ◌++◌, map, Option, Some, None, Result, Ok, Err}
 use Rattle.toll_base.specs.Bytes.{Bytes}
 use Rattle.toll_wire.specs.declared.event.Event.{Event}
 use Rattle.toll_wire.specs.declared.event.Event.TheVariants.{Owner, Plant}
-use Rattle.toll_programs.specs.Script.{Asking, Deed, request, command, nothing, asks, bad, IsFirstBad, script_lines}
+use Rattle.toll_programs.specs.Script.{Asking, Deed, request, command, nothing, asks, bad, IsFirstBad, StopsForMemory, script_lines}
 use Rattle.toll_programs.specs.declared.events.LineFault.{LineFault}
 use Rattle.toll_programs.specs.declared.events.LineFault.TheVariants as line_fault
 use Rattle.toll_programs.specs.declared.events.ScriptFault.{ScriptFault}
@@ -18,21 +18,21 @@ deed_of (Plant c) = command c
 abbrev pub deeds_of : List Event → List Deed
 deeds_of = map deed_of
 
--- the fault is one of a line that asks for this
-abbrev pub IsFaultOf : Asking → LineFault → Type 0
-IsFaultOf asking line_fault.Memory = Unit {0}
-IsFaultOf asking line_fault.Bad = asking ≡ bad
+-- the fault is one of a line that asks for this, and takes memory or not
+abbrev pub IsFaultOf : Asking → Bool → LineFault → Type 0
+IsFaultOf asking takes line_fault.Memory = takes ≡ true
+IsFaultOf asking takes line_fault.Bad = asking ≡ bad
 
 -- an event, where the line asks for one
-abbrev pub GivesEvent : Asking → Result Event LineFault → Type 0
-GivesEvent asking (Ok event) = asking ≡ asks (deed_of event)
-GivesEvent asking (Err fault) = IsFaultOf asking fault
+abbrev pub GivesEvent : Asking → Bool → Result Event LineFault → Type 0
+GivesEvent asking takes (Ok event) = (asking ≡ asks (deed_of event)) × (takes ≡ true)
+GivesEvent asking takes (Err fault) = IsFaultOf asking takes fault
 
 -- an event, or none, as the line asks
-abbrev pub Gives : Asking → Result (Option Event) LineFault → Type 0
-Gives asking (Ok None) = asking ≡ nothing
-Gives asking (Ok (Some event)) = asking ≡ asks (deed_of event)
-Gives asking (Err fault) = IsFaultOf asking fault
+abbrev pub Gives : Asking → Bool → Result (Option Event) LineFault → Type 0
+Gives asking takes (Ok None) = asking ≡ nothing
+Gives asking takes (Ok (Some event)) = (asking ≡ asks (deed_of event)) × (takes ≡ true)
+Gives asking takes (Err fault) = IsFaultOf asking takes fault
 
 -- the events grow by the one that the line asks for, if it asks for one
 abbrev pub Adds : Asking → List Event → List Event → Type 0
@@ -47,5 +47,5 @@ lines_in (Some text) = script_lines text
 
 -- the fault is one of a script
 abbrev pub IsFaultOfScript : Bytes → ScriptFault → Type 0
-IsFaultOfScript text script_fault.Memory = Unit {0}
+IsFaultOfScript text script_fault.Memory = StopsForMemory text
 IsFaultOfScript text (script_fault.BadLine number) = IsFirstBad text number

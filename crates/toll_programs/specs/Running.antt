@@ -1,19 +1,22 @@
 -- How a script ends.
-use Rattle.std.specs.Prelude.{◌<◌, ℕ, Bool, true, false, List, length, take, Option}
+use Rattle.std.specs.Prelude.{◌≡◌, ◌≢◌, ◌⊎◌, ◌<◌, ℕ, IsTrue, Bool, true, false, List, length, take, Option}
 use Rattle.std.specs.Io.KnownBytes.{Appends}
 use Rattle.toll_base.specs.Bytes.{Bytes}
 use Rattle.toll_keep.specs.Meaning.{Meaning}
 use Rattle.toll_keep.specs.Content.{Content}
 use Rattle.toll_desk.specs.Reads.{Over}
+use Rattle.toll_http.specs.Streams.{HasFailed, NoneFailed}
+use Rattle.toll_http.specs.declared.sink.Sink as sink
+use Rattle.toll_http.specs.declared.source.Source as source
 use Rattle.toll_wire.specs.OfficeRuns.{AreServed, IsRunOf}
 use Rattle.toll_wire.specs.declared.event.Answer.{Answer}
 use Rattle.toll_wire.specs.declared.event.Event.{Event}
 use Rattle.toll_programs.specs.Asked.{deeds_of}
-use Rattle.toll_programs.specs.Inputs.{IsWhole}
+use Rattle.toll_programs.specs.Inputs.{IsTooLong, IsWhole}
 use Rattle.toll_programs.specs.Printing.{printed}
-use Rattle.toll_programs.specs.Script.{AsksFor, IsFirstBad}
+use Rattle.toll_programs.specs.Script.{AsksFor, IsFirstBad, NoneBad, StopsForMemory, script_lines}
 use Rattle.toll_programs.specs.declared.scripts.ScriptEnd.{ScriptEnd}
-use Rattle.toll_programs.specs.declared.scripts.ScriptEnd.TheVariants.{Done, Memory, WriteFault}
+use Rattle.toll_programs.specs.declared.scripts.ScriptEnd.TheVariants.{Done, BadLine, TooLong, Memory, ReadFault, WriteFault}
 
 -- the events got these answers one after another, over this keep; and where it was honest so far, and held a content that stands for a lawful history, they are a run from that history, and what the run leaves is held
 pub record RanOver {K : Type 0} (meaning : Meaning K) (old new : K) (events : List Event) (answers : List Answer) : Type 0 where
@@ -51,6 +54,12 @@ pub record HasRun (Ran : List Event → List Answer → Type 0) (unread rest : O
   pub answers : List Answer
   pub runs : Runs Ran input answers
 
+-- a script was read from a stream, and then there was no memory for one of its lines, before which none is bad; or for the answers, and none is bad at all
+pub record LacksMemory (unread rest : Option Bytes) : Type 0 where
+  pub input : Bytes
+  pub whole : IsWhole unread rest input
+  pub lacks : StopsForMemory input ⊎ NoneBad (script_lines input)
+
 -- the line of this number is the first of a script that is bad
 pub record HasBadLine (unread rest : Option Bytes) (number : ℕ) : Type 0 where
   pub input : Bytes
@@ -69,3 +78,20 @@ is_idle Done = false
 is_idle WriteFault = false
 is_idle Memory = false
 is_idle _ = true
+
+-- all that is so of a script that was run over a keep
+pub record IsScriptRun {R W K : Type 0} (from : source.Ghosts R) (to : sink.Ghosts W) (meaning : Meaning K) (reader rest : R) (writer written : W) (old new : K) (end : ScriptEnd) : Type 0 where
+  pub done : end ≡ Done → IsRun (RanOver meaning old new) (from.unread reader) (from.unread rest) (to.held writer) (to.held written)
+  pub cut_short : end ≡ WriteFault → IsCutShort (RanOver meaning old new) (from.unread reader) (from.unread rest) (to.held writer) (to.held written)
+  -- nothing was read; or nothing ran, though no line is bad that is bad at sight; or all ran
+  pub memory : end ≡ Memory → ((new ≡ old) × ((rest ≡ reader) ⊎ LacksMemory (from.unread reader) (from.unread rest))) ⊎ HasRun (RanOver meaning old new) (from.unread reader) (from.unread rest)
+  pub honest : meaning.is_honest new → meaning.is_honest old
+  pub bad_line : (number : ℕ) → end ≡ BadLine number → HasBadLine (from.unread reader) (from.unread rest) number
+  pub too_long : end ≡ TooLong → IsTooLong (from.unread reader) (from.unread rest)
+  -- a fault comes where a stream failed, and no read failed at any other end
+  pub read_fault : end ≡ ReadFault → HasFailed (from.has_failed reader) (from.has_failed rest)
+  pub no_read_fault : end ≢ ReadFault → NoneFailed (from.has_failed reader) (from.has_failed rest)
+  pub write_fault : end ≡ WriteFault → HasFailed (to.has_failed writer) (to.has_failed written)
+  -- nothing is written or run but at the ends that say so
+  pub silent : IsTrue (is_silent end) → written ≡ writer
+  pub idle : IsTrue (is_idle end) → new ≡ old

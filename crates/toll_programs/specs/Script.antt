@@ -1,5 +1,5 @@
 -- What the lines of a script ask for.
-use Rattle.std.specs.Prelude.{◌≡◌, ℕ, Bool, true, false, ◌+◌, ◌==◌, ◌&&◌, not, List, [], ◌∷◌, ◌++◌, length, filter, flat_map, option_map, Option, Some, None, if◌then◌else◌}
+use Rattle.std.specs.Prelude.{◌≡◌, ℕ, Bool, true, false, ◌+◌, ◌==◌, ◌&&◌, not, List, [], ◌∷◌, ◌++◌, length, filter, flat_map, option_map, Option, Some, None, is_some, if◌then◌else◌}
 use Rattle.std.specs.List.{AllByRecursion}
 use Rattle.std.specs.Str.{is_utf8}
 use Rattle.toll_base.specs.Bytes.{Bytes}
@@ -43,6 +43,17 @@ asked_by (b ∷ []) = if b == 35 then nothing else command_asked (b ∷ [])
 asked_by (b ∷ c ∷ rest) =
     if b == 35 then nothing else (if b == 62 && c == 32 then request_asked rest else command_asked (b ∷ c ∷ rest))
 
+-- what stands behind `> ` has the four words of a request
+abbrev pub is_request : Bytes → Bool
+is_request line = is_some (request_of (pieces_at 32 line))
+
+-- a line takes memory to be read that is a request with its four words, or words that are UTF-8: every other one is bad at sight, or asks for nothing
+abbrev pub takes_memory : Bytes → Bool
+takes_memory [] = false
+takes_memory (b ∷ []) = if b == 35 then false else is_utf8 (b ∷ [])
+takes_memory (b ∷ c ∷ rest) =
+    if b == 35 then false else (if b == 62 && c == 32 then is_request rest else is_utf8 (b ∷ c ∷ rest))
+
 -- the line is bad
 abbrev pub is_bad : Asking → Bool
 is_bad bad = true
@@ -78,4 +89,13 @@ pub record IsFirstBad (text : Bytes) (number : ℕ) : Type 0 where
   pub whole : script_lines text ≡ before ++ line ∷ behind
   pub counted : number ≡ length before + 1
   pub bad_line : asked_by line ≡ bad
+  pub sound : NoneBad before
+
+-- a line of the script takes memory, and none before it is bad
+pub record StopsForMemory (text : Bytes) : Type 0 where
+  pub before : List Bytes
+  pub line : Bytes
+  pub behind : List Bytes
+  pub whole : script_lines text ≡ before ++ line ∷ behind
+  pub takes : takes_memory line ≡ true
   pub sound : NoneBad before

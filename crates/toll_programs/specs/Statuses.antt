@@ -7,6 +7,8 @@ use Rattle.toll_plant.specs.Outcomes.{is_fault}
 use Rattle.toll_plant.specs.declared.outcome.Outcome.{Outcome}
 use Rattle.toll_plant.specs.declared.outcome.Outcome.TheVariants as came
 use Rattle.toll_plant.specs.declared.report.ImportLine.{ImportLine}
+use Rattle.toll_programs.specs.declared.scripts.ScriptEnd.{ScriptEnd}
+use Rattle.toll_programs.specs.declared.scripts.ScriptEnd.TheVariants as script
 use Rattle.toll_programs.specs.declared.status.Status.{Status}
 use Rattle.toll_programs.specs.declared.status.Status.TheVariants.{Done, Refused, Unread, Failed}
 
@@ -34,3 +36,12 @@ abbrev pub after_lines : List ImportLine → Status
 after_lines lines =
     if list_any (λ l. is_fault l.outcome) lines then Failed
     else (if list_any (λ l. is_turned_away l.outcome) lines then Refused else Done)
+
+-- after a script
+abbrev pub after_script : ScriptEnd → Status
+after_script script.Done = Done
+after_script (script.BadLine number) = Unread
+after_script script.TooLong = Unread
+after_script script.Memory = Failed
+after_script script.ReadFault = Failed
+after_script script.WriteFault = Failed

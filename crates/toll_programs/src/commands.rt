@@ -2,20 +2,20 @@
 ghost use Rattle.toll_desk.specs.PlantServed.{IsPlantServed};
 ghost use Rattle.toll_desk.specs.declared.plant_cmd.PlantReply.{PlantReply};
 ghost use Rattle.toll_programs.specs.Printing.{refusal_line};
-ghost use Rattle.toll_programs.specs.Told.{IsReplyTold, IsTold};
+ghost use Rattle.toll_programs.specs.Told.{IsReplyTold, IsShownIfRoom, streams_of};
 
 use crate::printing::{fault_line, refusal_text};
 use crate::status::Status;
-use crate::telling::tell;
+use crate::telling::{tell, warn};
 use std::alloc::{AllocError, Global};
 use toll_base::Refusal;
 use toll_desk::{PlantCmd, PlantReply, plant_do};
-use toll_keep::Keep;
+use toll_keep::{Keep, KeepFault};
 use toll_wire::Sink;
 
 /// Does a command of the plant or answers a question, writes the answer to `output`, or a fault to
 /// `error`, and gives the exit status: 0 for what is accepted, repeated or shown, 1 for what is refused,
-/// 3 for a fault, and where a write fails or there is no memory for the answer.
+/// 3 for a fault and where a write fails. Where there is no memory for a refusal's line, that is a fault.
 pub fn plant_line<K: Keep, W: Sink, E: Sink>(
     alloc: Global,
     keep: &mut K,
@@ -24,7 +24,7 @@ pub fn plant_line<K: Keep, W: Sink, E: Sink>(
     error: &mut E,
 ) -> u64
     ensures { (reply : PlantReply) × IsPlantServed K.meaning keep.old keep.new command.now reply
-        × IsReplyTold (record { output = W.held output.old; now_output = W.held output.new; error = E.held error.old; now_error = E.held error.new }) reply result }
+        × IsReplyTold (streams_of W.Sink E.Sink output.old output.new error.old error.new) reply result }
 {
     let reply = plant_do(alloc, keep, command);
     show(alloc, &reply, output, error)
@@ -32,22 +32,29 @@ pub fn plant_line<K: Keep, W: Sink, E: Sink>(
 
 // Writes an answer, a fault to `error` and every other to `output`.
 fn show<W: Sink, E: Sink>(alloc: Global, reply: &PlantReply, output: &mut W, error: &mut E) -> u64
-    ensures { IsReplyTold (record { output = W.held output.old; now_output = W.held output.new; error = E.held error.old; now_error = E.held error.new }) reply.now result }
+    ensures { IsReplyTold (streams_of W.Sink E.Sink output.old output.new error.old error.new) reply.now result }
 {
     match reply {
         PlantReply::Accepted => tell(output, b"accepted\n", Status::Done),
         PlantReply::Repeated => tell(output, b"repeated\n", Status::Done),
-        PlantReply::Refused(why) => show_refusal(alloc, why, output),
+        PlantReply::Refused(why) => show_refusal(alloc, why, output, error),
         PlantReply::Text(lines) => tell(output, lines, Status::Done),
-        PlantReply::Fault(fault) => tell(error, fault_line(*fault), Status::Failed),
+        PlantReply::Fault(fault) => warn(error, fault_line(*fault), Status::Failed),
     }
 }
 
-fn show_refusal<W: Sink>(alloc: Global, why: &Refusal, output: &mut W) -> u64
-    ensures { IsTold (W.held output.old) (W.held output.new) (refusal_line why.now) Status.Refused result }
+// Writes a refusal to `output`, or to `error` that there was no memory for its line.
+fn show_refusal<W: Sink, E: Sink>(
+    alloc: Global,
+    why: &Refusal,
+    output: &mut W,
+    error: &mut E,
+) -> u64
+    ensures { IsShownIfRoom (streams_of W.Sink E.Sink output.old output.new error.old error.new)
+        (refusal_line why.now) Status.Refused result }
 {
     match refusal_text(alloc, why) {
         Ok(text) => tell(output, text.as_bytes(), Status::Refused),
-        Err(AllocError) => u64::from(Status::Failed.code()),
+        Err(AllocError) => warn(error, fault_line(KeepFault::Memory), Status::Failed),
     }
 }

@@ -1,7 +1,8 @@
 //! The events of a script.
 ghost use Rattle.std.specs.Prelude.{◌≡◌, ◌∷◌, ◌<◌, ◌≤◌, IfOk, IfErr, IfSome, OnOk, Ok, Err, map, length, option_map};
+ghost use Rattle.std.specs.Str.{is_utf8};
 ghost use Rattle.toll_programs.specs.Asked.{deeds_of, IsFaultOf, GivesEvent, Gives, Adds, lines_in, IsFaultOfScript};
-ghost use Rattle.toll_programs.specs.Script.{AsksFor, script_lines, asked_by, request_asked, command_asked, words_in};
+ghost use Rattle.toll_programs.specs.Script.{AsksFor, script_lines, asked_by, request_asked, command_asked, is_request, takes_memory, words_in};
 
 use crate::cutting::cut;
 use crate::request_line::RequestLine;
@@ -12,7 +13,7 @@ use toll_wire::Event;
 /// Why a script gave no events.
 #[derive(Clone, Copy)]
 pub enum ScriptFault {
-    /// There was no memory.
+    /// There was no memory to read a line, before which none is bad.
     Memory,
     /// The line of this number, counted from 1, is the first that is bad.
     BadLine(u64),
@@ -59,7 +60,7 @@ fn first_line(lines: &[u8]) -> (&[u8], Option<&[u8]>)
 // Adds the event that a line asks for, if there is one.
 fn add_event(alloc: Global, events: &mut Vec<Event>, line: &[u8]) -> Result<(), LineFault>
     ensures ok { OnOk result (Adds (asked_by line.now) events.old.items events.new.items) }
-    ensures fault { IfErr result (IsFaultOf (asked_by line.now)) }
+    ensures fault { IfErr result (IsFaultOf (asked_by line.now) (takes_memory line.now)) }
 {
     match event_of(alloc, line) {
         Ok(Some(event)) => events.push(event).map_err(|_| LineFault::Memory),
@@ -70,7 +71,7 @@ fn add_event(alloc: Global, events: &mut Vec<Event>, line: &[u8]) -> Result<(), 
 
 // The event that a line asks for: none for an empty line and a comment.
 fn event_of(alloc: Global, line: &[u8]) -> Result<Option<Event>, LineFault>
-    ensures { Gives (asked_by line.now) result }
+    ensures { Gives (asked_by line.now) (takes_memory line.now) result }
 {
     match line {
         [] | [b'#', ..] => Ok(None),
@@ -80,7 +81,7 @@ fn event_of(alloc: Global, line: &[u8]) -> Result<Option<Event>, LineFault>
 }
 
 fn request_of(alloc: Global, line: &[u8]) -> Result<Event, LineFault>
-    ensures { GivesEvent (request_asked line.now) result }
+    ensures { GivesEvent (request_asked line.now) (is_request line.now) result }
 {
     let Some(request) = RequestLine::parse(line) else {
         return Err(LineFault::Bad);
@@ -92,7 +93,7 @@ fn request_of(alloc: Global, line: &[u8]) -> Result<Event, LineFault>
 }
 
 fn plant_of(alloc: Global, line: &[u8]) -> Result<Event, LineFault>
-    ensures { GivesEvent (command_asked line.now) result }
+    ensures { GivesEvent (command_asked line.now) (is_utf8 line.now) result }
 {
     let Ok(line) = str::from_utf8(line) else {
         return Err(LineFault::Bad);

@@ -7,10 +7,10 @@ ghost use Rattle.toll_plant.specs.declared.import_fault.ImportFault.{ImportFault
 ghost use Rattle.toll_plant.specs.declared.report.ImportReport.{ImportReport};
 ghost use Rattle.toll_programs.specs.Imported.{IsImported};
 ghost use Rattle.toll_programs.specs.Statuses.{after_lines, is_turned_away};
-ghost use Rattle.toll_programs.specs.Told.{IsImportTold, IsTold, after_refused_file, refused_file};
+ghost use Rattle.toll_programs.specs.Told.{IsImportTold, IsShownIfRoom, after_refused_file, refused_file, streams_of};
 
 use crate::status::Status;
-use crate::telling::tell;
+use crate::telling::{tell, warn};
 use std::alloc::{AllocError, Global};
 use toll_keep::Keep;
 use toll_plant::{ImportFault, ImportLine, ImportReport, Outcome, import_actuals, import_text};
@@ -19,7 +19,8 @@ use toll_wire::Sink;
 /// Imports a file of actuals, writes what came of its records to `output`, or why it was not imported to
 /// `error`, and gives the exit status: 0 where each record is accepted or repeated, 1 where one is refused
 /// or bad, 2 for a file that is too long or has another header, 3 where one met a fault, and where a write
-/// fails or there is no memory.
+/// fails. Where there is no memory for what is written to `output`, all records may have acted, and
+/// `fault Memory` is written to `error`.
 pub fn plant_import<K: Keep, W: Sink, E: Sink>(
     alloc: Global,
     keep: &mut K,
@@ -28,7 +29,7 @@ pub fn plant_import<K: Keep, W: Sink, E: Sink>(
     error: &mut E,
 ) -> u64
     ensures { (imported : Result ImportReport ImportFault) × IsImported K.meaning keep.old keep.new file.now imported
-        × IsImportTold (record { output = W.held output.old; now_output = W.held output.new; error = E.held error.old; now_error = E.held error.new }) imported result }
+        × IsImportTold (streams_of W.Sink E.Sink output.old output.new error.old error.new) imported result }
 {
     let imported = import_actuals(alloc, keep, file);
     show(alloc, imported, output, error)
@@ -41,11 +42,11 @@ fn show<W: Sink, E: Sink>(
     output: &mut W,
     error: &mut E,
 ) -> u64
-    ensures { IsImportTold (record { output = W.held output.old; now_output = W.held output.new; error = E.held error.old; now_error = E.held error.new }) imported result }
+    ensures { IsImportTold (streams_of W.Sink E.Sink output.old output.new error.old error.new) imported result }
 {
     match imported {
-        Ok(report) => show_report(alloc, &report, output),
-        Err(fault) => tell(error, line_of(fault), status_after(fault)),
+        Ok(report) => show_report(alloc, &report, output, error),
+        Err(fault) => warn(error, line_of(fault), status_after(fault)),
     }
 }
 
@@ -69,12 +70,19 @@ fn status_after(fault: ImportFault) -> Status
     }
 }
 
-fn show_report<W: Sink>(alloc: Global, report: &ImportReport, output: &mut W) -> u64
-    ensures { IsTold (W.held output.old) (W.held output.new) (import_text report.now.lines.items) (after_lines report.now.lines.items) result }
+// Writes the text of an import to `output`, or to `error` that there was no memory for it.
+fn show_report<W: Sink, E: Sink>(
+    alloc: Global,
+    report: &ImportReport,
+    output: &mut W,
+    error: &mut E,
+) -> u64
+    ensures { IsShownIfRoom (streams_of W.Sink E.Sink output.old output.new error.old error.new)
+        (import_text report.now.lines.items) (after_lines report.now.lines.items) result }
 {
     match import_text(alloc, report) {
         Ok(text) => tell(output, &text, status_of(&report.lines)),
-        Err(AllocError) => u64::from(Status::Failed.code()),
+        Err(AllocError) => warn(error, line_of(ImportFault::Memory), Status::Failed),
     }
 }
 

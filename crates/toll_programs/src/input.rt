@@ -15,7 +15,7 @@ const TEXT_LIMIT: usize = 1_048_576;
 /// Why a script was not read.
 #[derive(Clone, Copy)]
 pub enum InputFault {
-    /// There was no memory.
+    /// There was no memory. Nothing was read.
     Memory,
     /// The input has more bytes than a script may have. One byte more than that was read.
     TooLong,
@@ -26,7 +26,7 @@ pub enum InputFault {
 /// Why nothing was read of a stream.
 #[derive(Clone, Copy, Debug, PartialEq, Eq, Drop, Error)]
 pub enum FrontFault {
-    /// There was no memory.
+    /// There was no memory. Nothing was read.
     #[error("Memory")]
     Memory,
     /// A read failed.
@@ -37,6 +37,7 @@ pub enum FrontFault {
 /// All that the reader gives up to its end.
 pub fn read_input<R: Source>(alloc: Global, reader: &mut R) -> Result<Vec<u8>, InputFault>
     ensures whole { IfOk result (λ text. IsWhole (R.unread reader.old) (R.unread reader.new) text.items) }
+    ensures unread { result ≡ Err InputFault.Memory → reader.new ≡ reader.old }
     ensures too_long { result ≡ Err InputFault.TooLong → IsTooLong (R.unread reader.old) (R.unread reader.new) }
     ensures failed { result ≡ Err InputFault.Read → HasFailed (R.has_failed reader.old) (R.has_failed reader.new) }
     ensures sound { result ≢ Err InputFault.Read → NoneFailed (R.has_failed reader.old) (R.has_failed reader.new) }
@@ -57,6 +58,7 @@ pub fn read_front<R: Source>(
 ) -> Result<Vec<u8>, FrontFault>
     requires { most + 1 < 2 ^ 64 }
     ensures given { IfOk result (λ text. Consumes (R.unread reader.old) (R.unread reader.new) text.items) }
+    ensures unread { result ≡ Err FrontFault.Memory → reader.new ≡ reader.old }
     ensures bound { IfOk result (λ text. length text.items ≤ most + 1) }
     ensures whole { IfOk result (λ text. length text.items ≤ most → IsAtEnd (R.unread reader.new)) }
     ensures failed { result ≡ Err FrontFault.Read → HasFailed (R.has_failed reader.old) (R.has_failed reader.new) }

@@ -4,6 +4,7 @@
 
 mod commands;
 mod cutting;
+mod ending;
 mod events;
 mod imports;
 mod input;
@@ -16,11 +17,12 @@ mod task;
 mod telling;
 
 pub use commands::plant_line;
+pub use ending::tell_end;
 pub use imports::plant_import;
 pub use input::{FrontFault, read_front};
 pub use laws::limits_are_those_defined;
 pub use request_line::RequestLine;
 pub use scripts::{ScriptEnd, script};
 pub use status::Status;
-pub use task::{MOST_CONNECTIONS, Task, task_of};
-pub use telling::tell;
+pub use task::{MOST_CONNECTIONS, Task, task_of, usage_of};
+pub use telling::{numbered, tell, warn};

@@ -1,8 +1,5 @@
 //! Running a script.
-ghost use Rattle.std.specs.Prelude.{◌≡◌, ◌≢◌, ◌⊎◌, ℕ, IsTrue};
-ghost use Rattle.toll_http.specs.Streams.{HasFailed, NoneFailed};
-ghost use Rattle.toll_programs.specs.Inputs.{IsTooLong};
-ghost use Rattle.toll_programs.specs.Running.{RanOver, HasBadLine, HasRun, IsCutShort, IsRun, is_idle, is_silent};
+ghost use Rattle.toll_programs.specs.Running.{IsScriptRun};
 
 use crate::events::{ScriptFault, events_of};
 use crate::input::{InputFault, read_input};
@@ -21,8 +18,8 @@ pub enum ScriptEnd {
     BadLine(u64),
     /// The input has more than 1,048,576 bytes. Nothing ran, and nothing was written.
     TooLong,
-    /// There was no memory, and no read failed. Either nothing ran, or all events ran and nothing was
-    /// written.
+    /// There was no memory, and no read failed. Nothing was read; or nothing ran, and no line is bad before
+    /// the one for which there was none; or all events ran. Nothing was written.
     Memory,
     /// A read failed. Nothing ran, and nothing was written.
     ReadFault,
@@ -43,24 +40,7 @@ pub fn script<R: Source, W: Sink, K: Keep>(
     writer: &mut W,
     keep: &mut K,
 ) -> ScriptEnd
-    ensures done { result ≡ ScriptEnd.Done
-        → IsRun (RanOver K.meaning keep.old keep.new) (R.unread reader.old) (R.unread reader.new) (W.held writer.old) (W.held writer.new) }
-    ensures cut_short { result ≡ ScriptEnd.WriteFault
-        → IsCutShort (RanOver K.meaning keep.old keep.new) (R.unread reader.old) (R.unread reader.new) (W.held writer.old) (W.held writer.new) }
-    ensures memory { result ≡ ScriptEnd.Memory
-        → (keep.new ≡ keep.old) ⊎ HasRun (RanOver K.meaning keep.old keep.new) (R.unread reader.old) (R.unread reader.new) }
-    ensures honest { K.meaning.is_honest keep.new → K.meaning.is_honest keep.old }
-    ensures bad_line { (number : ℕ) → result ≡ ScriptEnd.BadLine number
-        → HasBadLine (R.unread reader.old) (R.unread reader.new) number }
-    ensures too_long { result ≡ ScriptEnd.TooLong → IsTooLong (R.unread reader.old) (R.unread reader.new) }
-
-    // A fault comes where a stream failed, and no read failed at any other end. Nothing is written or run
-    // but at the ends that say so.
-    ensures read_fault { result ≡ ScriptEnd.ReadFault → HasFailed (R.has_failed reader.old) (R.has_failed reader.new) }
-    ensures no_read_fault { result ≢ ScriptEnd.ReadFault → NoneFailed (R.has_failed reader.old) (R.has_failed reader.new) }
-    ensures write_fault { result ≡ ScriptEnd.WriteFault → HasFailed (W.has_failed writer.old) (W.has_failed writer.new) }
-    ensures silent { IsTrue (is_silent result) → writer.new ≡ writer.old }
-    ensures idle { IsTrue (is_idle result) → keep.new ≡ keep.old }
+    ensures { IsScriptRun R.Source W.Sink K.meaning reader.old reader.new writer.old writer.new keep.old keep.new result }
 {
     let text = match read_input(alloc, reader) {
         Ok(text) => text,

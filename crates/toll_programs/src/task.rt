@@ -1,7 +1,7 @@
 //! The words that the program is called with.
 ghost use Rattle.std.specs.Prelude.{◌≡◌, map, option_map};
 ghost use Rattle.toll_programs.specs.ShownTask.{shown_task};
-ghost use Rattle.toll_programs.specs.Tasks.{asked_for, asked_of_office, asked_of_serving};
+ghost use Rattle.toll_programs.specs.Tasks.{asked_for, asked_of_import, asked_of_office, asked_of_serving, usage_for};
 
 use toll_base::number;
 
@@ -31,9 +31,27 @@ pub enum Task<'a> {
 /// How many connections may be asked for.
 pub const MOST_CONNECTIONS: u64 = 1_000_000;
 
+/// How the program is called.
+pub const USAGE: &str = "toll 1.0, office format 2
+usage: toll script
+       toll --db FILE COMMAND ..
+       toll --db FILE import CSV
+       toll --db FILE serve PORT COUNT
+The commands and questions of the plant are told by the manual: man toll, or docs/commands.md.
+";
+
+/// How a file of actuals is imported.
+pub const IMPORT_USAGE: &str = "usage: toll --db FILE import CSV
+CSV is a file of actuals, of at most 1,048,576 bytes: man toll, or docs/csv.md.
+";
+
+/// How owners are served.
+pub const SERVE_USAGE: &str = "usage: toll --db FILE serve PORT COUNT
+PORT is 0 to 65535, and 0 takes a free one; COUNT, from 1 to 1000000, is how many connections are served.
+";
+
 /// What the words behind the program's name ask for: `None` where they are none of its four forms.
-/// Two words behind the file of which the first is `import`, and three of which it is `serve`, are no
-/// command of the plant's.
+/// Words behind the file of which the first is `import` or `serve` are no command of the plant's.
 pub fn task_of<'a>(words: &'a [&'a str]) -> Option<Task<'a>>
     ensures { option_map shown_task result ≡ asked_for (map (λ w. w.now) words.entry.now) }
 {
@@ -50,19 +68,43 @@ fn task_of_office<'a>(file: &'a str, words: &'a [&'a str]) -> Option<Task<'a>>
 {
     match words {
         [] => None,
-        [first, actuals] if *first == "import" => Some(Task::Import { file, actuals }),
-        [first, port, count] if *first == "serve" => task_of_serving(file, port, count),
+        [first, words @ ..] if *first == "import" => task_of_import(file, words),
+        [first, words @ ..] if *first == "serve" => task_of_serving(file, words),
         words => Some(Task::Words { file, words }),
     }
 }
 
-fn task_of_serving<'a>(file: &'a str, port: &str, count: &str) -> Option<Task<'a>>
-    ensures { option_map shown_task result ≡ asked_of_serving file.now port.now count.now }
+fn task_of_import<'a>(file: &'a str, words: &'a [&'a str]) -> Option<Task<'a>>
+    ensures { option_map shown_task result ≡ asked_of_import file.now (map (λ w. w.now) words.entry.now) }
 {
+    match words {
+        [actuals] => Some(Task::Import { file, actuals }),
+        _ => None,
+    }
+}
+
+fn task_of_serving<'a>(file: &'a str, words: &'a [&'a str]) -> Option<Task<'a>>
+    ensures { option_map shown_task result ≡ asked_of_serving file.now (map (λ w. w.now) words.entry.now) }
+{
+    let [port, count] = words else {
+        return None;
+    };
     let port = u16::try_from(number(port.as_bytes())?).ok()?;
     let count = number(count.as_bytes())?;
     if count == 0 || count > MOST_CONNECTIONS {
         return None;
     }
     Some(Task::Serve { file, port, count })
+}
+
+/// How the program is called, for words that ask for nothing: of all its forms, or of the one that the
+/// words begin with.
+pub fn usage_of(words: &[&str]) -> &'static str
+    ensures { result.now ≡ usage_for (map (λ w. w.now) words.now) }
+{
+    match words {
+        [_, _, form, ..] if *form == "import" => IMPORT_USAGE,
+        [_, _, form, ..] if *form == "serve" => SERVE_USAGE,
+        _ => USAGE,
+    }
 }

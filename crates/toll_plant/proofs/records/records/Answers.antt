@@ -5,6 +5,7 @@ use Rattle.csv.specs.Reading.{Reached, default_config, strip_bom}
 use Rattle.csv.specs.Records.{fields_of}
 use Rattle.csv.specs.declared.parser.State.TheVariants as st
 use Rattle.csv.proofs.ReadFacts.{rows-end, rows-more}
+use Rattle.toll_plant.proofs.ReaderLemmas.{no_refusal}
 use Rattle.toll_plant.proofs.records.records.Goals as goal
 
 pub loop-row-init : goal.loop-row-init
@@ -24,16 +25,25 @@ loop-row-init c =
       strip_bom c.args.file.now,
       fr.source,
       (sym fr.state, refl),
+      rw e at fr.flexible,
     )
+
+pub given-requires : goal.given-requires
+given-requires c =
+    let inv = c.loop-row.invariant in
+    let s = rw c.in-Some.is at ((c.next.ensures.steps inv.2 inv.0).0 inv.1) in
+    no_refusal (λ (s : Bor (List ℕ)). Some s.now) c.loop-row.row-iterator.rdr c.next.new.self.rdr c.next.new.self.left c.in-Some.row inv.7 s
 
 pub loop-row-preserved : goal.loop-row-preserved
 loop-row-preserved c =
     let inv = c.loop-row.invariant in
-    let s = rw (c.in-Some.is, c.in-Ok.is) at ((c.next.ensures.steps inv.2 inv.0).0 inv.1) in
+    let steps = c.next.ensures.steps inv.2 inv.0 in
+    let s = rw (c.in-Some.is, c.in_ok-record.ensures.same) at (steps.0 inv.1) in
+    let f = rw (c.in-Some.is, c.in_ok-record.ensures.same) at steps.3 in
     let good : is_ok c.push.result ≡ true = search rules in
     let items = rw good at c.push.ensures.items in
-    let m = rows-more (λ (s : Bor (List ℕ)). Some s.now) c.loop-row.row-iterator.rdr c.next.new.self.rdr (fields_of c.in-Ok.row) default_config st.StartRecord (strip_bom c.args.file.now) inv.4 (map fields_of c.loop-row.records.items) inv.3 inv.5 inv.6 s.0 in
-    (s.0.3 ∙ inv.0, inl s.1, s.2, s.0.2 ∙ inv.3, m.0, m.1, rw (items, map-append fields_of c.loop-row.records.items (c.in-Ok.row ∷ [])) m.2)
+    let m = rows-more (λ (s : Bor (List ℕ)). Some s.now) c.loop-row.row-iterator.rdr c.next.new.self.rdr (fields_of c.in_ok-record.record) default_config st.StartRecord (strip_bom c.args.file.now) inv.4 (map fields_of c.loop-row.records.items) inv.3 inv.5 inv.6 s.0 in
+    (s.0.3 ∙ inv.0, inl s.1, s.2, s.0.2 ∙ inv.3, m.0, m.1, rw (items, map-append fields_of c.loop-row.records.items (c.in_ok-record.record ∷ [])) m.2, f ∙ inv.7)
 
 pub returns : goal.returns
 returns c =

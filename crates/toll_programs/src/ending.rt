@@ -1,0 +1,25 @@
+//! How the program ends after a script.
+ghost use Rattle.toll_programs.specs.Told.{IsEndTold, stream_of};
+
+use crate::scripts::ScriptEnd;
+use crate::status::Status;
+use crate::telling::{numbered, warn};
+use toll_wire::Sink;
+
+/// Writes why a script ended, but of one that is done, and gives the exit status: 0 for one that is done,
+/// 2 for one with a bad line or that is too long, 3 for a fault. A write that fails changes nothing.
+pub fn tell_end<E: Sink>(end: ScriptEnd, error: &mut E) -> u64
+    ensures { IsEndTold (stream_of E.Sink error.old error.new) end result }
+{
+    match end {
+        ScriptEnd::Done => u64::from(Status::Done.code()),
+        ScriptEnd::BadLine(number) => {
+            let line = numbered("bad line ", number);
+            warn(error, line.as_str().as_bytes(), Status::Unread)
+        }
+        ScriptEnd::TooLong => warn(error, b"too long\n", Status::Unread),
+        ScriptEnd::Memory => warn(error, b"fault Memory\n", Status::Failed),
+        ScriptEnd::ReadFault => warn(error, b"fault Read\n", Status::Failed),
+        ScriptEnd::WriteFault => warn(error, b"fault Write\n", Status::Failed),
+    }
+}
