@@ -11,4 +11,5 @@ mod owners;
 mod request_words;
 mod said;
 pub(crate) mod setups;
+mod slices;
 mod voids;

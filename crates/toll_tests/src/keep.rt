@@ -3,6 +3,7 @@
 mod counting;
 mod first_version;
 mod rows;
+mod segments;
 mod tables;
 mod tests;
 mod told;

@@ -1,5 +1,6 @@
 //! What the contracts of the office's crates do not show, from its keeps to its programs: that ample memory
-//! meets no refusal, and what is said along stories of the office, over lists and over tables, line by line.
+//! meets no refusal, and what is said along stories of the office, over lists and over tables, line by line; and
+//! that each call has its name.
 #![tactic(auto)]
 
 #[cfg(test)]
@@ -16,5 +17,7 @@ mod programs;
 mod stop;
 #[cfg(test)]
 mod stories;
+#[cfg(test)]
+mod surface;
 #[cfg(test)]
 mod wire;

@@ -3,7 +3,7 @@
 
 mod batches;
 mod day;
-mod fakes;
+pub mod fakes;
 mod faults;
 mod files;
 mod lines;

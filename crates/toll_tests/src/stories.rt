@@ -20,6 +20,6 @@ pub use lines::{
 };
 pub use said::{plant_said, said_fault, said_refusal, said_text, text_of};
 pub use setups::{
-    A_CONSUMED, BOTH_RUN, CONSUMED_ONCE, CONSUMPTION_VOIDED, P1_PRODUCED, WITH_HOUSE, WITH_RECIPE,
-    WITH_TWO_RECIPES,
+    A_CONSUMED, BOTH_RUN, CONSUMED_AND_PRODUCED, CONSUMED_ONCE, CONSUMPTION_VOIDED, P1_PRODUCED,
+    WITH_HOUSE, WITH_RECIPE, WITH_TWO_RECIPES,
 };

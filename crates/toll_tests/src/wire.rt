@@ -1,6 +1,7 @@
 //! What the contracts of `toll_wire` do not show: worked requests and their replies, byte for byte, and
 //! along stories of the office, that ample memory meets no refusal, and streams of std that fail.
 
+mod ample;
 mod answers;
 mod fakes;
 mod genealogy;

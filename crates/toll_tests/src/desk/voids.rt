@@ -2,7 +2,8 @@
 use crate::desk::lines::Asked;
 use crate::desk::setups::{RELEASED_AND_PLACED, WITH_BATCH};
 use crate::stories::{
-    A_CONSUMED, CONSUMPTION_VOIDED, Line, P1_PRODUCED, WITH_HOUSE, WITH_RECIPE, check_said,
+    A_CONSUMED, CONSUMED_AND_PRODUCED, CONSUMPTION_VOIDED, Line, P1_PRODUCED, WITH_HOUSE,
+    WITH_RECIPE, check_said,
 };
 use std::test::Fail;
 
@@ -44,6 +45,7 @@ fn a_voided_consumption_gives_back(rt: HostRuntime) -> Result<(), Fail> {
         &[
             WITH_RECIPE,
             WITH_BATCH,
+            CONSUMED_AND_PRODUCED,
             CONSUMPTION_VOIDED,
             AS_IF_NOT_CONSUMED,
             KEYS_STAY_TAKEN,

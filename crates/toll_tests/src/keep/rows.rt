@@ -26,15 +26,20 @@ pub(crate) fn batch() -> Result<BatchRow, Fail> {
     })
 }
 
-/// That batch consumes or produces this lot of ACME.
+/// That batch consumes or produces this lot of ACME, in segment 1.
 pub(crate) fn actual(key: &[u8], role: Role, lot: LotId) -> Result<Row, Fail> {
+    actual_in(key, 1, role, lot)
+}
+
+/// The same in this segment.
+pub(crate) fn actual_in(key: &[u8], segment: u64, role: Role, lot: LotId) -> Result<Row, Fail> {
     let batch = batch()?;
     Ok(Row::Move(MoveRow {
         key: Name::parse(key)?,
         what: Move::Actual {
             order: batch.order,
             number: batch.number,
-            segment: Segment::new(1)?,
+            segment: Segment::new(segment)?,
             role,
             material: lot.lot,
             lot,

@@ -1,7 +1,7 @@
 //! Stories of files that are imported.
 use crate::desk::setups::WITH_BATCH;
 use crate::plant::lines::Asked;
-use crate::stories::{Line, WITH_RECIPE, check_said_over, check_said_over_lists};
+use crate::stories::{Line, WITH_RECIPE, check_said, check_said_over};
 use std::test::Fail;
 use toll_keep::{MemKeep, Refusing};
 
@@ -29,7 +29,7 @@ const IMPORTED_AGAIN: &[Line] = &[
 
 #[test]
 fn a_file_that_was_imported_changes_nothing_again(rt: HostRuntime) -> Result<(), Fail> {
-    check_said_over_lists::<Asked>(
+    check_said::<Asked>(
         rt.alloc(),
         &[WITH_RECIPE, WITH_BATCH, IMPORTED, IMPORTED_AGAIN],
     )
@@ -45,7 +45,7 @@ const VOIDED_BETWEEN: &[Line] = &[
 
 #[test]
 fn a_voided_actual_is_refused_when_it_is_imported_again(rt: HostRuntime) -> Result<(), Fail> {
-    check_said_over_lists::<Asked>(
+    check_said::<Asked>(
         rt.alloc(),
         &[WITH_RECIPE, WITH_BATCH, IMPORTED, VOIDED_BETWEEN],
     )
@@ -75,7 +75,7 @@ const REFUSED_AND_LATER_ACCEPTED: &[Line] = &[
 
 #[test]
 fn a_refused_record_may_be_imported_later(rt: HostRuntime) -> Result<(), Fail> {
-    check_said_over_lists::<Asked>(
+    check_said::<Asked>(
         rt.alloc(),
         &[
             WITH_RECIPE,

@@ -18,25 +18,11 @@ const ASKED: &[(&[&str], Task<'static>)] = &[
         },
     ),
     (
-        &["--db", "toll.db", "import"],
-        Task::Words {
-            file: "toll.db",
-            words: &["import"],
-        },
-    ),
-    (
         &["--db", "toll.db", "serve", "65535", "1000000"],
         Task::Serve {
             file: "toll.db",
             port: 65_535,
             count: 1_000_000,
-        },
-    ),
-    (
-        &["--db", "toll.db", "serve", "8080"],
-        Task::Words {
-            file: "toll.db",
-            words: &["serve", "8080"],
         },
     ),
 ];
@@ -55,6 +41,9 @@ const NOTHING: &[&[&str]] = &[
     &["--db"],
     &["--db", "toll.db"],
     &["toll.db", "orders"],
+    &["--db", "toll.db", "import"],
+    &["--db", "toll.db", "import", "day.csv", "night.csv"],
+    &["--db", "toll.db", "serve", "8080"],
     &["--db", "toll.db", "serve", "65536", "1"],
     &["--db", "toll.db", "serve", "8080", "0"],
     &["--db", "toll.db", "serve", "8080", "1000001"],

@@ -33,8 +33,8 @@ pub const CONSUMED_ONCE: &[Line] = &[
     ),
 ];
 
-/// A batch of `O` consumes of `A` and produces `P1`; the consumption is voided, once.
-pub const CONSUMPTION_VOIDED: &[Line] = &[
+/// A batch of `O` consumes 40 of `A` and produces 50 of `P1`, of which 20 are scrapped.
+pub const CONSUMED_AND_PRODUCED: &[Line] = &[
     (
         "actual K2 ACME O 1 1 consumed M ACME A S1 40 11",
         "accepted",
@@ -44,6 +44,10 @@ pub const CONSUMPTION_VOIDED: &[Line] = &[
         "accepted",
     ),
     ("scrap ACME K4 P1 S1 20 12", "accepted"),
+];
+
+/// Then the consumption is voided, once.
+pub const CONSUMPTION_VOIDED: &[Line] = &[
     ("void ACME K3", "refused 33"),
     ("void ACME K2", "accepted"),
     ("void ACME K2", "refused 41"),

@@ -4,7 +4,7 @@ use std::io;
 use std::io::{ErrorKind, Read, Write};
 use toll_wire::{ReadFault, read_request};
 
-/// Gives these bytes, so many at most with each read, and then fails or ends.
+/// Gives these bytes, so many at most with each read, and then ends, where it fails once before that.
 #[derive(Drop)]
 pub struct Source<'b> {
     pub bytes: &'b [u8],
@@ -15,6 +15,7 @@ pub struct Source<'b> {
 impl Read for Source<'_> {
     fn read(&mut self, buf: &mut [u8]) -> io::Result<usize> {
         if self.bytes.is_empty() && self.fails {
+            self.fails = false;
             return Err(io::Error::from(ErrorKind::ConnectionReset));
         }
         let n = self.bytes.len().min(buf.len()).min(self.piece);
@@ -40,7 +41,7 @@ pub fn read_pieces(
     read_request(alloc, &mut source)
 }
 
-/// Takes so many bytes, so many at most with each write, and then fails.
+/// Takes so many bytes, so many at most with each write, then fails once, and takes the rest.
 #[derive(Drop)]
 pub struct Sink {
     pub taken: Vec<u8>,
@@ -51,6 +52,7 @@ pub struct Sink {
 impl Write for Sink {
     fn write(&mut self, buf: &[u8]) -> io::Result<usize> {
         if self.room == 0 {
+            self.room = usize::MAX;
             return Err(io::Error::from(ErrorKind::BrokenPipe));
         }
         let n = buf.len().min(self.piece).min(self.room);

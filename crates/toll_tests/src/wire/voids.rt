@@ -1,5 +1,5 @@
 //! Stories of actuals that are taken back.
-use crate::stories::{CONSUMPTION_VOIDED, Line, WITH_RECIPE, check_said_over_lists};
+use crate::stories::{CONSUMED_AND_PRODUCED, CONSUMPTION_VOIDED, Line, WITH_RECIPE, check_said};
 use crate::wire::lines::Asked;
 use crate::wire::setups::WITH_BATCH;
 use std::test::Fail;
@@ -21,11 +21,12 @@ const AS_IF_NOT_CONSUMED: &[Line] = &[
 
 #[test]
 fn a_voided_consumption_gives_back(rt: HostRuntime) -> Result<(), Fail> {
-    check_said_over_lists::<Asked>(
+    check_said::<Asked>(
         rt.alloc(),
         &[
             WITH_RECIPE,
             WITH_BATCH,
+            CONSUMED_AND_PRODUCED,
             CONSUMPTION_VOIDED,
             AS_IF_NOT_CONSUMED,
         ],
