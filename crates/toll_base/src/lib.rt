@@ -8,6 +8,7 @@ mod decimal;
 mod decision;
 mod double_ended;
 mod former;
+mod laws;
 mod limits;
 mod lot;
 mod measure;
@@ -39,6 +40,7 @@ pub use capacity::{
 pub use decimal::number;
 pub use decision::{Change, Decision};
 pub use former::Former;
+pub use laws::limits_are_those_defined;
 pub use limits::Limits;
 pub use lot::{Disposition, Edge, LotId, Origin, lots_and_edges_are_ordered};
 pub use measure::Measure;
