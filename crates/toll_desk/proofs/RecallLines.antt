@@ -1,5 +1,5 @@
 -- The lines of a recall, over the rows of the owners of its lots.
-use Rattle.std.specs.Prelude.{position, nat_lt, if◌then◌else◌}
+use Rattle.std.specs.Prelude.{position, nat_lt}
 use Rattle.std.specs.List.{position_or_len}
 use Rattle.std.specs.Option.{option_map}
 use Rattle.std.proofs.Common.{Result, Ok, Err, IsErrAnd, ◌≡◌, ℕ, zero, suc, ◌<◌, ◌≤◌, ◌&&◌, Bool, true, false, cond, Option, Some, None, is_some, List, [], ◌∷◌, ◌++◌, length, map, get_or, take, ◌+◌, Contains, refl, sym, ap, subst, inl, inr, arith, ◌∙◌}
@@ -171,11 +171,6 @@ line_none H step none = of_row (lot_row H step.lot.owner step.lot.lot) none
     of_row : (row : Option LotRow) → None ≡ option_map (λ (r : LotRow). r.disposition) row → None ≡ option_map {T = LotRow} {U = RecallLine} (λ row. record { step = step; disposition = row.disposition; totals = record { on_hand = on_hand H step.lot; shipped = shipped H step.lot } }) row
     of_row None none = refl
     of_row (Some row) none = (cc)
-
--- what a branch gives, where its test holds
-pub where_true : {X : Type 0} (b : Bool) (x y z : X) → z ≡ (if b then x else y) → b ≡ true → z ≡ x
-where_true true x y z is holds = is
-where_true false x y z is holds = absurd (false≢true holds)
 
 -- a fault that is passed on is that fault
 pub passed_on : {X E : Type 0} (r : Result X E) (e : E) → IsErrAnd r (λ f. f ≡ e) → r ≡ Err e

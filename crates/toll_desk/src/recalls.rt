@@ -1,6 +1,6 @@
 //! Recalls.
 ghost use Rattle.std.specs.Option.{option_map};
-ghost use Rattle.std.specs.Prelude.{◌≡◌, ◌≢◌, true, List, Contains, Err, IfOk, position};
+ghost use Rattle.std.specs.Prelude.{◌≡◌, ◌≢◌, [], ◌∷◌, ◌++◌, true, List, Contains, Err, IfOk, OnOk, position};
 ghost use Rattle.toll_base.specs.Slice.{lot_at};
 ghost use Rattle.toll_base.specs.declared.lot.LotId.{LotId};
 ghost use Rattle.toll_history.specs.History.{History};
@@ -21,7 +21,7 @@ use std::alloc::{AllocError, Global};
 use toll_base::{Disposition, LotId, Name, Slice};
 use toll_genealogy::RecallLine;
 use toll_keep::{Keep, KeepFault};
-use toll_stock::lot_totals;
+use toll_stock::LotTotals;
 use toll_trace::{Step, Way};
 
 /// The lots that a lot went into over the batches of all owners, with what is on hand and was shipped
@@ -84,7 +84,7 @@ fn recall_steps<K: Keep>(
     ensures over { OverFirst K.meaning keep.old keep.new (λ c H. IsRecallOver H own steps.now result) }
 {
     match slices_of(alloc, keep, steps, own) {
-        Ok(slices) => match lines_of(alloc, &slices, steps) {
+        Ok(owners) => match lines_of(alloc, &owners, steps) {
             Ok(Some(lines)) => Ok(lines),
             Ok(None) => Err(KeepFault::Damaged),
             Err(_) => Err(KeepFault::Memory),
@@ -101,13 +101,13 @@ fn slices_of<K: Keep>(
     keep: &mut K,
     steps: &[Step],
     own: Slice,
-) -> Result<Vec<Slice>, KeepFault>
+) -> Result<Vec<LotTotals>, KeepFault>
     ensures reads { (first : K) → HaveRead K.meaning first keep.old → IsReading K.meaning first keep.new result }
     ensures kept { IsKept K.meaning keep.old keep.new }
     ensures over { Over K.meaning keep.old keep.new (λ c H. IsRowsOf H own → IfOk result (λ slices. AreSlicesFor H steps.now slices.items)) }
 {
     let mut slices = Vec::new(alloc);
-    if slices.push(own).is_err() {
+    if add_totals(alloc, &mut slices, own).is_err() {
         return Err(KeepFault::Memory);
     }
     for step in steps {
@@ -120,7 +120,7 @@ fn slices_of<K: Keep>(
 fn add_slice<K: Keep>(
     alloc: Global,
     keep: &mut K,
-    slices: &mut Vec<Slice>,
+    slices: &mut Vec<LotTotals>,
     step: &Step,
 ) -> Result<(), KeepFault>
     ensures reads { (first : K) → HaveRead K.meaning first keep.old → IsReading K.meaning first keep.new result }
@@ -132,7 +132,7 @@ fn add_slice<K: Keep>(
     }
     match keep.slice(alloc, &step.lot.owner) {
         Ok(Some(slice)) => {
-            if slices.push(slice).is_err() {
+            if add_totals(alloc, slices, slice).is_err() {
                 return Err(KeepFault::Memory);
             }
             Ok(())
@@ -142,11 +142,21 @@ fn add_slice<K: Keep>(
     }
 }
 
+// Adds these rows.
+fn add_totals(alloc: Global, slices: &mut Vec<LotTotals>, slice: Slice) -> Result<(), AllocError>
+    ensures { OnOk result (slices.new.items ≡ slices.old.items ++ slice ∷ []) }
+{
+    slices.push(LotTotals::new(alloc, slice)?)?;
+    Ok(())
+}
+
 // Where the rows of this owner are.
-fn place_of(slices: &[Slice], owner: &Name) -> Option<usize>
+fn place_of(slices: &[LotTotals], owner: &Name) -> Option<usize>
     ensures { result ≡ position (is_of owner.now) slices.now }
 {
-    slices.iter().position(|slice| *slice.owner() == *owner)
+    slices
+        .iter()
+        .position(|totals| *totals.slice().owner() == *owner)
 }
 
 // ---- lines
@@ -154,7 +164,7 @@ fn place_of(slices: &[Slice], owner: &Name) -> Option<usize>
 // The lines of the steps, over these rows; `None` where a step's lot has none.
 fn lines_of(
     alloc: Global,
-    slices: &[Slice],
+    slices: &[LotTotals],
     steps: &[Step],
 ) -> Result<Option<Vec<RecallLine>>, AllocError>
     ensures { (H : History) → IsLawful H → AreSlicesFor H steps.now slices.now → IfOk result (AreLinesOf H steps.now) }
@@ -169,7 +179,7 @@ fn lines_of(
     Ok(Some(lines))
 }
 
-fn line_of(slices: &[Slice], step: &Step) -> Option<RecallLine>
+fn line_of(slices: &[LotTotals], step: &Step) -> Option<RecallLine>
     ensures { (H : History) (steps : List Step) → IsLawful H → AreSlicesFor H steps slices.now → Contains steps step.now → IsLineOf H step.now result }
 {
     match place_of(slices, &step.lot.owner) {
@@ -178,12 +188,12 @@ fn line_of(slices: &[Slice], step: &Step) -> Option<RecallLine>
     }
 }
 
-// The line of a step at a lot of the slice's owner.
-fn line_in(slice: &Slice, step: &Step) -> Option<RecallLine>
-    ensures { (H : History) → IsLawful H → IsRowsOf H slice.now → slice.now.owner ≡ step.now.lot.owner → result ≡ recall_line H step.now }
+// The line of a step at a lot of the owner whose rows these are.
+fn line_in(totals: &LotTotals, step: &Step) -> Option<RecallLine>
+    ensures { (H : History) → IsLawful H → IsRowsOf H totals.now → totals.now.owner ≡ step.now.lot.owner → result ≡ recall_line H step.now }
 {
-    let disposition = disposition_of(slice, &step.lot.lot)?;
-    let totals = lot_totals(slice, &step.lot.lot)?;
+    let disposition = disposition_of(totals.slice(), &step.lot.lot)?;
+    let totals = totals.of_lot(&step.lot.lot)?;
     Some(RecallLine {
         step: *step,
         disposition,

@@ -12,3 +12,4 @@ pub mod OnHandTotals
 pub mod ShippedTotals
 pub mod TotalsLaw
 pub mod Withdrawn
+mod ShippedLots

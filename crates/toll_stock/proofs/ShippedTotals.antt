@@ -20,14 +20,10 @@ use Rattle.toll_history.proofs.KeysOnce.{all_found, void_of_actual}
 use Rattle.toll_history.proofs.StandsOnce.{stands_once}
 use Rattle.toll_base.proofs.Texts.{same_bytes-exact, same_bytes-refl, same_bytes-symm}
 use Rattle.toll_history.specs.Amounts.{ships_from, shipped}
-use Rattle.toll_stock.specs.LotTotals.{is_shipment_of, shipped_in}
+use Rattle.toll_stock.specs.LotTotals.{is_shipment_of, shipped_by, shipped_in}
 use Rattle.toll_history.proofs.Sums.{total-alike}
 use Rattle.toll_stock.proofs.Sums.{total-along, total-zero, total-swapped, cond-total, cond_zero, along, each_found, total_at}
 use Rattle.toll_stock.proofs.OnHandTotals.{each_standing}
-
--- what a movement takes of the lot as a shipment
-abbrev shipment : Bytes → MoveRow → ℕ
-shipment lot row = cond (is_shipment_of lot row.what) row.amount 0
 
 -- an actual is no shipment, so that a shipment stands for good
 not_actual : (lot : Bytes) (what : Move) → is_shipment_of lot what ≡ true → is_actual what ≡ false
@@ -62,7 +58,7 @@ module _ (H : History) (lawful : IsLawful H) (s : Slice) (there : IsRowsOf H s) 
   twice true n = refl
   twice false n = refl
 
-  stands : (row : MoveRow) → move_at s row.key ≡ Some row → shipment lot row ≡ total (λ m. cond (has_key s.owner row.key m) (shipment lot row) 0) (standing H)
+  stands : (row : MoveRow) → move_at s row.key ≡ Some row → shipped_by lot row ≡ total (λ m. cond (has_key s.owner row.key m) (shipped_by lot row) 0) (standing H)
   stands row found =
       elim (is_shipment_of lot row.what) as (λ b. is_shipment_of lot row.what ≡ b → cond b row.amount 0 ≡ total (λ m. cond (has_key s.owner row.key m) (cond b row.amount 0) 0) (standing H)) [
         | true ↦ λ is.
@@ -79,14 +75,14 @@ module _ (H : History) (lawful : IsLawful H) (s : Slice) (there : IsRowsOf H s) 
   both_ways true b n = refl
   both_ways false b n = refl
 
-  taken_by : (m : Movement) → movement_of (acts m.0 H) m.1.key ≡ Some m.1 → total (λ row. cond (has_key s.owner row.key m) (shipment lot row) 0) s.moves ≡ cond (ships_from (lot_id s.owner lot) m.0 m.1.what) m.1.amount 0
+  taken_by : (m : Movement) → movement_of (acts m.0 H) m.1.key ≡ Some m.1 → total (λ row. cond (has_key s.owner row.key m) (shipped_by lot row) 0) s.moves ≡ cond (ships_from (lot_id s.owner lot) m.0 m.1.what) m.1.amount 0
   taken_by m found =
-      total-alike _ (λ row. cond (same_bytes s.owner m.0) (cond (same_bytes m.1.key row.key) (shipment lot row) 0) 0) s.moves
-      (λ row. ap (λ b. cond (same_bytes s.owner m.0 && b) (shipment lot row) 0) (same_bytes-symm row.key m.1.key) ∙ both_ways (same_bytes s.owner m.0) (same_bytes m.1.key row.key) (shipment lot row))
-      ∙ sym (cond-total (same_bytes s.owner m.0) (λ row. cond (same_bytes m.1.key row.key) (shipment lot row) 0) s.moves)
-      ∙ ap (λ n. cond (same_bytes s.owner m.0) n 0) (total_at bytes_cmp nat_list_cmp_total (λ row. row.key) (shipment lot) s.moves m.1.key ordered)
-      ∙ elim (same_bytes s.owner m.0) as (λ b. same_bytes s.owner m.0 ≡ b → cond b (option_map_or (shipment lot) (move_at s m.1.key) 0) 0 ≡ cond (b && is_shipment_of lot m.1.what) m.1.amount 0) [
-        | true ↦ λ own. ap (λ x. option_map_or (shipment lot) x 0) (given m.1.key ∙ ap (λ w. movement_of (acts w H) m.1.key) (same_bytes-exact s.owner m.0 own) ∙ found)
+      total-alike _ (λ row. cond (same_bytes s.owner m.0) (cond (same_bytes m.1.key row.key) (shipped_by lot row) 0) 0) s.moves
+      (λ row. ap (λ b. cond (same_bytes s.owner m.0 && b) (shipped_by lot row) 0) (same_bytes-symm row.key m.1.key) ∙ both_ways (same_bytes s.owner m.0) (same_bytes m.1.key row.key) (shipped_by lot row))
+      ∙ sym (cond-total (same_bytes s.owner m.0) (λ row. cond (same_bytes m.1.key row.key) (shipped_by lot row) 0) s.moves)
+      ∙ ap (λ n. cond (same_bytes s.owner m.0) n 0) (total_at bytes_cmp nat_list_cmp_total (λ row. row.key) (shipped_by lot) s.moves m.1.key ordered)
+      ∙ elim (same_bytes s.owner m.0) as (λ b. same_bytes s.owner m.0 ≡ b → cond b (option_map_or (shipped_by lot) (move_at s m.1.key) 0) 0 ≡ cond (b && is_shipment_of lot m.1.what) m.1.amount 0) [
+        | true ↦ λ own. ap (λ x. option_map_or (shipped_by lot) x 0) (given m.1.key ∙ ap (λ w. movement_of (acts w H) m.1.key) (same_bytes-exact s.owner m.0 own) ∙ found)
         | false ↦ λ other. refl
       ] refl
       ∙ sym (ap (λ b. cond b m.1.amount 0) (ships_own s.owner lot m.0 m.1.what))
@@ -94,7 +90,7 @@ module _ (H : History) (lawful : IsLawful H) (s : Slice) (there : IsRowsOf H s) 
   pub shipped_is : shipped_in s lot ≡ shipped H (lot_id s.owner lot)
   unfolding shipped
   shipped_is =
-      total-along _ (λ row. total (λ m. cond (has_key s.owner row.key m) (shipment lot row) 0) (standing H)) s.moves (along _ _ stands s.moves (each_found bytes_cmp nat_list_cmp_total (λ row. row.key) s.moves ordered))
-      ∙ total-swapped (λ row m. cond (has_key s.owner row.key m) (shipment lot row) 0) s.moves (standing H)
+      total-along _ (λ row. total (λ m. cond (has_key s.owner row.key m) (shipped_by lot row) 0) (standing H)) s.moves (along _ _ stands s.moves (each_found bytes_cmp nat_list_cmp_total (λ row. row.key) s.moves ordered))
+      ∙ total-swapped (λ row m. cond (has_key s.owner row.key m) (shipped_by lot row) 0) s.moves (standing H)
       ∙ total-along _ (λ m. cond (ships_from (lot_id s.owner lot) m.0 m.1.what) m.1.amount 0) (standing H)
       (along _ _ taken_by (standing H) (each_standing (λ m. movement_of (acts m.0 H) m.1.key ≡ Some m.1) H (all_found H lawful)))

@@ -1,6 +1,8 @@
 -- How much of a lot is on hand, and how much was shipped.
-use Rattle.std.specs.Prelude.{ℕ, Bool, false, if◌then◌else◌, Option, is_some, List}
-use Rattle.toll_base.specs.Bytes.{Bytes, same_bytes}
+use Rattle.std.specs.Prelude.{◌≡◌, ℕ, Bool, false, if◌then◌else◌, Option, is_some, List}
+use Rattle.std.specs.BTreeMap.{get}
+use Rattle.std.specs.Option.{unwrap_or}
+use Rattle.toll_base.specs.Bytes.{Bytes, bytes_cmp, same_bytes}
 use Rattle.toll_base.specs.Words.{total, where_so}
 use Rattle.toll_history.specs.Amounts.{on_hand, shipped}
 use Rattle.toll_history.specs.History.{History}
@@ -9,7 +11,9 @@ use Rattle.toll_base.specs.Slice.{Slice, lot_at}
 use Rattle.toll_base.specs.declared.lot.LotId.{LotId}
 use Rattle.toll_base.specs.declared.movement.Move.{Move}
 use Rattle.toll_base.specs.declared.movement.Move.TheVariants.{Ship}
+use Rattle.toll_base.specs.declared.movement.MoveRow.{MoveRow}
 use Rattle.toll_base.specs.declared.rows.SublotRow.{SublotRow}
+use Rattle.toll_stock.specs.declared.shipped.Shipped.{Shipped}
 use Rattle.toll_stock.specs.declared.stock.Totals.{Totals}
 
 -- ---- over a history
@@ -37,10 +41,24 @@ abbrev pub is_shipment_of : Bytes → Move → Bool
 is_shipment_of lot (Ship l sublot) = same_bytes l lot
 is_shipment_of lot _ = false
 
+-- what the movement takes of the lot as a shipment
+abbrev pub shipped_by : Bytes → MoveRow → ℕ
+shipped_by lot row = if is_shipment_of lot row.what then row.amount else 0
+
 -- what the lot's shipments took
 abbrev pub shipped_in : Slice → Bytes → ℕ
-shipped_in s lot = total (λ row. if is_shipment_of lot row.what then row.amount else 0) s.moves
+shipped_in s lot = total (shipped_by lot) s.moves
 
 -- the totals of a lot that the slice has
 abbrev pub totals_in : Slice → Bytes → Option Totals
 totals_in s lot = where_so (is_some (lot_at s lot)) (record { on_hand = on_hand_in s lot; shipped = shipped_in s lot })
+
+-- ---- what was shipped of all lots, beside a slice
+
+-- the amount of the lot, 0 where it has none
+abbrev pub amount_of : Shipped → Bytes → ℕ
+amount_of shipped lot = unwrap_or (get bytes_cmp shipped.amounts lot) 0
+
+-- the amount of each lot is what its shipments took
+abbrev pub AreShippedIn : Slice → Shipped → Type 0
+AreShippedIn s shipped = (lot : Bytes) → amount_of shipped lot ≡ shipped_in s lot

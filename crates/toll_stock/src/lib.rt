@@ -3,21 +3,24 @@
 
 mod dispositions;
 mod lot_rows;
+mod lot_totals;
 mod material_tests;
 mod materials;
 mod movements;
 mod receipts;
 mod results;
+mod shipped;
 mod splits;
 mod stock;
 mod withdrawals;
 
 pub use dispositions::{reject, release};
 pub use lot_rows::{results_of, sublots_of};
+pub use lot_totals::LotTotals;
 pub use material_tests::add_test;
 pub use materials::add_material;
 pub use receipts::receive;
 pub use results::record_result;
 pub use splits::split;
-pub use stock::{Totals, lot_totals, on_hand, on_hand_of};
+pub use stock::{Totals, on_hand, on_hand_of};
 pub use withdrawals::{scrap, ship};

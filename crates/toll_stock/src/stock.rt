@@ -1,7 +1,6 @@
-//! What is on hand, and what was shipped.
+//! What is on hand.
 ghost use Rattle.std.specs.Option.{option_map};
 ghost use Rattle.std.specs.Prelude.{◌≡◌};
-ghost use Rattle.toll_base.specs.Bytes.{bytes_cmp};
 ghost use Rattle.toll_base.specs.Keys.{pair_cmp};
 ghost use Rattle.toll_base.specs.Lots.{lot_id};
 ghost use Rattle.toll_base.specs.Slice.{sublot_at};
@@ -11,10 +10,10 @@ ghost use Rattle.toll_history.specs.History.{History};
 ghost use Rattle.toll_history.specs.Movements.{stock};
 ghost use Rattle.toll_history.specs.Tables.{IsRowsOf};
 ghost use Rattle.toll_history.specs.Verdict.{IsLawful};
-ghost use Rattle.toll_stock.specs.LotTotals.{totals_in, stock_given, totals_given, on_hand_in, shipped_in, is_shipment_of};
+ghost use Rattle.toll_stock.specs.LotTotals.{stock_given, on_hand_in};
 
 use crate::lot_rows::sublots_of;
-use toll_base::{Move, MoveRow, Name, Slice};
+use toll_base::{Name, Slice};
 
 /// How much of a lot is on hand, and how much was shipped, in the measure of its material.
 #[derive(Clone, Copy, PartialEq, Eq)]
@@ -44,20 +43,6 @@ fn amount_at(slice: &Slice, lot: &Name, sublot: &Name) -> Option<u64>
     }
 }
 
-/// The totals of a lot; `None` where the owner has no such lot. It takes no memory.
-pub fn lot_totals(slice: &Slice, lot: &Name) -> Option<Totals>
-    ensures rows { result ≡ totals_in slice.now lot.now }
-    ensures totals { (H : History) → IsLawful H → IsRowsOf H slice.now → result ≡ totals_given H (lot_id slice.now.owner lot.now) }
-{
-    match slice.lot(lot) {
-        None => None,
-        Some(_) => Some(Totals {
-            on_hand: on_hand_of(slice, lot),
-            shipped: shipped_of(slice, lot),
-        }),
-    }
-}
-
 /// How much of a lot is on hand: the sum of its sublots, in the measure of its material; 0 where the
 /// owner has no such lot. It takes no memory, and looks at the lot's sublots alone.
 pub fn on_hand_of(slice: &Slice, lot: &Name) -> u64
@@ -80,30 +65,4 @@ fn sum_of_sublots(slice: &Slice, lot: &Name) -> u64
         sum += row.amount;
     }
     sum
-}
-
-// What the lot's shipments took.
-fn shipped_of(slice: &Slice, lot: &Name) -> u64
-    ensures amount { result ≡ shipped_in slice.now lot.now }
-    ensures key_order { IsInKeyOrder bytes_cmp (λ row. row.key) slice.now.moves }
-{
-    let _owner = slice.owner();
-    let rows = slice.moves();
-    let mut sum: u64 = 0;
-    for row in rows {
-        if is_shipment_of(row, lot) {
-            sum += row.amount.get();
-        }
-    }
-    sum
-}
-
-// Whether the movement is a shipment of the lot.
-fn is_shipment_of(row: &MoveRow, lot: &Name) -> bool
-    ensures { result ≡ is_shipment_of lot.now row.now.what }
-{
-    match &row.what {
-        Move::Ship { lot: of, .. } => *of == *lot,
-        _ => false,
-    }
 }

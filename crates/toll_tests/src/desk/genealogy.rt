@@ -165,6 +165,37 @@ fn a_recall_goes_on_from_house_to_owners(rt: HostRuntime) -> Result<(), Fail> {
     )
 }
 
+const SHIPPED_IN_PARTS: &[Line] = &[
+    ("ship HOUSE K4 H-2 S 2 4", "accepted"),
+    ("ship HOUSE K5 H-1 S 1 4", "accepted"),
+    ("ship HOUSE K6 H-2 S 3 4", "accepted"),
+    ("ship HOUSE K7 H-1 S 6 5", "accepted"),
+    (
+        "> ACME ACMEKEY1 release P1",
+        "lot P1 P kg O/1 released, S 5",
+    ),
+    ("ship ACME K3 P1 S 4 5", "accepted"),
+    (
+        "recall HOUSE H-1",
+        " steps owner            lot              disposition        on-hand        shipped\n     0 HOUSE            H-1              released                 3              7\n     1 HOUSE            H-2              released                 1              5\n     2 ACME             P1               released                 1              4\n",
+    ),
+];
+
+#[test]
+fn shipments_of_each_recalled_lot_are_added_up(rt: HostRuntime) -> Result<(), Fail> {
+    check_said::<Asked>(
+        rt.alloc(),
+        &[
+            WITH_HOUSE_RECIPE,
+            WITH_BOTH_BATCHES,
+            TWENTY_RECEIVED,
+            CONSUMED_IN_SEGMENT_1,
+            H2_PRODUCED,
+            SHIPPED_IN_PARTS,
+        ],
+    )
+}
+
 const NOT_RECALLED: &[Line] = &[
     (
         "recall HOUSE H-1",

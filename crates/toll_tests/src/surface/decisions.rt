@@ -5,7 +5,7 @@ use toll_base::{
     StateCommand, Value,
 };
 use toll_stock::{
-    Totals, add_material, add_test, lot_totals, on_hand, receive, record_result, reject, release,
+    LotTotals, Totals, add_material, add_test, on_hand, receive, record_result, reject, release,
     scrap, ship, split,
 };
 use toll_work::{
@@ -83,8 +83,20 @@ pub fn dispositions(alloc: Global, slice: &Slice, lot: Name) -> (Decided, Decide
     (release(alloc, slice, lot), reject(alloc, slice, lot))
 }
 
-pub fn amounts(slice: &Slice, lot: &Name, sublot: &Name) -> (Option<u64>, Option<Totals>) {
-    (on_hand(slice, lot, sublot), lot_totals(slice, lot))
+pub fn amounts(slice: &Slice, lot: &Name, sublot: &Name) -> Option<u64> {
+    on_hand(slice, lot, sublot)
+}
+
+pub fn totals(alloc: Global, slice: Slice) -> Result<LotTotals, AllocError> {
+    LotTotals::new(alloc, slice)
+}
+
+pub fn rows(totals: &LotTotals) -> &Slice {
+    totals.slice()
+}
+
+pub fn lots(totals: &LotTotals, lot: &Name) -> Option<Totals> {
+    totals.of_lot(lot)
 }
 
 pub fn sums(totals: &Totals) -> (u64, u64) {

@@ -1,10 +1,11 @@
 use Rattle.std.proofs.Common.{[], ◌∷◌, ◌++◌, sym, ap, subst, ◌∙◌}
 use Rattle.std.specs.Prelude.{position}
 use Rattle.toll_keep.specs.Slices.{is_of}
+use Rattle.toll_keep.proofs.Outcomes.{of_ok}
 use Rattle.toll_desk.specs.Questions.{AreSlicesFor}
 use Rattle.toll_desk.proofs.OwnerPlans.{none_read}
 use Rattle.toll_desk.proofs.OwnTraces.{rows_read}
-use Rattle.toll_desk.proofs.RecallLines.{step_found, step_unknown, step_added, where_true}
+use Rattle.toll_desk.proofs.RecallLines.{step_found, step_unknown, step_added}
 use Rattle.toll_desk.proofs.recalls.add_slice.Goals as goal
 
 pub returns-then-is_some-clause-over : goal.returns-then-is_some-clause-over
@@ -20,4 +21,4 @@ returns-else-is_err-clause-over g c honest content H held stands lawful before a
     let step = c.args.step.now in
     let s = c.in-Ok-Some.slice in
     let read = rows_read content H step.lot.owner s stands (sym c.in-Ok-Some.field-0-is ∙ c.in-Ok-Some.ensures.reads honest content held) in
-    subst (AreSlicesFor H (before ++ step ∷ [])) (sym (where_true _ _ _ _ c.push.ensures.items c.if-is_err.ensures.negation)) (step_added H before step c.args.slices.now.items s are read.0 read.1)
+    subst (AreSlicesFor H (before ++ step ∷ [])) (sym (of_ok c.add_totals.result c.if-is_err.ensures.negation c.add_totals.ensures)) (step_added H before step c.args.slices.now.items s are read.0 read.1)

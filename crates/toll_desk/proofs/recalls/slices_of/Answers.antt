@@ -2,8 +2,9 @@ use Rattle.std.proofs.Common.{take, [], ◌∷◌, ◌++◌, subst, sym, ap, ◌
 use Rattle.toll_keep.specs.Goes.{IsReading}
 use Rattle.std.proofs.lemmas.List.{take_all, take_more}
 use Rattle.toll_desk.specs.Questions.{AreSlicesFor}
+use Rattle.toll_keep.proofs.Outcomes.{of_ok}
 use Rattle.toll_keep.proofs.Calls.{read_ok, read_fault}
-use Rattle.toll_desk.proofs.RecallLines.{one_slice, where_true, passed_on}
+use Rattle.toll_desk.proofs.RecallLines.{one_slice, passed_on}
 use Rattle.toll_desk.proofs.recalls.slices_of.Goals as goal
 
 pub loop-step-init : goal.loop-step-init
@@ -11,7 +12,7 @@ loop-step-init g c = (
   λ first have. have,
   λ honest. (honest, λ content held. held),
   λ honest content H held stands lawful rows.
-      subst (AreSlicesFor H []) (sym (where_true _ _ _ _ c.push.ensures.items c.if-is_err.ensures.negation ∙ ap (λ xs. xs ++ c.args.own ∷ []) c.new-slices.ensures.items)) (one_slice H c.args.own rows),
+      subst (AreSlicesFor H []) (sym (of_ok c.add_totals.result c.if-is_err.ensures.negation c.add_totals.ensures ∙ ap (λ xs. xs ++ c.args.own ∷ []) c.new-slices.ensures.items)) (one_slice H c.args.own rows),
 )
 
 pub returns-in_err-add_slice-clause-reads : goal.returns-in_err-add_slice-clause-reads
