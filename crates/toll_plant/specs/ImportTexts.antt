@@ -8,6 +8,7 @@ use Rattle.toll_plant.specs.Outcomes.{is_fault}
 use Rattle.toll_plant.specs.declared.outcome.Outcome.{Outcome}
 use Rattle.toll_plant.specs.declared.outcome.Outcome.TheVariants.{Accepted, Repeated, Refused, BadRecord, Fault}
 use Rattle.toll_plant.specs.declared.report.ImportLine.{ImportLine}
+use Rattle.toll_plant.specs.declared.sums.Sums.{Sums}
 
 -- what is shown of an outcome
 abbrev pub outcome_text : Outcome → Bytes
@@ -45,6 +46,12 @@ sums_line lines =
     ∷ codes "refused" ∷ decimal (count_by (λ l. is_refused l.outcome) lines)
     ∷ codes "bad" ∷ decimal (count_by (λ l. is_bad l.outcome) lines)
     ∷ codes "fault" ∷ decimal (count_by (λ l. is_fault l.outcome) lines) ∷ [])
+
+-- what is shown of sums
+abbrev pub sums_text : Sums → Bytes
+sums_text s =
+    codes "accepted " ++ (decimal s.accepted ++ (codes " repeated " ++ (decimal s.repeated ++ (codes " refused " ++ (decimal s.refused
+    ++ (codes " bad " ++ (decimal s.bad ++ (codes " fault " ++ decimal s.faults))))))))
 
 -- a line for each record, and the sums
 abbrev pub import_text : List ImportLine → Bytes

@@ -1,6 +1,7 @@
 -- What comes of the records of a file of actuals.
-use Rattle.std.specs.Prelude.{◌≡◌, ◌≢◌, ◌+◌, ◌⊎◌, ℕ, Bool, Option, Some, None, List, [], ◌∷◌, map}
+use Rattle.std.specs.Prelude.{◌≡◌, ◌≢◌, ◌+◌, ◌⊎◌, ℕ, Option, Some, None, List, [], ◌∷◌, map}
 use Rattle.std.specs.Bool.{MatchBool}
+use Rattle.std.specs.List.{AllByRecursion}
 use Rattle.toll_base.specs.Bytes.{Bytes}
 use Rattle.toll_history.specs.History.{History}
 use Rattle.toll_history.specs.Verdict.{Verdict, IsLawful}
@@ -103,3 +104,11 @@ IsWholeOutcome outcome = outcome ≢ Fault Damaged
 -- this is so of the commands of the file's records, and of what came of them
 abbrev pub OfRecords : Bytes → (List (Option PlantCmd) → List Outcome → Type 0) → ImportReport → Type 0
 OfRecords file P report = (records : List Fields) × HasActuals file records × P (commands_in records) (outcomes_in report.lines.items)
+
+-- the records of the file are steps one after another over the keep
+abbrev pub AreStepsOf : {K : Type 0} → Meaning K → K → K → Content → History → Bytes → ImportReport → Type 0
+AreStepsOf meaning old new c H file = OfRecords file (λ asked told. AreRecordSteps meaning old c H asked told new)
+
+-- each line of the report tells such an outcome
+abbrev pub AllTell : (Outcome → Type 0) → ImportReport → Type 0
+AllTell IsSo report = AllByRecursion IsSo (outcomes_in report.lines.items)

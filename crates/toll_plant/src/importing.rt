@@ -1,10 +1,9 @@
 //! Files of actuals are imported.
-ghost use Rattle.std.specs.List.{AllByRecursion};
 ghost use Rattle.std.specs.Prelude.{◌≡◌, ◌≢◌, ◌↔◌, ◌<◌, ◌≤◌, Err, IfOk, OnErr, Option, length};
 ghost use Rattle.toll_keep.specs.Meaning.{NeverCloses};
 ghost use Rattle.toll_desk.specs.Reads.{Over};
 ghost use Rattle.toll_plant.specs.Files.{HasHeader};
-ghost use Rattle.toll_plant.specs.Imports.{AreNumbered, AreRecordSteps, AreRecordsServed, IsImportOf, IsOpenOutcome, IsRecordServed, IsWholeOutcome, OfRecords, outcomes_in};
+ghost use Rattle.toll_plant.specs.Imports.{AllTell, AreNumbered, AreRecordsServed, AreStepsOf, IsImportOf, IsOpenOutcome, IsRecordServed, IsWholeOutcome, OfRecords, outcomes_in};
 
 use crate::actuals::actuals;
 use crate::import_fault::ImportFault;
@@ -41,9 +40,9 @@ pub fn import_actuals<K: Keep>(
     ensures numbered { IfOk result (λ report. AreNumbered 1 report.lines.items) }
     ensures served { IfOk result (OfRecords file.now (λ asked told. AreRecordsServed K.meaning keep.old asked told keep.new)) }
     ensures run { Over K.meaning keep.old keep.new (λ c H. IfOk result (OfRecords file.now (IsImportOf (K.meaning.holds keep.new) H))) }
-    ensures steps { Over K.meaning keep.old keep.new (λ c H. IfOk result (OfRecords file.now (λ asked told. AreRecordSteps K.meaning keep.old c H asked told keep.new))) }
-    ensures whole { Over K.meaning keep.old keep.new (λ c H. IfOk result (λ report. AllByRecursion IsWholeOutcome (outcomes_in report.lines.items))) }
-    ensures open { NeverCloses K.meaning → Over K.meaning keep.old keep.new (λ c H. IfOk result (λ report. AllByRecursion IsOpenOutcome (outcomes_in report.lines.items))) }
+    ensures steps { Over K.meaning keep.old keep.new (λ c H. IfOk result (AreStepsOf K.meaning keep.old keep.new c H file.now)) }
+    ensures whole { Over K.meaning keep.old keep.new (λ c H. IfOk result (AllTell IsWholeOutcome)) }
+    ensures open { NeverCloses K.meaning → Over K.meaning keep.old keep.new (λ c H. IfOk result (AllTell IsOpenOutcome)) }
 {
     if file.len() > MOST_FILE_BYTES {
         return Err(ImportFault::TooLong);

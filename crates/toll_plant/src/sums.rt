@@ -37,9 +37,10 @@ impl Sums {
 }
 
 impl fmt::Display for Sums {
-    ghost use Rattle.std.specs.Prelude.{Some, ◌++◌, codes, decimal};
+    ghost use Rattle.std.specs.Prelude.{Some};
+    ghost use Rattle.toll_plant.specs.ImportTexts.{sums_text};
 
-    ghost output = { λ s. Some (codes "accepted " ++ (decimal s.accepted ++ (codes " repeated " ++ (decimal s.repeated ++ (codes " refused " ++ (decimal s.refused ++ (codes " bad " ++ (decimal s.bad ++ (codes " fault " ++ decimal s.faults))))))))) };
+    ghost output = { λ s. Some (sums_text s) };
 
     fn fmt<W: fmt::Write>(&self, f: &mut fmt::Formatter<W>) -> fmt::Result {
         let Sums {

@@ -1,6 +1,6 @@
-use Rattle.std.proofs.Common.{◌≡◌, ◌∙◌, true, [], ◌∷◌, ap, map}
-use Rattle.clap.specs.Words.{app_of, found_of}
-use Rattle.toll_plant.specs.ClapWords.{are_sound, office}
+use Rattle.std.proofs.Common.{◌∙◌, [], ◌∷◌, ap, map}
+use Rattle.clap.specs.Words.{found_of}
+use Rattle.toll_plant.specs.ClapWords.{office}
 use Rattle.toll_plant.specs.Shown.{shown}
 use Rattle.toll_plant.proofs.OfficeLemmas.{all_some, alone_sound, in_ok, same_values, some_subcommand, taken, words_found}
 use Rattle.toll_plant.proofs.clap_words.values_of.Goals as goal
