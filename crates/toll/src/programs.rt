@@ -7,7 +7,9 @@ use std::net::{Ipv4Addr, SocketAddrV4, TcpListener};
 use std::{env, io};
 use toll_office::{OfficeFault, Served, do_command, do_import, do_script, serve_all};
 use toll_plant::{MOST_FILE_BYTES, WordsFault, command_of};
-use toll_programs::{FrontFault, Status, Task, read_front, task_of, tell, tell_end, usage_of, warn};
+use toll_programs::{
+    FrontFault, Status, Task, read_front, task_of, tell, tell_end, usage_of, warn,
+};
 
 /// How many standard streams there are.
 const STREAMS: usize = 3;
@@ -30,7 +32,11 @@ pub fn run(rt: &HostRuntime) -> u64 {
         Some(Task::Words { file, words }) => run_words(rt, file, words),
         Some(Task::Import { file, actuals }) => run_import(rt, file, actuals),
         Some(Task::Serve { file, port, count }) => run_serve(rt, file, port, count),
-        None => warn(&mut rt.stderr(), usage_of(&words).as_bytes(), Status::Unread),
+        None => warn(
+            &mut rt.stderr(),
+            usage_of(&words).as_bytes(),
+            Status::Unread,
+        ),
     }
 }
 
