@@ -29,6 +29,10 @@ abbrev pub IsUnreadBy : (limit : Option ℕ) → Database → List ℕ → Type 
 IsUnreadBy limit db sql =
     (c : Compiled) → understood db.schema sql ≡ Ok c → c.returning ≡ None → IsWholeText sql c → (source : Database) × IsSourceOf (reads_listing db.schema sql) db source × ((e : Error) × RefusesToRead limit c.command source [] e)
 
+-- the text that reads `meta`
+abbrev pub meta_text : List ℕ
+meta_text = select_text Meta
+
 -- what `meta` shows of a store is such
 abbrev pub ShowsMeta : (List Row → Type 0) → Database → Type 0
-ShowsMeta P db = (rows : List Row) × AreReadBy db (select_text Meta) rows × P rows
+ShowsMeta P db = (rows : List Row) × AreReadBy db meta_text rows × P rows

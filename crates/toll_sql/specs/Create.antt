@@ -1,5 +1,5 @@
 -- Tables that are being made, within a transaction.
-use Rattle.std.specs.Prelude.{◌≡◌, None, [], ◌∷◌, IsTrue, Result, IfErr, OnOk, OnErr, false, true}
+use Rattle.std.specs.Prelude.{◌≡◌, None, [], ◌∷◌, IsTrue, Result, IfErr, OnOk, false, true}
 use Rattle.std.specs.List.{AllByRecursion}
 use Rattle.sqlite.specs.Effect.{Database}
 use Rattle.sqlite.specs.Schema.{Schema}
@@ -13,7 +13,7 @@ use Rattle.toll_sql.specs.Causes.{IsCaused}
 use Rattle.toll_sql.specs.Encode.{meta_cells}
 use Rattle.toll_keep.specs.Content.{nothing}
 use Rattle.toll_sql.specs.Holds.{Holds, version}
-use Rattle.toll_sql.specs.Stores.{IsOurs, PutsRow}
+use Rattle.toll_sql.specs.Stores.{IsOurs, PutsRow, StaysOnErr}
 use Rattle.toll_sql.specs.Tables.{made_all, made_before, with_tables, tree_of}
 use Rattle.toll_sql.specs.declared.table_kind.TableKind.{TableKind}
 use Rattle.toll_sql.specs.declared.table_kind.TableKind.TheVariants.{Meta}
@@ -82,7 +82,7 @@ pub record IsWhole (Before : State → Type 0) (Made : Database → Type 0) {X :
   pub ended : new.in_transaction ≡ false
   pub all : HasCleanDisk new → Before (begin old) → OnOk result (Made new.now)
   pub shown : HasCleanDisk new → OnOk result (IsTrue new.is_open × (new.now ≡ new.committed))
-  pub none : HasCleanDisk new → IsTrue new.is_open → OnErr result ((new.now ≡ old.now) × (new.committed ≡ old.committed))
+  pub none : StaysOnErr old new result
   pub fault : HasCleanDisk new → IfErr result (IsCaused old new)
   pub live : HasCleanDisk new → IsTrue new.is_open → IsTrue old.is_open
   pub survives : Survives old new (LeavesMade (Before (begin old)) Made)

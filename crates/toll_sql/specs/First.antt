@@ -74,3 +74,7 @@ pub record Raised (db : Trees) (after : Database) : Type 0 where
   pub ours : IsOurs after
   pub told : Tells version (meta_rows after.trees)
   pub rows : (c : Content) → HoldsFirst db c → Holds after.trees c
+
+-- the tables that a store had are brought to those that it has now
+abbrev pub MakesRaised : State → State → Type 0
+MakesRaised old new = Raised old.now.trees new.now

@@ -3,12 +3,12 @@ use Rattle.std.specs.Prelude.{Bool}
 use Rattle.sqlite.specs.State.{State, HasCleanDisk}
 use Rattle.toll_keep.specs.Meaning.{Meaning}
 use Rattle.toll_sql.specs.Causes.{HasCause}
-use Rattle.toll_sql.specs.Stores.{HoldsIn, LeavesIn, LiesOpen}
+use Rattle.toll_sql.specs.Stores.{HoldsWhileOpen, LeavesIn, LiesOpen}
 
 -- of a keep of which the store and the flag are given
 abbrev pub means : {K : Type 0} → (store : K → State) (closed : K → Bool) → Meaning K
 means store closed = record {
-  holds = λ k c. LiesOpen (store k) → HoldsIn (store k) c;
+  holds = λ k c. HoldsWhileOpen (store k) c;
   is_honest = λ k. HasCleanDisk (store k);
   is_closed = closed;
   is_live = λ k. LiesOpen (store k);

@@ -1,5 +1,5 @@
 -- Whether tables are made or found.
-use Rattle.std.specs.Prelude.{◌≡◌, ◌≢◌, ◌⊎◌, false, None, List, ℕ, Option, codes, IsTrue, Result, Ok, Err, IfErr, OnOk, OnErr}
+use Rattle.std.specs.Prelude.{◌≡◌, ◌≢◌, ◌⊎◌, false, None, List, ℕ, Option, codes, IsTrue, Result, Ok, Err, IfErr, OnOk}
 use Rattle.sqlite.specs.Effect.{Database}
 use Rattle.sqlite.specs.State.{State, HasCleanDisk, KeepsCommit, Survives}
 use Rattle.sqlite.specs.Schema.{Schema}
@@ -8,14 +8,13 @@ use Rattle.sqlite.specs.declared.error.Error.{Error}
 use Rattle.sqlite.specs.declared.error.Error.TheVariants.{SqliteFailure}
 use Rattle.sqlite.specs.declared.error.ErrorCode.TheVariants as code
 use Rattle.toll_keep.specs.Content.{Content, nothing}
-use Rattle.toll_sql.specs.Asked.{IsUnreadBy, ShowsMeta}
+use Rattle.toll_sql.specs.Asked.{IsUnreadBy, ShowsMeta, meta_text}
 use Rattle.toll_sql.specs.Causes.{IsCaused, Reason, is_disk_fault}
 use Rattle.toll_sql.specs.First.{HoldsFirst, HoldsFirstIn, IsFirst, IsVersionIn, Raised, TellNeither, Tells, first_ours, first_version, meta_rows}
 use Rattle.toll_sql.specs.Holds.{Holds, version}
 use Rattle.toll_sql.specs.Plain.{no_schema}
-use Rattle.toll_sql.specs.Stores.{HoldsIn, IsOurs}
-use Rattle.toll_sql.specs.Tables.{ours, select_text}
-use Rattle.toll_sql.specs.declared.table_kind.TableKind.TheVariants.{Meta}
+use Rattle.toll_sql.specs.Stores.{HoldsIn, IsOurs, LiesIdle, StaysOnErr}
+use Rattle.toll_sql.specs.Tables.{ours}
 use Rattle.toll_sql.specs.declared.open_fault.OpenFault.{OpenFault}
 use Rattle.toll_sql.specs.declared.open_fault.OpenFault.TheVariants.{Memory, Disk, Damaged, NotOurs}
 
@@ -43,7 +42,7 @@ pub record TakesOver {X : Type 0} (Leaves : Trees → Type 0) (old new : State) 
   -- a call that succeeds shows that the store lies open, with nothing pending
   pub shown : HasCleanDisk new → OnOk result (IsTrue new.is_open × (new.now ≡ new.committed))
   -- a refusal leaves what was there
-  pub refused : HasCleanDisk new → IsTrue new.is_open → OnErr result ((new.now ≡ old.now) × (new.committed ≡ old.committed))
+  pub refused : StaysOnErr old new result
   pub cause : HasCleanDisk new → result ≡ Err Disk → Reason (without_limit old) new
   pub survives : Survives (without_limit old) new Leaves
 
@@ -75,7 +74,7 @@ pub record IsUnlike (n : ℕ) (tables : Schema) (db : Database) : Type 0 where
 
 -- `meta` tells neither version, or can't be asked
 abbrev pub IsForeign : Database → Type 0
-IsForeign db = ShowsMeta TellNeither db ⊎ IsUnreadBy None db (select_text Meta)
+IsForeign db = ShowsMeta TellNeither db ⊎ IsUnreadBy None db meta_text
 
 -- the version that was told is the one that `meta` tells
 abbrev pub FindsVersion : Database → Option ℕ → Type 0
@@ -83,7 +82,7 @@ FindsVersion db told = ShowsMeta (λ rows. IsVersionIn rows told) db
 
 -- an error of neither memory nor the disk is one of what was asked
 abbrev pub IsUnreadFor : (limit : Option ℕ) → Database → Error → Type 0
-IsUnreadFor limit db e = e ≢ SqliteFailure code.OutOfMemory → is_disk_fault e ≡ false → IsUnreadBy limit db (select_text Meta)
+IsUnreadFor limit db e = e ≢ SqliteFailure code.OutOfMemory → is_disk_fault e ≡ false → IsUnreadBy limit db meta_text
 
 -- a call that finds the tables: after it they are ours, and hold the content that they held
 pub record Adopts {X : Type 0} (old new : State) (result : Result X OpenFault) : Type 0 where
@@ -106,7 +105,7 @@ pub record IsLeft {X : Type 0} (old new : State) (result : Result X Error) : Typ
 
 -- what is so of a query within a transaction that has written nothing
 pub record IsAskedInside {X : Type 0} (old new : State) (result : Result X Error) : Type 0 where
-  pub kept : HasCleanDisk new → IsTrue old.in_transaction → (IsTrue old.is_open → old.now ≡ old.committed) → KeepsCommit old new
+  pub kept : HasCleanDisk new → IsTrue old.in_transaction → LiesIdle old → KeepsCommit old new
   pub fault : HasCleanDisk new → IfErr result (IsCaused old new)
   pub survives : Survives old new (λ _. ⊥)
 
@@ -116,7 +115,7 @@ pub record Raises {X : Type 0} (old new : State) (result : Result X OpenFault) :
   pub live : HasCleanDisk new → IsTrue new.is_open → IsTrue old.is_open
   pub all : HasCleanDisk new → IsFirst old.now → old.step_limit ≡ None → OnOk result (Raised old.now.trees new.now)
   pub shown : HasCleanDisk new → OnOk result (IsTrue new.is_open × (new.now ≡ new.committed))
-  pub none : HasCleanDisk new → IsTrue new.is_open → OnErr result ((new.now ≡ old.now) × (new.committed ≡ old.committed))
+  pub none : StaysOnErr old new result
   pub cause : HasCleanDisk new → result ≡ Err Disk → Reason old new
   pub known : (result ≢ Err NotOurs) × (result ≢ Err Damaged)
   pub survives : Survives old new (λ db. IsFirst old.now → old.step_limit ≡ None → (c : Content) → HoldsFirst old.now.trees c → Holds db c)

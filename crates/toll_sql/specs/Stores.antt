@@ -1,5 +1,5 @@
 -- The store behind a keep: what its tables have to be, and what is made of them.
-use Rattle.std.specs.Prelude.{◌≡◌, pos, None, Bool, List, [], ◌∷◌, IsTrue, Result, IfErr, OnOk}
+use Rattle.std.specs.Prelude.{◌≡◌, pos, true, None, Bool, List, [], ◌∷◌, IsTrue, Result, IfErr, OnOk, OnErr}
 use Rattle.std.specs.List.{AllByRecursion}
 use Rattle.sqlite.specs.Effect.{Database}
 use Rattle.sqlite.specs.Order.{Row}
@@ -17,6 +17,7 @@ use Rattle.toll_base.specs.declared.decision.Change.TheVariants.{Owner, Unit as 
 use Rattle.toll_keep.specs.Content.{Content}
 use Rattle.toll_keep.specs.Goes.{IsAmong}
 use Rattle.toll_sql.specs.Causes.{IsCaused}
+use Rattle.toll_sql.specs.Cells.{fill}
 use Rattle.toll_sql.specs.Encode.{owner_cells, unit_cells, table_for, cells_for}
 use Rattle.toll_sql.specs.Holds.{Holds}
 use Rattle.toll_sql.specs.Put.{Puts}
@@ -107,17 +108,41 @@ pub record IsWriting (Makes : State → State → Type 0) {X : Type 0} (old new 
   pub kept : HasCleanDisk new → KeepsCommit old new
   pub survives : Survives old new (λ _. ⊥)
 
+-- cells that fill the columns of the table are put into it
+abbrev pub WritesRow : {X : Type 0} → TableKind → Row → State → State → Result X Error → Type 0
+WritesRow k cells old new result = fill k cells ≡ true → IsWriting (MakesRow k cells) old new result
+
+-- tables that are ours have taken the changes where no limit of steps is set and the call succeeds
+abbrev pub Applies : {X E : Type 0} → List Change → State → State → Result X E → Type 0
+Applies changes old new result = HasCleanDisk new → IsOurs old.now → old.step_limit ≡ None → OnOk result (HasApplied changes old new)
+
+-- where no limit of steps is set, a stop leaves tables that were ours with the changes put in
+abbrev pub LeavesPut : List Change → State → Trees → Type 0
+LeavesPut changes old db = IsOurs old.now → old.step_limit ≡ None → PutsAll changes old.now.trees db
+
+-- where the call fails, a store that lies open has what it had before
+abbrev pub StaysOnErr : {X E : Type 0} → State → State → Result X E → Type 0
+StaysOnErr old new result = HasCleanDisk new → IsTrue new.is_open → OnErr result ((new.now ≡ old.now) × (new.committed ≡ old.committed))
+
 -- ---- a store that holds a content
 
 -- the store has not shut itself
 pub record LiesOpen (s : State) : Type 0 where
   pub is_open : IsTrue s.is_open
 
+-- where the store lies open, nothing is pending
+abbrev pub LiesIdle : State → Type 0
+LiesIdle s = IsTrue s.is_open → s.now ≡ s.committed
+
 -- the tables are ours, nothing is pending, and they have these rows
 pub record HoldsIn (s : State) (c : Content) : Type 0 where
   pub ours : IsOurs s.now
   pub idle : s.now ≡ s.committed
   pub rows : Holds s.now.trees c
+
+-- where the store lies open, its tables hold the content
+abbrev pub HoldsWhileOpen : State → Content → Type 0
+HoldsWhileOpen s c = LiesOpen s → HoldsIn s c
 
 -- what a stop leaves are tables with one of these contents
 abbrev pub LeavesIn : State → List Content → Type 0

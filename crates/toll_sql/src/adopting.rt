@@ -8,7 +8,7 @@ ghost use Rattle.toll_sql.specs.Causes.{is_disk_fault};
 ghost use Rattle.toll_sql.specs.First.{first_ours, first_version};
 ghost use Rattle.toll_sql.specs.Holds.{version};
 ghost use Rattle.toll_sql.specs.Opening.{Adopts, Raises};
-ghost use Rattle.toll_sql.specs.Stores.{HoldsIn};
+ghost use Rattle.toll_sql.specs.Stores.{HoldsIn, LiesIdle};
 ghost use Rattle.toll_sql.specs.Tables.{ours};
 
 use crate::creating::{create_tables, raise_or_none};
@@ -61,7 +61,7 @@ fn layout_in(alloc: Global, schema: &Schema) -> Result<Layout, OpenFault>
 // The tables are ours: the version is read.
 fn adopt_ours<S: Alter>(conn: &mut Connection<S>) -> Result<(), OpenFault>
     requires autocommit { conn.old.in_transaction ≡ false }
-    requires settled { IsTrue (state S.Store conn.old).is_open → (state S.Store conn.old).now ≡ (state S.Store conn.old).committed }
+    requires settled { LiesIdle (state S.Store conn.old) }
     requires ours { (state S.Store conn.old).now.schema ≡ ours }
     requires unlimited { conn.old.step_limit ≡ None }
     ensures adopts { Adopts (state S.Store conn.old) (state S.Store conn.new) result }
@@ -95,7 +95,7 @@ fn misfit(told: Option<u64>, other: u64) -> OpenFault
 // The tables are those of version 1: the version is read, and they are brought to this one.
 fn adopt_first<S: Alter>(conn: &mut Connection<S>) -> Result<(), OpenFault>
     requires autocommit { conn.old.in_transaction ≡ false }
-    requires settled { IsTrue (state S.Store conn.old).is_open → (state S.Store conn.old).now ≡ (state S.Store conn.old).committed }
+    requires settled { LiesIdle (state S.Store conn.old) }
     requires first { (state S.Store conn.old).now.schema ≡ first_ours }
     requires unlimited { conn.old.step_limit ≡ None }
     ensures adopts { Adopts (state S.Store conn.old) (state S.Store conn.new) result }
@@ -115,7 +115,7 @@ fn adopt_first<S: Alter>(conn: &mut Connection<S>) -> Result<(), OpenFault>
 // The store is of version 1: its tables are brought to this one.
 fn raise_all<S: Alter>(conn: &mut Connection<S>) -> Result<(), OpenFault>
     requires autocommit { conn.old.in_transaction ≡ false }
-    requires settled { HasCleanDisk (state S.Store conn.old) → IsTrue (state S.Store conn.old).is_open → (state S.Store conn.old).now ≡ (state S.Store conn.old).committed }
+    requires settled { HasCleanDisk (state S.Store conn.old) → LiesIdle (state S.Store conn.old) }
     ensures raises { Raises (state S.Store conn.old) (state S.Store conn.new) result }
 {
     match raise_or_none(conn) {
@@ -155,7 +155,7 @@ fn fault_of_others(told: Option<u64>) -> OpenFault
 // The tables are others: the version tells whether they should be the office's.
 fn adopt_other<S: Alter>(conn: &mut Connection<S>) -> Result<(), OpenFault>
     requires autocommit { conn.old.in_transaction ≡ false }
-    requires settled { IsTrue (state S.Store conn.old).is_open → (state S.Store conn.old).now ≡ (state S.Store conn.old).committed }
+    requires settled { LiesIdle (state S.Store conn.old) }
     requires other { ((state S.Store conn.old).now.schema ≢ ours) × ((state S.Store conn.old).now.schema ≢ first_ours) }
     requires unlimited { conn.old.step_limit ≡ None }
     ensures adopts { Adopts (state S.Store conn.old) (state S.Store conn.new) result }

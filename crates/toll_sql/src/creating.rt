@@ -1,11 +1,12 @@
 //! The tables made.
-ghost use Rattle.std.specs.Prelude.{◌≡◌, false, IsTrue};
+ghost use Rattle.std.specs.Prelude.{◌≡◌, false};
 ghost use Rattle.sqlite.specs.Held.{state};
 ghost use Rattle.sqlite.specs.State.{HasCleanDisk};
 ghost use Rattle.toll_sql.specs.Create.{Finishes, IsMaking, IsNew, IsShapedAs, IsStep, IsWhole, Keeps, MakesAllTables, MakesTable};
-ghost use Rattle.toll_sql.specs.First.{Raised, first_ours};
+ghost use Rattle.toll_sql.specs.First.{MakesRaised, Raised, first_ours};
 ghost use Rattle.toll_sql.specs.Opening.{Creates};
 ghost use Rattle.toll_sql.specs.Plain.{no_schema};
+ghost use Rattle.toll_sql.specs.Stores.{LiesIdle};
 ghost use Rattle.toll_sql.specs.Tables.{every_table, made_all, made_before, ours};
 
 use crate::encode::meta_values;
@@ -94,7 +95,7 @@ fn make_all<S: Alter>(tx: &mut Transaction<'_, S>) -> Result<(), Error>
 // Makes all of it in one transaction, or nothing.
 fn create_or_none<S: Alter>(conn: &mut Connection<S>) -> Result<(), Error>
     requires autocommit { conn.old.in_transaction ≡ false }
-    requires settled { HasCleanDisk (state S.Store conn.old) → IsTrue (state S.Store conn.old).is_open → (state S.Store conn.old).now ≡ (state S.Store conn.old).committed }
+    requires settled { HasCleanDisk (state S.Store conn.old) → LiesIdle (state S.Store conn.old) }
     ensures whole { IsWhole (IsMaking no_schema) IsNew (state S.Store conn.old) (state S.Store conn.new) result }
 {
     let mut tx = conn.transaction();
@@ -122,7 +123,7 @@ pub fn create_tables<S: Alter>(conn: &mut Connection<S>) -> Result<(), OpenFault
 // Makes of the tables of version 1 those of this version.
 fn raise<S: Alter>(tx: &mut Transaction<'_, S>) -> Result<(), Error>
     ensures same_reference { tx.new.conn.ghost_name ≡ tx.old.conn.ghost_name }
-    ensures steps { IsStep (IsShapedAs first_ours) (λ old new. Raised old.now.trees new.now) (state S.Store tx.old.conn.now) (state S.Store tx.new.conn.now) result }
+    ensures steps { IsStep (IsShapedAs first_ours) MakesRaised (state S.Store tx.old.conn.now) (state S.Store tx.new.conn.now) result }
 {
     make_table(tx, TableKind::Voids)?;
     finish(tx)
@@ -131,7 +132,7 @@ fn raise<S: Alter>(tx: &mut Transaction<'_, S>) -> Result<(), Error>
 /// Makes of the tables of version 1 those of this version, in one transaction, or nothing.
 pub(crate) fn raise_or_none<S: Alter>(conn: &mut Connection<S>) -> Result<(), Error>
     requires autocommit { conn.old.in_transaction ≡ false }
-    requires settled { HasCleanDisk (state S.Store conn.old) → IsTrue (state S.Store conn.old).is_open → (state S.Store conn.old).now ≡ (state S.Store conn.old).committed }
+    requires settled { HasCleanDisk (state S.Store conn.old) → LiesIdle (state S.Store conn.old) }
     ensures whole { IsWhole (IsShapedAs first_ours) (Raised (state S.Store conn.old).now.trees) (state S.Store conn.old) (state S.Store conn.new) result }
 {
     let mut tx = conn.transaction();

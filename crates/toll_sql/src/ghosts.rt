@@ -4,7 +4,7 @@ ghost use Rattle.sqlite.specs.Held.{state};
 ghost use Rattle.sqlite.specs.State.{HasCleanDisk};
 ghost use Rattle.toll_keep.specs.Content.{Content};
 ghost use Rattle.toll_sql.specs.Causes.{HasCause};
-ghost use Rattle.toll_sql.specs.Stores.{HoldsIn, LeavesIn, LiesOpen};
+ghost use Rattle.toll_sql.specs.Stores.{HoldsWhileOpen, LeavesIn, LiesOpen};
 ghost use Rattle.toll_sql.specs.declared.sql_keep.SqlKeep.{SqlKeep};
 
 use crate::sql_keep::SqlKeep;
@@ -23,6 +23,6 @@ pub fn a_keep_over_sqlite_is_as_honest_as_its_disk<S: Alter>()
 /// A keep over SQLite holds what its tables hold, where its connection lies open, and a stop leaves
 /// what it leaves of its store.
 pub fn a_keep_over_sqlite_has_the_content_of_its_tables<S: Alter>()
-    ensures holds { (k : SqlKeep S S.Store) (c : Content) → ⟦<SqlKeep<S> as Keep>⟧.meaning.holds k c ↔ (LiesOpen (state S.Store k.conn) → HoldsIn (state S.Store k.conn) c) }
+    ensures holds { (k : SqlKeep S S.Store) (c : Content) → ⟦<SqlKeep<S> as Keep>⟧.meaning.holds k c ↔ HoldsWhileOpen (state S.Store k.conn) c }
     ensures leaves { (k : SqlKeep S S.Store) (cs : List Content) → ⟦<SqlKeep<S> as Keep>⟧.meaning.leaves k cs ↔ LeavesIn (state S.Store k.conn) cs }
 {}

@@ -1,13 +1,12 @@
 //! Rows put into the tables.
-ghost use Rattle.std.specs.Prelude.{◌≡◌, ◌≢◌, true, false, None, Err, IsTrue, OnOk, OnErr, IfErr};
+ghost use Rattle.std.specs.Prelude.{◌≡◌, ◌≢◌, false, Err, IsTrue, OnOk, IfErr};
 ghost use Rattle.sqlite.specs.Held.{state};
 ghost use Rattle.sqlite.specs.State.{HasCleanDisk, Survives};
 ghost use Rattle.sqlite.specs.Values.{bound};
 ghost use Rattle.toll_base.specs.declared.decision.Change.TheVariants.{Put};
 ghost use Rattle.toll_base.specs.declared.rows.Row.TheVariants.{Sublot, Result as ResultOf};
 ghost use Rattle.toll_sql.specs.Causes.{IsCaused, Reason};
-ghost use Rattle.toll_sql.specs.Cells.{fill};
-ghost use Rattle.toll_sql.specs.Stores.{HasApplied, IsOurs, IsWriting, MakesAll, MakesPut, MakesRow, PutsAll};
+ghost use Rattle.toll_sql.specs.Stores.{Applies, IsWriting, LeavesPut, MakesAll, MakesPut, StaysOnErr, WritesRow};
 
 use crate::encode::{
     batch_values, lot_values, material_values, move_values, order_values, owner_values,
@@ -29,14 +28,14 @@ pub fn make_changes<S: Alter>(conn: &mut Connection<S>, changes: &[Change]) -> R
     requires { conn.old.in_transaction ≡ false }
     ensures ended { conn.new.in_transaction ≡ false }
     ensures limit { conn.new.step_limit ≡ conn.old.step_limit }
-    ensures all { HasCleanDisk (state S.Store conn.new) → IsOurs (state S.Store conn.old).now → conn.old.step_limit ≡ None → OnOk result (HasApplied changes.now (state S.Store conn.old) (state S.Store conn.new)) }
-    ensures none { HasCleanDisk (state S.Store conn.new) → IsTrue (state S.Store conn.new).is_open → OnErr result (((state S.Store conn.new).now ≡ (state S.Store conn.old).now) × ((state S.Store conn.new).committed ≡ (state S.Store conn.old).committed)) }
+    ensures all { Applies changes.now (state S.Store conn.old) (state S.Store conn.new) result }
+    ensures none { StaysOnErr (state S.Store conn.old) (state S.Store conn.new) result }
     ensures cause { HasCleanDisk (state S.Store conn.new) → result ≡ Err KeepFault.Disk → Reason (state S.Store conn.old) (state S.Store conn.new) }
     ensures unclosed { result ≢ Err KeepFault.Closed }
     ensures whole { result ≢ Err KeepFault.Damaged }
     ensures live { HasCleanDisk (state S.Store conn.new) → IsTrue (state S.Store conn.new).is_open → IsTrue (state S.Store conn.old).is_open }
     ensures shown { HasCleanDisk (state S.Store conn.new) → OnOk result (IsTrue (state S.Store conn.new).is_open) }
-    ensures crash { Survives (state S.Store conn.old) (state S.Store conn.new) (λ db. IsOurs (state S.Store conn.old).now → conn.old.step_limit ≡ None → PutsAll changes.now (state S.Store conn.old).now.trees db) }
+    ensures crash { Survives (state S.Store conn.old) (state S.Store conn.new) (LeavesPut changes.now (state S.Store conn.old)) }
 {
     match put_or_none(conn, changes) {
         Ok(()) => Ok(()),
@@ -49,12 +48,12 @@ fn put_or_none<S: Alter>(conn: &mut Connection<S>, changes: &[Change]) -> Result
     requires { conn.old.in_transaction ≡ false }
     ensures ended { conn.new.in_transaction ≡ false }
     ensures limit { conn.new.step_limit ≡ conn.old.step_limit }
-    ensures all { HasCleanDisk (state S.Store conn.new) → IsOurs (state S.Store conn.old).now → conn.old.step_limit ≡ None → OnOk result (HasApplied changes.now (state S.Store conn.old) (state S.Store conn.new)) }
-    ensures none { HasCleanDisk (state S.Store conn.new) → IsTrue (state S.Store conn.new).is_open → OnErr result (((state S.Store conn.new).now ≡ (state S.Store conn.old).now) × ((state S.Store conn.new).committed ≡ (state S.Store conn.old).committed)) }
+    ensures all { Applies changes.now (state S.Store conn.old) (state S.Store conn.new) result }
+    ensures none { StaysOnErr (state S.Store conn.old) (state S.Store conn.new) result }
     ensures fault { HasCleanDisk (state S.Store conn.new) → IfErr result (IsCaused (state S.Store conn.old) (state S.Store conn.new)) }
     ensures live { HasCleanDisk (state S.Store conn.new) → IsTrue (state S.Store conn.new).is_open → IsTrue (state S.Store conn.old).is_open }
     ensures shown { HasCleanDisk (state S.Store conn.new) → OnOk result (IsTrue (state S.Store conn.new).is_open) }
-    ensures crash { Survives (state S.Store conn.old) (state S.Store conn.new) (λ db. IsOurs (state S.Store conn.old).now → conn.old.step_limit ≡ None → PutsAll changes.now (state S.Store conn.old).now.trees db) }
+    ensures crash { Survives (state S.Store conn.old) (state S.Store conn.new) (LeavesPut changes.now (state S.Store conn.old)) }
 {
     if !conn.is_autocommit() {
         return Err(Error::QueryReturnedNoRows);
@@ -146,7 +145,7 @@ pub fn put<S: Alter>(
     cells: &[ValueRef<'_>],
 ) -> Result<(), Error>
     ensures same_reference { tx.new.conn.ghost_name ≡ tx.old.conn.ghost_name }
-    ensures writes { fill table (bound cells.now) ≡ true → IsWriting (MakesRow table (bound cells.now)) (state S.Store tx.old.conn.now) (state S.Store tx.new.conn.now) result }
+    ensures writes { WritesRow table (bound cells.now) (state S.Store tx.old.conn.now) (state S.Store tx.new.conn.now) result }
 {
     match tx.execute(table.put_text(), cells) {
         Ok(_) => Ok(()),
