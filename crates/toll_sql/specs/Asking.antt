@@ -1,11 +1,27 @@
 -- What each call does that asks the store and writes nothing.
-use Rattle.std.specs.Prelude.{◌≡◌, ◌≢◌, false, IsTrue, Result, Err, IfErr, OnOk}
+use Rattle.std.specs.Prelude.{◌≡◌, ◌≢◌, true, false, IsTrue, Result, Err, IfErr, OnOk}
 use Rattle.sqlite.specs.State.{State, HasCleanDisk, Survives}
+use Rattle.sqlite.specs.Tree.{Trees}
 use Rattle.sqlite.specs.declared.error.Error.{Error}
+use Rattle.toll_keep.specs.Content.{Content}
 use Rattle.toll_keep.specs.declared.fault.KeepFault.{KeepFault}
 use Rattle.toll_keep.specs.declared.fault.KeepFault.TheVariants.{Disk, Damaged, Closed}
 use Rattle.toll_sql.specs.Causes.{IsCaused, Reason}
-use Rattle.toll_sql.specs.Tables.{ours}
+use Rattle.toll_sql.specs.Stores.{HoldsIn, LiesIdle}
+use Rattle.toll_sql.specs.Tables.{is_owned, ours}
+use Rattle.toll_sql.specs.declared.table_kind.TableKind.{TableKind}
+
+-- this is so of each content that the store held, where the disk has returned what was written to it
+abbrev pub ForHeld : State → State → (Content → Type 0) → Type 0
+ForHeld old new P = HasCleanDisk new → (c : Content) → HoldsIn old c → P c
+
+-- this is so of the rows that the store had, where its tables were ours and the disk has returned what was written to it
+abbrev pub OverOurs : State → State → (Trees → Type 0) → Type 0
+OverOurs old new P = HasCleanDisk new → old.now.schema ≡ ours → P old.now.trees
+
+-- so it is where the table is one that owners part
+abbrev pub OverOwned : TableKind → State → State → (Trees → Type 0) → Type 0
+OverOwned k old new P = is_owned k ≡ true → OverOurs old new P
 
 -- whatever it asked and was told: what was there is there, and a stop leaves what it left before
 pub record Asks {X E : Type 0} (old new : State) (result : Result X E) : Type 0 where
@@ -14,7 +30,7 @@ pub record Asks {X E : Type 0} (old new : State) (result : Result X E) : Type 0 
   pub shown : HasCleanDisk new → OnOk result (IsTrue new.is_open)
   pub same : HasCleanDisk new → old.now.schema ≡ ours → IsTrue new.is_open → old.now ≡ old.committed → (new.now ≡ old.now) × (new.committed ≡ old.committed)
   pub mode : old.in_transaction ≡ false → new.in_transaction ≡ false
-  pub survives : Survives old new (λ db. old.now.schema ≡ ours → (IsTrue old.is_open → old.now ≡ old.committed) → ⊥)
+  pub survives : Survives old new (λ db. old.now.schema ≡ ours → LiesIdle old → ⊥)
 
 -- one statement: an error of the disk has a cause
 pub record IsQuerying {X : Type 0} (old new : State) (result : Result X Error) : Type 0 where

@@ -3,9 +3,11 @@ use Rattle.std.specs.Prelude.{◌≡◌, ◌≢◌, ℕ, List, [], ◌∷◌, ma
 use Rattle.sqlite.specs.Effect.{Database}
 use Rattle.sqlite.specs.Order.{Row}
 use Rattle.sqlite.specs.declared.types.Value.TheVariants.{Text}
+use Rattle.toll_base.specs.Bytes.{Bytes}
 use Rattle.toll_base.specs.Lots.{edge_cmp}
 use Rattle.toll_base.specs.declared.lot.Edge.{Edge}
 use Rattle.toll_sql.specs.Asked.{AreReadWith}
+use Rattle.toll_sql.specs.AskedTexts.{owners_text}
 use Rattle.toll_sql.specs.Cells.{columns_from}
 use Rattle.toll_sql.specs.Valid.{IsLotId}
 use Rattle.toll_trace.specs.InOrder.{IsInOrder}
@@ -40,3 +42,11 @@ pub record AreReadFrom (rows : List Row) (edges : List Edge) : Type 0 where
 -- they are those of all rows that the text reads, by sqlite's own account of it
 abbrev pub AreEdgesOf : Database → List ℕ → Row → List Edge → Type 0
 AreEdgesOf db text params edges = (rows : List Row) × AreReadWith db text params rows × AreReadFrom rows edges
+
+-- the rows are those that the text for pairs of this owner's movements reads
+abbrev pub AreOwnersPairs : Database → Bytes → List Row → Type 0
+AreOwnersPairs db o rows = AreReadWith db owners_text (Text o ∷ []) rows
+
+-- the edges are those of all such rows
+abbrev pub AreOwnersEdges : Database → Bytes → List Edge → Type 0
+AreOwnersEdges db o edges = AreEdgesOf db owners_text (Text o ∷ []) edges

@@ -1,5 +1,5 @@
 -- A slice as far as its tables are read, one after another.
-use Rattle.std.specs.Prelude.{◌≡◌, ℕ, List, [], take}
+use Rattle.std.specs.Prelude.{◌≡◌, ℕ, List, [], length, take}
 use Rattle.sqlite.specs.Order.{Row}
 use Rattle.toll_base.specs.Slice.{Slice}
 use Rattle.toll_sql.specs.Bag.{Rises}
@@ -25,6 +25,10 @@ front Sublots n s = record s { sublots = take n s.sublots; moves = []; results =
 front Moves n s = record s { moves = take n s.moves; results = []; voids = [] }
 front Results n s = record s { results = take n s.results; voids = [] }
 front Voids n s = record s { voids = take n s.voids }
+
+-- the tables before this one are read, and all rows of this one, which are these
+abbrev pub past : {X : Type 0} → TableKind → (Slice → List X) → Slice → Slice
+past k listed s = front k (length (listed s)) s
 
 -- these are the rows of the slice that stand in the table, in the order of its key, and their values are values of their kinds
 pub record IsStoredAs (k : TableKind) (s : Slice) (rows : List Row) : Type 0 where

@@ -9,6 +9,7 @@ use Rattle.toll_keep.specs.Content.{Content}
 use Rattle.toll_keep.specs.Holding.{IsHolder}
 use Rattle.toll_keep.specs.declared.holder.Holder.{Holder}
 use Rattle.toll_sql.specs.Asked.{AreReadWith}
+use Rattle.toll_sql.specs.AskedTexts.{unit_text}
 use Rattle.toll_sql.specs.Cells.{columns_from}
 
 -- the batch's owner, its order and its number
@@ -42,3 +43,7 @@ HasNoHolder rows = (row : Row) × Contains rows row × ShowsNoHolder row
 -- it is shown by one of the rows that the text reads, by sqlite's own account of it; or it reads none
 abbrev pub IsHolderOf : Database → List ℕ → Row → Option Holder → Type 0
 IsHolderOf db text params holder = (rows : List Row) × AreReadWith db text params rows × IsShownIn rows holder
+
+-- the rows are those that the text for the batches on this unit reads
+abbrev pub AreBatchesOn : Database → Bytes → List Row → Type 0
+AreBatchesOn db unit rows = AreReadWith db unit_text (Text unit ∷ []) rows

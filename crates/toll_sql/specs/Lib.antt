@@ -28,3 +28,4 @@ pub mod Plainly
 pub mod FromFiles
 pub mod EdgeRows
 pub mod HolderRows
+pub mod PlantRows

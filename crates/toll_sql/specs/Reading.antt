@@ -1,19 +1,61 @@
 -- An owner's rows, read table by table.
-use Rattle.std.specs.Prelude.{◌≡◌, ◌≢◌, List, Result, Err, OnOk}
-use Rattle.sqlite.specs.State.{State, HasCleanDisk}
+use Rattle.std.specs.Prelude.{◌≡◌, ◌≢◌, List, [], ◌∷◌, Result, Err, OnOk}
+use Rattle.sqlite.specs.Order.{Row}
+use Rattle.sqlite.specs.State.{State}
 use Rattle.toll_base.specs.Bytes.{Bytes}
 use Rattle.toll_base.specs.Slice.{Slice}
-use Rattle.toll_keep.specs.Content.{Content, ContentKeepsRules}
+use Rattle.toll_base.specs.declared.rows.Row.{Row as OfficeRow}
+use Rattle.toll_keep.specs.Content.{ContentKeepsRules}
 use Rattle.toll_keep.specs.declared.fault.KeepFault.{KeepFault}
 use Rattle.toll_keep.specs.declared.fault.KeepFault.TheVariants.{Damaged}
-use Rattle.toll_sql.specs.Asking.{IsLooking}
+use Rattle.toll_sql.specs.Asking.{ForHeld, IsLooking}
+use Rattle.toll_sql.specs.Fronts.{IsStoredAs, front, past}
 use Rattle.toll_sql.specs.Shown.{Shows}
-use Rattle.toll_sql.specs.Stores.{HoldsIn}
+use Rattle.toll_sql.specs.StoredLaws.{StandIn}
 use Rattle.toll_sql.specs.declared.table_kind.TableKind.{TableKind}
+use Rattle.toll_sql.specs.declared.table_kind.TableKind.TheVariants.{Materials, Tests, Recipes, Requirements, Orders, Batches, Lots, Sublots, Moves, Results, Voids}
 
 -- of the owner's slice, which was read this far, more is read, out of these tables; where it keeps the rules, no damage is found
 pub record ReadsOn (from to : Slice → Slice) (kinds : List TableKind) (o : Bytes) {X : Type 0} (old new : State) (before after : Slice) (result : Result X KeepFault) : Type 0 where
   pub looks : IsLooking old new result
   pub shows : Shows kinds o old new result
-  pub reads : HasCleanDisk new → (c : Content) → HoldsIn old c → before ≡ from (c.rows o) → OnOk result (after ≡ to (c.rows o))
-  pub whole : HasCleanDisk new → (c : Content) → HoldsIn old c → ContentKeepsRules c → before ≡ from (c.rows o) → result ≢ Err Damaged
+  pub reads : ForHeld old new (λ c. before ≡ from (c.rows o) → OnOk result (after ≡ to (c.rows o)))
+  pub whole : ForHeld old new (λ c. ContentKeepsRules c → before ≡ from (c.rows o) → result ≢ Err Damaged)
+
+-- the tables of materials, of their tests, of recipes and of their requirements
+abbrev pub material_tables : List TableKind
+material_tables = Materials ∷ Tests ∷ Recipes ∷ Requirements ∷ []
+
+-- the tables of orders and of batches
+abbrev pub work_tables : List TableKind
+work_tables = Orders ∷ Batches ∷ []
+
+-- the tables of lots and of sublots
+abbrev pub lot_tables : List TableKind
+lot_tables = Lots ∷ Sublots ∷ []
+
+-- the tables of movements, of results and of voids
+abbrev pub movement_tables : List TableKind
+movement_tables = Moves ∷ Results ∷ Voids ∷ []
+
+-- all tables that owners part, but these last
+abbrev pub definition_tables : List TableKind
+definition_tables = Materials ∷ Tests ∷ Recipes ∷ Requirements ∷ Orders ∷ Batches ∷ Lots ∷ Sublots ∷ []
+
+-- all rows of one kind, which stand in their table as such rows do, are read behind those of the tables before it
+abbrev pub ReadsKind : {X Y : Type 0} → TableKind → (Bytes → X → Row) → (X → Type 0) → (X → OfficeRow) → (Slice → List X)
+    → Bytes → State → State → Slice → Slice → Result Y KeepFault → Type 0
+ReadsKind k cells is_valid row listed o old new before after result =
+    StandIn k cells is_valid row listed → ReadsOn (front k 0) (past k listed) (k ∷ []) o old new before after result
+
+-- this is so of the slice that has these rows of one kind, and of which the tables before theirs were read
+abbrev pub ForStored : {X : Type 0} → TableKind → (Bytes → X → Row) → (X → Type 0) → (X → OfficeRow) → (Slice → List X)
+    → List Row → Slice → (Slice → Type 0) → Type 0
+ForStored k cells is_valid row listed rows before P =
+    StandIn k cells is_valid row listed → (s : Slice) → IsStoredAs k s rows → before ≡ front k 0 s → P s
+
+-- this is so of the row of one kind that has these cells
+abbrev pub ForRow : {X : Type 0} → TableKind → (Bytes → X → Row) → (X → Type 0) → (X → OfficeRow) → (Slice → List X)
+    → Row → (OfficeRow → Type 0) → Type 0
+ForRow {X} k cells is_valid row listed found P =
+    StandIn k cells is_valid row listed → (o : Bytes) (x : X) → is_valid x → found ≡ cells o x → P (row x)

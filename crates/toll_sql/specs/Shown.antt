@@ -1,22 +1,23 @@
 -- Stored rows that are rows of the office.
-use Rattle.std.specs.Prelude.{◌≡◌, ◌||◌, false, is_some, List, [], ◌∷◌, map, Result, OnOk}
+use Rattle.std.specs.Prelude.{◌≡◌, ◌≢◌, ◌||◌, ℕ, pos, false, Option, is_some, List, [], ◌∷◌, map, Result, OnOk, IfOk, IfSome}
 use Rattle.std.specs.List.{AllByRecursion}
 use Rattle.sqlite.specs.Effect.{Database}
 use Rattle.sqlite.specs.Order.{Row, column}
 use Rattle.sqlite.specs.State.{State, HasCleanDisk}
 use Rattle.sqlite.specs.Tree.{Trees}
-use Rattle.sqlite.specs.declared.types.Value.TheVariants.{Text}
+use Rattle.sqlite.specs.declared.types.Value.TheVariants.{Int, Text}
 use Rattle.toll_base.specs.Bytes.{Bytes, bytes_cmp, same_bytes}
 use Rattle.toll_base.specs.Table.{row_at}
 use Rattle.toll_base.specs.Values.{house_name}
+use Rattle.toll_base.specs.declared.lot.Origin.{Origin}
 use Rattle.toll_base.specs.declared.rows.OwnerRow.{OwnerRow}
 use Rattle.toll_keep.specs.declared.fault.KeepFault.{KeepFault}
 use Rattle.toll_sql.specs.Asked.{AreReadBy}
 use Rattle.toll_sql.specs.Bag.{owned_by}
 use Rattle.toll_sql.specs.Cells.{columns_from}
-use Rattle.toll_sql.specs.Encode.{material_cells, test_cells, recipe_cells, requirement_cells, order_cells, batch_cells, lot_cells, sublot_cells, move_cells, result_cells, void_cells}
+use Rattle.toll_sql.specs.Encode.{origin_order, origin_number, owner_cells, material_cells, test_cells, recipe_cells, requirement_cells, order_cells, batch_cells, lot_cells, sublot_cells, move_cells, result_cells, void_cells}
 use Rattle.toll_sql.specs.Tables.{ours, select_text, tree_of, width_of}
-use Rattle.toll_sql.specs.Valid.{IsMaterial, IsTest, IsRecipe, IsRequirement, IsOrder, IsBatch, IsLot, IsSublot, IsMovement, IsResult, IsVoid}
+use Rattle.toll_sql.specs.Valid.{IsOwner, IsMaterial, IsTest, IsRecipe, IsRequirement, IsOrder, IsBatch, IsOrigin, IsLot, IsSublot, IsMovement, IsResult, IsVoid}
 use Rattle.toll_sql.specs.declared.table_kind.TableKind.{TableKind}
 use Rattle.toll_sql.specs.declared.table_kind.TableKind.TheVariants.{Meta, Owners, Units, Materials, Tests, Recipes, Requirements, Orders, Batches, Lots, Sublots, Moves, Results, Voids}
 
@@ -51,7 +52,8 @@ tables_of_owners = Materials ∷ Tests ∷ Recipes ∷ Requirements ∷ Orders �
 
 -- tables that are ours, with nothing pending: where an answer was given, each stored row of the owner in these is a row of the office
 abbrev pub Shows : {X : Type 0} → List TableKind → Bytes → State → State → Result X KeepFault → Type 0
-Shows kinds o old new result = HasCleanDisk new → old.now.schema ≡ ours → old.now ≡ old.committed → OnOk result (AllByRecursion (AreRowsIn o old.now.trees) kinds)
+Shows kinds o old new result =
+    HasCleanDisk new → old.now.schema ≡ ours → old.now ≡ old.committed → OnOk result (AllByRecursion (AreRowsIn o old.now.trees) kinds)
 
 -- the rows told are those that sqlite's own account of the table's text gives, each of them, with values of their kinds
 pub record AreTold {X : Type 0} (k : TableKind) (cells : X → Row) (is_valid : X → Type 0) (db : Database) (told : List X) : Type 0 where
@@ -67,3 +69,17 @@ IsUnknown owners o = (same_bytes o house_name || is_some (row_at bytes_cmp (λ r
 -- the rows are this owner's
 abbrev pub AreOwnedBy : Bytes → List Row → Type 0
 AreOwnedBy o rows = AllByRecursion (λ row. column row 0 ≡ Text o) rows
+
+-- of tables that are ours, with nothing pending: where a slice was given, each stored row of the owner is a row of the office
+abbrev pub ShowsSlice : {X E : Type 0} → Bytes → State → State → Result (Option X) E → Type 0
+ShowsSlice o old new result =
+    HasCleanDisk new → old.now.schema ≡ ours → old.now ≡ old.committed
+    → IfOk result (λ slice. IfSome slice (λ _. AllByRecursion (AreRowsIn o old.now.trees) tables_of_owners))
+
+-- the owner is not HOUSE, and by sqlite's own account of the table of owners none of its rows names it
+abbrev pub IsToldUnknown : Database → Bytes → Type 0
+IsToldUnknown db o = (owners : List OwnerRow) × AreTold Owners owner_cells IsOwner db owners × IsUnknown owners o
+
+-- the cells of these two columns are not those of where a lot comes from
+abbrev pub ShowsNoOrigin : (order number : ℕ) → Row → Type 0
+ShowsNoOrigin order number row = (o : Origin) → IsOrigin o → column row order ≡ Text (origin_order o) → column row number ≢ Int (pos (origin_number o))

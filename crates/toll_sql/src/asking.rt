@@ -3,9 +3,9 @@ ghost use Rattle.std.specs.Prelude.{◌≡◌, true, false, IfOk};
 ghost use Rattle.sqlite.specs.Held.{state};
 ghost use Rattle.sqlite.specs.State.{HasCleanDisk};
 ghost use Rattle.toll_sql.specs.Asked.{AreReadBy};
-ghost use Rattle.toll_sql.specs.Asking.{IsFinding, IsQuerying};
+ghost use Rattle.toll_sql.specs.Asking.{IsFinding, IsQuerying, OverOurs, OverOwned};
 ghost use Rattle.toll_sql.specs.Rows.{AreOfOwner, AreAll};
-ghost use Rattle.toll_sql.specs.Tables.{ours, is_owned, select_text};
+ghost use Rattle.toll_sql.specs.Tables.{is_owned, select_text};
 
 use crate::fault::fault_of;
 use crate::table_kind::TableKind;
@@ -32,7 +32,7 @@ pub fn owners_rows<S: Alter>(
     owner: &Name,
 ) -> Result<Vec<Row>, Error>
     ensures asks { is_owned table ≡ true → IsQuerying (state S.Store conn.old) (state S.Store conn.new) result }
-    ensures rows { is_owned table ≡ true → HasCleanDisk (state S.Store conn.new) → (state S.Store conn.old).now.schema ≡ ours → IfOk result (λ rows. AreOfOwner table owner.now (state S.Store conn.old).now.trees rows.items) }
+    ensures rows { OverOwned table (state S.Store conn.old) (state S.Store conn.new) (λ db. IfOk result (λ rows. AreOfOwner table owner.now db rows.items)) }
 {
     conn.query_all(table.select_text(), &[ValueRef::Text(owner.as_bytes())])
 }
@@ -40,7 +40,7 @@ pub fn owners_rows<S: Alter>(
 /// All rows of a table that owners do not part, in the order of its key.
 pub fn all_rows<S: Alter>(conn: &mut Connection<S>, table: TableKind) -> Result<Vec<Row>, Error>
     ensures asks { is_owned table ≡ false → IsQuerying (state S.Store conn.old) (state S.Store conn.new) result }
-    ensures rows { is_owned table ≡ false → HasCleanDisk (state S.Store conn.new) → (state S.Store conn.old).now.schema ≡ ours → IfOk result (λ rows. AreAll table (state S.Store conn.old).now.trees rows.items) }
+    ensures rows { is_owned table ≡ false → OverOurs (state S.Store conn.old) (state S.Store conn.new) (λ db. IfOk result (λ rows. AreAll table db rows.items)) }
     ensures read { HasCleanDisk (state S.Store conn.new) → IfOk result (λ rows. AreReadBy (state S.Store conn.old).now (select_text table) rows.items) }
 {
     conn.query_all(table.select_text(), &[])

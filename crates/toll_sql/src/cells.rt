@@ -7,10 +7,10 @@ ghost use Rattle.toll_base.specs.Values.{is_name, is_measure, is_owner_key, IsVa
 ghost use Rattle.toll_base.specs.declared.limits.Limits.{Limits as Bounds};
 ghost use Rattle.toll_base.specs.declared.lot.Disposition.{Disposition as Dispositions};
 ghost use Rattle.toll_base.specs.declared.lot.LotId.{LotId as Lots};
-ghost use Rattle.toll_base.specs.declared.lot.Origin.{Origin as Origins};
 ghost use Rattle.toll_base.specs.declared.role.Role.{Role as Roles};
 ghost use Rattle.toll_base.specs.declared.state.State.{State as States};
 ghost use Rattle.toll_sql.specs.Encode as stored;
+ghost use Rattle.toll_sql.specs.Shown.{ShowsNoOrigin};
 ghost use Rattle.toll_sql.specs.Valid.{IsLotId, IsOrigin, IsStorable};
 
 use sqlite::Row;
@@ -196,7 +196,7 @@ pub fn limits_at(row: &Row, low: usize, high: usize) -> Option<Limits>
 pub fn origin_at(row: &Row, order: usize, number: usize) -> Option<Origin>
     ensures some { IfSome result (λ o. (column row.now order ≡ Text (stored.origin_order o)) × (column row.now number ≡ Int (pos (stored.origin_number o)))) }
     ensures valid { IfSome result IsOrigin }
-    ensures none { result ≡ None → (o : Origins) → IsOrigin o → column row.now order ≡ Text (stored.origin_order o) → column row.now number ≢ Int (pos (stored.origin_number o)) }
+    ensures none { result ≡ None → ShowsNoOrigin order number row.now }
 {
     if is_empty_at(row, order) && is_zero_at(row, number) {
         return Some(Origin::Receipts);

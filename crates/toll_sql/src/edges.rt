@@ -1,17 +1,14 @@
 //! The genealogy of batches, asked of the tables.
-ghost use Rattle.std.specs.Prelude.{◌≡◌, ◌≢◌, [], ◌∷◌, Err, map, IfOk};
+ghost use Rattle.std.specs.Prelude.{◌≡◌, ◌≢◌, [], Err, map, IfOk};
 ghost use Rattle.sqlite.specs.Held.{state};
-ghost use Rattle.sqlite.specs.declared.types.Value.TheVariants.{Text};
 ghost use Rattle.sqlite.specs.State.{HasCleanDisk};
 ghost use Rattle.toll_trace.specs.Edges.{AreEdges, IsEdge};
-ghost use Rattle.toll_keep.specs.Content.{Content};
 ghost use Rattle.toll_keep.specs.Holding.{IsEdgeOfSome};
 ghost use Rattle.toll_sql.specs.Asked.{AreReadWith};
-ghost use Rattle.toll_sql.specs.AskedTexts.{all_text, owners_text};
-ghost use Rattle.toll_sql.specs.Asking.{IsLooking, IsQuerying};
+ghost use Rattle.toll_sql.specs.AskedTexts.{all_text};
+ghost use Rattle.toll_sql.specs.Asking.{ForHeld, IsLooking, IsQuerying};
 ghost use Rattle.toll_sql.specs.Cells.{columns_from};
-ghost use Rattle.toll_sql.specs.EdgeRows.{AreEdgesOf, AreReadFrom, HasNoEdge, ShowEdges, edge_cells};
-ghost use Rattle.toll_sql.specs.Stores.{HoldsIn};
+ghost use Rattle.toll_sql.specs.EdgeRows.{AreEdgesOf, AreOwnersEdges, AreOwnersPairs, AreReadFrom, HasNoEdge, ShowEdges, edge_cells};
 
 use crate::edge_cells::edge_at;
 use crate::fault::fault_of;
@@ -32,9 +29,9 @@ pub fn read_edges<S: Alter>(
     owner: &Name,
 ) -> Result<Vec<Edge>, KeepFault>
     ensures looks { IsLooking (state S.Store conn.old) (state S.Store conn.new) result }
-    ensures reads { HasCleanDisk (state S.Store conn.new) → (c : Content) → HoldsIn (state S.Store conn.old) c → IfOk result (λ edges. AreEdges (IsEdge (c.rows owner.now)) edges.items) }
-    ensures shown { HasCleanDisk (state S.Store conn.new) → IfOk result (λ edges. AreEdgesOf (state S.Store conn.old).now owners_text (Text owner.now ∷ []) edges.items) }
-    ensures whole { HasCleanDisk (state S.Store conn.new) → (c : Content) → HoldsIn (state S.Store conn.old) c → result ≢ Err KeepFault.Damaged }
+    ensures reads { ForHeld (state S.Store conn.old) (state S.Store conn.new) (λ c. IfOk result (λ edges. AreEdges (IsEdge (c.rows owner.now)) edges.items)) }
+    ensures shown { HasCleanDisk (state S.Store conn.new) → IfOk result (λ edges. AreOwnersEdges (state S.Store conn.old).now owner.now edges.items) }
+    ensures whole { ForHeld (state S.Store conn.old) (state S.Store conn.new) (λ _. result ≢ Err KeepFault.Damaged) }
 {
     match owners_pairs(conn, owner) {
         Ok(rows) => edges_shown(alloc, &rows),
@@ -51,9 +48,9 @@ pub fn read_all_edges<S: Alter>(
     alloc: Global,
 ) -> Result<Vec<Edge>, KeepFault>
     ensures looks { IsLooking (state S.Store conn.old) (state S.Store conn.new) result }
-    ensures reads { HasCleanDisk (state S.Store conn.new) → (c : Content) → HoldsIn (state S.Store conn.old) c → IfOk result (λ edges. AreEdges (IsEdgeOfSome c) edges.items) }
+    ensures reads { ForHeld (state S.Store conn.old) (state S.Store conn.new) (λ c. IfOk result (λ edges. AreEdges (IsEdgeOfSome c) edges.items)) }
     ensures shown { HasCleanDisk (state S.Store conn.new) → IfOk result (λ edges. AreEdgesOf (state S.Store conn.old).now all_text [] edges.items) }
-    ensures whole { HasCleanDisk (state S.Store conn.new) → (c : Content) → HoldsIn (state S.Store conn.old) c → result ≢ Err KeepFault.Damaged }
+    ensures whole { ForHeld (state S.Store conn.old) (state S.Store conn.new) (λ _. result ≢ Err KeepFault.Damaged) }
 {
     match all_pairs(conn) {
         Ok(rows) => edges_shown(alloc, &rows),
@@ -65,8 +62,8 @@ pub fn read_all_edges<S: Alter>(
 // consumption's segment not above the production's.
 fn owners_pairs<S: Alter>(conn: &mut Connection<S>, owner: &Name) -> Result<Vec<Row>, Error>
     ensures asks { IsQuerying (state S.Store conn.old) (state S.Store conn.new) result }
-    ensures read { HasCleanDisk (state S.Store conn.new) → IfOk result (λ rows. AreReadWith (state S.Store conn.old).now owners_text (Text owner.now ∷ []) rows.items) }
-    ensures rows { HasCleanDisk (state S.Store conn.new) → (c : Content) → HoldsIn (state S.Store conn.old) c → IfOk result (λ rows. ShowEdges (IsEdge (c.rows owner.now)) rows.items) }
+    ensures read { HasCleanDisk (state S.Store conn.new) → IfOk result (λ rows. AreOwnersPairs (state S.Store conn.old).now owner.now rows.items) }
+    ensures rows { ForHeld (state S.Store conn.old) (state S.Store conn.new) (λ c. IfOk result (λ rows. ShowEdges (IsEdge (c.rows owner.now)) rows.items)) }
 {
     conn.query_all(
         "SELECT c.lot_owner, c.lot, p.lot_owner, p.lot FROM moves AS c JOIN moves AS p ON p.owner = c.owner AND p.ord = c.ord AND p.number = c.number LEFT JOIN voids AS v ON v.owner = c.owner AND v.mkey = c.mkey LEFT JOIN voids AS w ON w.owner = p.owner AND w.mkey = p.mkey WHERE c.owner = ?1 AND c.kind = 4 AND p.kind = 5 AND c.segment <= p.segment AND v.mkey IS NULL AND w.mkey IS NULL",
@@ -78,7 +75,7 @@ fn owners_pairs<S: Alter>(conn: &mut Connection<S>, owner: &Name) -> Result<Vec<
 fn all_pairs<S: Alter>(conn: &mut Connection<S>) -> Result<Vec<Row>, Error>
     ensures asks { IsQuerying (state S.Store conn.old) (state S.Store conn.new) result }
     ensures read { HasCleanDisk (state S.Store conn.new) → IfOk result (λ rows. AreReadWith (state S.Store conn.old).now all_text [] rows.items) }
-    ensures rows { HasCleanDisk (state S.Store conn.new) → (c : Content) → HoldsIn (state S.Store conn.old) c → IfOk result (λ rows. ShowEdges (IsEdgeOfSome c) rows.items) }
+    ensures rows { ForHeld (state S.Store conn.old) (state S.Store conn.new) (λ c. IfOk result (λ rows. ShowEdges (IsEdgeOfSome c) rows.items)) }
 {
     conn.query_all(
         "SELECT c.lot_owner, c.lot, p.lot_owner, p.lot FROM moves AS c JOIN moves AS p ON p.owner = c.owner AND p.ord = c.ord AND p.number = c.number LEFT JOIN voids AS v ON v.owner = c.owner AND v.mkey = c.mkey LEFT JOIN voids AS w ON w.owner = p.owner AND w.mkey = p.mkey WHERE c.kind = 4 AND p.kind = 5 AND c.segment <= p.segment AND v.mkey IS NULL AND w.mkey IS NULL",

@@ -3,14 +3,11 @@ ghost use Rattle.std.specs.Prelude.{◌≡◌, ◌≢◌, [], ◌∷◌, Err, No
 ghost use Rattle.sqlite.specs.Held.{state};
 ghost use Rattle.sqlite.specs.declared.types.Value.TheVariants.{Text};
 ghost use Rattle.sqlite.specs.State.{HasCleanDisk};
-ghost use Rattle.toll_keep.specs.Content.{Content};
 ghost use Rattle.toll_keep.specs.Holding.{IsHolder};
-ghost use Rattle.toll_sql.specs.Asked.{AreReadWith};
 ghost use Rattle.toll_sql.specs.AskedTexts.{unit_text};
-ghost use Rattle.toll_sql.specs.Asking.{IsLooking, IsQuerying};
+ghost use Rattle.toll_sql.specs.Asking.{ForHeld, IsLooking, IsQuerying};
 ghost use Rattle.toll_sql.specs.Cells.{columns_from};
-ghost use Rattle.toll_sql.specs.HolderRows.{HasNoHolder, IsHolderOf, IsShownIn, ShowHolders, ShowsNoHolder, holder_cells};
-ghost use Rattle.toll_sql.specs.Stores.{HoldsIn};
+ghost use Rattle.toll_sql.specs.HolderRows.{AreBatchesOn, HasNoHolder, IsHolderOf, IsShownIn, ShowHolders, ShowsNoHolder, holder_cells};
 
 use crate::cells::{bounded_at, name_at};
 use crate::fault::fault_of;
@@ -28,9 +25,9 @@ pub fn read_holder<S: Alter>(
     unit: &Name,
 ) -> Result<Option<Holder>, KeepFault>
     ensures looks { IsLooking (state S.Store conn.old) (state S.Store conn.new) result }
-    ensures reads { HasCleanDisk (state S.Store conn.new) → (c : Content) → HoldsIn (state S.Store conn.old) c → IfOk result (IsHolder c unit.now) }
+    ensures reads { ForHeld (state S.Store conn.old) (state S.Store conn.new) (λ c. IfOk result (IsHolder c unit.now)) }
     ensures shown { HasCleanDisk (state S.Store conn.new) → IfOk result (IsHolderOf (state S.Store conn.old).now unit_text (Text unit.now ∷ [])) }
-    ensures whole { HasCleanDisk (state S.Store conn.new) → (c : Content) → HoldsIn (state S.Store conn.old) c → result ≢ Err KeepFault.Damaged }
+    ensures whole { ForHeld (state S.Store conn.old) (state S.Store conn.new) (λ _. result ≢ Err KeepFault.Damaged) }
 {
     match open_batches(conn, unit) {
         Ok(rows) => first_holder(&rows),
@@ -41,8 +38,8 @@ pub fn read_holder<S: Alter>(
 // The batches on the unit that are not closed, of all owners.
 fn open_batches<S: Alter>(conn: &mut Connection<S>, unit: &Name) -> Result<Vec<Row>, Error>
     ensures asks { IsQuerying (state S.Store conn.old) (state S.Store conn.new) result }
-    ensures read { HasCleanDisk (state S.Store conn.new) → IfOk result (λ rows. AreReadWith (state S.Store conn.old).now unit_text (Text unit.now ∷ []) rows.items) }
-    ensures rows { HasCleanDisk (state S.Store conn.new) → (c : Content) → HoldsIn (state S.Store conn.old) c → IfOk result (λ rows. ShowHolders c unit.now rows.items) }
+    ensures read { HasCleanDisk (state S.Store conn.new) → IfOk result (λ rows. AreBatchesOn (state S.Store conn.old).now unit.now rows.items) }
+    ensures rows { ForHeld (state S.Store conn.old) (state S.Store conn.new) (λ c. IfOk result (λ rows. ShowHolders c unit.now rows.items)) }
 {
     conn.query_all(
         "SELECT owner, ord, number FROM batches WHERE unit = ?1 AND closed = 0",

@@ -1,17 +1,15 @@
 //! Owners and units, read from the tables.
-ghost use Rattle.std.specs.Prelude.{◌≡◌, ◌≢◌, Err, List, map, IfOk};
+ghost use Rattle.std.specs.Prelude.{◌≡◌, ◌≢◌, Err, map, IfOk};
 ghost use Rattle.sqlite.specs.Held.{state};
 ghost use Rattle.sqlite.specs.State.{HasCleanDisk};
 ghost use Rattle.std.specs.List.{AllByRecursion};
-ghost use Rattle.toll_keep.specs.Content.{Content};
-ghost use Rattle.toll_sql.specs.Asking.{IsLooking};
+ghost use Rattle.toll_sql.specs.Asking.{ForHeld, IsLooking};
 ghost use Rattle.toll_sql.specs.Cells.{columns_from};
 ghost use Rattle.toll_sql.specs.Encode.{owner_cells, unit_cells};
-ghost use Rattle.toll_sql.specs.Holds.{HasRows};
+ghost use Rattle.toll_sql.specs.PlantRows.{ForCells, ForRows};
 ghost use Rattle.toll_sql.specs.Shown.{AreTold};
 ghost use Rattle.toll_sql.specs.StoredLaws.{StandAlone};
-ghost use Rattle.toll_sql.specs.Stores.{HoldsIn};
-ghost use Rattle.toll_sql.specs.Tables.{ours, tree_of, width_of};
+ghost use Rattle.toll_sql.specs.Tables.{width_of};
 ghost use Rattle.toll_sql.specs.Valid.{IsOwner, IsUnit};
 ghost use Rattle.toll_sql.specs.declared.table_kind.TableKind.TheVariants.{Owners, Units};
 
@@ -30,9 +28,9 @@ pub fn read_owners<S: Alter>(
     alloc: Global,
 ) -> Result<Vec<OwnerRow>, KeepFault>
     ensures looks { IsLooking (state S.Store conn.old) (state S.Store conn.new) result }
-    ensures reads { HasCleanDisk (state S.Store conn.new) → (c : Content) → HoldsIn (state S.Store conn.old) c → IfOk result (λ rows. rows.items ≡ c.owners) }
+    ensures reads { ForHeld (state S.Store conn.old) (state S.Store conn.new) (λ c. IfOk result (λ rows. rows.items ≡ c.owners)) }
     ensures shown { HasCleanDisk (state S.Store conn.new) → IfOk result (λ rows. AreTold Owners owner_cells IsOwner (state S.Store conn.old).now rows.items) }
-    ensures whole { HasCleanDisk (state S.Store conn.new) → (c : Content) → HoldsIn (state S.Store conn.old) c → result ≢ Err KeepFault.Damaged }
+    ensures whole { ForHeld (state S.Store conn.old) (state S.Store conn.new) (λ _. result ≢ Err KeepFault.Damaged) }
 {
     read_all::<S, OwnerRow>(conn, alloc)
 }
@@ -44,9 +42,9 @@ pub fn read_units<S: Alter>(
     alloc: Global,
 ) -> Result<Vec<UnitRow>, KeepFault>
     ensures looks { IsLooking (state S.Store conn.old) (state S.Store conn.new) result }
-    ensures reads { HasCleanDisk (state S.Store conn.new) → (c : Content) → HoldsIn (state S.Store conn.old) c → IfOk result (λ rows. rows.items ≡ c.units) }
+    ensures reads { ForHeld (state S.Store conn.old) (state S.Store conn.new) (λ c. IfOk result (λ rows. rows.items ≡ c.units)) }
     ensures shown { HasCleanDisk (state S.Store conn.new) → IfOk result (λ rows. AreTold Units unit_cells IsUnit (state S.Store conn.old).now rows.items) }
-    ensures whole { HasCleanDisk (state S.Store conn.new) → (c : Content) → HoldsIn (state S.Store conn.old) c → result ≢ Err KeepFault.Damaged }
+    ensures whole { ForHeld (state S.Store conn.old) (state S.Store conn.new) (λ _. result ≢ Err KeepFault.Damaged) }
 {
     read_all::<S, UnitRow>(conn, alloc)
 }
@@ -57,9 +55,9 @@ fn read_all<S: Alter, X: PlantRow>(
     alloc: Global,
 ) -> Result<Vec<X>, KeepFault>
     ensures looks { StandAlone X.kind X.cells X.is_valid → IsLooking (state S.Store conn.old) (state S.Store conn.new) result }
-    ensures reads { StandAlone X.kind X.cells X.is_valid → HasCleanDisk (state S.Store conn.new) → (state S.Store conn.old).now.schema ≡ ours → (l : List X) → HasRows X.kind (map X.cells l) ((state S.Store conn.old).now.trees (tree_of X.kind)) → AllByRecursion X.is_valid l → IfOk result (λ rows. rows.items ≡ l) }
+    ensures reads { ForRows X.kind X.cells X.is_valid (state S.Store conn.old) (state S.Store conn.new) (λ l. IfOk result (λ rows. rows.items ≡ l)) }
     ensures shown { HasCleanDisk (state S.Store conn.new) → IfOk result (λ rows. AreTold X.kind X.cells X.is_valid (state S.Store conn.old).now rows.items) }
-    ensures whole { StandAlone X.kind X.cells X.is_valid → HasCleanDisk (state S.Store conn.new) → (state S.Store conn.old).now.schema ≡ ours → (l : List X) → HasRows X.kind (map X.cells l) ((state S.Store conn.old).now.trees (tree_of X.kind)) → AllByRecursion X.is_valid l → result ≢ Err KeepFault.Damaged }
+    ensures whole { ForRows X.kind X.cells X.is_valid (state S.Store conn.old) (state S.Store conn.new) (λ _. result ≢ Err KeepFault.Damaged) }
 {
     match all_rows(conn, X::table()) {
         Ok(rows) => list_rows::<X>(alloc, &rows),
@@ -69,9 +67,9 @@ fn read_all<S: Alter, X: PlantRow>(
 
 // The rows that these stored ones are.
 fn list_rows<X: PlantRow>(alloc: Global, rows: &[Stored]) -> Result<Vec<X>, KeepFault>
-    ensures reads { StandAlone X.kind X.cells X.is_valid → (l : List X) → rows.now ≡ map X.cells l → AllByRecursion X.is_valid l → IfOk result (λ listed. listed.items ≡ l) }
+    ensures reads { ForCells X.kind X.cells X.is_valid rows.now (λ l. IfOk result (λ listed. listed.items ≡ l)) }
     ensures shown { IfOk result (λ listed. (map X.cells listed.items ≡ map (columns_from 0 (width_of X.kind)) rows.now) × AllByRecursion X.is_valid listed.items) }
-    ensures whole { StandAlone X.kind X.cells X.is_valid → (l : List X) → rows.now ≡ map X.cells l → AllByRecursion X.is_valid l → result ≢ Err KeepFault.Damaged }
+    ensures whole { ForCells X.kind X.cells X.is_valid rows.now (λ _. result ≢ Err KeepFault.Damaged) }
     ensures disk { result ≢ Err KeepFault.Disk }
     ensures closed { result ≢ Err KeepFault.Closed }
 {

@@ -1,16 +1,15 @@
 //! An owner's rows, read from the tables into a slice.
-ghost use Rattle.std.specs.Prelude.{◌≡◌, ◌≢◌, [], ◌∷◌, Err, length, OnOk};
+ghost use Rattle.std.specs.Prelude.{◌≡◌, ◌≢◌, Err, OnOk};
 ghost use Rattle.sqlite.specs.Held.{state};
 ghost use Rattle.sqlite.specs.Order.{column};
 ghost use Rattle.sqlite.specs.declared.types.Value.TheVariants.{Text};
 ghost use Rattle.std.specs.List.{AllByRecursion};
 ghost use Rattle.toll_base.specs.Bytes.{Bytes};
-ghost use Rattle.toll_base.specs.Slice as slices;
+ghost use Rattle.toll_base.specs.Slice.{with_row};
 ghost use Rattle.toll_base.specs.SliceRules.{KeepsRules};
-ghost use Rattle.toll_sql.specs.Fronts.{front, IsStoredAs};
-ghost use Rattle.toll_sql.specs.Reading.{ReadsOn};
+ghost use Rattle.toll_sql.specs.Fronts.{past};
+ghost use Rattle.toll_sql.specs.Reading.{ForRow, ForStored, ReadsKind};
 ghost use Rattle.toll_sql.specs.Shown.{AreOwnedBy, IsRowOf};
-ghost use Rattle.toll_sql.specs.StoredLaws.{StandIn};
 
 use crate::asking::owners_rows;
 use crate::fault::fault_of;
@@ -25,7 +24,7 @@ pub fn read_table<S: Alter, X: StoredRow>(
     slice: &mut Slice,
     owner: &Name,
 ) -> Result<(), KeepFault>
-    ensures { StandIn X.kind X.cells X.is_valid X.any_row X.listed → ReadsOn (front X.kind 0) (λ s. front X.kind (length (X.listed s)) s) (X.kind ∷ []) owner.now (state S.Store conn.old) (state S.Store conn.new) slice.old slice.new result }
+    ensures { ReadsKind X.kind X.cells X.is_valid X.any_row X.listed owner.now (state S.Store conn.old) (state S.Store conn.new) slice.old slice.new result }
 {
     match owners_rows(conn, X::table(), owner) {
         Ok(rows) => read_rows::<X>(slice, &rows),
@@ -35,9 +34,9 @@ pub fn read_table<S: Alter, X: StoredRow>(
 
 // Puts the stored rows in, which are all rows of this kind.
 fn read_rows<X: StoredRow>(slice: &mut Slice, rows: &[Stored]) -> Result<(), KeepFault>
-    ensures reads { StandIn X.kind X.cells X.is_valid X.any_row X.listed → (s : slices.Slice) → IsStoredAs X.kind s rows.now → slice.old ≡ front X.kind 0 s → OnOk result (slice.new ≡ front X.kind (length (X.listed s)) s) }
+    ensures reads { ForStored X.kind X.cells X.is_valid X.any_row X.listed rows.now slice.old (λ s. OnOk result (slice.new ≡ past X.kind X.listed s)) }
     ensures shown { (o : Bytes) → AreOwnedBy o rows.now → OnOk result (AllByRecursion (IsRowOf X.kind X.cells X.is_valid o) rows.now) }
-    ensures whole { StandIn X.kind X.cells X.is_valid X.any_row X.listed → (s : slices.Slice) → IsStoredAs X.kind s rows.now → KeepsRules s → slice.old ≡ front X.kind 0 s → result ≢ Err KeepFault.Damaged }
+    ensures whole { ForStored X.kind X.cells X.is_valid X.any_row X.listed rows.now slice.old (λ s. KeepsRules s → result ≢ Err KeepFault.Damaged) }
     ensures disk { result ≢ Err KeepFault.Disk }
     ensures closed { result ≢ Err KeepFault.Closed }
 {
@@ -49,9 +48,9 @@ fn read_rows<X: StoredRow>(slice: &mut Slice, rows: &[Stored]) -> Result<(), Kee
 
 // Puts the stored row in.
 fn read_row<X: StoredRow>(slice: &mut Slice, row: &Stored) -> Result<(), KeepFault>
-    ensures reads { StandIn X.kind X.cells X.is_valid X.any_row X.listed → (o : Bytes) (x : X) → X.is_valid x → row.now ≡ X.cells o x → OnOk result (slice.new ≡ slices.with_row slice.old (X.any_row x)) }
+    ensures reads { ForRow X.kind X.cells X.is_valid X.any_row X.listed row.now (λ r. OnOk result (slice.new ≡ with_row slice.old r)) }
     ensures shown { (o : Bytes) → column row.now 0 ≡ Text o → OnOk result (IsRowOf X.kind X.cells X.is_valid o row.now) }
-    ensures whole { StandIn X.kind X.cells X.is_valid X.any_row X.listed → (o : Bytes) (x : X) → X.is_valid x → row.now ≡ X.cells o x → KeepsRules (slices.with_row slice.old (X.any_row x)) → result ≢ Err KeepFault.Damaged }
+    ensures whole { ForRow X.kind X.cells X.is_valid X.any_row X.listed row.now (λ r. KeepsRules (with_row slice.old r) → result ≢ Err KeepFault.Damaged) }
     ensures disk { result ≢ Err KeepFault.Disk }
     ensures closed { result ≢ Err KeepFault.Closed }
 {
@@ -63,8 +62,8 @@ fn read_row<X: StoredRow>(slice: &mut Slice, row: &Stored) -> Result<(), KeepFau
 
 // Puts the row in where the slice keeps its rules with it.
 fn put_read(slice: &mut Slice, row: Row) -> Result<(), KeepFault>
-    ensures made { OnOk result (slice.new ≡ slices.with_row slice.old row) }
-    ensures whole { KeepsRules (slices.with_row slice.old row) → result ≢ Err KeepFault.Damaged }
+    ensures made { OnOk result (slice.new ≡ with_row slice.old row) }
+    ensures whole { KeepsRules (with_row slice.old row) → result ≢ Err KeepFault.Damaged }
     ensures disk { result ≢ Err KeepFault.Disk }
     ensures closed { result ≢ Err KeepFault.Closed }
 {

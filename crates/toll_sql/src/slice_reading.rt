@@ -1,22 +1,17 @@
 //! All rows of an owner, read from the tables.
-ghost use Rattle.std.specs.Prelude.{◌≡◌, ◌≢◌, ◌||◌, List, [], ◌∷◌, None, Err, IfOk, IfSome, is_some};
+ghost use Rattle.std.specs.Prelude.{◌≡◌, ◌≢◌, ◌||◌, None, Err, IfOk, is_some};
 ghost use Rattle.sqlite.specs.Held.{state};
 ghost use Rattle.sqlite.specs.State.{HasCleanDisk};
-ghost use Rattle.std.specs.List.{AllByRecursion, list_any};
+ghost use Rattle.std.specs.List.{list_any};
 ghost use Rattle.toll_base.specs.Bytes.{bytes_cmp, same_bytes};
 ghost use Rattle.toll_base.specs.Table.{row_at};
 ghost use Rattle.toll_base.specs.Values.{house_name};
-ghost use Rattle.toll_base.specs.declared.rows.OwnerRow.{OwnerRow as Owner};
-ghost use Rattle.toll_keep.specs.Content.{Content, ContentKeepsRules, slice_of};
-ghost use Rattle.toll_sql.specs.Asking.{IsLooking};
-ghost use Rattle.toll_sql.specs.Encode.{owner_cells};
+ghost use Rattle.toll_keep.specs.Content.{ContentKeepsRules, slice_of};
+ghost use Rattle.toll_sql.specs.Asking.{ForHeld, IsLooking};
 ghost use Rattle.toll_sql.specs.Fronts.{front};
-ghost use Rattle.toll_sql.specs.Reading.{ReadsOn};
-ghost use Rattle.toll_sql.specs.Shown.{AreRowsIn, AreTold, IsUnknown, Shows, tables_of_owners};
-ghost use Rattle.toll_sql.specs.Stores.{HoldsIn};
-ghost use Rattle.toll_sql.specs.Tables.{ours};
-ghost use Rattle.toll_sql.specs.Valid.{IsOwner};
-ghost use Rattle.toll_sql.specs.declared.table_kind.TableKind.TheVariants.{Owners, Materials, Tests, Recipes, Requirements, Orders, Batches, Lots, Sublots, Moves, Results, Voids};
+ghost use Rattle.toll_sql.specs.Reading.{ReadsOn, definition_tables, lot_tables, material_tables, movement_tables, work_tables};
+ghost use Rattle.toll_sql.specs.Shown.{IsToldUnknown, Shows, ShowsSlice, tables_of_owners};
+ghost use Rattle.toll_sql.specs.declared.table_kind.TableKind.TheVariants.{Materials, Orders, Lots, Moves};
 
 use crate::listing::read_owners;
 use crate::reading::read_table;
@@ -37,10 +32,10 @@ pub fn read_slice<S: Alter>(
     owner: &Name,
 ) -> Result<Option<Slice>, KeepFault>
     ensures looks { IsLooking (state S.Store conn.old) (state S.Store conn.new) result }
-    ensures reads { HasCleanDisk (state S.Store conn.new) → (c : Content) → HoldsIn (state S.Store conn.old) c → IfOk result (λ slice. slice ≡ slice_of c owner.now) }
-    ensures shown { HasCleanDisk (state S.Store conn.new) → (state S.Store conn.old).now.schema ≡ ours → (state S.Store conn.old).now ≡ (state S.Store conn.old).committed → IfOk result (λ slice. IfSome slice (λ _. AllByRecursion (AreRowsIn owner.now (state S.Store conn.old).now.trees) tables_of_owners)) }
-    ensures known { HasCleanDisk (state S.Store conn.new) → IfOk result (λ slice. slice ≡ None → (owners : List Owner) × AreTold Owners owner_cells IsOwner (state S.Store conn.old).now owners × IsUnknown owners owner.now) }
-    ensures whole { HasCleanDisk (state S.Store conn.new) → (c : Content) → HoldsIn (state S.Store conn.old) c → ContentKeepsRules c → result ≢ Err KeepFault.Damaged }
+    ensures reads { ForHeld (state S.Store conn.old) (state S.Store conn.new) (λ c. IfOk result (λ slice. slice ≡ slice_of c owner.now)) }
+    ensures shown { ShowsSlice owner.now (state S.Store conn.old) (state S.Store conn.new) result }
+    ensures known { HasCleanDisk (state S.Store conn.new) → IfOk result (λ slice. slice ≡ None → IsToldUnknown (state S.Store conn.old).now owner.now) }
+    ensures whole { ForHeld (state S.Store conn.old) (state S.Store conn.new) (λ c. ContentKeepsRules c → result ≢ Err KeepFault.Damaged) }
 {
     let owners = read_owners(conn, alloc)?;
     if !is_known(&owners, owner) {
@@ -70,9 +65,9 @@ fn read_rows_of<S: Alter>(
     owner: &Name,
 ) -> Result<Slice, KeepFault>
     ensures looks { IsLooking (state S.Store conn.old) (state S.Store conn.new) result }
-    ensures reads { HasCleanDisk (state S.Store conn.new) → (c : Content) → HoldsIn (state S.Store conn.old) c → IfOk result (λ slice. slice ≡ c.rows owner.now) }
+    ensures reads { ForHeld (state S.Store conn.old) (state S.Store conn.new) (λ c. IfOk result (λ slice. slice ≡ c.rows owner.now)) }
     ensures shown { Shows tables_of_owners owner.now (state S.Store conn.old) (state S.Store conn.new) result }
-    ensures whole { HasCleanDisk (state S.Store conn.new) → (c : Content) → HoldsIn (state S.Store conn.old) c → ContentKeepsRules c → result ≢ Err KeepFault.Damaged }
+    ensures whole { ForHeld (state S.Store conn.old) (state S.Store conn.new) (λ c. ContentKeepsRules c → result ≢ Err KeepFault.Damaged) }
 {
     let mut slice = Slice::new(alloc, *owner);
     read_definitions(conn, &mut slice, owner)?;
@@ -86,7 +81,7 @@ fn read_definitions<S: Alter>(
     slice: &mut Slice,
     owner: &Name,
 ) -> Result<(), KeepFault>
-    ensures { ReadsOn (front Materials 0) (front Moves 0) (Materials ∷ Tests ∷ Recipes ∷ Requirements ∷ Orders ∷ Batches ∷ Lots ∷ Sublots ∷ []) owner.now (state S.Store conn.old) (state S.Store conn.new) slice.old slice.new result }
+    ensures { ReadsOn (front Materials 0) (front Moves 0) definition_tables owner.now (state S.Store conn.old) (state S.Store conn.new) slice.old slice.new result }
 {
     read_materials(conn, slice, owner)?;
     read_work(conn, slice, owner)?;
@@ -99,7 +94,7 @@ fn read_materials<S: Alter>(
     slice: &mut Slice,
     owner: &Name,
 ) -> Result<(), KeepFault>
-    ensures { ReadsOn (front Materials 0) (front Orders 0) (Materials ∷ Tests ∷ Recipes ∷ Requirements ∷ []) owner.now (state S.Store conn.old) (state S.Store conn.new) slice.old slice.new result }
+    ensures { ReadsOn (front Materials 0) (front Orders 0) material_tables owner.now (state S.Store conn.old) (state S.Store conn.new) slice.old slice.new result }
 {
     read_table::<S, MaterialRow>(conn, slice, owner)?;
     read_table::<S, TestRow>(conn, slice, owner)?;
@@ -113,7 +108,7 @@ fn read_work<S: Alter>(
     slice: &mut Slice,
     owner: &Name,
 ) -> Result<(), KeepFault>
-    ensures { ReadsOn (front Orders 0) (front Lots 0) (Orders ∷ Batches ∷ []) owner.now (state S.Store conn.old) (state S.Store conn.new) slice.old slice.new result }
+    ensures { ReadsOn (front Orders 0) (front Lots 0) work_tables owner.now (state S.Store conn.old) (state S.Store conn.new) slice.old slice.new result }
 {
     read_table::<S, OrderRow>(conn, slice, owner)?;
     read_table::<S, BatchRow>(conn, slice, owner)
@@ -125,7 +120,7 @@ fn read_lots<S: Alter>(
     slice: &mut Slice,
     owner: &Name,
 ) -> Result<(), KeepFault>
-    ensures { ReadsOn (front Lots 0) (front Moves 0) (Lots ∷ Sublots ∷ []) owner.now (state S.Store conn.old) (state S.Store conn.new) slice.old slice.new result }
+    ensures { ReadsOn (front Lots 0) (front Moves 0) lot_tables owner.now (state S.Store conn.old) (state S.Store conn.new) slice.old slice.new result }
 {
     read_table::<S, LotRow>(conn, slice, owner)?;
     read_table::<S, SublotRow>(conn, slice, owner)
@@ -137,7 +132,7 @@ fn read_movements<S: Alter>(
     slice: &mut Slice,
     owner: &Name,
 ) -> Result<(), KeepFault>
-    ensures { ReadsOn (front Moves 0) (λ s. s) (Moves ∷ Results ∷ Voids ∷ []) owner.now (state S.Store conn.old) (state S.Store conn.new) slice.old slice.new result }
+    ensures { ReadsOn (front Moves 0) (λ s. s) movement_tables owner.now (state S.Store conn.old) (state S.Store conn.new) slice.old slice.new result }
 {
     read_table::<S, MoveRow>(conn, slice, owner)?;
     read_table::<S, ResultRow>(conn, slice, owner)?;

@@ -4,12 +4,12 @@ ghost use Rattle.sqlite.specs.Held.{state};
 ghost use Rattle.sqlite.specs.Order.{column};
 ghost use Rattle.sqlite.specs.State.{HasCleanDisk, IsUnchanged};
 ghost use Rattle.sqlite.specs.declared.types.Value.TheVariants.{Text};
-ghost use Rattle.toll_sql.specs.Asked.{AreReadBy};
-ghost use Rattle.toll_sql.specs.Asking.{IsQuerying};
+ghost use Rattle.toll_sql.specs.Asked.{AreReadBy, meta_text};
+ghost use Rattle.toll_sql.specs.Asking.{IsQuerying, OverOurs};
 ghost use Rattle.toll_sql.specs.First.{HasVersion, IsVersionIn, Tells, first_ours, meta_rows};
 ghost use Rattle.toll_sql.specs.Opening.{FindsVersion, IsAskedInside, IsLeft, IsUnreadFor};
 ghost use Rattle.toll_sql.specs.Rows.{AreAll};
-ghost use Rattle.toll_sql.specs.Tables.{ours, select_text};
+ghost use Rattle.toll_sql.specs.Stores.{LiesIdle};
 ghost use Rattle.toll_sql.specs.declared.table_kind.TableKind.TheVariants.{Meta};
 
 use crate::asking::all_rows;
@@ -47,8 +47,8 @@ pub(crate) fn version_in(rows: &[Row]) -> Option<u64>
 /// The version that the store tells, whose tables are ours, where it does.
 pub(crate) fn read_version<S: Alter>(conn: &mut Connection<S>) -> Result<Option<u64>, Error>
     ensures asks { IsQuerying (state S.Store conn.old) (state S.Store conn.new) result }
-    ensures version { HasCleanDisk (state S.Store conn.new) → (state S.Store conn.old).now.schema ≡ ours → (n : ℕ) → HasVersion n (state S.Store conn.old).now.trees → IfOk result (λ told. told ≡ Some n) }
-    ensures told { HasCleanDisk (state S.Store conn.new) → (state S.Store conn.old).now.schema ≡ ours → IfOk result (λ told. IfSome told (λ n. Tells n (meta_rows (state S.Store conn.old).now.trees))) }
+    ensures version { OverOurs (state S.Store conn.old) (state S.Store conn.new) (λ db. (n : ℕ) → HasVersion n db → IfOk result (λ told. told ≡ Some n)) }
+    ensures told { OverOurs (state S.Store conn.old) (state S.Store conn.new) (λ db. IfOk result (λ told. IfSome told (λ n. Tells n (meta_rows db)))) }
     ensures found { HasCleanDisk (state S.Store conn.new) → IfOk result (FindsVersion (state S.Store conn.old).now) }
 {
     let rows = all_rows(conn, TableKind::Meta)?;
@@ -58,7 +58,7 @@ pub(crate) fn read_version<S: Alter>(conn: &mut Connection<S>) -> Result<Option<
 /// The version that the store tells, whatever its tables are, where it does. Nothing is written.
 pub(crate) fn find_version<S: Alter>(conn: &mut Connection<S>) -> Result<Option<u64>, Error>
     requires autocommit { conn.old.in_transaction ≡ false }
-    requires settled { IsTrue (state S.Store conn.old).is_open → (state S.Store conn.old).now ≡ (state S.Store conn.old).committed }
+    requires settled { LiesIdle (state S.Store conn.old) }
     ensures left { IsLeft (state S.Store conn.old) (state S.Store conn.new) result }
     ensures found { HasCleanDisk (state S.Store conn.new) → IfOk result (FindsVersion (state S.Store conn.old).now) }
     ensures unread { HasCleanDisk (state S.Store conn.new) → IfErr result (IsUnreadFor conn.old.step_limit (state S.Store conn.old).now) }
@@ -72,7 +72,7 @@ pub(crate) fn find_version<S: Alter>(conn: &mut Connection<S>) -> Result<Option<
 fn ask_version<S: Alter>(tx: &mut Transaction<'_, S>) -> Result<Vec<Row>, Error>
     ensures same_reference { tx.new.conn.ghost_name ≡ tx.old.conn.ghost_name }
     ensures asks { IsAskedInside (state S.Store tx.old.conn.now) (state S.Store tx.new.conn.now) result }
-    ensures read { HasCleanDisk (state S.Store tx.new.conn.now) → IfOk result (λ rows. AreReadBy (state S.Store tx.old.conn.now).now (select_text Meta) rows.items) }
+    ensures read { HasCleanDisk (state S.Store tx.new.conn.now) → IfOk result (λ rows. AreReadBy (state S.Store tx.old.conn.now).now meta_text rows.items) }
     ensures unread { HasCleanDisk (state S.Store tx.new.conn.now) → IfErr result (IsUnreadFor tx.old.conn.now.step_limit (state S.Store tx.old.conn.now).now) }
 {
     tx.query_all(TableKind::Meta.select_text(), &[])
@@ -81,7 +81,7 @@ fn ask_version<S: Alter>(tx: &mut Transaction<'_, S>) -> Result<Vec<Row>, Error>
 /// The version that the store tells, whose tables are those of version 1, where it does.
 pub(crate) fn read_first_version<S: Alter>(conn: &mut Connection<S>) -> Result<Option<u64>, Error>
     requires autocommit { conn.old.in_transaction ≡ false }
-    requires settled { IsTrue (state S.Store conn.old).is_open → (state S.Store conn.old).now ≡ (state S.Store conn.old).committed }
+    requires settled { LiesIdle (state S.Store conn.old) }
     requires first { (state S.Store conn.old).now.schema ≡ first_ours }
     ensures left { IsLeft (state S.Store conn.old) (state S.Store conn.new) result }
     ensures unchanged { HasCleanDisk (state S.Store conn.new) → OnOk result (IsUnchanged (state S.Store conn.old) (state S.Store conn.new)) }
@@ -96,12 +96,12 @@ pub(crate) fn read_first_version<S: Alter>(conn: &mut Connection<S>) -> Result<O
 // The rows of `meta`, where the tables are those of version 1.
 fn first_rows<S: Alter>(conn: &mut Connection<S>) -> Result<Vec<Row>, Error>
     requires autocommit { conn.old.in_transaction ≡ false }
-    requires settled { IsTrue (state S.Store conn.old).is_open → (state S.Store conn.old).now ≡ (state S.Store conn.old).committed }
+    requires settled { LiesIdle (state S.Store conn.old) }
     requires first { (state S.Store conn.old).now.schema ≡ first_ours }
     ensures left { IsLeft (state S.Store conn.old) (state S.Store conn.new) result }
     ensures unchanged { HasCleanDisk (state S.Store conn.new) → OnOk result (IsUnchanged (state S.Store conn.old) (state S.Store conn.new)) }
     ensures rows { HasCleanDisk (state S.Store conn.new) → IfOk result (λ rows. AreAll Meta (state S.Store conn.old).now.trees rows.items) }
-    ensures read { HasCleanDisk (state S.Store conn.new) → IfOk result (λ rows. AreReadBy (state S.Store conn.old).now (select_text Meta) rows.items) }
+    ensures read { HasCleanDisk (state S.Store conn.new) → IfOk result (λ rows. AreReadBy (state S.Store conn.old).now meta_text rows.items) }
 {
     conn.query_all(TableKind::Meta.select_text(), &[])
 }

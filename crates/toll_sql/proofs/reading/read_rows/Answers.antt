@@ -23,7 +23,7 @@ loop-row-preserved g c =
     }
 
 pub returns-in_err-read_row-clause-whole : goal.returns-in_err-read_row-clause-whole
-returns-in_err-read_row-clause-whole g c = λ stand s stored keeps first.
+returns-in_err-read_row-clause-whole g c = λ stand s stored first keeps.
     let X = g.X.StoredRow in
     let i = c.loop-row.row-index in
     let lt = c.loop-row-test.true in

@@ -30,5 +30,5 @@ returns-in-Ok g c stand =
           let here = subst (λ (rows : List Row). AreOwnedBy o rows) (sym c.deref.ensures.value) (read_owned X.kind o old.now.trees c.in-Ok.rows.items (rows clean has)) in
           on_ok_weaker c.read_rows.result (λ all. (stand.shown o old.now.trees (stored_shown X.kind X.cells X.is_valid o old.now.trees c.in-Ok.rows.items (rows clean has) (subst (λ (rows : List Row). AllByRecursion (IsRowOf X.kind X.cells X.is_valid o) rows) c.deref.ensures.value all)), tt)) (c.read_rows.ensures.shown o here);
       reads = λ clean content held first. c.read_rows.ensures.reads stand (content.rows o) (stored content clean held) first;
-      whole = λ clean content held keeps first. c.read_rows.ensures.whole stand (content.rows o) (stored content clean held) (keeps o) first;
+      whole = λ clean content held keeps first. c.read_rows.ensures.whole stand (content.rows o) (stored content clean held) first (keeps o);
     }
