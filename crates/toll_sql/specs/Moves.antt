@@ -1,10 +1,15 @@
 -- What a stored movement moves.
-use Rattle.std.specs.Prelude.{◌≡◌, pos, []}
+use Rattle.std.specs.Prelude.{◌≡◌, ℕ, pos, [], IsTrue}
 use Rattle.sqlite.specs.Order.{Row, column}
 use Rattle.sqlite.specs.declared.types.Value.TheVariants.{Int, Text}
 use Rattle.toll_base.specs.Bytes.{Bytes}
+use Rattle.toll_base.specs.Values.{is_name}
+use Rattle.toll_base.specs.declared.lot.LotId.{LotId}
 use Rattle.toll_base.specs.declared.movement.Move.{Move}
+use Rattle.toll_base.specs.declared.movement.Move.TheVariants.{Receive, Split, Actual}
+use Rattle.toll_base.specs.declared.role.Role.{Role}
 use Rattle.toll_sql.specs.Encode.{kind_number, lot_of, sublot_of, target_of, material_of, order_of, number_of, segment_of}
+use Rattle.toll_sql.specs.Valid.{IsMove}
 
 -- the cells are those of a movement of this owner that moves this
 pub record ShowsMove (o : Bytes) (row : Row) (m : Move) : Type 0 where
@@ -28,3 +33,29 @@ pub record ShowsTaking (o : Bytes) (row : Row) (from of : Bytes) : Type 0 where
   pub order : column row 8 ≡ Text []
   pub number : column row 9 ≡ Int (pos 0)
   pub segment : column row 10 ≡ Int (pos 0)
+
+-- the cells are not those of this movement with values of their kinds
+abbrev pub IsUnshown : Bytes → Row → Move → Type 0
+IsUnshown o row m = IsMove m → ShowsMove o row m → ⊥
+
+-- the cells of a row, the first of which names its owner, are those of no movement
+abbrev pub ShowsNoMove : Row → Type 0
+ShowsNoMove row = (o : Bytes) (m : Move) → column row 0 ≡ Text o → IsUnshown o row m
+
+-- they are those of no receipt
+abbrev pub ShowsNoReceipt : Row → Type 0
+ShowsNoReceipt row = (o material lot sublot : Bytes) → column row 0 ≡ Text o → IsUnshown o row (Receive material lot sublot)
+
+-- they are those of no split
+abbrev pub ShowsNoSplit : Row → Type 0
+ShowsNoSplit row = (o lot sublot target : Bytes) → column row 0 ≡ Text o → IsUnshown o row (Split lot sublot target)
+
+-- they are those of none that takes from an own lot
+abbrev pub ShowsNoTaking : Row → Type 0
+ShowsNoTaking row = (o lot sublot : Bytes) → column row 0 ≡ Text o → IsTrue (is_name lot) → IsTrue (is_name sublot) → ShowsTaking o row lot sublot → ⊥
+
+-- they are those of no actual of this role
+abbrev pub ShowsNoActual : Role → Row → Type 0
+ShowsNoActual role row =
+    (o order : Bytes) (number segment : ℕ) (material : Bytes) (lot : LotId) (sublot : Bytes)
+    → IsUnshown o row (Actual order number segment role material lot sublot)

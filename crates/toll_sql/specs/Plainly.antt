@@ -1,5 +1,5 @@
 -- Schemas of plain tables: what tells two of them apart are names, kinds, keys and numbers of trees.
-use Rattle.std.specs.Prelude.{◌≡◌, [], true}
+use Rattle.std.specs.Prelude.{◌≡◌, List, [], true}
 use Rattle.std.specs.List.{AllByRecursion}
 use Rattle.sqlite.specs.Collation.TheVariants.{Binary}
 use Rattle.sqlite.specs.Schema.{Schema}
@@ -22,7 +22,11 @@ IsPlainTable t = (t ≡ table_with t.tree t.name t.columns t.primary) × AllByRe
 abbrev pub IsPlainIndex : Index → Type 0
 IsPlainIndex i = i.order ≡ plain
 
--- and no views
+-- these tables and indexes, and no views
+abbrev pub schema_of : List Table → List Index → Schema
+schema_of tables indexes = record { tables = tables; indexes = indexes; views = [] }
+
+-- such tables and such indexes, and no views
 pub record IsPlainSchema (schema : Schema) : Type 0 where
   pub tables : AllByRecursion IsPlainTable schema.tables
   pub indexes : AllByRecursion IsPlainIndex schema.indexes

@@ -1,14 +1,11 @@
 //! What a stored movement moves.
-ghost use Rattle.std.specs.Prelude.{◌≡◌, ◌≢◌, ◌↔◌, ℕ, pos, [], None, IsTrue, IfSome};
+ghost use Rattle.std.specs.Prelude.{◌≡◌, ◌↔◌, pos, [], None, IsTrue, IfSome};
 ghost use Rattle.sqlite.specs.Order.{column};
 ghost use Rattle.sqlite.specs.declared.types.Value.TheVariants.{Int, Text};
 ghost use Rattle.toll_base.specs.Bytes.{Bytes};
 ghost use Rattle.toll_base.specs.Values.{is_name};
-ghost use Rattle.toll_base.specs.declared.lot.LotId.{LotId as Lots};
-ghost use Rattle.toll_base.specs.declared.movement.Move.{Move as Moved};
-ghost use Rattle.toll_base.specs.declared.movement.Move.TheVariants as of;
 ghost use Rattle.toll_sql.specs.Encode.{actual_kind};
-ghost use Rattle.toll_sql.specs.Moves.{ShowsMove, ShowsTaking};
+ghost use Rattle.toll_sql.specs.Moves.{ShowsMove, ShowsNoActual, ShowsNoMove, ShowsNoReceipt, ShowsNoSplit, ShowsNoTaking, ShowsTaking};
 ghost use Rattle.toll_sql.specs.Valid.{IsMove};
 
 use crate::cells::{bounded_at, is_empty_at, is_zero_at, lot_at, name_at, number_at};
@@ -20,7 +17,7 @@ use toll_base::{Move, Name, Role};
 pub fn move_at(row: &Row) -> Option<Move>
     ensures some { (o : Bytes) → column row.now 0 ≡ Text o → IfSome result (ShowsMove o row.now) }
     ensures valid { IfSome result IsMove }
-    ensures none { result ≡ None → (o : Bytes) (m : Moved) → column row.now 0 ≡ Text o → IsMove m → ShowsMove o row.now m → ⊥ }
+    ensures none { result ≡ None → ShowsNoMove row.now }
 {
     match number_at(row, 2)? {
         0 => receipt_at(row),
@@ -42,7 +39,7 @@ pub fn move_at(row: &Row) -> Option<Move>
 fn receipt_at(row: &Row) -> Option<Move>
     ensures some { (o : Bytes) → column row.now 0 ≡ Text o → column row.now 2 ≡ Int (pos 0) → IfSome result (ShowsMove o row.now) }
     ensures valid { IfSome result IsMove }
-    ensures none { result ≡ None → (o material lot sublot : Bytes) → column row.now 0 ≡ Text o → IsMove (of.Receive material lot sublot) → ShowsMove o row.now (of.Receive material lot sublot) → ⊥ }
+    ensures none { result ≡ None → ShowsNoReceipt row.now }
 {
     if !is_own(row) || !is_empty_at(row, 6) || !is_without_batch(row) {
         return None;
@@ -57,7 +54,7 @@ fn receipt_at(row: &Row) -> Option<Move>
 fn split_at(row: &Row) -> Option<Move>
     ensures some { (o : Bytes) → column row.now 0 ≡ Text o → column row.now 2 ≡ Int (pos 1) → IfSome result (ShowsMove o row.now) }
     ensures valid { IfSome result IsMove }
-    ensures none { result ≡ None → (o lot sublot target : Bytes) → column row.now 0 ≡ Text o → IsMove (of.Split lot sublot target) → ShowsMove o row.now (of.Split lot sublot target) → ⊥ }
+    ensures none { result ≡ None → ShowsNoSplit row.now }
 {
     if !is_own(row) || !is_empty_at(row, 7) || !is_without_batch(row) {
         return None;
@@ -73,7 +70,7 @@ fn split_at(row: &Row) -> Option<Move>
 fn taking_at(row: &Row) -> Option<(Name, Name)>
     ensures some { (o : Bytes) → column row.now 0 ≡ Text o → IfSome result (λ from. ShowsTaking o row.now from.0 from.1) }
     ensures valid { IfSome result (λ from. IsTrue (is_name from.0) × IsTrue (is_name from.1)) }
-    ensures none { result ≡ None → (o lot sublot : Bytes) → column row.now 0 ≡ Text o → IsTrue (is_name lot) → IsTrue (is_name sublot) → ShowsTaking o row.now lot sublot → ⊥ }
+    ensures none { result ≡ None → ShowsNoTaking row.now }
 {
     if !is_own(row) || !is_empty_at(row, 6) || !is_empty_at(row, 7) || !is_without_batch(row) {
         return None;
@@ -84,7 +81,7 @@ fn taking_at(row: &Row) -> Option<(Name, Name)>
 fn actual_at(row: &Row, role: Role) -> Option<Move>
     ensures some { (o : Bytes) → column row.now 2 ≡ Int (pos (actual_kind role)) → IfSome result (ShowsMove o row.now) }
     ensures valid { IfSome result IsMove }
-    ensures none { result ≡ None → (o order : Bytes) (number segment : ℕ) (material : Bytes) (lot : Lots) (sublot : Bytes) → IsMove (of.Actual order number segment role material lot sublot) → ShowsMove o row.now (of.Actual order number segment role material lot sublot) → ⊥ }
+    ensures none { result ≡ None → ShowsNoActual role row.now }
 {
     if !is_empty_at(row, 6) {
         return None;

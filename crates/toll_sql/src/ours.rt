@@ -4,7 +4,7 @@ ghost use Rattle.sqlite_value.specs.Keys.{plain};
 ghost use Rattle.std.specs.List.{AllByRecursion};
 ghost use Rattle.toll_sql.specs.First.{first_ours};
 ghost use Rattle.toll_sql.specs.Plain.{no_schema, no_stamps, table_with};
-ghost use Rattle.toll_sql.specs.Plainly.{IsPlainColumn, IsPlainIndex, IsPlainTable};
+ghost use Rattle.toll_sql.specs.Plainly.{IsPlainColumn, IsPlainIndex, IsPlainTable, schema_of};
 ghost use Rattle.toll_sql.specs.Tables.{ours};
 
 use sqlite_items::Items;
@@ -186,7 +186,7 @@ pub(crate) fn layout_of(schema: &Schema, made: &Schema) -> Layout
 
 // Whether the schema has the plain tables and indexes, and nothing else.
 fn has_tables(schema: &Schema, tables: &[Table], indexes: &[Index]) -> bool
-    ensures { AllByRecursion IsPlainTable tables.now → AllByRecursion IsPlainIndex indexes.now → (IsTrue result ↔ schema.now ≡ record { tables = tables.now; indexes = indexes.now; views = [] }) }
+    ensures { AllByRecursion IsPlainTable tables.now → AllByRecursion IsPlainIndex indexes.now → (IsTrue result ↔ schema.now ≡ schema_of tables.now indexes.now) }
 {
     are_tables(schema.tables.as_slice(), tables)
         && are_indexes(schema.indexes.as_slice(), indexes)
