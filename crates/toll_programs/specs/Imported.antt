@@ -1,8 +1,7 @@
 -- What is so where a file of actuals was imported over a keep.
-use Rattle.std.specs.Prelude.{◌≡◌, ◌≢◌, ◌↔◌, ◌<◌, ◌≤◌, Bool, List, Result, Err, IfOk, OnErr, length}
+use Rattle.std.specs.Prelude.{◌≡◌, ◌≢◌, ◌↔◌, ◌<◌, ◌≤◌, List, Result, Err, IfOk, OnErr, length}
 use Rattle.toll_base.specs.Bytes.{Bytes}
 use Rattle.toll_keep.specs.Meaning.{Meaning}
-use Rattle.toll_keep.specs.Content.{Content}
 use Rattle.toll_plant.specs.Files.{Fields, HasActuals, HasHeader}
 use Rattle.toll_plant.specs.Imports.{AreRecordsServed, commands_in, outcomes_in}
 use Rattle.toll_plant.specs.declared.import_fault.ImportFault.{ImportFault}

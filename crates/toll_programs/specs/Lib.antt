@@ -9,5 +9,6 @@ pub mod Running
 pub mod Statuses
 pub mod Told
 pub mod Imported
+pub mod Done
 pub mod Tasks
 pub mod ShownTask

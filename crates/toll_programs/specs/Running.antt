@@ -3,7 +3,6 @@ use Rattle.std.specs.Prelude.{◌≡◌, ◌≢◌, ◌⊎◌, ◌<◌, ℕ, IsT
 use Rattle.std.specs.Io.KnownBytes.{Appends}
 use Rattle.toll_base.specs.Bytes.{Bytes}
 use Rattle.toll_keep.specs.Meaning.{Meaning}
-use Rattle.toll_keep.specs.Content.{Content}
 use Rattle.toll_desk.specs.Reads.{Over}
 use Rattle.toll_http.specs.Streams.{HasFailed, NoneFailed}
 use Rattle.toll_http.specs.declared.sink.Sink as sink

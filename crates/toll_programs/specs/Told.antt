@@ -1,5 +1,5 @@
 -- What the program writes of one command, one import or one script, and how it ends.
-use Rattle.std.specs.Prelude.{◌≡◌, ◌<◌, ◌⊎◌, ◌++◌, ℕ, Bool, List, [], Option, Result, Ok, Err, codes, decimal, length, take}
+use Rattle.std.specs.Prelude.{◌≡◌, ◌<◌, ◌⊎◌, ◌++◌, ℕ, Bool, [], Option, Result, Ok, Err, codes, decimal, length, take}
 use Rattle.std.specs.Io.KnownBytes.{Appends}
 use Rattle.toll_base.specs.Bytes.{Bytes}
 use Rattle.toll_desk.specs.declared.plant_cmd.PlantReply.{PlantReply}
@@ -95,9 +95,13 @@ abbrev pub after_refused_file : ImportFault → Status
 after_refused_file Memory = Failed
 after_refused_file _ = Unread
 
--- the text of an import is shown, and why a file was not imported fails
+-- the text of an import is shown
+abbrev pub IsReportTold : Streams → ImportReport → ℕ → Type 0
+IsReportTold s report status = IsShownIfRoom s (import_text report.lines.items) (after_lines report.lines.items) status
+
+-- so it is told, and why a file was not imported fails
 abbrev pub IsImportTold : Streams → Result ImportReport ImportFault → ℕ → Type 0
-IsImportTold s (Ok report) status = IsShownIfRoom s (import_text report.lines.items) (after_lines report.lines.items) status
+IsImportTold s (Ok report) status = IsReportTold s report status
 IsImportTold s (Err fault) status = IsFailing s (refused_file fault) (after_refused_file fault) status
 
 -- ---- a script

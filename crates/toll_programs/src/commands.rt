@@ -1,6 +1,5 @@
 //! One command or question of the plant, as the program answers it.
-ghost use Rattle.toll_desk.specs.PlantServed.{IsPlantServed};
-ghost use Rattle.toll_desk.specs.declared.plant_cmd.PlantReply.{PlantReply};
+ghost use Rattle.toll_programs.specs.Done.{IsCommandDone};
 ghost use Rattle.toll_programs.specs.Printing.{refusal_line};
 ghost use Rattle.toll_programs.specs.Told.{IsReplyTold, IsShownIfRoom, streams_of};
 
@@ -23,8 +22,7 @@ pub fn plant_line<K: Keep, W: Sink, E: Sink>(
     output: &mut W,
     error: &mut E,
 ) -> u64
-    ensures { (reply : PlantReply) × IsPlantServed K.meaning keep.old keep.new command.now reply
-        × IsReplyTold (streams_of W.Sink E.Sink output.old output.new error.old error.new) reply result }
+    ensures { IsCommandDone K.meaning keep.old keep.new command.now (streams_of W.Sink E.Sink output.old output.new error.old error.new) result }
 {
     let reply = plant_do(alloc, keep, command);
     show(alloc, &reply, output, error)

@@ -1,13 +1,10 @@
 //! A file of actuals, as the program imports it.
-ghost use Rattle.std.specs.Prelude.{◌≡◌, ◌≢◌, ◌↔◌, ◌<◌, ◌≤◌, Result, Err, IfOk, OnErr, List, length};
+ghost use Rattle.std.specs.Prelude.{◌≡◌};
 ghost use Rattle.std.specs.List.{list_any};
-ghost use Rattle.toll_plant.specs.ImportTexts.{import_text};
 ghost use Rattle.toll_plant.specs.Outcomes.{is_fault};
-ghost use Rattle.toll_plant.specs.declared.import_fault.ImportFault.{ImportFault};
-ghost use Rattle.toll_plant.specs.declared.report.ImportReport.{ImportReport};
-ghost use Rattle.toll_programs.specs.Imported.{IsImported};
+ghost use Rattle.toll_programs.specs.Done.{IsImportDone};
 ghost use Rattle.toll_programs.specs.Statuses.{after_lines, is_turned_away};
-ghost use Rattle.toll_programs.specs.Told.{IsImportTold, IsShownIfRoom, after_refused_file, refused_file, streams_of};
+ghost use Rattle.toll_programs.specs.Told.{IsImportTold, IsReportTold, after_refused_file, refused_file, streams_of};
 
 use crate::status::Status;
 use crate::telling::{tell, warn};
@@ -28,8 +25,7 @@ pub fn plant_import<K: Keep, W: Sink, E: Sink>(
     output: &mut W,
     error: &mut E,
 ) -> u64
-    ensures { (imported : Result ImportReport ImportFault) × IsImported K.meaning keep.old keep.new file.now imported
-        × IsImportTold (streams_of W.Sink E.Sink output.old output.new error.old error.new) imported result }
+    ensures { IsImportDone K.meaning keep.old keep.new file.now (streams_of W.Sink E.Sink output.old output.new error.old error.new) result }
 {
     let imported = import_actuals(alloc, keep, file);
     show(alloc, imported, output, error)
@@ -77,8 +73,7 @@ fn show_report<W: Sink, E: Sink>(
     output: &mut W,
     error: &mut E,
 ) -> u64
-    ensures { IsShownIfRoom (streams_of W.Sink E.Sink output.old output.new error.old error.new)
-        (import_text report.now.lines.items) (after_lines report.now.lines.items) result }
+    ensures { IsReportTold (streams_of W.Sink E.Sink output.old output.new error.old error.new) report.now result }
 {
     match import_text(alloc, report) {
         Ok(text) => tell(output, &text, status_of(&report.lines)),
