@@ -1,7 +1,7 @@
 -- Streams that tell what each read gave.
-use Rattle.std.proofs.Common.{◌≡◌, ◌≢◌, ◌∙◌, ℕ, ◌+◌, ◌<◌, ◌≤◌, List, [], ◌∷◌, ◌++◌, length, take, drop, sym, ap, subst, refl, arith, Option, None, Some, append_assoc, append-nil, take-add, below_more, length-append}
+use Rattle.std.proofs.Common.{◌≡◌, ◌≢◌, ◌∙◌, ℕ, List, [], ◌∷◌, ◌++◌, length, take, sym, ap, subst, refl, arith, Option, None, Some, append_assoc, append-nil, below_more, length-append}
 use Rattle.std.specs.List.{concat}
-use Rattle.std.proofs.lemmas.List.{length-drop, length-take-le, take-append-le}
+use Rattle.std.proofs.lemmas.List.{take-append-le}
 use Rattle.std.proofs.lemmas.List.Elements.{All-append, All-cons, All-nil}
 use Rattle.std.proofs.lemmas.List.Folds.{concat-append}
 use Rattle.std.proofs.Math.Seq.{take-append_seam}
@@ -28,7 +28,7 @@ module _ (P : List ℕ → Type 0) where
       (subst IsFront (sym (take-append_seam chunks (bytes ∷ []))) (full, so)) i (omega (arith, lt, length-append chunks (bytes ∷ [])))
 
   -- a read that gave something
-  gave_more : (a b c : Option (List (List ℕ))) (given bytes : List ℕ) → bytes ≢ [] → GaveWhile P a b given → P given → OneMoreRead b c bytes
+  pub gave_more : (a b c : Option (List (List ℕ))) (given bytes : List ℕ) → bytes ≢ [] → GaveWhile P a b given → P given → OneMoreRead b c bytes
       → GaveWhile P a c (given ++ bytes)
   gave_more a b c given bytes some p so one = record {
     chunks_after = λ before is.
@@ -41,16 +41,6 @@ module _ (P : List ℕ → Type 0) where
           each_more chunks bytes each full (subst P (sym whole) so),
         );
   }
-
-  -- a front of a buffer that grew by a read
-  pub gave_behind : (a b c : Option (List (List ℕ))) (old new : List ℕ) (m n : ℕ) → 0 < n → m + n ≤ length new → take m new ≡ take m old
-      → GaveWhile P a b (take m old) → P (take m old) → OneMoreRead b c (take n (drop m new)) → GaveWhile P a c (take (m + n) new)
-  gave_behind a b c old new m n some fits same p so one =
-      let bytes = take n (drop m new) in
-      let whole : take (m + n) new ≡ take m old ++ bytes = take-add m n new ∙ ap (λ t. t ++ bytes) same in
-      let count : length bytes ≡ n = length-take-le n (drop m new) (omega (arith, length-drop m new)) in
-      let there : bytes ≢ [] = λ none. let nothing : length bytes ≡ 0 = ap length none in omega arith in
-      subst (GaveWhile P a c) (sym whole) (gave_more a b c _ _ there p so one)
 
   pub reads_while : (a b : Option (List (List ℕ))) (given : List ℕ) → GaveWhile P a b given → ReadsWhile P a b
   reads_while None b given p = tt
