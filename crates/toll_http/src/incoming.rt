@@ -70,6 +70,7 @@ impl Incoming {
         ensures failed { result ≢ Arriving.Complete → HasFailed (R.has_failed reader.old) (R.has_failed reader.new) }
         ensures sound { result ≡ Arriving.Complete → NoneFailed (R.has_failed reader.old) (R.has_failed reader.new) }
         ensures no_further { ReadsWhile (λ given. ¬ (IsSettled (self.old ++ given))) (R.reads reader.old) (R.reads reader.new) }
+        ensures beside { R.beside reader.new ≡ R.beside reader.old }
     {
         let filled = fill_on(reader, self.text.as_mut_slice(), self.filled, self.searched);
         self.filled = filled.filled;
@@ -99,6 +100,7 @@ fn fill_on<R: Source>(reader: &mut R, text: &mut [u8], begun: usize, looked: usi
     ensures failed { result.arriving ≢ Arriving.Complete → HasFailed (R.has_failed reader.old) (R.has_failed reader.new) }
     ensures sound { result.arriving ≡ Arriving.Complete → NoneFailed (R.has_failed reader.old) (R.has_failed reader.new) }
     ensures no_further { ReadsWhile (λ given. ¬ (IsSettled (take begun text.old ++ given))) (R.reads reader.old) (R.reads reader.new) }
+    ensures beside { R.beside reader.new ≡ R.beside reader.old }
 {
     let mut filled = begun;
     let mut searched = looked;

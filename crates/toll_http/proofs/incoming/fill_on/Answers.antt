@@ -1,4 +1,4 @@
-use Rattle.std.proofs.Common.{◌≡◌, ◌≤◌, ◌++◌, ℕ, List, length, take, drop, rules, arith, subst}
+use Rattle.std.proofs.Common.{◌≡◌, ◌∙◌, ◌≤◌, ◌++◌, ℕ, List, length, take, drop, rules, arith, subst}
 use Rattle.std.proofs.lemmas.List.{length-take-le}
 use Rattle.toll_http.specs.Arriving.{IsSettled}
 use Rattle.toll_http.proofs.Fronts.{searched_more}
@@ -32,6 +32,7 @@ loop-next-preserved g c =
       given = read_onward _ _ _ old new c.args.begun at.filled c.in-Ok.n at.invariant.begun within same at.invariant.given c.in-Ok.ensures.given;
       only = gave_onward _ _ _ _ old new c.args.begun at.filled c.in-Ok.n (omega arith) c.in-Ok.ensures.fits at.invariant.begun within same at.invariant.only unready c.in-Ok.ensures.one_read;
       sound = none_more_failed _ _ _ at.invariant.sound c.in-Ok.ensures.failures;
+      beside = c.read_behind.ensures.beside ∙ at.invariant.beside;
     }
 
 pub returns-in-Ok-eq0-clause-no_further : goal.returns-in-Ok-eq0-clause-no_further

@@ -16,6 +16,7 @@ invariant-loop-next g l = record {
   given : Consumes (g.R.Source.unread l.initial.reader) (g.R.Source.unread l.reader) (drop l.begun (take l.filled l.text));
   only : GaveWhile (λ given. ¬ (IsSettled (take l.begun l.initial.text ++ given))) (g.R.Source.reads l.initial.reader) (g.R.Source.reads l.reader) (drop l.begun (take l.filled l.text));
   sound : Notes (g.R.Source.has_failed l.initial.reader) (g.R.Source.has_failed l.reader) false;
+  beside : g.R.Source.beside l.reader ≡ g.R.Source.beside l.initial.reader;
 }
 
 abbrev pub decreases-loop-next : goal.decreases-loop-next
