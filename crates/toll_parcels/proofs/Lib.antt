@@ -1,0 +1,3 @@
+pub mod ParcelLemmas
+pub mod WordLemmas
+pub mod MessageLemmas

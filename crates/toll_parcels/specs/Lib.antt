@@ -1,0 +1,3 @@
+pub mod Parcels
+pub mod Words
+pub mod Messages

@@ -1,0 +1,63 @@
+//! Reading a parcel bit by bit, as it comes.
+ghost use Rattle.std.specs.Prelude.{◌≡◌, ◌≢◌, ◌⊎◌, ℕ, List, [], ◌++◌};
+ghost use Rattle.std.specs.Io.KnownBytes.{Consumes, IsAtEnd};
+ghost use Rattle.toll_http.specs.declared.arriving.Arriving.{Arriving};
+ghost use Rattle.toll_http.specs.Streams.{HasFailed, NoneFailed};
+ghost use Rattle.toll_parcels.specs.Parcels.{IsEnough};
+
+use crate::packing::is_enough;
+use std::alloc::Global;
+use toll_http::{Arriving, Source};
+
+/// How many bytes one read takes at most.
+const PIECE_BYTES: usize = 4096;
+
+/// What has come of a parcel whose content has at most so many bytes.
+#[derive(Drop)]
+pub struct Parcel {
+    pub bytes: Vec<u8>,
+    pub most: u32,
+}
+
+impl Parcel {
+    /// Nothing has come yet.
+    pub fn new(alloc: Global, most: u32) -> Self
+        ensures none { result.bytes.items ≡ [] }
+        ensures most { result.most ≡ most }
+    {
+        Parcel {
+            bytes: Vec::new(alloc),
+            most,
+        }
+    }
+
+    /// Reads on until enough has come, or the stream ends, and no further; or until a read fails, as one
+    /// does that would wait, or there is no memory. Memory is taken as bytes come, and not as much as the
+    /// first bytes claim.
+    pub fn read_on<R: Source>(&mut self, reader: &mut R) -> Arriving
+        ensures most { self.new.most ≡ self.old.most }
+        ensures given { (given : List ℕ) × Consumes (R.unread reader.old) (R.unread reader.new) given × (self.new.bytes.items ≡ self.old.bytes.items ++ given) }
+        ensures complete { result ≡ Arriving.Complete → IsEnough self.new.most self.new.bytes.items ⊎ IsAtEnd (R.unread reader.new) }
+        ensures early { result ≢ Arriving.Complete → ¬ (IsEnough self.new.most self.new.bytes.items) }
+        ensures waits { result ≡ Arriving.Waiting → HasFailed (R.has_failed reader.old) (R.has_failed reader.new) }
+        ensures sound { result ≡ Arriving.Complete → NoneFailed (R.has_failed reader.old) (R.has_failed reader.new) }
+        ensures beside { R.beside reader.new ≡ R.beside reader.old }
+    {
+        let mut piece = [0u8; PIECE_BYTES];
+        while !is_enough(&self.bytes, self.most) {
+            if self.bytes.try_reserve(PIECE_BYTES).is_err() {
+                return Arriving::Failed;
+            }
+            match reader.read_some(&mut piece) {
+                Ok(0) => return Arriving::Complete,
+                Ok(n) => {
+                    if self.bytes.extend_from_slice(&piece[..n]).is_err() {
+                        return Arriving::Failed;
+                    }
+                }
+                Err(fault) => return Arriving::after(fault.kind()),
+            }
+        }
+        Arriving::Complete
+    }
+}
