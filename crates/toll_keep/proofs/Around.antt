@@ -1,58 +1,45 @@
 -- A keep that remembers, around another one: what is so of it by what is so of the one inside.
-use Rattle.std.proofs.Common.{◌≡◌, ◌≢◌, false, Some, Result, Ok, Err, OnOk, OnErr, List, [], ◌∷◌, Vec, Global, inl, refl, sym, ap, subst, ◌∙◌}
-use Rattle.std.specs.Result.{result_or}
+use Rattle.std.proofs.Common.{◌≡◌, ◌≢◌, false, Some, Result, Ok, Err, OnOk, OnErr, [], ◌∷◌, inl, sym, subst, ◌∙◌}
+use Rattle.std.specs.Prelude.{IsSome, IsTrue}
 use mathlib.Core.Bool.{false≢true}
 use Rattle.std.proofs.Math.Logic.{∥∥₁_elim}
 use Rattle.std.proofs.lemmas.List.Elements.{All-nil}
-use Rattle.toll_base.specs.Slice.{Slice}
 use Rattle.toll_keep.specs.Content.{Content, ContentKeepsRules, slice_of}
-use Rattle.toll_keep.specs.Goes.{Goes, IsReading, closes}
+use Rattle.toll_keep.specs.Goes.{Goes, IsReading}
 use Rattle.toll_keep.specs.Meaning.{Meaning, meaning_of}
-use Rattle.toll_keep.specs.Remembered.{AreOf, OnlyKnownHaveRows}
+use Rattle.toll_keep.specs.Reads.{HaveRead}
+use Rattle.toll_keep.specs.Remembered.{AreOf, AreRows, IsNothing, IsOf, OnlyKnownHaveRows}
 use Rattle.toll_keep.specs.declared.fault.KeepFault.{KeepFault}
-use Rattle.toll_keep.specs.declared.fault.KeepFault.TheVariants.{Memory, Damaged}
+use Rattle.toll_keep.specs.declared.fault.KeepFault.TheVariants.{Damaged}
 use Rattle.toll_keep.specs.declared.keep.Keep.{Ghosts}
+use Rattle.toll_keep.specs.declared.recollection.Recollection.{Recollection}
 use Rattle.toll_keep.specs.declared.remembering.Remembering.{Remembering}
 
--- no slice is left of those that were taken out
-pub none_left : (left taken : Vec Slice Global) → left ≡ taken → taken.items ≡ [] → left.items ≡ []
-none_left left taken same none = ap (λ v. v.items) same ∙ none
+-- where nothing is remembered, that is of any content
+pub nothing_of : (c : Content) (r : Recollection) → IsNothing r → IsOf c r
+nothing_of c r none = record {
+  slices = subst (AreOf c) (sym none.slices) (All-nil (λ s. slice_of c s.owner ≡ Some s));
+  owners = subst (AreRows c.owners) (sym none.owners) tt;
+  units = subst (AreRows c.units) (sym none.units) tt;
+}
 
--- and no slices are any content's
-pub are_none : (c : Content) (left taken : Vec Slice Global) → left ≡ taken → taken.items ≡ [] → AreOf c left.items
-are_none c left taken same none = subst (AreOf c) (sym (none_left left taken same none)) (All-nil (λ s. slice_of c s.owner ≡ Some s))
+pub some_owners : (r : Recollection) → IsSome r.owners → ¬ (IsNothing r)
+some_owners r some none = false≢true (subst IsSome none.owners some)
 
--- such answers close no keep: what was asked is told, or there was no memory
-pub record IsQuiet {X : Type 0} (answer : Result X KeepFault) : Type 0 where
-  pub open_still : closes answer ≡ false
-  pub only_memory : (fault : KeepFault) → answer ≡ Err fault → fault ≡ Memory
+pub some_units : (r : Recollection) → IsSome r.units → ¬ (IsNothing r)
+some_units r some none = false≢true (subst IsSome none.units some)
 
-pub told_is_quiet : {X : Type 0} (x : X) → IsQuiet (Ok x)
-told_is_quiet x = record { open_still = refl; only_memory = λ fault e. absurd (cc e) }
-
-pub memory_is_quiet : {X : Type 0} (answer : Result X KeepFault) → answer ≡ Err Memory → IsQuiet answer
-memory_is_quiet answer is = subst IsQuiet (sym is) (record { open_still = refl; only_memory = λ fault e. cc e })
-
--- what is told, or that there was no memory
-pub or_memory_is_quiet : {X E : Type 0} (told : Result X E) (answer : Result X KeepFault) → answer ≡ result_or told (Err Memory) → IsQuiet answer
-or_memory_is_quiet (Ok x) answer is = subst IsQuiet (sym is) (told_is_quiet x)
-or_memory_is_quiet (Err e) answer is = memory_is_quiet answer is
-
--- slices that were forgotten at a fault, and else kept, are those of any content that they were of
-pub or_forgotten : {X : Type 0} (c : Content) (told : Result X KeepFault) (old new : Vec Slice Global) → OnOk told (new ≡ old) → OnErr told (new.items ≡ []) → AreOf c old.items → AreOf c new.items
-or_forgotten c (Ok x) old new kept forgotten all = subst (λ v. AreOf c v.items) (sym kept) all
-or_forgotten c (Err e) old new kept forgotten all = subst (AreOf c) (sym forgotten) (All-nil (λ s. slice_of c s.owner ≡ Some s))
-
-on_any : {X P : Type 0} (answer : Result X KeepFault) → P → OnOk answer P
-on_any (Ok x) p = p
-on_any (Err e) p = tt
+-- what was forgotten at a fault, and else kept, is of any content that it was of
+pub or_forgotten : {X : Type 0} (c : Content) (told : Result X KeepFault) (old new : Recollection) → OnOk told (new ≡ old) → OnErr told (IsNothing new) → IsOf c old → IsOf c new
+or_forgotten c (Ok x) old new kept forgotten of = subst (IsOf c) (sym kept) of
+or_forgotten c (Err e) old new kept forgotten of = nothing_of c new forgotten
 
 module _ {T : Type 0} (K : Ghosts T) where
   -- ---- what is said of the two
 
   -- what a keep that remembers means, around one of this meaning
   abbrev pub remembers : Meaning (Remembering T K)
-  remembers = record (meaning_of (λ r. r.keep) K.meaning) { holds = λ r c. K.meaning.holds r.keep c × AreOf c r.slices.items × OnlyKnownHaveRows c }
+  remembers = record (meaning_of (λ r. r.keep) K.meaning) { holds = λ r c. K.meaning.holds r.keep c × IsOf c r.recollection × OnlyKnownHaveRows c }
 
   abbrev pub GoesInside : {X : Type 0} → T → T → Result X KeepFault → Type 0
   GoesInside before now answer = Goes K.meaning before now answer
@@ -66,22 +53,19 @@ module _ {T : Type 0} (K : Ghosts T) where
   abbrev pub ReadsAround : {X : Type 0} → Remembering T K → Remembering T K → Result X KeepFault → Type 0
   ReadsAround old new answer = IsReading remembers old new answer
 
-  -- ---- which slices may stand beside the keep inside
+  -- ---- what may be remembered beside the keep inside
 
-  abbrev pub MayStand : T → List Slice → Type 0
-  MayStand keep slices = record { unclosed : slices ≢ [] → K.meaning.is_closed keep ≡ false; live : slices ≢ [] → K.meaning.is_honest keep → ∥ K.meaning.is_live keep ∥₁ }
+  abbrev pub MayStand : T → Recollection → Type 0
+  MayStand keep r = record { unclosed : ¬ (IsNothing r) → K.meaning.is_closed keep ≡ false; live : ¬ (IsNothing r) → K.meaning.is_honest keep → ∥ K.meaning.is_live keep ∥₁ }
 
-  -- none, beside any
-  pub none_stand : (keep : T) (left taken : Vec Slice Global) → left ≡ taken → taken.items ≡ [] → MayStand keep left.items
-  none_stand keep left taken same none = let nothing = none_left left taken same none in record { unclosed = λ some. absurd (some nothing); live = λ some. absurd (some nothing) }
+  -- nothing, beside any
+  pub nothing_stands : (keep : T) (r : Recollection) → IsNothing r → MayStand keep r
+  nothing_stands keep r none = record { unclosed = λ some. absurd (some none); live = λ some. absurd (some none) }
 
-  -- those from before, beside the one from before
-  pub stand_still : (old : Remembering T K) (slices : Vec Slice Global) → slices ≡ old.slices → MayStand old.keep slices.items
-  stand_still old slices same = subst (λ s. MayStand old.keep s.items) (sym same) (record { unclosed = old.unclosed; live = old.live })
-
-  -- any, beside one that did what it was asked
-  pub any_stand : {X : Type 0} (before now : T) (slices : List Slice) (answer : Result X KeepFault) (x : X) → answer ≡ Ok x → GoesInside before now answer → MayStand now slices
-  any_stand before now slices answer x is went = let goes = subst (GoesInside before now) is went in record { unclosed = λ some. goes.closes; live = λ some honest. ∣ goes.shown honest ∣₁ }
+  -- anything, beside one that did what it was asked; at a fault nothing is left
+  pub told_stands : {X : Type 0} (before now : T) (told : Result X KeepFault) (r : Recollection) → OnErr told (IsNothing r) → GoesInside before now told → MayStand now r
+  told_stands before now (Ok x) r forgotten went = record { unclosed = λ some. went.closes; live = λ some honest. ∣ went.shown honest ∣₁ }
+  told_stands before now (Err e) r forgotten went = nothing_stands now r forgotten
 
   -- ---- what the keep inside answered is answered on
 
@@ -101,8 +85,8 @@ module _ {T : Type 0} (K : Ghosts T) where
         shut = goes.shut;
       }
 
-  -- where the slices that stand by it now are the content's
-  pub reads_around : {X : Type 0} (old new : Remembering T K) (told answer : Result X KeepFault) → answer ≡ told → (K.meaning.is_honest new.keep → (c : Content) → K.meaning.holds old.keep c → AreOf c old.slices.items → AreOf c new.slices.items) → ReadsInside old.keep new.keep told → ReadsAround old new answer
+  -- where what is remembered beside it now is of the content
+  pub reads_around : {X : Type 0} (old new : Remembering T K) (told answer : Result X KeepFault) → answer ≡ told → (K.meaning.is_honest new.keep → (c : Content) → K.meaning.holds old.keep c → IsOf c old.recollection → IsOf c new.recollection) → ReadsInside old.keep new.keep told → ReadsAround old new answer
   reads_around old new told answer same kept reads =
       record {
         goes = goes_around old new told answer same reads.goes;
@@ -113,33 +97,35 @@ module _ {T : Type 0} (K : Ghosts T) where
         whole = λ honest c held. subst (λ r. ContentKeepsRules c → r ≢ Err Damaged) (sym same) (reads.whole honest c held.0);
       }
 
-  -- as where none are left
-  pub reads_forgetting : {X : Type 0} (old new : Remembering T K) (told answer : Result X KeepFault) → answer ≡ told → (taken : Vec Slice Global) → new.slices ≡ taken → taken.items ≡ [] → ReadsInside old.keep new.keep told → ReadsAround old new answer
-  reads_forgetting old new told answer same taken left none reads = reads_around old new told answer same (λ _ c _ _. are_none c new.slices taken left none) reads
+  -- ---- where something is remembered
 
-  -- ---- what is answered with no call of the keep inside
-
-  -- where a slice is remembered the keep inside is open, and while it is honest it lives
-  pub reads_idle : {X : Type 0} → ((k : T) (c : Content) → K.meaning.is_honest k → K.meaning.is_live k → K.meaning.holds k c → K.meaning.leaves k (c ∷ [])) → ((k : T) (a b : K.meaning.is_live k) → a ≡ b) → (old new : Remembering T K) (answer : Result X KeepFault) → new.keep ≡ old.keep → IsQuiet answer → ((c : Content) → AreOf c old.slices.items → AreOf c new.slices.items) → old.slices.items ≢ [] → ReadsAround old new answer
-  reads_idle settled once old new answer same quiet kept some =
+  -- the keep inside is open, and while it is honest it lives, as after a reading call
+  pub rested : ((k : T) (c : Content) → K.meaning.is_honest k → K.meaning.is_live k → K.meaning.holds k c → K.meaning.leaves k (c ∷ [])) → ((k : T) (a b : K.meaning.is_live k) → a ≡ b) → (old : Remembering T K) → ¬ (IsNothing old.recollection) → HaveRead K.meaning old.keep old.keep
+  rested settled once old some =
       let open_there = old.unclosed some in
-      let live : K.meaning.is_honest old.keep → K.meaning.is_live old.keep = λ honest. ∥∥₁_elim (old.live some honest) (once old.keep) (λ there. there) in
+      let shut : IsTrue (K.meaning.is_closed old.keep) → ⊥ = λ closed. false≢true (sym open_there ∙ closed) in
       record {
         goes = record {
-          honest = subst K.meaning.is_honest same;
-          closed = (λ e. absurd (cc (quiet.only_memory _ e)), λ closed. absurd (false≢true (sym open_there ∙ closed)));
-          closes = ap K.meaning.is_closed same ∙ open_there ∙ sym quiet.open_still;
-          live = λ honest. subst K.meaning.is_live same;
-          shown = λ honest. on_any answer (subst K.meaning.is_live (sym same) (live (subst K.meaning.is_honest same honest)));
-          cause = λ honest e. absurd (cc (quiet.only_memory _ e));
-          since = λ honest later. subst (λ k. K.meaning.has_cause k later.keep) same;
-          stays = λ closed. absurd (false≢true (sym open_there ∙ closed));
-          shut = λ honest not cs left. subst (λ k. K.meaning.leaves k cs) (sym same) left;
-          lasts = λ honest lived. inl (subst K.meaning.is_live (sym same) lived);
+          honest = λ honest. honest;
+          closed = (λ e. absurd (cc e), λ closed. absurd (shut closed));
+          closes = open_there;
+          live = λ honest lives. lives;
+          shown = λ honest. ∥∥₁_elim (old.live some honest) (once old.keep) (λ there. there);
+          lasts = λ honest lived. inl lived;
+          cause = λ honest e. absurd (cc e);
+          since = λ honest later cause. cause;
+          stays = λ closed. absurd (shut closed);
+          shut = λ honest not cs left. left;
         };
-        keeps = λ honest. record {
-          content = λ c held. (subst (λ k. K.meaning.holds k c) (sym same) held.0, kept c held.1, held.2);
-          crash = λ lives c held. subst (λ k. K.meaning.leaves k (c ∷ [])) (sym same) (settled old.keep c (subst K.meaning.is_honest same honest) lives held.0);
-        };
-        whole = λ honest c held rules e. absurd (cc (quiet.only_memory _ e));
+        keeps = λ honest. record { content = λ c held. held; crash = λ lives c held. settled old.keep c honest lives held };
+        whole = λ honest c held rules e. absurd (cc e);
       }
+
+  -- what is told from it, or read and then remembered, is answered on
+  pub tells_around : {X : Type 0} → ((k : T) (c : Content) → K.meaning.is_honest k → K.meaning.is_live k → K.meaning.holds k c → K.meaning.leaves k (c ∷ [])) → ((k : T) (a b : K.meaning.is_live k) → a ≡ b) → (old new : Remembering T K) (middle : Recollection) (told answer : Result X KeepFault) → answer ≡ told → OnOk told (new.recollection ≡ middle) → OnErr told (IsNothing new.recollection) → (K.meaning.is_honest new.keep → (c : Content) → K.meaning.holds old.keep c → IsOf c old.recollection → IsOf c middle) → ((¬ (IsNothing old.recollection) → HaveRead K.meaning old.keep old.keep) → ReadsInside old.keep new.keep told) → ReadsAround old new answer
+  tells_around settled once old new middle told answer same kept forgotten own reads =
+      reads_around old new told answer same (λ honest c held of. or_forgotten c told middle new.recollection kept forgotten (own honest c held of)) (reads (rested settled once old))
+
+  -- and what is remembered then may stand
+  pub telling_stands : {X : Type 0} → ((k : T) (c : Content) → K.meaning.is_honest k → K.meaning.is_live k → K.meaning.holds k c → K.meaning.leaves k (c ∷ [])) → ((k : T) (a b : K.meaning.is_live k) → a ≡ b) → (old : Remembering T K) (now : T) (told : Result X KeepFault) (r : Recollection) → OnErr told (IsNothing r) → ((¬ (IsNothing old.recollection) → HaveRead K.meaning old.keep old.keep) → ReadsInside old.keep now told) → MayStand now r
+  telling_stands settled once old now told r forgotten reads = told_stands old.keep now told r forgotten (reads (rested settled once old)).goes

@@ -19,3 +19,8 @@ either_way (Err e) ok err p q = err q
 pub of_ok : {T E P : Type 0} (r : Result T E) → is_ok r ≡ true → OnOk r P → P
 of_ok (Ok x) is h = h
 of_ok (Err e) is h = absurd (false≢true is)
+
+-- at a fault what is so anyway
+pub on_err_always : {T E P : Type 0} (r : Result T E) → P → OnErr r P
+on_err_always (Ok x) p = tt
+on_err_always (Err e) p = p

@@ -1,6 +1,7 @@
--- Slices that are remembered: looked up, added, and after changes.
+-- What is remembered: looked up, added, and after changes.
 use Rattle.std.proofs.Common.{◌≡◌, ℕ, Bool, true, false, cond, map, Some, None, List, [], ◌∷◌, ◌++◌, get_or, refl, sym, ap, subst, ◌∙◌}
 use Rattle.std.specs.Prelude.{position}
+use Rattle.std.specs.List.{list_any}
 use Rattle.std.proofs.lemmas.List.Elements.{All-get_or, All-push, All-weaker, All-map}
 use Rattle.std.proofs.lemmas.List.Quantifiers.{position-Some}
 use mathlib.Core.Bool.{false≢true}
@@ -11,11 +12,13 @@ use Rattle.toll_base.specs.declared.decision.Change.{Change}
 use Rattle.toll_base.specs.declared.decision.Change.TheVariants.{Owner, Unit as UnitAdded, Put}
 use Rattle.std.specs.List.Sorted.{IsStrictlySortedBy}
 use Rattle.toll_base.specs.declared.lot.Edge.{Edge}
+use Rattle.toll_base.specs.declared.rows.OwnerRow.{OwnerRow}
+use Rattle.toll_base.specs.declared.rows.UnitRow.{UnitRow}
 use Rattle.toll_trace.specs.Edges.{AreEdges, IsEdge}
 use Rattle.toll_trace.proofs.Members.{Contains-none}
 use Rattle.toll_base.proofs.Texts.{same_bytes-exact}
-use Rattle.toll_keep.specs.Content.{Content, knows, slice_of, after, ChangeFits, Fits}
-use Rattle.toll_keep.specs.Remembered.{AreOf, OnlyKnownHaveRows}
+use Rattle.toll_keep.specs.Content.{Content, knows, slice_of, after, after_owners, after_units, ChangeFits, Fits}
+use Rattle.toll_keep.specs.Remembered.{AreOf, OnlyKnownHaveRows, is_addition}
 use Rattle.toll_keep.specs.Slices.{is_of}
 use Rattle.toll_keep.proofs.AllOwners.{no_edges}
 use Rattle.toll_keep.proofs.Changed.{own_after, known_after}
@@ -103,3 +106,18 @@ no_edges_there c o edges only none is =
     subst (AreEdges (IsEdge (c.rows o))) (sym is)
     (subst (λ s. AreEdges (IsEdge s) []) (sym (only o (not_known (knows c o) (c.rows o) none)))
     (record { only = λ e i. absurd (Contains-none e i); every = λ e edge. absurd (no_edges o e edge); ordered = tt }))
+
+-- ---- owners and units
+
+-- where none is added they stay
+pub owners_stay : (changes : List Change) (rows : List OwnerRow) → list_any is_addition changes ≡ false → after_owners changes rows ≡ rows
+owners_stay [] rows none = refl
+owners_stay (Owner row ∷ changes) rows none = absurd (false≢true (sym none))
+owners_stay (UnitAdded row ∷ changes) rows none = absurd (false≢true (sym none))
+owners_stay (Put o row ∷ changes) rows none = owners_stay changes rows none
+
+pub units_stay : (changes : List Change) (rows : List UnitRow) → list_any is_addition changes ≡ false → after_units changes rows ≡ rows
+units_stay [] rows none = refl
+units_stay (Owner row ∷ changes) rows none = absurd (false≢true (sym none))
+units_stay (UnitAdded row ∷ changes) rows none = absurd (false≢true (sym none))
+units_stay (Put o row ∷ changes) rows none = units_stay changes rows none

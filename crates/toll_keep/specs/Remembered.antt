@@ -1,8 +1,12 @@
--- Slices that are remembered of a content.
-use Rattle.std.specs.Prelude.{◌≡◌, false, Some, List, All}
+-- What is remembered of a content.
+use Rattle.std.specs.Prelude.{◌≡◌, Bool, true, false, Option, Some, None, IfSome, List, [], All, Vec}
+use Rattle.std.specs.Global.{Global}
 use Rattle.toll_base.specs.Bytes.{Bytes}
 use Rattle.toll_base.specs.Slice.{Slice, empty_slice}
+use Rattle.toll_base.specs.declared.decision.Change.{Change}
+use Rattle.toll_base.specs.declared.decision.Change.TheVariants.{Put}
 use Rattle.toll_keep.specs.Content.{Content, knows, slice_of}
+use Rattle.toll_keep.specs.declared.recollection.Recollection.{Recollection}
 
 -- each of the slices is its owner's, whom the content knows
 abbrev pub AreOf : Content → List Slice → Type 0
@@ -15,3 +19,24 @@ OnlyKnownHaveRows c = (o : Bytes) → knows c o ≡ false → c.rows o ≡ empty
 -- this is so where these are slices of the content, and only known owners have rows in it
 abbrev pub IfOf : Content → List Slice → Type 0 → Type 0
 IfOf c slices P = AreOf c slices → OnlyKnownHaveRows c → P
+
+-- rows that are remembered are these
+abbrev pub AreRows : {R : Type 0} → List R → Option (Vec R Global) → Type 0
+AreRows rows known = IfSome known (λ v. v.items ≡ rows)
+
+-- all that is remembered is of the content: its slices, its owners and its units
+pub record IsOf (c : Content) (r : Recollection) : Type 0 where
+  pub slices : AreOf c r.slices.items
+  pub owners : AreRows c.owners r.owners
+  pub units : AreRows c.units r.units
+
+-- nothing is remembered
+pub record IsNothing (r : Recollection) : Type 0 where
+  pub slices : r.slices.items ≡ []
+  pub owners : r.owners ≡ None
+  pub units : r.units ≡ None
+
+-- the change adds an owner or a unit
+abbrev pub is_addition : Change → Bool
+is_addition (Put o row) = false
+is_addition _ = true

@@ -5,29 +5,31 @@ ghost use Rattle.toll_keep.specs.Goes.{IsReading};
 ghost use Rattle.toll_keep.specs.Holding.{IsEdgeOfSome, AreMore};
 ghost use Rattle.toll_keep.specs.Meaning.{OverHeld};
 ghost use Rattle.toll_keep.specs.Reads.{HaveRead, IsKept};
-ghost use Rattle.toll_keep.specs.Remembered.{IfOf, OnlyKnownHaveRows};
+ghost use Rattle.toll_keep.specs.Remembered.{IfOf, IsNothing, IsOf, OnlyKnownHaveRows};
 
 use crate::fault::KeepFault;
 use crate::keep::Keep;
 use crate::known::Known;
+use crate::recollection::Recollection;
 use crate::remembered::remembered_edges;
+use crate::telling::tell_rows;
 use std::alloc::{AllocError, Global};
 use toll_base::{Edge, Name, OwnerRow, Slice};
 use toll_trace::{edges_of, put_in_order};
 
 /// The edges of all owners, in order, each once: of each owner by its slice, where that is remembered,
-/// or by one that is read and let go.
+/// or by one that is read and let go. The owners are remembered.
 pub fn read_all_edges<K: Keep>(
     alloc: Global,
     keep: &mut K,
-    slices: &mut Vec<Known>,
+    recollection: &mut Recollection,
 ) -> Result<Vec<Edge>, KeepFault>
-    ensures reading { IsReading K.meaning keep.old keep.new result }
-    ensures same { slices.new.items ≡ slices.old.items }
-    ensures reads { OverHeld K.meaning keep.old keep.new (λ c. IfOf c slices.old.items (IfOk result (λ edges. AreEdges (IsEdgeOfSome c) edges.items))) }
+    ensures reading { (¬ (IsNothing recollection.old) → HaveRead K.meaning keep.old keep.old) → IsReading K.meaning keep.old keep.new result }
+    ensures reads { OverHeld K.meaning keep.old keep.new (λ c. IsOf c recollection.old → OnlyKnownHaveRows c → IfOk result (λ edges. AreEdges (IsEdgeOfSome c) edges.items)) }
+    ensures own { OverHeld K.meaning keep.old keep.new (λ c. IsOf c recollection.old → IsOf c recollection.new) }
 {
-    match keep.owners(alloc) {
-        Ok(owners) => gather(alloc, keep, slices, &owners),
+    match tell_rows(alloc, keep, &mut recollection.owners) {
+        Ok(owners) => gather(alloc, keep, &mut recollection.slices, &owners),
         Err(fault) => Err(fault),
     }
 }

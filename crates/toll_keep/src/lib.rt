@@ -11,10 +11,13 @@ mod keep;
 mod known;
 mod mem_keep;
 mod opening;
+mod plant_row;
+mod recollection;
 mod refusing;
 mod remembered;
 mod remembering;
 mod slices;
+mod telling;
 
 pub use fault::KeepFault;
 pub use ghosts::{

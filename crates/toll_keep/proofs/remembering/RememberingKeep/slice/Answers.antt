@@ -1,49 +1,21 @@
-use Rattle.std.proofs.Common.{◌≡◌, Some, Ok, Err, rules, refl, sym, ap, subst, ◌∙◌}
-use Rattle.std.proofs.lemmas.Result.{IfOk-from_err}
-use Rattle.toll_keep.specs.Remembered.{AreOf}
-use Rattle.toll_keep.specs.declared.fault.KeepFault.TheVariants.{Memory}
-use Rattle.toll_keep.proofs.Around.{none_left, none_stand, stand_still, any_stand, are_none, memory_is_quiet, told_is_quiet, reads_idle, reads_forgetting, reads_around}
+use Rattle.std.proofs.Common.{◌≡◌, sym, subst}
+use Rattle.std.specs.Prelude.{IfOk}
+use Rattle.toll_keep.specs.Content.{slice_of}
+use Rattle.toll_keep.proofs.Around.{tells_around, telling_stands}
 use Rattle.toll_keep.proofs.remembering.RememberingKeep.slice.Goals as goal
 
 pub invariant_of-self : goal.invariant_of-self
-invariant_of-self g c = none_stand g.K.Keep _ _ _ c.replace-slices.ensures.after c.new.ensures.items
-
-pub returns-in_err-copied-clause-reading : goal.returns-in_err-copied-clause-reading
-returns-in_err-copied-clause-reading g c =
-    let met = g.met.K.Keep in let old = c.args.self.now in let slices = c.replace-slices.ensures in
-    let is : c.from_residual.result ≡ Err Memory = search rules in
-    reads_idle g.K.Keep met.settled met.lives_once old _ _ refl (memory_is_quiet _ is) (λ content _. are_none content _ _ slices.after c.new.ensures.items) (λ none. c.in-Some.ensures.some (c.deref.ensures.value ∙ none_left _ _ slices.value none))
-
-pub returns-in_err-copied-clause-reads : goal.returns-in_err-copied-clause-reads
-returns-in_err-copied-clause-reads g c = λ honest content held. IfOk-from_err c.from_residual.result _ c.from_residual.ensures.0
-
-pub invariant_of-self-in-Some : goal.invariant_of-self-in-Some
-invariant_of-self-in-Some g c = stand_still g.K.Keep c.args.self.now _ c.replace-slices.ensures.value
-
-pub returns-in-Some-clause-reading : goal.returns-in-Some-clause-reading
-returns-in-Some-clause-reading g c =
-    let met = g.met.K.Keep in let old = c.args.self.now in let slices = c.replace-slices.ensures in
-    reads_idle g.K.Keep met.settled met.lives_once old _ _ refl (told_is_quiet _) (λ content. subst (λ s. AreOf content s.items) (sym slices.value)) (λ none. c.in-Some.ensures.some (c.deref.ensures.value ∙ none_left _ _ slices.value none))
-
-pub returns-in-Some-clause-reads : goal.returns-in-Some-clause-reads
-returns-in-Some-clause-reads g c = λ honest content held.
-    ap (λ slice. Some slice) c.in_ok-copied.ensures
-    ∙ sym (c.in-Some.ensures.own content (subst (AreOf content) (sym (c.deref.ensures.value ∙ ap (λ slices. slices.items) c.replace-slices.ensures.value)) held.1))
-
-pub returns-in_err-read-clause-reading : goal.returns-in_err-read-clause-reading
-returns-in_err-read-clause-reading g c =
-    let is : c.from_residual-in_err-read.result ≡ Err c.in_err-read.field-0.0 = search rules in
-    reads_forgetting g.K.Keep c.args.self.now _ c.slice.result c.from_residual-in_err-read.result (is ∙ sym c.in_err-read.was) _ c.replace-slices.ensures.after c.new.ensures.items c.slice.ensures.reading
-
-pub invariant_of-self-2 : goal.invariant_of-self-2
-invariant_of-self-2 g c = any_stand g.K.Keep c.args.self.now.keep _ _ c.slice.result _ c.in_ok-read.was c.slice.ensures.reading.goes
+invariant_of-self g c =
+    let met = g.met.K.Keep in
+    telling_stands g.K.Keep met.settled met.lives_once c.args.self.now _ c.tell_slice-told.result _ c.or_forget.ensures.forgotten (λ rested. c.tell_slice-told.ensures.reading (λ some. rested (λ none. some none.slices)))
 
 pub returns-clause-reading : goal.returns-clause-reading
 returns-clause-reading g c =
-    let told = c.remember-told.ensures in
-    reads_around g.K.Keep c.args.self.now _ c.slice.result _ (ap (λ slice. Ok slice) told.same ∙ sym c.in_ok-read.was)
-    (λ honest content held all. told.own content (c.in_ok-read.ensures.reads honest content held) (subst (λ slices. AreOf content slices.items) (sym c.replace-slices.ensures.value) all))
-    c.slice.ensures.reading
+    let met = g.met.K.Keep in let told = c.tell_slice-told.ensures in let after = c.or_forget.ensures in
+    tells_around g.K.Keep met.settled met.lives_once c.args.self.now _ _ c.tell_slice-told.result _ after.same after.kept after.forgotten
+    (λ honest content held of. record { slices = told.own honest content held of.slices; owners = of.owners; units = of.units })
+    (λ rested. c.tell_slice-told.ensures.reading (λ some. rested (λ none. some none.slices)))
 
 pub returns-clause-reads : goal.returns-clause-reads
-returns-clause-reads g c = λ honest content held. c.remember-told.ensures.same ∙ c.in_ok-read.ensures.reads honest content held.0
+returns-clause-reads g c = λ honest content held.
+    subst (λ told. IfOk told (λ slice. slice ≡ slice_of content c.args.owner.now)) (sym c.or_forget.ensures.same) (c.tell_slice-told.ensures.reads honest content held.0 held.1.slices)

@@ -1,6 +1,6 @@
 use Rattle.std.proofs.Common.{sym, ◌∙◌}
 use Rattle.toll_keep.proofs.RememberedLemmas.{no_edges_there}
-use Rattle.toll_keep.proofs.remembering.read_edges.Goals as goal
+use Rattle.toll_keep.proofs.telling.read_edges.Goals as goal
 
 pub returns-in-Ok-None-clause-reads : goal.returns-in-Ok-None-clause-reads
 returns-in-Ok-None-clause-reads g c = λ honest content held only.

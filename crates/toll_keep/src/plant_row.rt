@@ -1,0 +1,39 @@
+//! Rows of the plant's own.
+ghost use Rattle.std.specs.Prelude.{◌≡◌, IfOk};
+ghost use Rattle.toll_keep.specs.Goes.{IsReading};
+ghost use Rattle.toll_keep.specs.Meaning.{OverHeld};
+
+use crate::fault::KeepFault;
+use crate::keep::Keep;
+use std::alloc::Global;
+use toll_base::{OwnerRow, UnitRow};
+
+/// A row that is no owner's: one of the owners, or of the units.
+pub trait PlantRow: Copy {
+    ghost use Rattle.std.specs.Prelude.{List};
+    ghost use Rattle.toll_keep.specs.Content.{Content};
+
+    // The rows of this kind that a content has.
+    ghost rows_of: { Content → List Self };
+
+    /// The rows of this kind, as the keep tells them.
+    fn read<K: Keep>(alloc: Global, keep: &mut K) -> Result<Vec<Self>, KeepFault>
+        ensures reading { IsReading K.meaning keep.old keep.new result }
+        ensures reads { OverHeld K.meaning keep.old keep.new (λ c. IfOk result (λ rows. rows.items ≡ rows_of c)) };
+}
+
+impl PlantRow for OwnerRow {
+    ghost rows_of = { λ c. c.owners };
+
+    fn read<K: Keep>(alloc: Global, keep: &mut K) -> Result<Vec<Self>, KeepFault> {
+        keep.owners(alloc)
+    }
+}
+
+impl PlantRow for UnitRow {
+    ghost rows_of = { λ c. c.units };
+
+    fn read<K: Keep>(alloc: Global, keep: &mut K) -> Result<Vec<Self>, KeepFault> {
+        keep.units(alloc)
+    }
+}

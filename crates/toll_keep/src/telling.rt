@@ -1,0 +1,106 @@
+//! What is told from what is remembered, or read of a keep and then remembered.
+ghost use Rattle.std.specs.Prelude.{◌≡◌, ◌≢◌, [], IfOk, IsSome};
+ghost use Rattle.toll_trace.specs.Edges.{AreEdges, IsEdge};
+ghost use Rattle.toll_keep.specs.Content.{slice_of};
+ghost use Rattle.toll_keep.specs.Goes.{IsReading};
+ghost use Rattle.toll_keep.specs.Meaning.{OverHeld};
+ghost use Rattle.toll_keep.specs.Reads.{HaveRead, IsKept};
+ghost use Rattle.toll_keep.specs.Remembered.{AreOf, AreRows, IfOf, OnlyKnownHaveRows};
+
+use crate::fault::KeepFault;
+use crate::keep::Keep;
+use crate::known::Known;
+use crate::plant_row::PlantRow;
+use crate::remembered::{remember, remember_edges, remembered, remembered_edges};
+use std::alloc::Global;
+use toll_base::{Edge, Name, Slice};
+
+/// All rows of an owner: `None` for an unknown one.
+pub fn tell_slice<K: Keep>(
+    alloc: Global,
+    keep: &mut K,
+    slices: &mut Vec<Known>,
+    owner: &Name,
+) -> Result<Option<Slice>, KeepFault>
+    ensures reading { (slices.old.items ≢ [] → HaveRead K.meaning keep.old keep.old) → IsReading K.meaning keep.old keep.new result }
+    ensures reads { OverHeld K.meaning keep.old keep.new (λ c. AreOf c slices.old.items → IfOk result (λ slice. slice ≡ slice_of c owner.now)) }
+    ensures own { OverHeld K.meaning keep.old keep.new (λ c. AreOf c slices.old.items → AreOf c slices.new.items) }
+{
+    if let Some(known) = remembered(slices, owner) {
+        return match known.copy(alloc) {
+            Ok(copied) => Ok(Some(copied)),
+            Err(_) => Err(KeepFault::Memory),
+        };
+    }
+    match keep.slice(alloc, owner) {
+        Ok(read) => Ok(remember(alloc, slices, owner, read)),
+        Err(fault) => Err(fault),
+    }
+}
+
+/// The edges of the owner, by its slice: none of one that is not known.
+pub fn tell_edges<K: Keep>(
+    alloc: Global,
+    keep: &mut K,
+    slices: &mut Vec<Known>,
+    owner: &Name,
+) -> Result<Vec<Edge>, KeepFault>
+    ensures reading { (slices.old.items ≢ [] → HaveRead K.meaning keep.old keep.old) → IsReading K.meaning keep.old keep.new result }
+    ensures reads { OverHeld K.meaning keep.old keep.new (λ c. IfOf c slices.old.items (IfOk result (λ edges. AreEdges (IsEdge (c.rows owner.now)) edges.items))) }
+    ensures own { OverHeld K.meaning keep.old keep.new (λ c. AreOf c slices.old.items → AreOf c slices.new.items) }
+{
+    match remembered_edges(alloc, slices, owner) {
+        Some(told) => match told {
+            Ok(edges) => Ok(edges),
+            Err(_) => Err(KeepFault::Memory),
+        },
+        None => read_edges(alloc, keep, slices, owner),
+    }
+}
+
+// The same by a slice that is read and remembered.
+fn read_edges<K: Keep>(
+    alloc: Global,
+    keep: &mut K,
+    slices: &mut Vec<Known>,
+    owner: &Name,
+) -> Result<Vec<Edge>, KeepFault>
+    ensures reading { IsReading K.meaning keep.old keep.new result }
+    ensures reads { OverHeld K.meaning keep.old keep.new (λ c. OnlyKnownHaveRows c → IfOk result (λ edges. AreEdges (IsEdge (c.rows owner.now)) edges.items)) }
+    ensures own { OverHeld K.meaning keep.old keep.new (λ c. AreOf c slices.old.items → AreOf c slices.new.items) }
+{
+    match keep.slice(alloc, owner) {
+        Ok(Some(slice)) => match remember_edges(alloc, slices, owner, slice) {
+            Ok(edges) => Ok(edges),
+            Err(_) => Err(KeepFault::Memory),
+        },
+        Ok(None) => Ok(Vec::new(alloc)),
+        Err(fault) => Err(fault),
+    }
+}
+
+/// The owners, or the units.
+pub fn tell_rows<R: PlantRow, K: Keep>(
+    alloc: Global,
+    keep: &mut K,
+    known: &mut Option<Vec<R>>,
+) -> Result<Vec<R>, KeepFault>
+    ensures reading { (IsSome known.old → HaveRead K.meaning keep.old keep.old) → IsReading K.meaning keep.old keep.new result }
+    ensures reads { OverHeld K.meaning keep.old keep.new (λ c. AreRows (R.rows_of c) known.old → IfOk result (λ rows. rows.items ≡ R.rows_of c)) }
+    ensures own { OverHeld K.meaning keep.old keep.new (λ c. AreRows (R.rows_of c) known.old → AreRows (R.rows_of c) known.new) }
+    ensures kept { IsKept K.meaning keep.old keep.new }
+{
+    if let Some(rows) = &*known {
+        return match Vec::from_slice(alloc, rows) {
+            Ok(copied) => Ok(copied),
+            Err(_) => Err(KeepFault::Memory),
+        };
+    }
+    match R::read(alloc, keep) {
+        Ok(rows) => {
+            *known = Vec::from_slice(alloc, &rows).ok();
+            Ok(rows)
+        }
+        Err(fault) => Err(fault),
+    }
+}
