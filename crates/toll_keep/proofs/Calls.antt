@@ -1,5 +1,5 @@
 -- One call of a keep after another, and the same under another answer.
-use Rattle.std.proofs.Common.{◌≡◌, Bool, List, [], ◌∷◌, Result, Ok, Err, inl, inr, refl, subst, ◌∙◌}
+use Rattle.std.proofs.Common.{◌≡◌, [], ◌∷◌, Result, Ok, Err, inl, inr, refl, subst, ◌∙◌}
 use Rattle.std.specs.Prelude.{◌≢◌, IsTrue}
 use mathlib.Core.Bool.{false≢true}
 use Rattle.toll_keep.specs.Meaning.{Meaning}

@@ -1,11 +1,12 @@
 -- The batch that holds a unit, and the edges of all owners, as a content has them.
-use Rattle.std.specs.Prelude.{◌≡◌, ◌⊎◌, ℕ, Bool, true, not, ◌&&◌, Option, Some, None, List, Contains, All, Any}
+use Rattle.std.specs.Prelude.{◌≡◌, ◌⊎◌, ℕ, Bool, true, not, ◌&&◌, Option, Some, None, List, Contains, All, Any, Result, Vec, IfOk}
+use Rattle.std.specs.Global.{Global}
 use Rattle.toll_base.specs.Bytes.{Bytes, same_bytes}
 use Rattle.toll_base.specs.Words.{is_some_where, none_or}
 use Rattle.toll_base.specs.Slice.{Slice, batch_at}
 use Rattle.toll_base.specs.declared.lot.Edge.{Edge}
 use Rattle.toll_base.specs.declared.rows.BatchRow.{BatchRow}
-use Rattle.toll_trace.specs.Edges.{IsEdge}
+use Rattle.toll_trace.specs.Edges.{AreEdges, IsEdge}
 use Rattle.toll_keep.specs.Content.{Content}
 use Rattle.toll_keep.specs.declared.holder.Holder.{Holder}
 
@@ -34,6 +35,10 @@ IsHolderAmong slices unit None = All (λ s. IsHolderIn s unit None) slices
 pub record IsEdgeOfSome (c : Content) (e : Edge) : Type 0 where
   pub owner : Bytes
   pub edge : IsEdge (c.rows owner) e
+
+-- the edges that are told, where they are, are those of all owners of the content
+abbrev pub TellsAllEdges : {E : Type 0} → Content → Result (Vec Edge Global) E → Type 0
+TellsAllEdges c told = IfOk told (λ edges. AreEdges (IsEdgeOfSome c) edges.items)
 
 -- the edges are all those of the slices, and no others
 pub record AreGathered (slices : List Slice) (edges : List Edge) : Type 0 where

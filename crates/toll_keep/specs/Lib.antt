@@ -6,4 +6,5 @@ pub mod Holding
 pub mod Slices
 pub mod Drafts
 pub mod Remembered
+pub mod Around
 pub mod Reads

@@ -2,7 +2,7 @@
 ghost use Rattle.std.specs.Prelude.{◌≡◌, IfOk, OnOk};
 ghost use Rattle.toll_trace.specs.Edges.{AreEdges, IsEdge};
 ghost use Rattle.toll_keep.specs.Goes.{IsReading};
-ghost use Rattle.toll_keep.specs.Holding.{IsEdgeOfSome, AreMore};
+ghost use Rattle.toll_keep.specs.Holding.{AreMore, TellsAllEdges};
 ghost use Rattle.toll_keep.specs.Meaning.{OverHeld};
 ghost use Rattle.toll_keep.specs.Reads.{HaveRead, IsKept};
 ghost use Rattle.toll_keep.specs.Remembered.{IfOf, IsNothing, IsOf, OnlyKnownHaveRows};
@@ -25,7 +25,7 @@ pub fn read_all_edges<K: Keep>(
     recollection: &mut Recollection,
 ) -> Result<Vec<Edge>, KeepFault>
     ensures reading { (¬ (IsNothing recollection.old) → HaveRead K.meaning keep.old keep.old) → IsReading K.meaning keep.old keep.new result }
-    ensures reads { OverHeld K.meaning keep.old keep.new (λ c. IsOf c recollection.old → OnlyKnownHaveRows c → IfOk result (λ edges. AreEdges (IsEdgeOfSome c) edges.items)) }
+    ensures reads { OverHeld K.meaning keep.old keep.new (λ c. IsOf c recollection.old → OnlyKnownHaveRows c → TellsAllEdges c result) }
     ensures own { OverHeld K.meaning keep.old keep.new (λ c. IsOf c recollection.old → IsOf c recollection.new) }
 {
     match tell_rows(alloc, keep, &mut recollection.owners) {
@@ -44,7 +44,7 @@ fn gather<K: Keep>(
     ensures reads { (first : K) → HaveRead K.meaning first keep.old → IsReading K.meaning first keep.new result }
     ensures kept { IsKept K.meaning keep.old keep.new }
     ensures same { slices.new.items ≡ slices.old.items }
-    ensures told { OverHeld K.meaning keep.old keep.new (λ c. IfOf c slices.old.items (c.owners ≡ owners.now → IfOk result (λ edges. AreEdges (IsEdgeOfSome c) edges.items))) }
+    ensures told { OverHeld K.meaning keep.old keep.new (λ c. IfOf c slices.old.items (c.owners ≡ owners.now → TellsAllEdges c result)) }
 {
     let mut edges = Vec::new(alloc);
     add_edges(alloc, keep, slices, &Name::house(), &mut edges)?;

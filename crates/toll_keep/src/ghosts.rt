@@ -1,7 +1,7 @@
 //! What the keeps of this crate choose for the ghosts of [`Keep`].
 ghost use Rattle.std.specs.Prelude.{◌≡◌, ◌↔◌, false, List, Contains};
 ghost use Rattle.toll_keep.specs.Content.{Content};
-ghost use Rattle.toll_keep.specs.Remembered.{IsOf, OnlyKnownHaveRows};
+ghost use Rattle.toll_keep.specs.Around.{HoldsAround};
 ghost use Rattle.toll_keep.specs.Slices.{Kept, content_of};
 ghost use Rattle.toll_keep.specs.declared.refusing.Refusing.{Refusing};
 ghost use Rattle.toll_keep.specs.declared.remembering.Remembering.{Remembering};
@@ -52,6 +52,6 @@ pub fn a_remembering_keep_is_as_open_as_the_one_inside<K: Keep>()
 /// A keep that remembers holds what the keep inside holds, where all that it remembers is of that, and
 /// only known owners have rows. A stop leaves what the keep inside leaves.
 pub fn a_remembering_keep_has_the_content_inside<K: Keep>()
-    ensures holds { (r : Remembering K ⟦<K as Keep>⟧) (c : Content) → ⟦<Remembering<K> as Keep>⟧.meaning.holds r c ↔ (K.meaning.holds r.keep c × IsOf c r.recollection × OnlyKnownHaveRows c) }
+    ensures holds { (r : Remembering K ⟦<K as Keep>⟧) (c : Content) → ⟦<Remembering<K> as Keep>⟧.meaning.holds r c ↔ HoldsAround K.meaning.holds r c }
     ensures leaves { (r : Remembering K ⟦<K as Keep>⟧) (cs : List Content) → ⟦<Remembering<K> as Keep>⟧.meaning.leaves r cs ↔ K.meaning.leaves r.keep cs }
 {}

@@ -37,6 +37,7 @@ impl<K: Keep> Remembering<K> {
     /// Around this keep, holding what that holds, where only known owners have rows. It remembers nothing yet, and takes no memory.
     pub fn new(alloc: Global, keep: K) -> Self
         ensures keep { result.keep ≡ keep }
+        ensures nothing { IsNothing result.recollection }
         ensures holds { (c : Content) → ⟦<Remembering<K> as Keep>⟧.meaning.holds result c ↔ (K.meaning.holds keep c × OnlyKnownHaveRows c) }
     {
         Remembering {
