@@ -1,4 +1,7 @@
 //! The office on a file.
+ghost use Rattle.std.specs.Prelude.{IfOk};
+ghost use Rattle.toll_sql.specs.Opened.{IsOpened};
+
 use sqlite::{File as StoreFile, FileStore, Unknown};
 use std::fs;
 use std::fs::{File, OpenOptions};
@@ -34,7 +37,9 @@ pub struct Office {
 impl Office {
     /// Takes the lock of the file, `FILE.lock`, without waiting, and opens the office in it. An absent or
     /// empty file becomes an office without rows.
-    pub fn open(rt: &HostRuntime, path: &str) -> Result<Self, OfficeFault> {
+    pub fn open(rt: &HostRuntime, path: &str) -> Result<Self, OfficeFault>
+        ensures { IfOk result (λ office. IsOpened office.keep) }
+    {
         let lock = take_lock(rt, path)?;
         match open_keep(rt, path) {
             Ok(keep) => Ok(Office { keep, lock }),
@@ -73,7 +78,9 @@ pub fn take_lock(rt: &HostRuntime, path: &str) -> Result<File, OfficeFault> {
 /// tables in a file that is not empty: so where the file is not as its length says, it is looked at the
 /// other way. A file that isn't there beside a log that has bytes was moved away, and its log would be
 /// written anew: it is NotOurs.
-pub fn open_keep(rt: &HostRuntime, path: &str) -> Result<FileKeep, OpenFault> {
+pub fn open_keep(rt: &HostRuntime, path: &str) -> Result<FileKeep, OpenFault>
+    ensures { IfOk result IsOpened }
+{
     let is_fresh = is_absent_or_empty(rt, path);
     if is_fresh && was_moved_away(rt, path)? {
         return Err(OpenFault::NotOurs);

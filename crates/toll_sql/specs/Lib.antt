@@ -26,6 +26,7 @@ pub mod First
 pub mod Opening
 pub mod Plainly
 pub mod FromFiles
+pub mod Opened
 pub mod EdgeRows
 pub mod HolderRows
 pub mod PlantRows

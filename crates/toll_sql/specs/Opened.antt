@@ -1,0 +1,21 @@
+-- A keep that was opened from files, before anything is asked of it.
+use Rattle.std.specs.Prelude.{Bool}
+use Rattle.sqlite.specs.Held.{Held}
+use Rattle.sqlite_disk.specs.declared.Disk as disk
+use Rattle.sqlite_store.specs.declared.store.FileStore.{FileStore}
+use Rattle.sqlite_trees.specs.declared.store.Store as store
+use Rattle.sqlite_wal.specs.Recovery.{Image}
+use Rattle.toll_keep.specs.Remembered.{IsNothing}
+use Rattle.toll_keep.specs.declared.keep.Keep as keep
+use Rattle.toll_keep.specs.declared.remembering.Remembering.{Remembering}
+use Rattle.toll_sql.specs.FromFiles.{IsKeptFrom}
+use Rattle.toll_sql.specs.declared.sql_keep.SqlKeep.{SqlKeep}
+
+-- the connection's tables were made in the files, or found there
+abbrev pub IsFound : {D : Type 0} {d : disk.Ghosts D} → Held (FileStore D d) → Type 0
+IsFound conn = (fresh : Bool) × (image : Image) × IsKeptFrom fresh image conn
+
+-- a keep that remembers nothing yet, around one whose tables were
+abbrev pub IsOpened : {D : Type 0} {d : disk.Ghosts D} {g : store.Ghosts (FileStore D d)} {h : keep.Ghosts (SqlKeep (FileStore D d) g)}
+    → Remembering (SqlKeep (FileStore D d) g) h → Type 0
+IsOpened r = IsFound r.keep.conn × IsNothing r.recollection
