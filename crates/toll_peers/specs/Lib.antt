@@ -1,0 +1,5 @@
+pub mod Askings
+pub mod Steps
+pub mod Runs
+pub mod Worlds
+pub mod Halls
