@@ -3,7 +3,7 @@ ghost use Rattle.std.specs.Prelude.{◌≡◌, ◌≢◌, ◌≤◌, ◌⊎◌, 
 ghost use Rattle.std.specs.Io.KnownBytes.{Consumes, IsAtEnd};
 ghost use Rattle.toll_http.specs.Arriving.{IsSettled};
 ghost use Rattle.toll_http.specs.Filled.{IsFilled};
-ghost use Rattle.toll_http.specs.Streams.{HasFailed, NoneFailed, ReadsWhile};
+ghost use Rattle.toll_http.specs.Streams.{HasFailed, NoneFailed, ReadsWhile, TakesIn};
 
 use crate::arriving::Arriving;
 use crate::settled::{TEXT_LIMIT, unsettled};
@@ -64,7 +64,7 @@ impl Incoming {
     /// the end of a head, or the stream ends, and no further; or until a read fails, as one does that would
     /// wait.
     pub fn read_on<R: Source>(&mut self, reader: &mut R) -> Arriving
-        ensures given { (given : List ℕ) × Consumes (R.unread reader.old) (R.unread reader.new) given × (self.new ≡ self.old ++ given) }
+        ensures given { TakesIn (R.unread reader.old) (R.unread reader.new) self.old self.new }
         ensures complete { result ≡ Arriving.Complete → IsSettled self.new ⊎ IsAtEnd (R.unread reader.new) }
         ensures early { result ≢ Arriving.Complete → ¬ (IsSettled self.new) }
         ensures failed { result ≢ Arriving.Complete → HasFailed (R.has_failed reader.old) (R.has_failed reader.new) }

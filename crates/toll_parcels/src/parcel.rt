@@ -1,8 +1,8 @@
 //! Reading a parcel bit by bit, as it comes.
-ghost use Rattle.std.specs.Prelude.{◌≡◌, ◌≢◌, ◌⊎◌, ℕ, List, [], ◌++◌};
-ghost use Rattle.std.specs.Io.KnownBytes.{Consumes, IsAtEnd};
+ghost use Rattle.std.specs.Prelude.{◌≡◌, ◌≢◌, ◌⊎◌, []};
+ghost use Rattle.std.specs.Io.KnownBytes.{IsAtEnd};
 ghost use Rattle.toll_http.specs.declared.arriving.Arriving.{Arriving};
-ghost use Rattle.toll_http.specs.Streams.{HasFailed, NoneFailed};
+ghost use Rattle.toll_http.specs.Streams.{HasFailed, NoneFailed, TakesIn};
 ghost use Rattle.toll_parcels.specs.Parcels.{IsEnough};
 
 use crate::packing::is_enough;
@@ -36,7 +36,7 @@ impl Parcel {
     /// first bytes claim.
     pub fn read_on<R: Source>(&mut self, reader: &mut R) -> Arriving
         ensures most { self.new.most ≡ self.old.most }
-        ensures given { (given : List ℕ) × Consumes (R.unread reader.old) (R.unread reader.new) given × (self.new.bytes.items ≡ self.old.bytes.items ++ given) }
+        ensures given { TakesIn (R.unread reader.old) (R.unread reader.new) self.old.bytes.items self.new.bytes.items }
         ensures complete { result ≡ Arriving.Complete → IsEnough self.new.most self.new.bytes.items ⊎ IsAtEnd (R.unread reader.new) }
         ensures early { result ≢ Arriving.Complete → ¬ (IsEnough self.new.most self.new.bytes.items) }
         ensures waits { result ≡ Arriving.Waiting → HasFailed (R.has_failed reader.old) (R.has_failed reader.new) }

@@ -1,10 +1,10 @@
 -- Looking through the peers by their keys.
-use Rattle.std.proofs.Common.{◌≡◌, ◌∙◌, ◌<◌, ◌≤◌, ℕ, ◌+◌, Option, None, Some, Bool, true, false, cond, ltb, length, refl, sym, ap, subst, arith, below_more, inl, inr}
-use Rattle.std.specs.Prelude.{IfNone, IfSome, ◌⊎◌}
+use Rattle.std.proofs.Common.{◌≡◌, ◌<◌, ◌≤◌, ℕ, ◌+◌, Option, None, Some, length, refl, sym, subst, arith, below_more, inl, inr}
+use Rattle.std.specs.Prelude.{IfSome}
 use Rattle.std.proofs.lemmas.Bool.{cases_lt}
 use Rattle.std.proofs.lemmas.List.{get_or_past}
 use Rattle.slab.specs.Slab.{Slab, get}
-use Rattle.toll_peers.specs.Halls.{HaveTime, IsAmong, IsBefore, IsFirst, IsLate, NoneAmong, TurnsOut, left_at}
+use Rattle.toll_peers.specs.Halls.{IsAmong, IsBefore, IsFirst, NoneAmong, left_at}
 use Rattle.toll_peers.specs.declared.among.Among.{Among}
 use Rattle.toll_peers.specs.declared.peer.Peer.{Peer}
 use Rattle.toll_peers.specs.declared.places.First.{First}
@@ -33,7 +33,10 @@ module _ {S : Type 0} (among : Among) (peers : Slab (Peer S)) where
   passed limit None is p = below_more (λ k. IfSome (get peers k) (λ peer. ¬ (IsAmong among peer))) limit p
       (subst (λ (o : Option (Peer S)). IfSome o (λ peer. ¬ (IsAmong among peer))) (sym is) tt)
   passed limit (Some f) is p = record {
-    peer = p.peer; there = p.there; among_them = p.among_them; its = p.its;
+    peer = p.peer;
+    there = p.there;
+    among_them = p.among_them;
+    its = p.its;
     first = below_more (λ k. IfSome (get peers k) (λ peer. IsAmong among peer → f.until ≤ peer.until)) limit p.first
         (subst (λ (o : Option (Peer S)). IfSome o (λ peer. IsAmong among peer → f.until ≤ peer.until)) (sym is) tt);
   }
@@ -44,10 +47,13 @@ module _ {S : Type 0} (among : Among) (peers : Slab (Peer S)) where
   left_out limit peer None is not p = below_more (λ k. IfSome (get peers k) (λ peer. ¬ (IsAmong among peer))) limit p
       (subst (λ (o : Option (Peer S)). IfSome o (λ peer. ¬ (IsAmong among peer))) (sym is) (λ a. not (a, tt)))
   left_out limit peer (Some f) is not p = record {
-    peer = p.peer; there = p.there; among_them = p.among_them; its = p.its;
+    peer = p.peer;
+    there = p.there;
+    among_them = p.among_them;
+    its = p.its;
     first = below_more (λ k. IfSome (get peers k) (λ peer. IsAmong among peer → f.until ≤ peer.until)) limit p.first
         (subst (λ (o : Option (Peer S)). IfSome o (λ peer. IsAmong among peer → f.until ≤ peer.until)) (sym is)
-        (λ a. elim (cases_lt peer.until f.until) [ | inl lt ↦ absurd (not (a, lt)) | inr le ↦ le ]));
+        (λ a. elim (cases_lt peer.until f.until) [ inl lt ↦ absurd (not (a, lt)) | inr le ↦ le ]));
   }
 
   more_time : (limit until now : ℕ) → until ≤ now → HaveTimeBelow limit now → HaveTimeBelow limit until
@@ -70,7 +76,10 @@ module _ {S : Type 0} (among : Among) (peers : Slab (Peer S)) where
   pub taken : (limit : ℕ) (peer : Peer S) (first : Option First) → get peers limit ≡ Some peer → IsAmong among peer → IsBefore peer.until first
       → Found limit first → IsFirstBelow (limit + 1) limit peer.until
   taken limit peer first is a before p = record {
-    peer = peer; there = is; among_them = a; its = refl;
+    peer = peer;
+    there = is;
+    among_them = a;
+    its = refl;
     first = below_more (λ k. IfSome (get peers k) (λ other. IsAmong among other → peer.until ≤ other.until)) limit (time_before limit peer.until first before p)
         (subst (λ (o : Option (Peer S)). IfSome o (λ other. IsAmong among other → peer.until ≤ other.until)) (sym is) (λ _. omega arith));
   }
@@ -80,7 +89,10 @@ module _ {S : Type 0} (among : Among) (peers : Slab (Peer S)) where
 
   pub found_all : (limit key until : ℕ) → length peers.slots ≤ limit → IsFirstBelow limit key until → IsFirst among peers key until
   found_all limit key until le p = record {
-    peer = p.peer; there = p.there; among_them = p.among_them; its = p.its;
+    peer = p.peer;
+    there = p.there;
+    among_them = p.among_them;
+    its = p.its;
     first = λ other. elim (cases_lt other limit) [
       | inl lt ↦ p.first other lt
       | inr past ↦ subst (λ (o : Option (Peer S)). IfSome o (λ peer. IsAmong among peer → until ≤ peer.until)) (sym (none_past limit other le past)) tt

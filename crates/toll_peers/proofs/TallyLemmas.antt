@@ -1,5 +1,5 @@
 -- What a world has done, step by step; and who stays meanwhile.
-use Rattle.std.proofs.Common.{◌≡◌, ◌≢◌, ◌+◌, ℕ, Option, None, Some, sym, subst}
+use Rattle.std.proofs.Common.{◌≡◌, ◌≢◌, ℕ, Option, None, Some, sym, subst}
 use Rattle.std.specs.Prelude.{IfSome, option_map}
 use Rattle.slab.specs.Slab.{Slab, get}
 use Rattle.toll_peers.specs.Halls.{KeepsReplies}

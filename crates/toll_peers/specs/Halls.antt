@@ -1,11 +1,13 @@
 -- The peers that are there, by their keys.
-use Rattle.std.specs.Prelude.{◌≡◌, ◌≢◌, ◌≤◌, ◌<◌, ◌+◌, ◌-◌, ◌⊎◌, ℕ, [], Option, None, Some, IfSome, IfNone, ⊤, nat_lt, if◌then◌else◌}
+use Rattle.std.specs.Prelude.{◌≡◌, ◌≢◌, ◌≤◌, ◌<◌, ◌+◌, ◌-◌, ◌⊎◌, ℕ, [], Option, None, Some, IfSome, ⊤, nat_lt, if◌then◌else◌}
 use Rattle.slab.specs.Slab.{Slab, Updates, get, slab_len}
 use Rattle.toll_peers.specs.Askings.{came_of, door_of}
 use Rattle.toll_peers.specs.Steps.{until_from}
 use Rattle.toll_peers.specs.declared.among.Among.{Among}
 use Rattle.toll_peers.specs.declared.among.Among.TheVariants.{All, Reading}
 use Rattle.toll_peers.specs.declared.door.Door.{Door}
+use Rattle.toll_peers.specs.declared.hall.Entrance.{Entrance}
+use Rattle.toll_peers.specs.declared.hall.Entrance.TheVariants.{Open, Crowded, Shut}
 use Rattle.toll_peers.specs.declared.peer.Peer.{Peer}
 use Rattle.toll_peers.specs.declared.places.First.{First}
 
@@ -33,6 +35,10 @@ module _ {S : Type 0} where
   abbrev pub IsInTime : Option ℕ → ℕ → Slab (Peer S) → Type 0
   IsInTime None now peers = NoneAmong All peers
   IsInTime (Some most) now peers = (key : ℕ) → IfSome (get peers key) (λ peer. most ≤ peer.until - now)
+
+  -- the time of some peer is over then, and no other's before
+  abbrev pub IsDueTo : Slab (Peer S) → ℕ → ℕ → Type 0
+  IsDueTo peers now most = (key : ℕ) × (until : ℕ) × IsFirst All peers key until × (most ≡ until - now)
 
   -- the one goes that has been reading longest, if one is reading
   abbrev pub ShedsFirst : Slab (Peer S) → Slab (Peer S) → Type 0
@@ -64,6 +70,12 @@ module _ {S : Type 0} where
   abbrev pub IsLate : ℕ → Option (Peer S) → Type 0
   IsLate now None = ⊥
   IsLate now (Some peer) = peer.until ≤ now
+
+-- somebody may be let in then
+abbrev pub IsDueAt : Entrance → ℕ → ℕ → Type 0
+IsDueAt Open now most = ⊥
+IsDueAt Crowded now most = most ≡ 0
+IsDueAt (Shut until) now most = most ≡ until - now
 
 -- a moment before the other one, if there is one
 abbrev pub IsBefore : ℕ → Option First → Type 0

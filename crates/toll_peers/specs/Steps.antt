@@ -1,11 +1,12 @@
 -- One step of a peer.
-use Rattle.std.specs.Prelude.{◌≡◌, ◌⊎◌, ◌↔◌, ◌+◌, ◌-◌, ◌^◌, ℕ, min, Bool, List, [], ◌++◌, length, Option, Some, None, IsSome, option_map}
+use Rattle.std.specs.Prelude.{◌≡◌, ◌≢◌, ◌⊎◌, ◌+◌, ◌-◌, ◌^◌, ℕ, min, Bool, List, [], ◌++◌, length, Option, Some, None, IsSome, option_map}
 use Rattle.std.specs.Io.KnownBytes.{Appends, Consumes, IsAtEnd}
 use Rattle.toll_http.specs.Streams.{HasFailed, bytes_between}
 use Rattle.toll_http.specs.declared.outgoing.Outgoing.{Outgoing}
 use Rattle.toll_peers.specs.Askings.{IsWhole, came_of, door_of}
 use Rattle.toll_peers.specs.declared.asking.Asking.{Asking}
 use Rattle.toll_peers.specs.declared.door.Door.{Door}
+use Rattle.toll_peers.specs.declared.peer.Peer.{Peer}
 use Rattle.toll_peers.specs.declared.peer.TheConstants.{MOST_MILLISECONDS}
 
 -- the reply, all of it, once there is one
@@ -49,10 +50,15 @@ pub record Came (unread now_unread : Option (List ℕ)) (was now : Asking) (repl
   pub early : reply ≡ None → (now_unread ≡ rest) × ¬ (IsWhole now)
   pub whole : IsSome reply → IsWhole now ⊎ IsAtEnd rest
 
--- a peer that waits has met a read, or once it has a reply a write, that failed
-abbrev pub IsStuck : Option (List ℕ) → Option Bool → Option Bool → Option Bool → Option Bool → Type 0
-IsStuck None read now_read write now_write = HasFailed read now_read
-IsStuck (Some told) read now_read write now_write = HasFailed write now_write
+module _ {S : Type 0} where
+  -- who had no reply was heard
+  abbrev pub Hears : (S → Option (List ℕ)) → Peer S → Peer S → Type 0
+  Hears unread old new = old.reply ≡ None → Came (unread old.socket) (unread new.socket) old.request new.request (text_of new.reply)
+
+  -- who has no reply yet has met a read that failed, and who has one a write, as the one or the other does that would wait
+  abbrev pub IsStuck : (S → Option Bool) → (S → Option Bool) → Peer S → Peer S → Type 0
+  IsStuck reads writes old new =
+      (new.reply ≡ None → HasFailed (reads old.socket) (reads new.socket)) × (new.reply ≢ None → HasFailed (writes old.socket) (writes new.socket))
 
 -- when the time is over that a peer has from this moment on
 abbrev pub until_from : ℕ → ℕ

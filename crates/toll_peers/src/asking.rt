@@ -1,7 +1,7 @@
 //! What a peer asks, as its bytes come.
-ghost use Rattle.std.specs.Prelude.{◌≡◌, ◌≢◌, ◌⊎◌, ℕ, List, [], ◌++◌, IfOk};
-ghost use Rattle.std.specs.Io.KnownBytes.{Consumes, IsAtEnd};
-ghost use Rattle.toll_http.specs.Streams.{HasFailed};
+ghost use Rattle.std.specs.Prelude.{◌≡◌, ◌≢◌, ◌⊎◌, [], IfOk};
+ghost use Rattle.std.specs.Io.KnownBytes.{IsAtEnd};
+ghost use Rattle.toll_http.specs.Streams.{HasFailed, TakesIn};
 ghost use Rattle.toll_http.specs.declared.arriving.Arriving.{Arriving};
 ghost use Rattle.toll_peers.specs.Askings.{IsWhole, came_of, door_of};
 
@@ -53,7 +53,7 @@ impl Asking {
 
     /// Reads on until it is whole, or a read fails, as one does that would wait, or there is no memory.
     pub fn read_on<R: Source>(&mut self, reader: &mut R) -> Arriving
-        ensures given { (given : List ℕ) × Consumes (R.unread reader.old) (R.unread reader.new) given × (came_of self.new ≡ came_of self.old ++ given) }
+        ensures given { TakesIn (R.unread reader.old) (R.unread reader.new) (came_of self.old) (came_of self.new) }
         ensures door { door_of self.new ≡ door_of self.old }
         ensures complete { result ≡ Arriving.Complete → IsWhole self.new ⊎ IsAtEnd (R.unread reader.new) }
         ensures early { result ≢ Arriving.Complete → ¬ (IsWhole self.new) }

@@ -1,10 +1,10 @@
 //! The peers that are there.
 ghost use Rattle.std.specs.Prelude.{◌≡◌, ◌↔◌, ◌≤◌, ◌<◌, ◌+◌, ◌⊎◌, Some, IfSome, IsTrue};
 ghost use Rattle.slab.specs.Slab.{get, slab_len};
-ghost use Rattle.toll_peers.specs.Halls.{IsInTime, IsNewcomer, KeepsReplies, OnlyAt, ShedsFirst, TurnsOut};
+ghost use Rattle.toll_peers.specs.Halls.{IsDueAt, IsDueTo, IsInTime, IsNewcomer, KeepsReplies, OnlyAt, ShedsFirst, TurnsOut};
 ghost use Rattle.toll_peers.specs.Runs.{IsRun};
-ghost use Rattle.toll_peers.specs.Steps.{IsStuck, text_of};
-ghost use Rattle.toll_peers.specs.Worlds.{LetsIn, Tallies, owners_at};
+ghost use Rattle.toll_peers.specs.Steps.{IsStuck, until_after};
+ghost use Rattle.toll_peers.specs.Worlds.{IsShut, IsShutAt, LetsIn, Tallies, owners_at};
 ghost use Rattle.toll_peers.specs.declared.door.Door.{Door};
 
 use crate::among::Among;
@@ -67,14 +67,17 @@ impl<S: Socket> Hall<S> {
 
     /// How many milliseconds to wait at most, so that nobody stays longer than its time.
     pub fn patience(&self, now: u64) -> Option<u64>
-        ensures { IsInTime result now self.now.peers }
+        ensures in_time { IsInTime result now self.now.peers }
+        ensures cause { IfSome result (λ most. IsDueAt self.now.entrance now most ⊎ IsDueTo self.now.peers now most) }
     {
         match (self.entrance, first_of(&self.peers, Among::All)) {
             (Entrance::Crowded, _) => Some(0),
             (Entrance::Open, None) => None,
             (Entrance::Open, Some(first)) => Some(first.until.saturating_sub(now)),
             (Entrance::Shut(until), None) => Some(until.saturating_sub(now)),
-            (Entrance::Shut(until), Some(first)) => Some(first.until.min(until).saturating_sub(now)),
+            (Entrance::Shut(until), Some(first)) => Some(
+                first.until.min(until).saturating_sub(now),
+            ),
         }
     }
 
@@ -85,7 +88,7 @@ impl<S: Socket> Hall<S> {
         alloc: Global,
         world: &mut W,
     ) -> Result<(), WorldFault>
-        ensures tally { Tallies (LetsIn result self.old.to_come self.new.to_come) (W.tally world.old) (W.tally world.new) }
+        ensures tally { Tallies (LetsIn result self.old.entrance self.old.to_come self.new.to_come) (W.tally world.old) (W.tally world.new) }
         ensures replies { KeepsReplies self.old.peers self.new.peers }
         ensures full { slab_len self.old.peers ≤ MOST_PEERS → slab_len self.new.peers ≤ MOST_PEERS }
     {
@@ -112,7 +115,10 @@ impl<S: Socket> Hall<S> {
         Ok(())
     }
 
-    fn is_shut(&self, now: u64) -> bool {
+    fn is_shut(&self, now: u64) -> bool
+        ensures until { IsTrue result ↔ IsShutAt now self.now.entrance }
+        ensures shut { IsTrue result → IsShut self.now.entrance }
+    {
         match self.entrance {
             Entrance::Shut(until) => now < until,
             Entrance::Open | Entrance::Crowded => false,
@@ -150,8 +156,9 @@ impl<S: Socket> Hall<S> {
         ensures run { IsRun O.answers office.old office.new }
         ensures others { OnlyAt key self.old.peers self.new.peers }
         ensures stuck { IfSome (get self.old.peers key) (λ peer. IfSome (get self.new.peers key) (λ later.
-            IsStuck (text_of later.reply) (S.Source.has_failed peer.socket) (S.Source.has_failed later.socket)
-            (S.Sink.has_failed peer.socket) (S.Sink.has_failed later.socket))) }
+            IsStuck S.Source.has_failed S.Sink.has_failed peer later)) }
+        ensures until { IfSome (get self.old.peers key) (λ peer. IfSome (get self.new.peers key) (λ later.
+            later.until ≡ until_after peer.reply later.reply peer.until now)) }
         ensures fewer { slab_len self.new.peers ≤ slab_len self.old.peers }
         ensures to_come { self.new.to_come ≡ self.old.to_come }
     {

@@ -6,7 +6,6 @@ mod among;
 mod asking;
 mod door;
 mod hall;
-
 mod office;
 mod peer;
 mod places;

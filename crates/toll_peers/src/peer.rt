@@ -2,7 +2,7 @@
 ghost use Rattle.std.specs.Prelude.{◌≡◌, ◌↔◌, [], None, IfOk, IsTrue, IsSome};
 ghost use Rattle.toll_http.specs.Streams.{HasFailed};
 ghost use Rattle.toll_peers.specs.Askings.{came_of, door_of};
-ghost use Rattle.toll_peers.specs.Steps.{Came, Gave, Hands, IsGiven, IsStuck, text_of, until_after, until_from};
+ghost use Rattle.toll_peers.specs.Steps.{Gave, Hands, Hears, IsGiven, IsStuck, text_of, until_after, until_from};
 
 use crate::asking::Asking;
 use crate::door::Door;
@@ -48,11 +48,10 @@ impl<S: Socket> Peer<S> {
     /// writes on.
     pub fn advance<O: Office>(&mut self, alloc: Global, office: &mut O, now: u64) -> Step
         ensures hands { Hands O.answers (text_of self.old.reply) (text_of self.new.reply) self.new.request office.old office.new }
-        ensures came { self.old.reply ≡ None → Came (S.Source.unread self.old.socket) (S.Source.unread self.new.socket) self.old.request self.new.request (text_of self.new.reply) }
+        ensures came { Hears S.Source.unread self.old self.new }
         ensures gave { Gave (S.Sink.held self.old.socket) (S.Sink.held self.new.socket) self.old.reply self.new.reply }
         ensures given { result ≡ Step.Answered ↔ IsGiven self.new.reply }
-        ensures waits { result ≡ Step.Waits → IsStuck (text_of self.new.reply) (S.Source.has_failed self.old.socket)
-            (S.Source.has_failed self.new.socket) (S.Sink.has_failed self.old.socket) (S.Sink.has_failed self.new.socket) }
+        ensures waits { result ≡ Step.Waits → IsStuck S.Source.has_failed S.Sink.has_failed self.old self.new }
         ensures until { self.new.until ≡ until_after self.old.reply self.new.reply self.old.until now }
     {
         if self.reply.is_some() {

@@ -1,1 +1,233 @@
-//! Peers.
+//! Peers of a world of memory, in which a wait gives the next of some events, or else is over at once.
+mod script;
+mod wire;
+
+use crate::tests::script::{Scribe, Script};
+use crate::tests::wire::{Ends, Log, Plan, Takes};
+use crate::{Door, Served, serve};
+use std::alloc::Global;
+
+/// A request of the plant, in three pieces: the content `0`.
+const PLANT: Plan = Plan {
+    door: Door::Plant,
+    pieces: &[b"\0\0", b"\0\x01", b"0"],
+    ends: Ends::Silent,
+    takes: Takes::All,
+    mark: b'0',
+};
+
+const FIRST_OWNER: Plan = Plan {
+    door: Door::Owners,
+    pieces: &[b"GET /1 HT", b"TP/1.1\r\nhost: a\r\n", b"\r\n"],
+    ends: Ends::Silent,
+    takes: Takes::All,
+    mark: b'1',
+};
+
+const SECOND_OWNER: Plan = Plan {
+    door: Door::Owners,
+    pieces: &[
+        b"POST /2 HTTP/1.1\r\nhost: a\r\ncontent-length: 2\r",
+        b"\n\r\n{",
+        b"}",
+    ],
+    ends: Ends::Silent,
+    takes: Takes::All,
+    mark: b'2',
+};
+
+/// All of a request at once.
+const WHOLE: Plan = Plan {
+    door: Door::Owners,
+    pieces: &[b"GET /1 HTTP/1.1\r\nhost: a\r\n\r\n"],
+    ends: Ends::Silent,
+    takes: Takes::All,
+    mark: b'1',
+};
+
+const HALF: Plan = Plan {
+    door: Door::Owners,
+    pieces: &[b"GET /1 HTTP/1.1\r\nho"],
+    ends: Ends::Silent,
+    takes: Takes::All,
+    mark: b'1',
+};
+
+const SILENT: Plan = Plan {
+    door: Door::Owners,
+    pieces: &[],
+    ends: Ends::Silent,
+    takes: Takes::All,
+    mark: b'1',
+};
+
+/// What came of serving.
+#[derive(Clone, Copy, Debug, PartialEq, Eq)]
+struct Outcome {
+    served: Served,
+    /// How many requests were answered, and how many bytes of their replies were written.
+    answered: u64,
+    told: u64,
+    late: u64,
+}
+
+// What comes of serving so many owners, where these come (or nobody can be taken), and these go on one after
+// another.
+fn outcome_of(
+    alloc: Global,
+    count: u64,
+    coming: &[Option<Plan>],
+    order: &[usize],
+    log: &Log,
+) -> Outcome {
+    let mut world = Script::new(coming, order, log);
+    let mut office = Scribe::new(log);
+    let served = serve(alloc, &mut world, &mut office, count);
+    Outcome {
+        served,
+        answered: office.answered,
+        told: log.told.get(),
+        late: world.late,
+    }
+}
+
+// What comes of serving one owner, who goes on so often.
+fn outcome_of_one(alloc: Global, plan: Plan, order: &[usize]) -> Outcome {
+    outcome_of(alloc, 1, &[Some(plan)], order, &Log::new())
+}
+
+fn all_with(answered: u64, told: u64, late: u64) -> Outcome {
+    Outcome {
+        served: Served::All,
+        answered,
+        told,
+        late,
+    }
+}
+
+// The order of nine events that a number below 3^9 stands for, if each of three peers has three.
+fn order_of(code: usize) -> Option<[usize; 9]> {
+    let mut order = [0; 9];
+    let mut counts = [0u8; 3];
+    let mut rest = code;
+    for place in &mut order {
+        *place = rest % 3;
+        counts[rest % 3] = counts[rest % 3].saturating_add(1);
+        rest /= 3;
+    }
+    if counts == [3, 3, 3] {
+        Some(order)
+    } else {
+        None
+    }
+}
+
+#[test]
+fn three_peers_are_answered_whatever_order_their_bytes_come_in(rt: HostRuntime) {
+    let coming = [Some(PLANT), Some(FIRST_OWNER), Some(SECOND_OWNER)];
+    let mut orders = 0u64;
+    for code in 0..19_683 {
+        let Some(order) = order_of(code) else {
+            continue;
+        };
+        let log = Log::new();
+        let outcome = outcome_of(rt.alloc(), 2, &coming, &order, &log);
+        assert_eq!(rt; outcome, all_with(3, 9, 0));
+        assert!(rt; !log.wrong.get());
+        orders = orders.saturating_add(1);
+    }
+    assert_eq!(rt; orders, 1680);
+}
+
+#[test]
+fn a_reply_may_be_taken_a_byte_at_a_time(rt: HostRuntime) {
+    let slow = Plan {
+        takes: Takes::One,
+        ..WHOLE
+    };
+    assert_eq!(rt;
+        outcome_of_one(rt.alloc(), slow, &[0, 0, 0]),
+        all_with(1, 3, 0)
+    );
+    assert_eq!(rt;
+        outcome_of_one(rt.alloc(), slow, &[0, 0]),
+        all_with(1, 2, 10_000)
+    );
+}
+
+#[test]
+fn a_peer_that_goes_is_not_answered_twice(rt: HostRuntime) {
+    let resets = Plan {
+        ends: Ends::Reset,
+        ..HALF
+    };
+    let closes = Plan {
+        ends: Ends::Closed,
+        ..HALF
+    };
+    let takes_none = Plan {
+        takes: Takes::Broken,
+        ..WHOLE
+    };
+    assert_eq!(rt;
+        outcome_of_one(rt.alloc(), resets, &[0, 0]),
+        all_with(0, 0, 0)
+    );
+    assert_eq!(rt;
+        outcome_of_one(rt.alloc(), closes, &[0, 0]),
+        all_with(1, 3, 0)
+    );
+    assert_eq!(rt;
+        outcome_of_one(rt.alloc(), takes_none, &[0]),
+        all_with(1, 0, 0)
+    );
+}
+
+#[test]
+fn time_is_over_in_each_state(rt: HostRuntime) {
+    let takes_nothing = Plan {
+        takes: Takes::Nothing,
+        ..WHOLE
+    };
+    assert_eq!(rt;
+        outcome_of_one(rt.alloc(), SILENT, &[]),
+        all_with(0, 0, 10_000)
+    );
+    assert_eq!(rt;
+        outcome_of_one(rt.alloc(), HALF, &[0]),
+        all_with(0, 0, 10_000)
+    );
+    assert_eq!(rt;
+        outcome_of_one(rt.alloc(), takes_nothing, &[0]),
+        all_with(1, 0, 10_000)
+    );
+}
+
+#[test]
+fn a_silent_peer_holds_nobody_up(rt: HostRuntime) {
+    let coming = [Some(WHOLE), Some(SILENT), Some(WHOLE)];
+    let outcome = outcome_of(rt.alloc(), 3, &coming, &[2, 0], &Log::new());
+    assert_eq!(rt; outcome, all_with(2, 6, 10_000));
+}
+
+#[test]
+fn the_first_to_come_leaves_a_full_hall(rt: HostRuntime) {
+    let coming = [Some(WHOLE); 901];
+    let outcome = outcome_of(rt.alloc(), 901, &coming, &[0, 1, 900], &Log::new());
+    assert_eq!(rt; outcome, all_with(2, 6, 10_000));
+}
+
+#[test]
+fn nobody_is_let_in_where_there_is_no_room_until_one_has_left(rt: HostRuntime) {
+    let coming = [Some(WHOLE), None, Some(WHOLE)];
+    let outcome = outcome_of(rt.alloc(), 2, &coming, &[0, 0], &Log::new());
+    assert_eq!(rt; outcome, all_with(2, 6, 0));
+    let alone = outcome_of(rt.alloc(), 1, &[None, Some(SILENT)], &[], &Log::new());
+    assert_eq!(rt; alone, all_with(0, 0, 11_000));
+}
+
+#[test]
+fn a_world_that_fails_ends_serving(rt: HostRuntime) {
+    let outcome = outcome_of(rt.alloc(), 1, &[], &[], &Log::new());
+    assert_eq!(rt; outcome.served, Served::Fault);
+}

@@ -1,4 +1,4 @@
-use Rattle.std.proofs.Common.{◌≡◌, sym, length, Option, None, Some, arith}
+use Rattle.std.proofs.Common.{sym, Option, None, Some, arith}
 use Rattle.std.specs.Prelude.{IfSome}
 use Rattle.toll_peers.specs.Halls.{IsFirst}
 use Rattle.toll_peers.specs.declared.places.First.{First}

@@ -13,11 +13,11 @@ loop-preserved g c =
     let count = c.args.count in
     let left = c.let_in.new.self.to_come in
     let stays : c.turn_out.new.self.to_come ≡ left = c.turn_out.ensures.to_come ∙ c.advance_all.ensures.to_come in
-    let entered = tallies_then (Has count c.loop.hall.to_come c.loop.counter) (LetsIn c.let_in.result c.loop.hall.to_come left) (Has count left c.loop.counter)
-      _ _ _ c.loop.invariant.tally c.let_in.ensures.tally (λ t u v p r. (omega (arith, p.0, r.0), r.1 ∙ p.1)) in
+    let entered = tallies_then (Has count c.loop.hall.to_come c.loop.counter) (LetsIn c.let_in.result c.loop.hall.entrance c.loop.hall.to_come left) (Has count left c.loop.counter)
+    _ _ _ c.loop.invariant.tally c.let_in.ensures.tally (λ t u v p r. (omega (arith, p.0, r.0), r.1 ∙ p.1)) in
     let looked = tallies_same (Has count left c.loop.counter) _ _ _ c.now.ensures entered in
     let waited = tallies_more (Has count left c.loop.counter) (Has count c.turn_out.new.self.to_come (c.loop.counter + 1)) (after_wait _) _ _ _ c.wait.ensures
-      (λ t u p. (omega (arith, p.0, stays), omega (arith, p.1))) looked in
+    (λ t u p. (omega (arith, p.0, stays), omega (arith, p.1))) looked in
     record {
       run = run_more _ _ _ _ c.loop.invariant.run c.advance_all.ensures.run;
       tally = tallies_same (Has count c.turn_out.new.self.to_come (c.loop.counter + 1)) _ _ _ (c.now-in-loop.ensures ∙ c.advance_all.ensures.tally) waited;

@@ -1,14 +1,13 @@
 -- What has come behind what had come before is what the reader gave, and no read failed.
-use Rattle.std.proofs.Common.{◌≡◌, ◌+◌, ◌-◌, ℕ, List, ◌++◌, false, length}
-use Rattle.std.specs.Io.KnownBytes.{Consumes}
-use Rattle.toll_http.specs.Streams.{Notes}
+use Rattle.std.proofs.Common.{◌≡◌, ◌+◌, ◌-◌, false, length}
+use Rattle.toll_http.specs.Streams.{Notes, TakesIn}
 use Rattle.toll_parcels.specs.declared.packing.TheConstants.{HEAD_BYTES}
 use Rattle.toll_parcels.proofs.parcel.Parcel.read_on.Given as goal
 
 abbrev pub invariant-loop-piece : goal.invariant-loop-piece
 invariant-loop-piece g l = record {
   most : l.self.most ≡ l.initial.self.most;
-  given : (given : List ℕ) × Consumes (g.R.Source.unread l.initial.reader) (g.R.Source.unread l.reader) given × (l.self.bytes.items ≡ l.initial.self.bytes.items ++ given);
+  given : TakesIn (g.R.Source.unread l.initial.reader) (g.R.Source.unread l.reader) l.initial.self.bytes.items l.self.bytes.items;
   sound : Notes (g.R.Source.has_failed l.initial.reader) (g.R.Source.has_failed l.reader) false;
   beside : g.R.Source.beside l.reader ≡ g.R.Source.beside l.initial.reader;
 }

@@ -8,7 +8,9 @@ use Rattle.toll_peers.proofs.hall.Hall.let_in.Given as goal
 
 abbrev pub invariant-loop : goal.invariant-loop
 invariant-loop g l = record {
-  tally : Tallies (λ t u. (u.owners + l.self.to_come ≡ t.owners + l.fn.self.to_come) × (u.waits ≡ t.waits)) (g.W.World.tally l.fn.world) (g.W.World.tally l.world);
+  tally : Tallies (λ t u. (u.owners + l.self.to_come ≡ t.owners + l.fn.self.to_come) × (u.waits ≡ t.waits) × (u.takings ≡ t.takings + l.counter))
+      (g.W.World.tally l.fn.world) (g.W.World.tally l.world);
+  first : l.counter ≡ 0 → l.self.to_come ≡ l.fn.self.to_come;
   replies : KeepsReplies l.fn.self.peers l.self.peers;
   full : slab_len l.fn.self.peers ≤ MOST_PEERS → slab_len l.self.peers ≤ MOST_PEERS;
 }
