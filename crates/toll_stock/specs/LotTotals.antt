@@ -1,9 +1,9 @@
 -- How much of a lot is on hand, and how much was shipped.
-use Rattle.std.specs.Prelude.{◌≡◌, ℕ, Bool, false, if◌then◌else◌, Option, is_some, List}
+use Rattle.std.specs.Prelude.{◌≡◌, ℕ, Bool, if◌then◌else◌, Option, Some, None, is_some, List}
 use Rattle.std.specs.BTreeMap.{get}
 use Rattle.std.specs.Option.{unwrap_or}
 use Rattle.toll_base.specs.Bytes.{Bytes, bytes_cmp, same_bytes}
-use Rattle.toll_base.specs.Words.{total, where_so}
+use Rattle.toll_base.specs.Words.{total, is_some_where, where_so}
 use Rattle.toll_history.specs.Amounts.{on_hand, shipped}
 use Rattle.toll_history.specs.History.{History}
 use Rattle.toll_history.specs.Movements.{lot_made, sublot_known, stock}
@@ -36,10 +36,14 @@ held_in lot sublots = total (λ row. if same_bytes row.lot lot then row.amount e
 abbrev pub on_hand_in : Slice → Bytes → ℕ
 on_hand_in s lot = held_in lot s.sublots
 
+-- the lot that the movement ships
+abbrev pub lot_shipped : Move → Option Bytes
+lot_shipped (Ship lot sublot) = Some lot
+lot_shipped _ = None
+
 -- the movement is a shipment of the lot
 abbrev pub is_shipment_of : Bytes → Move → Bool
-is_shipment_of lot (Ship l sublot) = same_bytes l lot
-is_shipment_of lot _ = false
+is_shipment_of lot what = is_some_where (λ own. same_bytes own lot) (lot_shipped what)
 
 -- what the movement takes of the lot as a shipment
 abbrev pub shipped_by : Bytes → MoveRow → ℕ

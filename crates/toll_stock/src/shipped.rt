@@ -1,7 +1,7 @@
 //! What was shipped of each lot.
 ghost use Rattle.std.specs.Prelude.{◌≡◌, ◌+◌, ◌<◌, ◌^◌, if◌then◌else◌, IfOk, OnOk};
 ghost use Rattle.toll_base.specs.Bytes.{Bytes};
-ghost use Rattle.toll_stock.specs.LotTotals.{AreShippedIn, amount_of, is_shipment_of};
+ghost use Rattle.toll_stock.specs.LotTotals.{AreShippedIn, amount_of, is_shipment_of, lot_shipped};
 
 use std::alloc::{AllocError, Global};
 use std::collections::BTreeMap;
@@ -44,11 +44,21 @@ impl Shipped {
         requires { (lot : Bytes) → amount_of self.old lot + amount < 2 ^ 64 }
         ensures { OnOk result ((lot : Bytes) → amount_of self.new lot ≡ amount_of self.old lot + (if is_shipment_of lot what.now then amount else 0)) }
     {
-        let Move::Ship { lot, .. } = *what else {
+        let Some(lot) = lot_shipped(what) else {
             return Ok(());
         };
         let sum = self.amount(&lot) + amount;
         self.amounts.insert(lot, sum)?;
         Ok(())
+    }
+}
+
+// The lot that the movement ships, where it is a shipment.
+fn lot_shipped(what: &Move) -> Option<Name>
+    ensures { result ≡ lot_shipped what.now }
+{
+    match *what {
+        Move::Ship { lot, .. } => Some(lot),
+        _ => None,
     }
 }
