@@ -1,11 +1,11 @@
-//! A keep that counts the slices that are read of it.
+//! A keep that counts what is read of it.
 ghost use Rattle.toll_keep.specs.Meaning.{meaning_of};
 
 use std::alloc::Global;
 use toll_base::{Change, Edge, Name, OwnerRow, Slice, UnitRow};
 use toll_keep::{Holder, Keep, KeepFault};
 
-/// A keep around another one, that counts the calls of `slice`, and passes on all.
+/// A keep around another one, that counts the calls of `slice`, `owners` and `units`, and passes on all.
 #[derive(Drop)]
 pub struct Counting<K> {
     keep: K,
@@ -18,7 +18,7 @@ impl<K: Keep> Counting<K> {
         Counting { keep, read: 0 }
     }
 
-    /// How many slices were read.
+    /// How many times a slice, the owners or the units were read.
     pub fn read(&self) -> u64 {
         self.read
     }
@@ -33,10 +33,12 @@ impl<K: Keep> Keep for Counting<K> {
     }
 
     fn owners(&mut self, alloc: Global) -> Result<Vec<OwnerRow>, KeepFault> {
+        self.read = self.read.saturating_add(1);
         self.keep.owners(alloc)
     }
 
     fn units(&mut self, alloc: Global) -> Result<Vec<UnitRow>, KeepFault> {
+        self.read = self.read.saturating_add(1);
         self.keep.units(alloc)
     }
 

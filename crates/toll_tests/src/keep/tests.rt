@@ -100,6 +100,22 @@ fn a_refused_change_makes_it_forget(rt: HostRuntime) -> Result<(), Fail> {
 }
 
 #[test]
+fn owners_and_units_are_read_again_once_one_is_added(rt: HostRuntime) -> Result<(), Fail> {
+    let alloc = rt.alloc();
+    let mut keep = Remembering::new(alloc, Counting::new(filled(alloc)?));
+    check_owners(alloc, &mut keep)?;
+    check_owners(alloc, &mut keep)?;
+    let mut bolt = acme()?;
+    bolt.owner = Name::parse(b"BOLT")?;
+    keep.apply(alloc, &[Change::Owner(bolt)])?;
+    let are_two = keep.owners(alloc)?.len() == 2;
+    check(
+        are_two && keep.inside().read() == 3,
+        "not read again, or too often",
+    )
+}
+
+#[test]
 fn edges_come_from_a_remembered_slice(rt: HostRuntime) -> Result<(), Fail> {
     let alloc = rt.alloc();
     let mut keep = Remembering::new(alloc, filled(alloc)?);
