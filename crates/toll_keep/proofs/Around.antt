@@ -1,5 +1,5 @@
 -- A keep that remembers, around another one: what is so of it by what is so of the one inside.
-use Rattle.std.proofs.Common.{◌≡◌, ◌≢◌, false, Some, Result, Ok, Err, OnOk, OnErr, [], ◌∷◌, inl, sym, subst, ◌∙◌}
+use Rattle.std.proofs.Common.{◌≡◌, ◌≢◌, false, Some, Result, Ok, Err, OnOk, OnErr, inl, sym, subst, ◌∙◌}
 use Rattle.std.specs.Prelude.{IsSome, IsTrue}
 use mathlib.Core.Bool.{false≢true}
 use Rattle.std.proofs.Math.Logic.{∥∥₁_elim}
@@ -14,6 +14,7 @@ use Rattle.toll_keep.specs.declared.fault.KeepFault.TheVariants.{Damaged}
 use Rattle.toll_keep.specs.declared.keep.Keep.{Ghosts}
 use Rattle.toll_keep.specs.declared.recollection.Recollection.{Recollection}
 use Rattle.toll_keep.specs.declared.remembering.Remembering.{Remembering}
+use Rattle.toll_keep.proofs.Calls.{Rests}
 
 -- where nothing is remembered, that is of any content
 pub nothing_of : (c : Content) (r : Recollection) → IsNothing r → IsOf c r
@@ -99,8 +100,16 @@ module _ {T : Type 0} (K : Ghosts T) where
 
   -- ---- where something is remembered
 
-  -- the keep inside is open, and while it is honest it lives, as after a reading call
-  pub rested : ((k : T) (c : Content) → K.meaning.is_honest k → K.meaning.is_live k → K.meaning.holds k c → K.meaning.leaves k (c ∷ [])) → ((k : T) (a b : K.meaning.is_live k) → a ≡ b) → (old : Remembering T K) → ¬ (IsNothing old.recollection) → HaveRead K.meaning old.keep old.keep
+  -- that a store has not shut itself is one fact
+  abbrev LivesOnce : Type 0
+  LivesOnce = (k : T) (a b : K.meaning.is_live k) → a ≡ b
+
+  -- the keep inside is as after a reading call that was answered
+  abbrev RestsWhereSome : Remembering T K → Type 0
+  RestsWhereSome old = ¬ (IsNothing old.recollection) → HaveRead K.meaning old.keep old.keep
+
+  -- it is open, and while it is honest it lives
+  pub rested : Rests K.meaning → LivesOnce → (old : Remembering T K) → RestsWhereSome old
   rested settled once old some =
       let open_there = old.unclosed some in
       let shut : IsTrue (K.meaning.is_closed old.keep) → ⊥ = λ closed. false≢true (sym open_there ∙ closed) in
@@ -122,10 +131,10 @@ module _ {T : Type 0} (K : Ghosts T) where
       }
 
   -- what is told from it, or read and then remembered, is answered on
-  pub tells_around : {X : Type 0} → ((k : T) (c : Content) → K.meaning.is_honest k → K.meaning.is_live k → K.meaning.holds k c → K.meaning.leaves k (c ∷ [])) → ((k : T) (a b : K.meaning.is_live k) → a ≡ b) → (old new : Remembering T K) (middle : Recollection) (told answer : Result X KeepFault) → answer ≡ told → OnOk told (new.recollection ≡ middle) → OnErr told (IsNothing new.recollection) → (K.meaning.is_honest new.keep → (c : Content) → K.meaning.holds old.keep c → IsOf c old.recollection → IsOf c middle) → ((¬ (IsNothing old.recollection) → HaveRead K.meaning old.keep old.keep) → ReadsInside old.keep new.keep told) → ReadsAround old new answer
+  pub tells_around : {X : Type 0} → Rests K.meaning → LivesOnce → (old new : Remembering T K) (middle : Recollection) (told answer : Result X KeepFault) → answer ≡ told → OnOk told (new.recollection ≡ middle) → OnErr told (IsNothing new.recollection) → (K.meaning.is_honest new.keep → (c : Content) → K.meaning.holds old.keep c → IsOf c old.recollection → IsOf c middle) → (RestsWhereSome old → ReadsInside old.keep new.keep told) → ReadsAround old new answer
   tells_around settled once old new middle told answer same kept forgotten own reads =
       reads_around old new told answer same (λ honest c held of. or_forgotten c told middle new.recollection kept forgotten (own honest c held of)) (reads (rested settled once old))
 
   -- and what is remembered then may stand
-  pub telling_stands : {X : Type 0} → ((k : T) (c : Content) → K.meaning.is_honest k → K.meaning.is_live k → K.meaning.holds k c → K.meaning.leaves k (c ∷ [])) → ((k : T) (a b : K.meaning.is_live k) → a ≡ b) → (old : Remembering T K) (now : T) (told : Result X KeepFault) (r : Recollection) → OnErr told (IsNothing r) → ((¬ (IsNothing old.recollection) → HaveRead K.meaning old.keep old.keep) → ReadsInside old.keep now told) → MayStand now r
+  pub telling_stands : {X : Type 0} → Rests K.meaning → LivesOnce → (old : Remembering T K) (now : T) (told : Result X KeepFault) (r : Recollection) → OnErr told (IsNothing r) → (RestsWhereSome old → ReadsInside old.keep now told) → MayStand now r
   telling_stands settled once old now told r forgotten reads = told_stands old.keep now told r forgotten (reads (rested settled once old)).goes
