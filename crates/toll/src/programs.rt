@@ -3,9 +3,9 @@ use std::alloc::{AllocError, Global};
 use std::fmt::Display;
 use std::fs::{File, OpenOptions};
 use std::io::ErrorKind;
-use std::net::{Ipv4Addr, SocketAddrV4, TcpListener};
 use std::{env, io};
-use toll_office::{OfficeFault, Served, do_command, do_import, do_script, serve_all};
+use toll_office::{OfficeFault, Sockets, do_command, do_import, do_script, serve_all};
+use toll_peers::Served;
 use toll_plant::{MOST_FILE_BYTES, WordsFault, command_of};
 use toll_programs::{
     FrontFault, Status, Task, read_front, task_of, tell, tell_end, usage_of, warn,
@@ -104,19 +104,18 @@ fn read_file(rt: &HostRuntime, path: &str) -> Result<Vec<u8>, FrontFault> {
 }
 
 fn run_serve(rt: &HostRuntime, file: &str, port: u16, count: u64) -> u64 {
-    let Ok(listener) = TcpListener::bind(rt, SocketAddrV4::new(Ipv4Addr::LOCALHOST, port)) else {
+    let Ok(mut sockets) = Sockets::listen(rt, port) else {
         return fail(rt, Status::Failed, "fault Net");
     };
-    let Ok(address) = listener.local_addr() else {
+    let Ok(port) = sockets.port() else {
         return fail(rt, Status::Failed, "fault Net");
     };
-    let port = address.port();
     if println!(rt; "listening {port}").is_err() {
         return fail(rt, Status::Failed, "fault Write");
     }
-    match serve_all(rt, &listener, file, count) {
-        Served::AcceptFault => fail(rt, Status::Failed, "fault Net"),
-        _ => u64::from(Status::Done.code()),
+    match serve_all(rt, &mut sockets, file, count) {
+        Served::All | Served::Spent => u64::from(Status::Done.code()),
+        Served::Fault => fail(rt, Status::Failed, "fault Net"),
     }
 }
 

@@ -10,8 +10,8 @@ const LOCKED_FROM: u64 = 1 << 30;
 
 const LOCKED_BYTES: u64 = 512;
 
-/// How many descriptors are looked at for the one of a file.
-const MOST_DESCRIPTORS: i32 = 64;
+/// How many descriptors are looked at for the one of a file, of which each peer of a server has one.
+const MOST_DESCRIPTORS: i32 = 1024;
 
 /// How many bytes at the front of a file tell its states apart: the log's hold numbers that are drawn
 /// anew whenever the file is opened.

@@ -1,13 +1,14 @@
 //! The office on a file.
 ghost use Rattle.std.specs.Prelude.{IfOk};
 ghost use Rattle.toll_sql.specs.Opened.{IsOpened};
+ghost use Rattle.toll_wire.specs.Steps.{IsAnswered};
 
 use sqlite::{File as StoreFile, FileStore, Unknown};
 use std::fs;
 use std::fs::{File, OpenOptions};
 use std::io::ErrorKind;
 use thiserror::Error;
-use toll_keep::Remembering;
+use toll_keep::{Keep, Remembering};
 use toll_sql::{OpenFault, SqlKeep};
 use toll_wire::{Out, answer};
 
@@ -98,7 +99,9 @@ pub fn close_keep(keep: FileKeep) {
 }
 
 /// The answer to a request, over the office in the file, as [`answer`] gives it.
-pub fn answer_from(rt: &HostRuntime, keep: &mut FileKeep, request: &[u8]) -> Out {
+pub fn answer_from(rt: &HostRuntime, keep: &mut FileKeep, request: &[u8]) -> Out
+    ensures { IsAnswered ⟦<FileKeep as Keep>⟧.meaning keep.old keep.new request.now result }
+{
     answer(rt.alloc(), keep, request)
 }
 

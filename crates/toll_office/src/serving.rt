@@ -1,9 +1,10 @@
 //! Serving owners on a socket.
+use crate::desk::Desk;
 use crate::office::{Office, answer_from};
-use crate::session::Session;
+use crate::sockets::Sockets;
 use crate::timed::Timed;
-use std::io::ErrorKind;
 use std::net::{TcpListener, TcpStream};
+use toll_peers::{Served as Ended, serve};
 use toll_wire::{Out, ReadFault, read_request, write_reply};
 
 /// What came of one connection.
@@ -32,41 +33,14 @@ pub fn serve_one(rt: &HostRuntime, listener: &TcpListener, path: &str) -> Served
     }
 }
 
-/// Serves so many connections one after another, as [`serve_one`] does each of them, but for how often the
-/// file is opened: it stays open between requests while nobody else changes it. It ends early where no
-/// connection came.
-pub fn serve_all(rt: &HostRuntime, listener: &TcpListener, path: &str, count: u64) -> Served {
-    let mut session = Session::new();
-    let mut last = Served::Answered;
-    for _ in 0..count {
-        last = serve_next(rt, listener, path, &mut session);
-        if last == Served::AcceptFault {
-            break;
-        }
-    }
-    session.close(rt, path);
-    last
-}
-
-fn serve_next(
-    rt: &HostRuntime,
-    listener: &TcpListener,
-    path: &str,
-    session: &mut Session,
-) -> Served {
-    match listener.accept() {
-        Ok((socket, _)) => serve_peer(rt, &socket, path, session),
-        // A peer for whom there is no memory goes without a reply.
-        Err(fault) if fault.kind() == ErrorKind::OutOfMemory => Served::ReadFault,
-        Err(_) => Served::AcceptFault,
-    }
-}
-
-fn serve_peer(rt: &HostRuntime, socket: &TcpStream, path: &str, session: &mut Session) -> Served {
-    match take_request(rt, socket) {
-        Ok(request) => give(rt, socket, &session.answer(rt, path, &request)),
-        Err(_) => Served::ReadFault,
-    }
+/// Serves so many owners side by side over the office in the file, as [`toll_peers::serve`] does: each is
+/// answered as [`serve_one`] answers it, but for how often the file is opened: it stays open between
+/// requests while nobody else changes it.
+pub fn serve_all(rt: &HostRuntime, sockets: &mut Sockets<'_>, path: &str, count: u64) -> Ended {
+    let mut desk = Desk::new(rt, path);
+    let ended = serve(rt.alloc(), sockets, &mut desk, count);
+    desk.close();
+    ended
 }
 
 // The request that the peer sends, which it must within the time.

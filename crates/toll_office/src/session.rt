@@ -1,7 +1,10 @@
 //! An office that stays open between requests, while others may use its file.
+ghost use Rattle.toll_office.specs.Serving.{IsAnsweredOver};
+
 use crate::lending::Lending;
 use crate::office::{FileKeep, answer_from, close_keep, open_keep, take_lock};
 use std::io;
+use toll_keep::Keep;
 use toll_wire::Out;
 
 /// Serves requests over a file. It is opened for the first one, and stays open as long as nobody else
@@ -25,7 +28,9 @@ impl Session {
 
     /// The answer to a request. Where the lock isn't got or the file isn't opened, it is 503; after a 503
     /// the file is opened anew.
-    pub fn answer(&mut self, rt: &HostRuntime, path: &str, request: &[u8]) -> Out {
+    pub fn answer(&mut self, rt: &HostRuntime, path: &str, request: &[u8]) -> Out
+        ensures { IsAnsweredOver ⟦<FileKeep as Keep>⟧ request.now result }
+    {
         let Ok(lock) = take_lock(rt, path) else {
             return Out::Unavailable;
         };
@@ -37,7 +42,9 @@ impl Session {
         reply
     }
 
-    fn answer_over(&mut self, rt: &HostRuntime, mut opened: Opened, request: &[u8]) -> Out {
+    fn answer_over(&mut self, rt: &HostRuntime, mut opened: Opened, request: &[u8]) -> Out
+        ensures { IsAnsweredOver ⟦<FileKeep as Keep>⟧ request.now result }
+    {
         let reply = answer_from(rt, &mut opened.keep, request);
         if let Out::Text(_) = &reply {
             self.opened = opened.lend(rt);
