@@ -1,10 +1,11 @@
-use Rattle.std.proofs.Common.{rules}
-use Rattle.toll_http.proofs.StreamLemmas.{none_more_failed, read_more}
+use Rattle.std.proofs.Common.{arith, rules}
+use Rattle.toll_http.proofs.Onward.{read_onward}
+use Rattle.toll_http.proofs.StreamLemmas.{none_more_failed}
 use Rattle.toll_programs.proofs.input.fill.Goals as goal
 
 pub loop-filled-preserved : goal.loop-filled-preserved
 loop-filled-preserved g c = record {
   within = search rules;
-  given = read_more _ _ _ c.loop-filled.buffer c.read_behind.new.buffer c.loop-filled.filled c.in-Ok.n c.read_behind.ensures.front c.loop-filled.invariant.given c.in-Ok.ensures.given;
+  given = read_onward _ _ _ c.loop-filled.buffer c.read_behind.new.buffer 0 c.loop-filled.filled c.in-Ok.n (omega arith) c.loop-filled.invariant.within c.read_behind.ensures.front c.loop-filled.invariant.given c.in-Ok.ensures.given;
   sound = none_more_failed _ _ _ c.loop-filled.invariant.sound c.in-Ok.ensures.failures;
 }
