@@ -86,11 +86,20 @@ pub fn open_keep(rt: &HostRuntime, path: &str) -> Result<FileKeep, OpenFault>
     if is_fresh && was_moved_away(rt, path)? {
         return Err(OpenFault::NotOurs);
     }
-    let keep = match SqlKeep::open_from(rt, path, is_fresh, Unknown) {
-        Err(OpenFault::NotOurs) => SqlKeep::open_from(rt, path, !is_fresh, Unknown)?,
-        opened => opened?,
-    };
-    Ok(Remembering::new(rt.alloc(), keep))
+    match open_as(rt, path, is_fresh) {
+        Err(OpenFault::NotOurs) => open_as(rt, path, !is_fresh),
+        opened => opened,
+    }
+}
+
+// The keep in a file whose tables are to be made, where it is fresh, or to be found.
+fn open_as(rt: &HostRuntime, path: &str, is_fresh: bool) -> Result<FileKeep, OpenFault>
+    ensures { IfOk result IsOpened }
+{
+    match SqlKeep::open_from(rt, path, is_fresh, Unknown) {
+        Ok(keep) => Ok(Remembering::new(rt.alloc(), keep)),
+        Err(fault) => Err(fault),
+    }
 }
 
 /// Closes the file. What was answered stands in it whether or not the closing meets a fault.

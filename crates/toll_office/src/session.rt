@@ -31,15 +31,24 @@ impl Session {
     pub fn answer(&mut self, rt: &HostRuntime, path: &str, request: &[u8]) -> Out
         ensures { IsAnsweredOver ⟦<FileKeep as Keep>⟧ request.now result }
     {
-        let Ok(lock) = take_lock(rt, path) else {
-            return Out::Unavailable;
-        };
-        let reply = match self.take(rt, path) {
+        match take_lock(rt, path) {
+            Ok(lock) => {
+                let reply = self.answer_locked(rt, path, request);
+                let _ = lock.unlock();
+                reply
+            }
+            Err(_) => Out::Unavailable,
+        }
+    }
+
+    // The same under the lock.
+    fn answer_locked(&mut self, rt: &HostRuntime, path: &str, request: &[u8]) -> Out
+        ensures { IsAnsweredOver ⟦<FileKeep as Keep>⟧ request.now result }
+    {
+        match self.take(rt, path) {
             Some(opened) => self.answer_over(rt, opened, request),
             None => Out::Unavailable,
-        };
-        let _ = lock.unlock();
-        reply
+        }
     }
 
     fn answer_over(&mut self, rt: &HostRuntime, mut opened: Opened, request: &[u8]) -> Out

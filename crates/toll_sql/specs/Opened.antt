@@ -1,5 +1,5 @@
 -- A keep that was opened from files, before anything is asked of it.
-use Rattle.std.specs.Prelude.{Bool}
+use Rattle.std.specs.Prelude.{◌≡◌, Bool}
 use Rattle.sqlite.specs.Held.{Held}
 use Rattle.sqlite_disk.specs.declared.Disk as disk
 use Rattle.sqlite_store.specs.declared.store.FileStore.{FileStore}
@@ -18,4 +18,4 @@ IsFound conn = (fresh : Bool) × (image : Image) × IsKeptFrom fresh image conn
 -- a keep that remembers nothing yet, around one whose tables were
 abbrev pub IsOpened : {D : Type 0} {d : disk.Ghosts D} {g : store.Ghosts (FileStore D d)} {h : keep.Ghosts (SqlKeep (FileStore D d) g)}
     → Remembering (SqlKeep (FileStore D d) g) h → Type 0
-IsOpened r = IsFound r.keep.conn × IsNothing r.recollection
+IsOpened {D} {d} {g} r = (inside : SqlKeep (FileStore D d) g) × (r.keep ≡ inside) × IsFound inside.conn × IsNothing r.recollection
