@@ -7,7 +7,8 @@ use Rattle.toll_keep.specs.Meaning.{Meaning}
 use Rattle.toll_keep.specs.Content.{Content, after, Fits}
 use Rattle.toll_keep.specs.Goes.{Goes}
 use Rattle.toll_keep.specs.declared.fault.KeepFault.{KeepFault}
-use Rattle.toll_desk.specs.Plans.{finished, LeadsTo, IsDone}
+use Rattle.toll_desk.specs.Outcome.{finished, IsDone}
+use Rattle.toll_desk.specs.Plans.{LeadsTo}
 use Rattle.toll_keep.proofs.Calls.{goes_then, goes_as, goes_fault}
 
 pub no_changes : (changes : List Change) → (length changes == 0) ≡ true → changes ≡ []

@@ -40,7 +40,8 @@ use Rattle.toll_desk.specs.declared.plant_form.SharedDeed.{SharedDeed}
 use Rattle.toll_desk.specs.declared.plant_form.SharedDeed.TheVariants as shared
 use mathlib.Core.Bool.{false≢true}
 use Rattle.std.specs.Option.{option_map}
-use Rattle.toll_desk.specs.Plans.{LeadsTo, PutsShared, IsOwnDecision, IsDeedDecision, owner_row_checks, unit_row_checks}
+use Rattle.toll_desk.specs.Admission.{owner_row_checks, unit_row_checks}
+use Rattle.toll_desk.specs.Plans.{LeadsTo, PutsShared, IsOwnDecision, IsDeedDecision}
 use Rattle.toll_desk.proofs.Lift.{adds_neither, same_grown, leads_on, leads_shared, leads_nowhere, first_of_either}
 use Rattle.toll_desk.proofs.OwnerAdded.{leads_to_owner}
 use Rattle.toll_desk.proofs.UnitAdded.{leads_to_unit}

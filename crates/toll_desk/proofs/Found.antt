@@ -8,7 +8,7 @@ use Rattle.toll_base.specs.Words.{is_some_where, where_so}
 use Rattle.toll_base.specs.Table.{row_at}
 use Rattle.toll_base.specs.declared.rows.OwnerRow.{OwnerRow}
 use Rattle.toll_base.proofs.Texts.{same_bytes-exact}
-use Rattle.toll_desk.specs.Plans.{is_admitted}
+use Rattle.toll_desk.specs.Admission.{is_admitted}
 
 module _ {R : Type 0} (key : R → Bytes) where
   -- the row with this key

@@ -8,7 +8,8 @@ use Rattle.toll_answers.specs.Replies.{IsAnswer, after_answer}
 use Rattle.toll_keep.specs.Content.{Content}
 use Rattle.toll_standing.specs.Standing.{StandsFor}
 use Rattle.toll_desk.specs.Forms.{asked_to_read, asked_to_trace, asked_to_write}
-use Rattle.toll_desk.specs.Plans.{LeadsTo, IsPlanFor, writes}
+use Rattle.toll_desk.specs.Asking.{writes}
+use Rattle.toll_desk.specs.Plans.{LeadsTo, IsPlanFor}
 use Rattle.toll_desk.specs.declared.form.Reading.{Reading}
 use Rattle.toll_desk.specs.declared.form.Reading.TheVariants as reading
 use Rattle.toll_desk.specs.declared.form.Tracing.{Tracing}

@@ -21,7 +21,8 @@ use Rattle.toll_standing.proofs.Knowing.{standing_knows}
 use Rattle.toll_history.specs.OwnChanges.{PutsOnly}
 use Rattle.toll_answers.specs.Told.{Asked, AskPlace, AskCancel, AskRelease, AskReject, Told, TellForbidden}
 use Rattle.toll_answers.specs.Replies.{has_key, IsAnswer, after_answer, IsReply, after_reply}
-use Rattle.toll_desk.specs.Plans.{is_admitted, IsPlanOver, IsPlanFor, IsPlan}
+use Rattle.toll_desk.specs.Admission.{is_admitted}
+use Rattle.toll_desk.specs.Plans.{IsPlanOver, IsPlanFor, IsPlan}
 use Rattle.toll_desk.proofs.Lift.{SamePlant, same_plant-refl, same_grown, leads_on, leads_nowhere}
 
 -- ---- the key

@@ -10,7 +10,8 @@ use Rattle.toll_keep.specs.Goes.{Keeps, IsReading, Settles}
 use Rattle.toll_standing.specs.Standing.{StandsFor}
 use Rattle.toll_keep.specs.declared.fault.KeepFault.{KeepFault}
 use Rattle.toll_desk.specs.PlantForms.{asked_by_question}
-use Rattle.toll_desk.specs.Plans.{GoesFor, IsDone, HoldsFor, asks_recall}
+use Rattle.toll_desk.specs.Asking.{asks_recall}
+use Rattle.toll_desk.specs.Outcome.{GoesFor, IsDone, HoldsFor}
 use Rattle.toll_desk.specs.Questions.{IsGoing}
 use Rattle.toll_desk.specs.declared.plant_form.Question.{Question}
 use Rattle.toll_desk.specs.declared.plant_form.Question.TheVariants as question

@@ -30,7 +30,9 @@ use Rattle.toll_keep.specs.Content.{Content}
 use Rattle.toll_keep.specs.Meaning.{Meaning}
 use Rattle.toll_keep.specs.declared.fault.KeepFault.{KeepFault}
 use Rattle.toll_standing.specs.Standing.{StandsFor}
-use Rattle.toll_desk.specs.Plans.{Disposes, IsDone, IsOwnDecision, IsPlan, IsPlanFor, IsPlanOver, LeadsTo, plant_told, told_of}
+use Rattle.toll_desk.specs.Asking.{plant_told, told_of}
+use Rattle.toll_desk.specs.Outcome.{IsDone}
+use Rattle.toll_desk.specs.Plans.{Disposes, IsOwnDecision, IsPlan, IsPlanFor, IsPlanOver, LeadsTo}
 use Rattle.toll_desk.specs.Questions.{AreSlicesFor, is_known_lot}
 use Rattle.toll_desk.specs.Reads.{Over}
 use Rattle.toll_desk.specs.declared.plant_cmd.PlantPlan.{PlantPlan}

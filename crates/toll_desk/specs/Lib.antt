@@ -1,5 +1,8 @@
 pub mod Reads
+pub mod Asking
+pub mod Admission
 pub mod Plans
+pub mod Outcome
 pub mod Clauses
 pub mod PlantServed
 pub mod Forms

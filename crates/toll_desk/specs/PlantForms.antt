@@ -4,7 +4,7 @@ use Rattle.toll_base.specs.Values.{house_name}
 use Rattle.toll_history.specs.Command.{Action, AddOwner, AddUnit, AddMaterial, AddTest, AddRecipe, Require, PlaceOrder, CancelOrder, OpenBatch, CommandBatch, CloseBatch, RecordResult, Release, Reject, Void, Command, by}
 use Rattle.toll_base.specs.declared.movement.Move.TheVariants as move
 use Rattle.toll_answers.specs.PlantAnswers.{PlantAsked, Does, AsksOrders, AsksStock, AsksBatch, AsksTrace, AsksRecall, CannotRead}
-use Rattle.toll_desk.specs.Plans.{moves}
+use Rattle.toll_desk.specs.Asking.{moves}
 use Rattle.toll_desk.specs.declared.plant_form.PlantForm.{PlantForm}
 use Rattle.toll_desk.specs.declared.plant_form.PlantForm.TheVariants as form
 use Rattle.toll_desk.specs.declared.plant_form.Deed.{Deed}

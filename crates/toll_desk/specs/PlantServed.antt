@@ -7,7 +7,8 @@ use Rattle.toll_keep.specs.Content.{Content, ContentKeepsRules}
 use Rattle.toll_keep.specs.Goes.{Settles}
 use Rattle.toll_keep.specs.declared.fault.KeepFault.TheVariants.{Damaged}
 use Rattle.toll_answers.specs.PlantAnswers.{CannotRead, Judged}
-use Rattle.toll_desk.specs.Plans.{asked_by, asks_recall, is_accepted, plant_told, GoesFor, IsValidDeed}
+use Rattle.toll_desk.specs.Asking.{asked_by, asks_recall, is_accepted, plant_told, IsValidDeed}
+use Rattle.toll_desk.specs.Outcome.{GoesFor}
 use Rattle.toll_desk.specs.Clauses.{IsPlantDone}
 use Rattle.toll_desk.specs.Reads.{Over}
 use Rattle.toll_desk.specs.declared.plant_cmd.PlantCmd.{PlantCmd}

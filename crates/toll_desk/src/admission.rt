@@ -7,7 +7,7 @@ ghost use Rattle.toll_base.specs.Words.{where_so};
 ghost use Rattle.toll_keep.specs.Goes.{IsReading};
 ghost use Rattle.toll_keep.specs.Meaning.{OverHeld};
 ghost use Rattle.toll_desk.specs.Clauses.{IsFoundBy};
-ghost use Rattle.toll_desk.specs.Plans.{is_admitted};
+ghost use Rattle.toll_desk.specs.Admission.{is_admitted};
 
 use std::alloc::Global;
 use toll_base::{Name, OwnerRow};

@@ -5,7 +5,7 @@ ghost use Rattle.toll_keep.specs.Content.{ContentKeepsRules};
 ghost use Rattle.toll_keep.specs.Goes.{Goes, IsReading};
 ghost use Rattle.toll_keep.specs.Meaning.{OverHeld};
 ghost use Rattle.toll_desk.specs.Clauses.{IsDeedDone, IsDeedPlanned};
-ghost use Rattle.toll_desk.specs.Plans.{is_accepted, plant_told};
+ghost use Rattle.toll_desk.specs.Asking.{is_accepted, plant_told};
 ghost use Rattle.toll_desk.specs.PlantForms.{command_in};
 ghost use Rattle.toll_desk.specs.Reads.{Over};
 

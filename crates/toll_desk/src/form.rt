@@ -1,7 +1,7 @@
 //! What each request looks at, and what it then does.
 ghost use Rattle.std.specs.Prelude.{◌≡◌};
 ghost use Rattle.toll_desk.specs.Forms.{asked_in};
-ghost use Rattle.toll_desk.specs.Plans.{asked_of};
+ghost use Rattle.toll_desk.specs.Asking.{asked_of};
 
 use crate::request::Request;
 use toll_base::{BatchNo, Name};

@@ -4,7 +4,7 @@ ghost use Rattle.toll_keep.specs.Content.{ContentKeepsRules};
 ghost use Rattle.toll_keep.specs.Goes.{Goes, IsReading, Settles};
 ghost use Rattle.toll_keep.specs.Meaning.{OverHeld};
 ghost use Rattle.toll_desk.specs.Clauses.{IfPlacedAgain, IsOwnerDone, IsPlannedBy, IsPlannedFor, OverOwner};
-ghost use Rattle.toll_desk.specs.Plans.{asked_of, may_change, told_of};
+ghost use Rattle.toll_desk.specs.Asking.{asked_of, may_change, told_of};
 ghost use Rattle.toll_desk.specs.Reads.{Over};
 
 use crate::admission::admit;

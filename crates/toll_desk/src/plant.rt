@@ -6,7 +6,8 @@ ghost use Rattle.toll_answers.specs.PlantAnswers.{CannotRead, Judged};
 ghost use Rattle.toll_keep.specs.Goes.{FindsNoDamage, Settles};
 ghost use Rattle.toll_keep.specs.Meaning.{OverHeld};
 ghost use Rattle.toll_desk.specs.Clauses.{IsPlantDone};
-ghost use Rattle.toll_desk.specs.Plans.{GoesFor, IsValidDeed, asked_by, asks_recall, is_accepted, plant_told};
+ghost use Rattle.toll_desk.specs.Asking.{IsValidDeed, asked_by, asks_recall, is_accepted, plant_told};
+ghost use Rattle.toll_desk.specs.Outcome.{GoesFor};
 ghost use Rattle.toll_desk.specs.Reads.{Over};
 
 use crate::deeds::do_deed;

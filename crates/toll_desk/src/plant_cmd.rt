@@ -3,7 +3,8 @@ ghost use Rattle.std.specs.Prelude.{◌≡◌, false, [], Ok};
 ghost use Rattle.toll_base.specs.Changes.{changes_of};
 ghost use Rattle.toll_history.specs.Decision.{verdict_of};
 ghost use Rattle.toll_answers.specs.PlantAnswers.{Judged};
-ghost use Rattle.toll_desk.specs.Plans.{finished, is_accepted, plant_told};
+ghost use Rattle.toll_desk.specs.Asking.{is_accepted, plant_told};
+ghost use Rattle.toll_desk.specs.Outcome.{finished};
 
 use std::alloc::Global;
 use toll_base::{

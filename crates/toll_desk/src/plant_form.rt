@@ -1,6 +1,6 @@
 //! What each command of the plant looks at, and what it then does.
 ghost use Rattle.std.specs.Prelude.{◌≡◌};
-ghost use Rattle.toll_desk.specs.Plans.{asked_by, IsValidDeed};
+ghost use Rattle.toll_desk.specs.Asking.{asked_by, IsValidDeed};
 ghost use Rattle.toll_desk.specs.PlantForms.{asked_in};
 
 use crate::plant_cmd::PlantCmd;

@@ -9,7 +9,7 @@ ghost use Rattle.toll_genealogy.specs.Edges.{ArePlantEdges, IsPlantEdge};
 ghost use Rattle.toll_answers.specs.PlantAnswers.{IsPlantAnswer, AreOrdersShown, IsTraceShown, AsksTrace, AsksRecall, AsksBatch, Shows};
 ghost use Rattle.toll_keep.specs.Goes.{IsReading, Keeps};
 ghost use Rattle.toll_desk.specs.Clauses.{IsRefusedAs, IsTextAs};
-ghost use Rattle.toll_desk.specs.Plans.{plant_told, asks_recall, is_accepted};
+ghost use Rattle.toll_desk.specs.Asking.{plant_told, asks_recall, is_accepted};
 ghost use Rattle.toll_desk.specs.PlantForms.{asked_of_rows, asked_by_question};
 ghost use Rattle.toll_desk.specs.Questions.{IsGoing, is_known_lot};
 ghost use Rattle.toll_desk.specs.Reads.{Over};

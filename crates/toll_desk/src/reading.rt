@@ -9,7 +9,7 @@ ghost use Rattle.toll_answers.specs.Told.{AskBatch, AskOrders};
 ghost use Rattle.toll_keep.specs.Goes.{IsReading};
 ghost use Rattle.toll_desk.specs.Clauses.{IsReadAs, OverKnown};
 ghost use Rattle.toll_desk.specs.Forms.{asked_to_read};
-ghost use Rattle.toll_desk.specs.Plans.{told_of};
+ghost use Rattle.toll_desk.specs.Asking.{told_of};
 
 use crate::form::Reading;
 use crate::request::Reply;

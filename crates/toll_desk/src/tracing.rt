@@ -10,7 +10,7 @@ ghost use Rattle.toll_trace.specs.Trace.{IsTrace};
 ghost use Rattle.toll_keep.specs.Goes.{IsReading};
 ghost use Rattle.toll_desk.specs.Clauses.{IsToldAs, IsTracedOver, OverOwner};
 ghost use Rattle.toll_desk.specs.Forms.{asked_to_trace, traced_from, traced_way};
-ghost use Rattle.toll_desk.specs.Plans.{told_of};
+ghost use Rattle.toll_desk.specs.Asking.{told_of};
 ghost use Rattle.toll_desk.specs.Questions.{may_trace};
 
 use crate::form::Tracing;

@@ -7,7 +7,8 @@ ghost use Rattle.toll_base.specs.declared.decision.Change.TheVariants as Change;
 ghost use Rattle.toll_history.specs.Command.{AddOwner, AddUnit, by};
 ghost use Rattle.toll_history.specs.Decision.{IsDecided};
 ghost use Rattle.toll_keep.specs.Goes.{IsReading};
-ghost use Rattle.toll_desk.specs.Plans.{IsDeedDecision, owner_row_checks, unit_row_checks};
+ghost use Rattle.toll_desk.specs.Admission.{owner_row_checks, unit_row_checks};
+ghost use Rattle.toll_desk.specs.Plans.{IsDeedDecision};
 ghost use Rattle.toll_desk.specs.Reads.{Over};
 
 use crate::admission::{find_owner, is_house, is_same};

@@ -7,7 +7,7 @@ ghost use Rattle.toll_keep.specs.Goes.{IsReading};
 ghost use Rattle.toll_keep.specs.Meaning.{OverHeld};
 ghost use Rattle.toll_desk.specs.Clauses.{IfPlacedAgain, IsDisposedOver, IsPlannedFor, IsPlannedOver, OverKnown};
 ghost use Rattle.toll_desk.specs.Forms.{asked_to_write};
-ghost use Rattle.toll_desk.specs.Plans.{is_granted, told_of};
+ghost use Rattle.toll_desk.specs.Asking.{is_granted, told_of};
 
 use crate::form::Writing;
 use crate::reading::{lot_shown, order_shown};

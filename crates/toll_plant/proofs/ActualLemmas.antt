@@ -5,7 +5,7 @@ use Rattle.std.specs.List.{AllByRecursion}
 use Rattle.toll_base.specs.declared.refusal.Refusal.{Refusal}
 use Rattle.toll_base.specs.Lots.{lot_id}
 use Rattle.toll_base.specs.declared.movement.Move.TheVariants as move
-use Rattle.toll_desk.specs.Plans.{asked_by}
+use Rattle.toll_desk.specs.Asking.{asked_by}
 use Rattle.toll_desk.specs.declared.plant_cmd.PlantCmd.{PlantCmd}
 use Rattle.toll_desk.specs.declared.plant_cmd.PlantCmd.TheVariants.{Actual, Unread}
 use Rattle.toll_plant.specs.Commands.{command_from}

@@ -18,7 +18,8 @@ use Rattle.toll_keep.specs.declared.fault.KeepFault.{KeepFault}
 use Rattle.toll_keep.specs.declared.fault.KeepFault.TheVariants.{Memory, Disk, Damaged, Closed}
 use Rattle.toll_answers.specs.PlantAnswers.{PlantAsked, PlantTold, Does, CannotRead, Judged, Shows, IsPlantAnswer, after_plant}
 use Rattle.toll_answers.proofs.OwnReplies.{lawful-grow}
-use Rattle.toll_desk.specs.Plans.{asked_by, plant_told, GoesFor, IsDone, IsValidDeed}
+use Rattle.toll_desk.specs.Asking.{asked_by, plant_told, IsValidDeed}
+use Rattle.toll_desk.specs.Outcome.{GoesFor, IsDone}
 use Rattle.toll_desk.specs.declared.plant_cmd.PlantCmd.{PlantCmd}
 use Rattle.toll_desk.specs.declared.plant_cmd.PlantReply.{PlantReply}
 use Rattle.toll_plant.specs.Outcomes.{judged, outcome_of, is_fault}

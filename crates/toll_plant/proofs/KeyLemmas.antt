@@ -10,7 +10,7 @@ use Rattle.toll_history.specs.Verdict.{Verdict, Accepted, Repeated, Refused, IsL
 use Rattle.toll_history.proofs.Acts.{count_acts}
 use Rattle.toll_history.proofs.KeysOnce.{found_once}
 use Rattle.toll_answers.specs.PlantAnswers.{PlantAsked, Does, AsksOrders, AsksStock, AsksBatch, AsksTrace, AsksRecall, CannotRead, Judged, IsPlantAnswer, after_plant}
-use Rattle.toll_desk.specs.Plans.{asked_by}
+use Rattle.toll_desk.specs.Asking.{asked_by}
 use Rattle.toll_desk.specs.declared.plant_cmd.PlantCmd.{PlantCmd}
 use Rattle.toll_plant.specs.Outcomes.{judged, is_fault}
 use Rattle.toll_plant.specs.Imports.{Comes, IsImport, commands_in}

@@ -31,7 +31,7 @@ use Rattle.toll_history.proofs.EachMove.{each_move, of_found}
 use Rattle.toll_history.proofs.Found.{key_is_new, movement_of-recorded}
 use Rattle.toll_history.proofs.KeysOnce.{void_of_actual}
 use Rattle.toll_answers.specs.PlantAnswers.{PlantAsked, Does, Judged, IsPlantAnswer, after_plant}
-use Rattle.toll_desk.specs.Plans.{asked_by}
+use Rattle.toll_desk.specs.Asking.{asked_by}
 use Rattle.toll_desk.specs.declared.plant_cmd.PlantCmd.{PlantCmd}
 use Rattle.toll_plant.specs.Outcomes.{judged, is_fault}
 use Rattle.toll_plant.specs.Imports.{Comes, IsImport}

@@ -10,7 +10,7 @@ use Rattle.toll_history.specs.History.{History, acts}
 use Rattle.toll_history.specs.Laws.{has_this_key}
 use Rattle.toll_history.specs.Movements.{movement_of, voided_in}
 use Rattle.toll_answers.specs.PlantAnswers.{PlantAsked, Does}
-use Rattle.toll_desk.specs.Plans.{asked_by}
+use Rattle.toll_desk.specs.Asking.{asked_by}
 use Rattle.toll_desk.specs.declared.plant_cmd.PlantCmd.{PlantCmd}
 use Rattle.toll_plant.specs.Files.{Fields}
 use Rattle.toll_plant.specs.Imports.{IsImport, commands_in}

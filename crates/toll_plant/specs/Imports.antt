@@ -10,7 +10,8 @@ use Rattle.toll_keep.specs.Content.{Content}
 use Rattle.toll_keep.specs.declared.fault.KeepFault.{KeepFault}
 use Rattle.toll_keep.specs.declared.fault.KeepFault.TheVariants.{Memory, Damaged}
 use Rattle.toll_answers.specs.PlantAnswers.{Judged, IsPlantAnswer, after_plant}
-use Rattle.toll_desk.specs.Plans.{asked_by, plant_told, HoldsFor, LeavesOr}
+use Rattle.toll_desk.specs.Asking.{asked_by, plant_told}
+use Rattle.toll_desk.specs.Outcome.{HoldsFor, LeavesOr}
 use Rattle.toll_desk.specs.PlantServed.{IsPlantServed}
 use Rattle.toll_desk.specs.declared.plant_cmd.PlantCmd.{PlantCmd}
 use Rattle.toll_desk.specs.declared.plant_cmd.PlantReply.{PlantReply}

@@ -4,7 +4,7 @@ use Rattle.std.specs.Prelude.{option_map}
 use Rattle.std.specs.Option.{IfSome}
 use Rattle.toll_base.specs.Bytes.{Bytes}
 use Rattle.toll_answers.specs.Replies.{IsValidAsked}
-use Rattle.toll_desk.specs.Plans.{asked_of}
+use Rattle.toll_desk.specs.Asking.{asked_of}
 use Rattle.toll_desk.specs.declared.request.Request.{Request}
 use Rattle.toll_http.specs.declared.verb.Verb.{Verb}
 use Rattle.toll_bodies.specs.declared.body.Placing.{Placing}

@@ -8,7 +8,7 @@ use Rattle.toll_history.specs.History.{History, part}
 use Rattle.toll_history.specs.Verdict.{Accepted, Repeated, Refused}
 use Rattle.toll_keep.specs.declared.fault.KeepFault.{KeepFault}
 use Rattle.toll_answers.specs.PlantAnswers.{PlantAsked, Does, AsksOrders, AsksStock, AsksBatch, AsksTrace, AsksRecall, CannotRead, PlantTold, Judged, Shows as ShowsText}
-use Rattle.toll_desk.specs.Plans.{asked_by, plant_told}
+use Rattle.toll_desk.specs.Asking.{asked_by, plant_told}
 use Rattle.toll_wire.specs.declared.event.Event.{Event}
 use Rattle.toll_wire.specs.declared.event.Event.TheVariants.{Owner, Plant as CommandOf}
 use Rattle.toll_wire.specs.declared.event.Answer.{Answer}

@@ -16,7 +16,9 @@ use Rattle.toll_keep.specs.declared.fault.KeepFault.{KeepFault}
 use Rattle.toll_keep.specs.declared.fault.KeepFault.TheVariants.{Memory, Damaged}
 use Rattle.toll_answers.specs.Told.{Asked, Told, TellForbidden, TellOrders, TellOrder, TellBatch, TellStock, TellLot, TellTrace, TellRefused}
 use Rattle.toll_answers.specs.Replies.{has_key, IsReply, after_reply}
-use Rattle.toll_desk.specs.Plans.{finished, is_granted, may_change, writes, IsPlan, IsDone}
+use Rattle.toll_desk.specs.Asking.{is_granted, may_change, writes}
+use Rattle.toll_desk.specs.Outcome.{finished, IsDone}
+use Rattle.toll_desk.specs.Plans.{IsPlan}
 use Rattle.toll_desk.specs.Reads.{Over}
 use Rattle.toll_keep.proofs.Calls.{Rests, goes_as, goes_fault, goes_memory, settles}
 use Rattle.toll_desk.proofs.Carried.{done_of, goes_on}

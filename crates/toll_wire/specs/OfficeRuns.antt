@@ -7,7 +7,8 @@ use Rattle.toll_keep.specs.Content.{Content}
 use Rattle.toll_keep.specs.declared.fault.KeepFault.{KeepFault}
 use Rattle.toll_keep.specs.declared.fault.KeepFault.TheVariants.{Memory}
 use Rattle.toll_answers.specs.PlantAnswers.{PlantTold}
-use Rattle.toll_desk.specs.Plans.{asked_by, plant_told, HoldsFor, LeavesOr}
+use Rattle.toll_desk.specs.Asking.{asked_by, plant_told}
+use Rattle.toll_desk.specs.Outcome.{HoldsFor, LeavesOr}
 use Rattle.toll_desk.specs.PlantServed.{IsPlantServed}
 use Rattle.toll_wire.specs.declared.event.Event.{Event}
 use Rattle.toll_wire.specs.declared.event.Event.TheVariants.{Owner, Plant as Command}

@@ -6,7 +6,7 @@ use Rattle.toll_history.specs.History.{History}
 use Rattle.toll_history.specs.Verdict.{Accepted}
 use Rattle.toll_keep.specs.declared.fault.KeepFault.{KeepFault}
 use Rattle.toll_answers.specs.PlantAnswers.{PlantAsked, Does, PlantTold, Judged}
-use Rattle.toll_desk.specs.Plans.{asked_by, plant_told}
+use Rattle.toll_desk.specs.Asking.{asked_by, plant_told}
 use Rattle.toll_wire.specs.declared.event.Event.{Event}
 use Rattle.toll_wire.specs.declared.event.Event.TheVariants.{Owner, Plant}
 use Rattle.toll_wire.specs.declared.event.Answer.{Answer}

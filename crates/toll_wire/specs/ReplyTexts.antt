@@ -8,7 +8,7 @@ use Rattle.toll_base.specs.declared.refusal.Refusal.TheVariants.{UnknownOrder, U
 use Rattle.toll_keep.specs.declared.fault.KeepFault.{KeepFault}
 use Rattle.toll_desk.specs.declared.request.Reply.{Reply}
 use Rattle.toll_answers.specs.Told.{Told, TellForbidden, TellOrders, TellOrder, TellBatch, TellStock, TellLot, TellTrace, TellRefused}
-use Rattle.toll_desk.specs.Plans.{told_of}
+use Rattle.toll_desk.specs.Asking.{told_of}
 use Rattle.toll_http.specs.Messages.{reply_text}
 use Rattle.toll_http.specs.declared.failure.Failure.{Failure}
 use Rattle.toll_http.specs.declared.failure.Failure.TheVariants.{Forbidden}

@@ -8,7 +8,7 @@ use Rattle.toll_history.specs.Verdict.{Accepted}
 use Rattle.toll_answers.specs.Told.{Asked, Told}
 use Rattle.toll_answers.specs.Replies.{IsValidAsked, has_key, IsReply, after_reply}
 use Rattle.toll_answers.specs.PlantAnswers.{PlantAsked, Does, PlantTold, Judged, IsPlantAnswer, after_plant}
-use Rattle.toll_desk.specs.Plans.{IsValidDeed}
+use Rattle.toll_desk.specs.Asking.{IsValidDeed}
 
 -- what is asked with a key: a request, or something that fails a check after the key's, with the text that it is told
 pub data Asking : Type 0 where

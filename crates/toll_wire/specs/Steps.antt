@@ -8,7 +8,8 @@ use Rattle.toll_keep.specs.Content.{Content, ContentKeepsRules}
 use Rattle.toll_keep.specs.Goes.{Goes, Settles}
 use Rattle.toll_keep.specs.declared.fault.KeepFault.{KeepFault}
 use Rattle.toll_keep.specs.declared.fault.KeepFault.TheVariants.{Damaged}
-use Rattle.toll_desk.specs.Plans.{asked_of, writes, IsDone}
+use Rattle.toll_desk.specs.Asking.{asked_of, writes}
+use Rattle.toll_desk.specs.Outcome.{IsDone}
 use Rattle.toll_desk.specs.Reads.{Over}
 use Rattle.toll_http.specs.declared.failure.Failure.TheVariants.{Forbidden}
 use Rattle.toll_routes.specs.declared.asks.Asks.{Asks as AsksFor}

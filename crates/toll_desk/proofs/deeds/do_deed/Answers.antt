@@ -4,7 +4,7 @@ use Rattle.toll_answers.specs.PlantAnswers.{Judged}
 use Rattle.toll_history.specs.Verdict.{grow, verdict}
 use Rattle.toll_keep.specs.Goes.{Goes}
 use Rattle.toll_desk.specs.PlantForms.{command_in}
-use Rattle.toll_desk.specs.Plans.{is_accepted, plant_told}
+use Rattle.toll_desk.specs.Asking.{is_accepted, plant_told}
 use Rattle.toll_desk.proofs.Carried.{done_of, goes_on, quiet_of}
 use Rattle.toll_desk.proofs.deeds.do_deed.Goals as goal
 

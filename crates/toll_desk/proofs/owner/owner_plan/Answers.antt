@@ -6,7 +6,8 @@ use Rattle.toll_base.specs.Slice.{order_at}
 use Rattle.toll_base.specs.Values.{house_name}
 use Rattle.toll_history.specs.History.{owner_known}
 use Rattle.toll_answers.specs.Replies.{has_key}
-use Rattle.toll_desk.specs.Plans.{asked_of, told_of, IsPlanFor}
+use Rattle.toll_desk.specs.Asking.{asked_of, told_of}
+use Rattle.toll_desk.specs.Plans.{IsPlanFor}
 use Rattle.toll_desk.proofs.OwnerPlans.{right_key, wrong_key, key_known, not_house_by, plan_admitted, plan_forbidden}
 use Rattle.toll_desk.proofs.owner.owner_plan.Goals as goal
 

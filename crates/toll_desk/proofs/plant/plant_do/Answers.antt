@@ -2,7 +2,8 @@ use Rattle.std.proofs.Common.{sym, subst}
 use Rattle.toll_answers.specs.PlantAnswers.{IsPlantAnswer, after_plant}
 use Rattle.toll_standing.proofs.KeptRules.{standing_keeps_rules}
 use Rattle.toll_desk.specs.PlantForms.{asked_by_question}
-use Rattle.toll_desk.specs.Plans.{IsDone, plant_told}
+use Rattle.toll_desk.specs.Asking.{plant_told}
+use Rattle.toll_desk.specs.Outcome.{IsDone}
 use Rattle.toll_desk.proofs.PlantForms.{question_done, question_settles}
 use Rattle.toll_keep.proofs.Calls.{settles, settles_still}
 use Rattle.toll_desk.proofs.plant.plant_do.Goals as goal

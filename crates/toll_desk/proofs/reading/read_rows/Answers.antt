@@ -4,7 +4,7 @@ use Rattle.std.proofs.lemmas.Result.{IfOk-weaker}
 use Rattle.toll_answers.specs.Replies.{IsAnswer}
 use Rattle.toll_history.specs.Tables.{IsRowsOf}
 use Rattle.toll_desk.specs.Forms.{asked_to_read}
-use Rattle.toll_desk.specs.Plans.{told_of}
+use Rattle.toll_desk.specs.Asking.{told_of}
 use Rattle.toll_desk.proofs.OwnerPlans.{slice_read, none_read}
 use Rattle.toll_desk.proofs.reading.read_rows.Goals as goal
 

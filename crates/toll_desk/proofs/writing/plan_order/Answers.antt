@@ -4,7 +4,8 @@ use Rattle.toll_base.specs.Changes.{changes_of}
 use Rattle.toll_history.specs.Command.{PlaceOrder}
 use Rattle.toll_history.specs.Decision.{verdict_of}
 use Rattle.toll_answers.specs.Told.{AskPlace}
-use Rattle.toll_desk.specs.Plans.{told_of, IsPlanOver}
+use Rattle.toll_desk.specs.Asking.{told_of}
+use Rattle.toll_desk.specs.Plans.{IsPlanOver}
 use Rattle.toll_desk.proofs.DeedPlans.{own_decision}
 use Rattle.toll_desk.proofs.WriteOver.{place_accepted, place_repeated, place_refused}
 use Rattle.toll_desk.proofs.writing.plan_order.Goals as goal

@@ -6,7 +6,7 @@ use Rattle.toll_history.specs.History.{owner_known}
 use Rattle.toll_history.specs.Tables.{IsRowsOf}
 use Rattle.std.specs.Option.{is_some}
 use Rattle.toll_desk.specs.Forms.{asked_to_write}
-use Rattle.toll_desk.specs.Plans.{told_of}
+use Rattle.toll_desk.specs.Asking.{told_of}
 use Rattle.toll_desk.proofs.OwnerPlans.{slice_read, none_read, plan_lift}
 use Rattle.toll_desk.proofs.writing.plan_write.Goals as goal
 

@@ -1,5 +1,5 @@
 use Rattle.std.proofs.Common.{Some, sym, subst}
-use Rattle.toll_desk.specs.Plans.{asked_of, told_of}
+use Rattle.toll_desk.specs.Asking.{asked_of, told_of}
 use Rattle.toll_wire.specs.Runs.{Asks, By}
 use Rattle.toll_wire.specs.Steps.{IsServing}
 use Rattle.toll_wire.proofs.Served.{untold, plan_told}
