@@ -22,6 +22,7 @@ use Rattle.toll_base.specs.declared.decision.Decision.TheVariants.{Refuse}
 use Rattle.toll_base.specs.declared.refusal.Refusal.TheVariants.{UnknownOwner, OwnerExists, UnitExists, LimitReached}
 use Rattle.toll_base.proofs.Texts.{same_bytes-refl}
 use Rattle.toll_history.proofs.Passed.{accepted_passes}
+use Rattle.toll_answers.specs.PlantAnswers.{PlantAsked, Does, Judged}
 use Rattle.toll_keep.specs.Content.{Content}
 use Rattle.toll_standing.specs.Standing.{StandsFor}
 use Rattle.toll_standing.proofs.Knowing.{standing_knows}
@@ -31,17 +32,11 @@ use Rattle.toll_standing.specs.Held.{on_unit}
 use Rattle.toll_keep.specs.declared.holder.Holder.{Holder}
 use Rattle.toll_history.specs.Holders.{holder}
 use Rattle.toll_work.specs.Opening.{IsToldOfUnit, DecidesOpening}
-use Rattle.toll_desk.specs.PlantForms.{own_action, shared_action}
-use Rattle.toll_desk.specs.declared.plant_form.OwnDeed.{OwnDeed}
-use Rattle.toll_desk.specs.declared.plant_form.OwnDeed.TheVariants as own
-use Rattle.toll_desk.specs.declared.plant_form.StockDeed.TheVariants as stock
-use Rattle.toll_desk.specs.declared.plant_form.WorkDeed.TheVariants as work
-use Rattle.toll_desk.specs.declared.plant_form.SharedDeed.{SharedDeed}
-use Rattle.toll_desk.specs.declared.plant_form.SharedDeed.TheVariants as shared
 use mathlib.Core.Bool.{false≢true}
 use Rattle.std.specs.Option.{option_map}
 use Rattle.toll_desk.specs.Admission.{owner_row_checks, unit_row_checks}
-use Rattle.toll_desk.specs.Plans.{LeadsTo, PutsShared, IsOwnDecision, IsDeedDecision}
+use Rattle.toll_desk.specs.Plans.{LeadsTo, PutsShared, IsOwnDecision, IsPlantDecision}
+use Rattle.toll_desk.specs.Subjects.{IsDeed, IsOwn, concerned, is_shared}
 use Rattle.toll_desk.proofs.Lift.{adds_neither, same_grown, leads_on, leads_shared, leads_nowhere, first_of_either}
 use Rattle.toll_desk.proofs.OwnerAdded.{leads_to_owner}
 use Rattle.toll_desk.proofs.UnitAdded.{leads_to_unit}
@@ -54,37 +49,28 @@ unknown_refused H o a needs unknown = rw (needs, unknown) refl
 pub house_known : (H : History) → owner_known H house_name ≡ true
 house_known H = first_of_either (same_bytes house_name house_name) (list_any adds_owner (acts house_name H)) (same_bytes-refl house_name)
 
--- these decisions add neither owners nor units, and need their owner to be known
-pub own_deed_adds : (deed : OwnDeed) → adds_neither (own_action deed) ≡ true
-own_deed_adds (own.Stock (stock.AddMaterial material measure)) = refl
-own_deed_adds (own.Stock (stock.AddTest material test limits)) = refl
-own_deed_adds (own.Stock (stock.Receive key material lot sublot amount day)) = refl
-own_deed_adds (own.Stock (stock.Split key lot sublot target amount day)) = refl
-own_deed_adds (own.Stock (stock.Ship key lot sublot amount day)) = refl
-own_deed_adds (own.Stock (stock.Scrap key lot sublot amount day)) = refl
-own_deed_adds (own.Stock (stock.Result lot test value day)) = refl
-own_deed_adds (own.Stock (stock.Release lot)) = refl
-own_deed_adds (own.Stock (stock.Reject lot)) = refl
-own_deed_adds (own.Work (work.AddRecipe recipe segments)) = refl
-own_deed_adds (own.Work (work.Place order recipe batches)) = refl
-own_deed_adds (own.Work (work.Cancel order)) = refl
-own_deed_adds (own.Work (work.Command order number command)) = refl
-own_deed_adds (own.Work (work.Close order number)) = refl
+-- what is so of all that is such is so of it
+pub deed_so : (P Q : Action → Type 0) → ((a : Action) → P a → Q a) → (q : PlantAsked) → IsDeed P q → IsDeed Q q
+deed_so P Q so (Does command) deed = so command.action deed
+deed_so P Q so q deed = absurd deed
 
-pub shared_deed_adds : (deed : SharedDeed) → adds_neither (shared_action deed) ≡ true
-shared_deed_adds (shared.Require row) = refl
-shared_deed_adds (shared.Actual key order number segment role material lot sublot amount day) = refl
-shared_deed_adds (shared.Void key) = refl
+-- these decisions add neither owners nor units, and need their owner to be known
+abbrev pub AddsNeither : Action → Type 0
+AddsNeither a = adds_neither a ≡ true
+
+pub own_adds : (a : Action) → IsOwn a → adds_neither a ≡ true
+own_adds (AddOwner key) own = absurd own
+own_adds (AddUnit unit) own = absurd own
+own_adds a own = refl
+
+pub shared_adds : (a : Action) → is_shared a ≡ true → adds_neither a ≡ true
+shared_adds (AddOwner key) shared = shared
+shared_adds (AddUnit unit) shared = shared
+shared_adds a shared = refl
 
 needs_if : (a : Action) → adds_neither a ≡ true → needs_owner a ≡ true
 needs_if (AddOwner key) neither = absurd (false≢true neither)
 needs_if a neither = refl
-
-pub own_deed_needs : (deed : OwnDeed) → needs_owner (own_action deed) ≡ true
-own_deed_needs deed = needs_if (own_action deed) (own_deed_adds deed)
-
-pub shared_deed_needs : (deed : SharedDeed) → needs_owner (shared_action deed) ≡ true
-shared_deed_needs deed = needs_if (shared_action deed) (shared_deed_adds deed)
 
 -- ---- whether a unit is free
 
@@ -109,38 +95,52 @@ pub own_decision : (H : History) (s : Slice) (a : Action) (d : Decision) → IsL
 unfolding Decides DecisionKeepsRules
 own_decision H s a d lawful valid decides rules own = record { right = decides H lawful valid; rules = rules; own = own }
 
+pub deed_decision : (H : History) (s : Slice) (q : PlantAsked) (d : Decision) → IsLawful H → IsDeed IsValid q → IsDeed (λ a. Decides (by s.owner a) s d) q
+    → DecisionKeepsRules s d → PutsOnly s.owner (changes_of d) → IsDeed (λ a. IsOwnDecision H s a d) q
+deed_decision H s (Does command) d lawful valid decides rules own = own_decision H s command.action d lawful valid decides rules own
+deed_decision H s q d lawful valid decides rules own = absurd valid
+
 module _ (c : Content) (H : History) (stands : StandsFor c H) where
-  pub decided_unknown : (o : Bytes) (a : Action) → needs_owner a ≡ true → owner_known H o ≡ false → IsDeedDecision c H (by o a) (Refuse UnknownOwner)
-  decided_unknown o a needs unknown =
-      let refused = sym (unknown_refused H o a needs unknown) in
-      record { verdict_is = refused; leads = subst (λ v. LeadsTo c [] (grown v H (by o a))) refused (leads_nowhere c H stands) }
+  pub decided_unknown : (q : PlantAsked) → IsDeed AddsNeither q → owner_known H (concerned q) ≡ false → IsPlantDecision c H q (Refuse UnknownOwner)
+  decided_unknown (Does command) neither unknown =
+      let refused = sym (unknown_refused H command.owner command.action (needs_if command.action neither) unknown) in
+      record { answer = ap Judged refused; leads = subst (λ v. LeadsTo c [] (grown v H command)) refused (leads_nowhere c H stands) }
+  decided_unknown q neither unknown = absurd neither
 
   module _ (lawful : IsLawful H) where
     -- a decision over the rows of an owner is so over the content
-    pub decided_own : (o : Bytes) (a : Action) (s : Slice) (d : Decision) → adds_neither a ≡ true → owner_known H o ≡ true → s ≡ c.rows o → IsOwnDecision H s a d → IsDeedDecision c H (by o a) d
-    decided_own o a s d neither known is own =
+    pub decided_own : (q : PlantAsked) (s : Slice) (d : Decision) → IsDeed AddsNeither q → owner_known H (concerned q) ≡ true → s ≡ c.rows (concerned q)
+        → IsDeed (λ a. IsOwnDecision H s a d) q → IsPlantDecision c H q d
+    decided_own (Does command) s d neither known is own =
+        let o = command.owner in
+        let a = command.action in
         let named : s.owner ≡ o = ap (λ t. t.owner) is ∙ stands.own o in
         let right = own.right (ap (owner_known H) named ∙ known) (subst (IsRowsOf H) (sym is) (stands.known o known)) in
         record {
-          verdict_is = right.verdict_is ∙ ap (λ p. verdict H (by p a)) named;
+          answer = ap Judged (right.verdict_is ∙ ap (λ p. verdict H (by p a)) named);
           leads = leads_on c H stands lawful o known (changes_of d) (subst (λ p. PutsOnly p (changes_of d)) named own.own) (subst (ChangesKeepRules (changes_of d)) is own.rules) _ (same_grown H o a neither)
               (subst (λ p. (t : Slice) → IsRowsOf H t → IsRowsOf (grown (verdict H (by p a)) H (by p a)) (after_changes (changes_of d) t)) named right.rows_are);
         }
+    decided_own q s d neither known is own = absurd neither
 
     -- and so is one over the rows of an owner and of HOUSE
-    pub decided_both : (o : Bytes) (a : Action) (s house : Slice) (d : Decision) → adds_neither a ≡ true → IsValid a → owner_known H o ≡ true → s ≡ c.rows o → house ≡ c.rows house_name →
-        DecidesWith (by s.owner a) s house d → DecisionKeepsRules s d → (same_bytes s.owner house.owner ≡ false → DecisionKeepsRules house d) → PutsShared s.owner (changes_of d) → IsDeedDecision c H (by o a) d
+    pub decided_both : (q : PlantAsked) (s house : Slice) (d : Decision) → IsDeed AddsNeither q → IsDeed IsValid q → owner_known H (concerned q) ≡ true
+        → s ≡ c.rows (concerned q) → house ≡ c.rows house_name → IsDeed (λ a. DecidesWith (by s.owner a) s house d) q → DecisionKeepsRules s d
+        → (same_bytes s.owner house.owner ≡ false → DecisionKeepsRules house d) → PutsShared s.owner (changes_of d) → IsPlantDecision c H q d
     unfolding DecidesWith DecisionKeepsRules
-    decided_both o a s house d neither valid known is house_is decides rules house_rules own =
+    decided_both (Does command) s house d neither valid known is house_is decides rules house_rules own =
+        let o = command.owner in
+        let a = command.action in
         let named : s.owner ≡ o = ap (λ t. t.owner) is ∙ stands.own o in
         let house_named : house.owner ≡ house_name = ap (λ t. t.owner) house_is ∙ stands.own house_name in
         let right = decides H lawful valid (ap (owner_known H) named ∙ known) (subst (IsRowsOf H) (sym is) (stands.known o known)) (subst (IsRowsOf H) (sym house_is) (stands.known house_name (house_known H))) house_named in
         record {
-          verdict_is = right.verdict_is ∙ ap (λ p. verdict H (by p a)) named;
+          answer = ap Judged (right.verdict_is ∙ ap (λ p. verdict H (by p a)) named);
           leads = leads_shared c H stands lawful o known (changes_of d) (subst (λ p. PutsShared p (changes_of d)) named own) (subst (ChangesKeepRules (changes_of d)) is rules)
               (λ other. subst (ChangesKeepRules (changes_of d)) house_is (house_rules ((λ i. same_bytes (named i) (house_named i)) ∙ other))) _ (same_grown H o a neither)
               (subst (λ p. (t : Slice) → IsRowsOf H t → IsRowsOf (grown (verdict H (by p a)) H (by p a)) (after_changes (changes_of d) t)) named right.rows_are);
         }
+    decided_both q s house d neither valid known is house_is decides rules house_rules own = absurd neither
 
     -- an owner's being added
     module _ (row : OwnerRow) where
@@ -156,9 +156,9 @@ module _ (c : Content) (H : History) (stands : StandsFor c H) where
       leads_by Repeated is = leads_nowhere c H stands
       leads_by (Refused why) is = leads_nowhere c H stands
 
-      pub decided_owner : (d : Decision) → IsDecided (owner_row_checks c.owners row) (Owner row ∷ []) d → IsDeedDecision c H adding d
+      pub decided_owner : (d : Decision) → IsDecided (owner_row_checks c.owners row) (Owner row ∷ []) d → IsPlantDecision c H (Does adding) d
       decided_owner d decided = record {
-        verdict_is = decided.says ∙ owner_verdict;
+        answer = ap Judged (decided.says ∙ owner_verdict);
         leads = subst (λ v. LeadsTo c (changes_of d) (grown v H adding)) owner_verdict
             (subst (λ changes. LeadsTo c changes (grown (first_of (owner_row_checks c.owners row)) H adding)) (sym decided.makes) (leads_by _ (sym owner_verdict)));
       }
@@ -179,9 +179,9 @@ module _ (c : Content) (H : History) (stands : StandsFor c H) where
       unit_leads_by Repeated is = leads_nowhere c H stands
       unit_leads_by (Refused why) is = leads_nowhere c H stands
 
-      pub decided_unit : (d : Decision) → IsDecided (unit_row_checks c.units row) (UnitAdded row ∷ []) d → IsDeedDecision c H adding_unit d
+      pub decided_unit : (d : Decision) → IsDecided (unit_row_checks c.units row) (UnitAdded row ∷ []) d → IsPlantDecision c H (Does adding_unit) d
       decided_unit d decided = record {
-        verdict_is = decided.says ∙ unit_verdict;
+        answer = ap Judged (decided.says ∙ unit_verdict);
         leads = subst (λ v. LeadsTo c (changes_of d) (grown v H adding_unit)) unit_verdict
             (subst (λ changes. LeadsTo c changes (grown (first_of (unit_row_checks c.units row)) H adding_unit)) (sym decided.makes) (unit_leads_by _ (sym unit_verdict)));
       }

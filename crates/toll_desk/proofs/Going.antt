@@ -1,7 +1,6 @@
 -- How a recall goes: reading calls that were answered, and then one more, or damage that is told.
-use Rattle.std.proofs.Common.{◌≡◌, Bool, List, Result, Ok, Err, inl, inr}
+use Rattle.std.proofs.Common.{◌≡◌, Result, Ok, Err, inl, inr}
 use Rattle.toll_keep.specs.Meaning.{Meaning}
-use Rattle.toll_keep.specs.Content.{Content}
 use Rattle.toll_keep.specs.Goes.{IsReading}
 use Rattle.toll_keep.specs.declared.fault.KeepFault.{KeepFault}
 use Rattle.toll_keep.specs.declared.fault.KeepFault.TheVariants.{Damaged}

@@ -9,7 +9,7 @@ pub mod ReadOver
 pub mod WriteOver
 pub mod OwnerForms
 pub mod OwnTraces
-pub mod PlantForms
+pub mod PlantQuestions
 pub mod PlantShown
 pub mod RecallLines
 pub mod Going

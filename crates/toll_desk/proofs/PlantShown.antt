@@ -27,13 +27,15 @@ use Rattle.toll_print.specs.Texts.{orders_text, batch_text, recall_text}
 use Rattle.toll_genealogy.specs.Recall.{IsRecall}
 use Rattle.toll_genealogy.specs.declared.recall.RecallLine.{RecallLine}
 use Rattle.toll_desk.specs.Questions.{is_known_lot}
-use Rattle.toll_answers.specs.PlantAnswers.{PlantTold, Judged, Shows, AreOrdersShown, IsBatchShownOr, IsCheckedOr, AsksRecall, IsPlantAnswer, owner_checks, lot_checks}
+use Rattle.toll_answers.specs.PlantAnswers.{PlantAsked, PlantTold, AsksOrders, AsksStock, AsksBatch, Judged, Shows, AreOrdersShown, IsBatchShownOr, IsCheckedOr, AsksRecall, IsPlantAnswer, owner_checks, lot_checks}
 use Rattle.toll_standing.proofs.Unknown.{acts_of_unknown}
-use Rattle.toll_desk.specs.PlantForms.{asked_of_rows}
-use Rattle.toll_desk.specs.declared.plant_form.Shown.{Shown}
-use Rattle.toll_desk.specs.declared.plant_form.Shown.TheVariants.{Orders, Stock, Batch}
+use Rattle.toll_desk.specs.Subjects.{AsksRows, asked_of_rows, concerned}
 use Rattle.toll_desk.proofs.DeedPlans.{house_known}
-use Rattle.toll_desk.proofs.OwnTraces.{touches, joined_edge, joined_known}
+use Rattle.toll_desk.proofs.OwnTraces.{touches, joined_edge, joined_known, rows_read}
+use Rattle.toll_desk.proofs.OwnerPlans.{some_read}
+use Rattle.toll_history.specs.OverRows.{OverOwnRows}
+use Rattle.toll_keep.specs.Content.{Content, slice_of}
+use Rattle.toll_standing.specs.Standing.{StandsFor}
 
 -- what is so of an answer, where it is this one
 pub told_ok : {X E : Type 0} (P : X → Type 0) (r : Result X E) (x : X) → r ≡ Ok x → IfOk r P → P x
@@ -47,10 +49,24 @@ told_err P r e is so = subst (λ r. IfErr r P) is so
 pub orders_shown : (H : History) (s : Slice) (text : Bytes) → IsInKeyOrder bytes_cmp (λ row. row.order) s.orders → IsRowsOf H s → text ≡ orders_text s.orders → AreOrdersShown H s.owner (Shows text)
 orders_shown H s text ordered rows is = record { orders = s.orders; given = record { ordered = ordered; at = λ k i. (rows i).order k }; shown = ap Shows is }
 
-pub rows_of_unknown : (H : History) (o : Bytes) (shown : Shown) → owner_known H o ≡ false → IsPlantAnswer H (asked_of_rows o shown) (Judged (Refused UnknownOwner))
-rows_of_unknown H o Orders unknown = rw unknown refl
-rows_of_unknown H o Stock unknown = rw unknown refl
-rows_of_unknown H o (Batch order number) unknown = rw unknown refl
+pub rows_of_unknown : (H : History) (q : PlantAsked) → AsksRows q → owner_known H (concerned q) ≡ false → IsPlantAnswer H q (Judged (Refused UnknownOwner))
+rows_of_unknown H (AsksOrders o) asks unknown = rw unknown refl
+rows_of_unknown H (AsksStock o) asks unknown = rw unknown refl
+rows_of_unknown H (AsksBatch o order number) asks unknown = rw unknown refl
+rows_of_unknown H q asks unknown = absurd asks
+
+asked_again : (q : PlantAsked) (o : Bytes) → o ≡ concerned q → asked_of_rows o q ≡ q
+asked_again (AsksOrders owner) o is = ap AsksOrders is
+asked_again (AsksStock owner) o is = ap AsksStock is
+asked_again (AsksBatch owner order number) o is = ap (λ p. AsksBatch p order number) is
+asked_again q o is = refl
+
+-- what is so of the rows that were read is so of those that are asked about
+pub asked_read : (c : Content) (H : History) (q : PlantAsked) (s : Slice) → IsLawful H → StandsFor c H → Some s ≡ slice_of c (concerned q)
+    → (P : History → PlantAsked → Type 0) → OverOwnRows s (λ H. P H (asked_of_rows s.owner q)) → P H q
+asked_read c H q s lawful stands there P over =
+    let read = rows_read c H (concerned q) s stands there in
+    subst (P H) (asked_again q s.owner read.1) (over H lawful (ap (owner_known H) read.1 ∙ some_read c H (concerned q) s stands there) read.0)
 
 pub checked_owner : (H : History) (o : Bytes) (X : Type 0) (r : PlantTold) → owner_known H o ≡ true → X → IsCheckedOr (first_of (owner_checks H o)) X r
 checked_owner H o X r known x = rw known x
@@ -84,14 +100,14 @@ module _ (H : History) (o order : Bytes) (number : ℕ) where
     abbrev view_over : Option BatchView → Type 0
     view_over view = IsViewOver H o order number (order_of (acts o H) order) (batch_of (acts o H) (order, number)) view
 
-    pub batch_shown : (view : BatchView) → view_over (Some view) → IsPlantAnswer H (asked_of_rows o (Batch order number)) (Shows (batch_text view.row view.lines.items))
+    pub batch_shown : (view : BatchView) → view_over (Some view) → IsPlantAnswer H (AsksBatch o order number) (Shows (batch_text view.row view.lines.items))
     unfolding batch_on
     batch_shown view is = checked_owner H o _ _ known (shown_or (order_of (acts o H) order) (unit_of (acts o H) order number) (known_batch_checks (tables_given H o) order number) view is)
 
-    pub order_unknown : is_some (order_of (acts o H) order) ≡ false → IsPlantAnswer H (asked_of_rows o (Batch order number)) (Judged (Refused UnknownOrder))
+    pub order_unknown : is_some (order_of (acts o H) order) ≡ false → IsPlantAnswer H (AsksBatch o order number) (Judged (Refused UnknownOrder))
     order_unknown none = checked_owner H o _ _ known (no_order (order_of (acts o H) order) (batch_of (acts o H) (order, number)) none)
 
-    pub batch_unknown : is_some (order_of (acts o H) order) ≡ true → view_over None → IsPlantAnswer H (asked_of_rows o (Batch order number)) (Judged (Refused UnknownBatch))
+    pub batch_unknown : is_some (order_of (acts o H) order) ≡ true → view_over None → IsPlantAnswer H (AsksBatch o order number) (Judged (Refused UnknownBatch))
     batch_unknown some is = checked_owner H o _ _ known (no_batch (order_of (acts o H) order) (batch_of (acts o H) (order, number)) some is)
 
 -- ---- a lot

@@ -1,10 +1,8 @@
 -- What a request and a command of the plant ask, and what their replies tell.
-use Rattle.std.specs.Prelude.{ℕ, Bool, true, false, ◌&&◌, Result, Ok, Err}
-use Rattle.toll_base.specs.Bytes.{Bytes}
+use Rattle.std.specs.Prelude.{Bool, true, false, ◌&&◌, Result, Ok, Err}
 use Rattle.toll_base.specs.Values.{house_name}
-use Rattle.toll_base.specs.declared.movement.Move.{Move}
 use Rattle.toll_base.specs.declared.movement.Move.TheVariants as move
-use Rattle.toll_history.specs.Command.{Action, AddOwner, AddUnit, AddMaterial, AddTest, AddRecipe, Require, PlaceOrder, CancelOrder, OpenBatch, CommandBatch, CloseBatch, Record, RecordResult, Release, Reject, Void, by}
+use Rattle.toll_history.specs.Command.{AddOwner, AddUnit, AddMaterial, AddTest, AddRecipe, Require, PlaceOrder, CancelOrder, OpenBatch, CommandBatch, CloseBatch, RecordResult, Release, Reject, Void, by, moves}
 use Rattle.toll_history.specs.Verdict.{Accepted, Repeated, Refused, IsValid}
 use Rattle.toll_answers.specs.PlantAnswers.{PlantAsked, Does, AsksOrders, AsksStock, AsksBatch, AsksTrace, AsksRecall, CannotRead, PlantTold, Judged, Shows}
 use Rattle.toll_answers.specs.Told.{Asked, AskOrders, AskOrder, AskPlace, AskCancel, AskBatch, AskStock, AskLot, AskRelease, AskReject, AskBack, AskForward, AskHouseForward, Told, TellForbidden, TellOrders, TellOrder, TellBatch, TellStock, TellLot, TellTrace, TellRefused}
@@ -62,10 +60,6 @@ is_granted (Err fault) = false
 abbrev pub may_change : Asked → Result Told KeepFault → Bool
 may_change q outcome = writes q && is_granted outcome
 
--- a record of a movement
-abbrev pub moves : (key : Bytes) → Move → (amount day : ℕ) → Action
-moves key what amount day = Record (record { key = key; what = what; amount = amount; day = day })
-
 -- each of the plant's commands: what it does, or asks
 abbrev pub asked_by : PlantCmd → PlantAsked
 asked_by (cmd.OwnerAdd owner key) = Does (by owner (AddOwner key))
@@ -79,14 +73,14 @@ asked_by (cmd.Cancel order) = Does (by house_name (CancelOrder order))
 asked_by (cmd.Open owner order unit) = Does (by owner (OpenBatch order unit))
 asked_by (cmd.Do owner order number command) = Does (by owner (CommandBatch order number command))
 asked_by (cmd.Close owner order number) = Does (by owner (CloseBatch order number))
-asked_by (cmd.Receive owner key material lot sublot amount day) = Does (by owner (moves key (move.Receive material lot sublot) amount day))
-asked_by (cmd.Split owner key lot sublot target amount day) = Does (by owner (moves key (move.Split lot sublot target) amount day))
-asked_by (cmd.Ship owner key lot sublot amount day) = Does (by owner (moves key (move.Ship lot sublot) amount day))
-asked_by (cmd.Scrap owner key lot sublot amount day) = Does (by owner (moves key (move.Scrap lot sublot) amount day))
+asked_by (cmd.Receive owner key material lot sublot amount day) = Does (moves owner key (move.Receive material lot sublot) amount day)
+asked_by (cmd.Split owner key lot sublot target amount day) = Does (moves owner key (move.Split lot sublot target) amount day)
+asked_by (cmd.Ship owner key lot sublot amount day) = Does (moves owner key (move.Ship lot sublot) amount day)
+asked_by (cmd.Scrap owner key lot sublot amount day) = Does (moves owner key (move.Scrap lot sublot) amount day)
 asked_by (cmd.Result owner lot test value day) = Does (by owner (RecordResult lot test value day))
 asked_by (cmd.Release lot) = Does (by house_name (Release lot))
 asked_by (cmd.Reject lot) = Does (by house_name (Reject lot))
-asked_by (cmd.Actual key owner order number segment role material lot sublot amount day) = Does (by owner (moves key (move.Actual order number segment role material lot sublot) amount day))
+asked_by (cmd.Actual key owner order number segment role material lot sublot amount day) = Does (moves owner key (move.Actual order number segment role material lot sublot) amount day)
 asked_by (cmd.Void owner key) = Does (by owner (Void key))
 asked_by (cmd.Orders owner) = AsksOrders owner
 asked_by (cmd.Stock owner) = AsksStock owner

@@ -20,9 +20,9 @@ use Rattle.toll_keep.specs.Reads.{HaveRead}
 use Rattle.toll_keep.specs.declared.fault.KeepFault.TheVariants.{Damaged}
 use Rattle.toll_base.specs.declared.lot.Disposition.{Disposition}
 use Rattle.toll_base.specs.declared.refusal.Refusal.{Refusal}
-use Rattle.toll_history.specs.Command.{Action, Command}
+use Rattle.toll_history.specs.Command.{Action}
 use Rattle.toll_history.specs.History.{History, owner_known}
-use Rattle.toll_history.specs.Verdict.{Refused, grow, verdict}
+use Rattle.toll_history.specs.Verdict.{Refused}
 use Rattle.toll_answers.specs.PlantAnswers.{IsPlantAnswer, Judged, PlantAsked, PlantTold, Shows, after_plant}
 use Rattle.toll_answers.specs.Replies.{IsAnswer, IsReply, after_reply, has_key}
 use Rattle.toll_answers.specs.Told.{AskPlace, Asked, Told}
@@ -104,6 +104,10 @@ IsPlannedFor c H o q planned = IfOk (told_of planned.reply) (λ told. IsPlanFor 
 abbrev pub IsPlannedBy : Content → History → (o key : Bytes) → Asked → Planned → Type 0
 IsPlannedBy c H o key q planned = IfOk (told_of planned.reply) (λ told. IsPlan c H o key q told planned.changes.items)
 
+-- where it is told, the plan of a command is the answer to it, and its changes lead to the content after it
+abbrev pub IsPlantPlanned : Content → History → PlantAsked → PlantPlan → Type 0
+IsPlantPlanned c H q plan = IfOk (plant_told plan.reply) (λ told. IsPlantAnswer H q told × LeadsTo c plan.changes.items (after_plant H q))
+
 -- this is so where an order is placed that is there already
 abbrev pub IfPlacedAgain : Slice → Asked → Type 0 → Type 0
 IfPlacedAgain s q P = (order recipe : Bytes) (batches : ℕ) → q ≡ AskPlace order recipe batches → is_some (order_at s order) ≡ true → P
@@ -120,15 +124,6 @@ module _ {K : Type 0} (meaning : Meaning K) (old new : K) where
   abbrev pub IsPlantDone : PlantAsked → Result PlantTold KeepFault → Type 0
   IsPlantDone q told =
       Over meaning old new (λ c H. IsDone (meaning.holds new) (meaning.is_live old) (meaning.leaves new) c (after_plant H q) told (IsPlantAnswer H q))
-
-  -- the verdict on a command is told over what was held, and what it makes of it is held
-  abbrev pub IsDeedDone : Command → Result PlantTold KeepFault → Type 0
-  IsDeedDone command told =
-      Over meaning old new (λ c H. IsDone (meaning.holds new) (meaning.is_live old) (meaning.leaves new) c (grow H command) told (λ it. it ≡ Judged (verdict H command)))
-
--- where it is told, the plan of a command is its verdict, and its changes lead to the content after it
-abbrev pub IsDeedPlanned : Content → History → Command → PlantPlan → Type 0
-IsDeedPlanned c H command plan = IfOk (plant_told plan.reply) (λ told. (told ≡ Judged (verdict H command)) × LeadsTo c plan.changes.items (grow H command))
 
 -- whatever history the content stands for, the name is found where the owner has this key
 abbrev pub IsFoundBy : Content → (o key : Bytes) → Result (Option Bytes) KeepFault → Type 0

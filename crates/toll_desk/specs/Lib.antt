@@ -6,5 +6,5 @@ pub mod Outcome
 pub mod Clauses
 pub mod PlantServed
 pub mod Forms
-pub mod PlantForms
+pub mod Subjects
 pub mod Questions

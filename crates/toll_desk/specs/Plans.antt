@@ -9,7 +9,7 @@ use Rattle.toll_base.specs.declared.decision.Change.{Change}
 use Rattle.toll_base.specs.declared.decision.Decision.{Decision}
 use Rattle.toll_base.specs.declared.lot.Disposition.{Disposition}
 use Rattle.toll_base.specs.declared.rows.LotRow.{LotRow}
-use Rattle.toll_history.specs.Command.{Action, Command, by}
+use Rattle.toll_history.specs.Command.{Action, by}
 use Rattle.toll_history.specs.Decision.{verdict_of, ChangesKeepRules, IsRightOver}
 use Rattle.toll_history.specs.Dispositions.{result_of}
 use Rattle.toll_history.specs.History.{History, acts, owner_known}
@@ -17,6 +17,7 @@ use Rattle.toll_history.specs.OwnChanges.{EachChange, is_put_of, PutsOnly}
 use Rattle.toll_history.specs.Tables.{IsRowsOf, lot_row, sublot_row}
 use Rattle.toll_history.specs.Verdict.{Accepted, verdict, grow}
 use Rattle.toll_history.specs.Work.{measure_of}
+use Rattle.toll_answers.specs.PlantAnswers.{PlantAsked, Judged, IsPlantAnswer, after_plant}
 use Rattle.toll_answers.specs.Replies.{IsLotOr, IsWritten, IsAnswer, after_answer, IsReply, after_reply}
 use Rattle.toll_answers.specs.Told.{Asked, Told}
 use Rattle.toll_keep.specs.Content.{Content, after, Fits}
@@ -74,7 +75,7 @@ pub record IsOwnDecision (H : History) (s : Slice) (a : Action) (d : Decision) :
   pub rules : ChangesKeepRules (changes_of d) s
   pub own : PutsOnly s.owner (changes_of d)
 
--- over the content of a keep, the decision is the verdict, and its changes lead to the content after it
-pub record IsDeedDecision (c : Content) (H : History) (command : Command) (d : Decision) : Type 0 where
-  pub verdict_is : verdict_of d ≡ verdict H command
-  pub leads : LeadsTo c (changes_of d) (grow H command)
+-- over the content of a keep, the decision is what the plant is told, and its changes lead to the content after it
+pub record IsPlantDecision (c : Content) (H : History) (q : PlantAsked) (d : Decision) : Type 0 where
+  pub answer : IsPlantAnswer H q (Judged (verdict_of d))
+  pub leads : LeadsTo c (changes_of d) (after_plant H q)

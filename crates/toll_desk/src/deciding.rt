@@ -1,18 +1,20 @@
 //! Decisions over the rows of a keep.
-ghost use Rattle.std.specs.Prelude.{◌≡◌, not, is_some, Some, IfOk};
+ghost use Rattle.std.specs.Prelude.{◌≡◌, true, not, is_some, Some, IfOk};
 ghost use Rattle.toll_base.specs.Values.{house_name};
 ghost use Rattle.toll_history.specs.Command.{OpenBatch, by};
 ghost use Rattle.toll_history.specs.Holders.{holder};
 ghost use Rattle.toll_history.specs.Verdict.{IsValid};
+ghost use Rattle.toll_answers.specs.PlantAnswers.{Does};
 ghost use Rattle.toll_work.specs.Opening.{IsToldOfUnit};
 ghost use Rattle.toll_keep.specs.Goes.{IsReading};
 ghost use Rattle.toll_keep.specs.Meaning.{OverHeld};
-ghost use Rattle.toll_desk.specs.Plans.{IsDeedDecision, IsOwnDecision};
-ghost use Rattle.toll_desk.specs.PlantForms.{command_in, own_action, shared_action};
+ghost use Rattle.toll_desk.specs.Asking.{asked_by};
+ghost use Rattle.toll_desk.specs.Plans.{IsOwnDecision, IsPlantDecision};
 ghost use Rattle.toll_desk.specs.Reads.{AreBoth, Over};
+ghost use Rattle.toll_desk.specs.Subjects.{IsDeed, IsOwn, is_shared};
 
 use crate::decisions::{decide_own, decide_shared};
-use crate::plant_form::{Deed, OwnDeed, SharedDeed};
+use crate::plant_cmd::PlantCmd;
 use crate::units::{decide_owner, decide_unit, find_unit};
 use std::alloc::Global;
 use toll_base::{Decision, Name, Refusal, Slice};
@@ -21,17 +23,23 @@ use toll_work::open_batch;
 
 /// The decision on a command. [`Refusal::UnknownOwner`] comes before the checks of all but the adding
 /// of owners and units.
-pub fn decide<K: Keep>(alloc: Global, keep: &mut K, deed: &Deed) -> Result<Decision, KeepFault>
-    requires { IsValid (command_in deed.now).action }
+pub fn decide<K: Keep>(
+    alloc: Global,
+    keep: &mut K,
+    command: &PlantCmd,
+) -> Result<Decision, KeepFault>
+    requires { IsDeed IsValid (asked_by command.now) }
     ensures reads { IsReading K.meaning keep.old keep.new result }
-    ensures over { Over K.meaning keep.old keep.new (λ c H. IfOk result (IsDeedDecision c H (command_in deed.now))) }
+    ensures over { Over K.meaning keep.old keep.new (λ c H. IfOk result (IsPlantDecision c H (asked_by command.now))) }
 {
-    match deed {
-        Deed::AddOwner { owner, key } => decide_owner(alloc, keep, *owner, *key),
-        Deed::AddUnit(unit) => decide_unit(alloc, keep, *unit),
-        Deed::Open { owner, order, unit } => decide_opening(alloc, keep, owner, *order, *unit),
-        Deed::Over(owner, deed) => decide_over(alloc, keep, owner, deed),
-        Deed::Shared(owner, deed) => decide_both(alloc, keep, owner, deed),
+    match *command {
+        PlantCmd::OwnerAdd { owner, key } => decide_owner(alloc, keep, owner, key),
+        PlantCmd::UnitAdd { unit } => decide_unit(alloc, keep, unit),
+        PlantCmd::Open { owner, order, unit } => decide_opening(alloc, keep, &owner, order, unit),
+        PlantCmd::Require { .. } | PlantCmd::Actual { .. } | PlantCmd::Void { .. } => {
+            decide_both(alloc, keep, command)
+        }
+        _ => decide_over(alloc, keep, command),
     }
 }
 
@@ -39,15 +47,15 @@ pub fn decide<K: Keep>(alloc: Global, keep: &mut K, deed: &Deed) -> Result<Decis
 fn decide_over<K: Keep>(
     alloc: Global,
     keep: &mut K,
-    owner: &Name,
-    deed: &OwnDeed,
+    command: &PlantCmd,
 ) -> Result<Decision, KeepFault>
-    requires { IsValid (own_action deed.now) }
+    requires own { IsDeed IsOwn (asked_by command.now) }
+    requires valid { IsDeed IsValid (asked_by command.now) }
     ensures reads { IsReading K.meaning keep.old keep.new result }
-    ensures over { Over K.meaning keep.old keep.new (λ c H. IfOk result (IsDeedDecision c H (by owner.now (own_action deed.now)))) }
+    ensures over { Over K.meaning keep.old keep.new (λ c H. IfOk result (IsPlantDecision c H (asked_by command.now))) }
 {
-    match keep.slice(alloc, owner) {
-        Ok(Some(slice)) => match decide_own(alloc, &slice, deed) {
+    match keep.slice(alloc, &command.owner()) {
+        Ok(Some(slice)) => match decide_own(alloc, &slice, command) {
             Ok(decision) => Ok(decision),
             Err(_) => Err(KeepFault::Memory),
         },
@@ -75,15 +83,15 @@ impl Drop for Both {
 fn decide_both<K: Keep>(
     alloc: Global,
     keep: &mut K,
-    owner: &Name,
-    deed: &SharedDeed,
+    command: &PlantCmd,
 ) -> Result<Decision, KeepFault>
-    requires { IsValid (shared_action deed.now) }
+    requires shared { IsDeed (λ a. is_shared a ≡ true) (asked_by command.now) }
+    requires valid { IsDeed IsValid (asked_by command.now) }
     ensures reads { IsReading K.meaning keep.old keep.new result }
-    ensures over { Over K.meaning keep.old keep.new (λ c H. IfOk result (IsDeedDecision c H (by owner.now (shared_action deed.now)))) }
+    ensures over { Over K.meaning keep.old keep.new (λ c H. IfOk result (IsPlantDecision c H (asked_by command.now))) }
 {
-    match both_of(alloc, keep, owner) {
-        Ok(Some(both)) => match decide_shared(alloc, &both.own, &both.house, deed) {
+    match both_of(alloc, keep, &command.owner()) {
+        Ok(Some(both)) => match decide_shared(alloc, &both.own, &both.house, command) {
             Ok(decision) => Ok(decision),
             Err(_) => Err(KeepFault::Memory),
         },
@@ -134,7 +142,7 @@ fn decide_opening<K: Keep>(
     unit: Name,
 ) -> Result<Decision, KeepFault>
     ensures reads { IsReading K.meaning keep.old keep.new result }
-    ensures over { Over K.meaning keep.old keep.new (λ c H. IfOk result (IsDeedDecision c H (by owner.now (OpenBatch order unit)))) }
+    ensures over { Over K.meaning keep.old keep.new (λ c H. IfOk result (IsPlantDecision c H (Does (by owner.now (OpenBatch order unit))))) }
 {
     match keep.slice(alloc, owner) {
         Ok(Some(slice)) => open_on(alloc, keep, &slice, order, unit),

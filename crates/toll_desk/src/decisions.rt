@@ -1,14 +1,15 @@
 //! Decisions over rows, with no keep.
-ghost use Rattle.std.specs.Prelude.{◌≡◌, false, IfOk};
+ghost use Rattle.std.specs.Prelude.{◌≡◌, true, false, IfOk};
 ghost use Rattle.toll_base.specs.Bytes.{same_bytes};
 ghost use Rattle.toll_base.specs.Changes.{changes_of};
 ghost use Rattle.toll_history.specs.Command.{by};
 ghost use Rattle.toll_history.specs.Decision.{Decides, DecidesWith, DecisionKeepsRules};
 ghost use Rattle.toll_history.specs.OwnChanges.{PutsOnly};
+ghost use Rattle.toll_desk.specs.Asking.{asked_by};
 ghost use Rattle.toll_desk.specs.Plans.{PutsShared};
-ghost use Rattle.toll_desk.specs.PlantForms.{own_action, stock_action, work_action, shared_action};
+ghost use Rattle.toll_desk.specs.Subjects.{IsDeed, IsOfLot, IsOwn, is_shared};
 
-use crate::plant_form::{OwnDeed, SharedDeed, StockDeed, WorkDeed};
+use crate::plant_cmd::PlantCmd;
 use std::alloc::{AllocError, Global};
 use toll_base::{Decision, Move, MoveRow, Slice};
 use toll_stock::{
@@ -20,91 +21,98 @@ use toll_work::{
 };
 
 /// The decision over the rows of the slice's owner.
-pub fn decide_own(alloc: Global, slice: &Slice, deed: &OwnDeed) -> Result<Decision, AllocError>
-    ensures decides { IfOk result (Decides (by slice.now.owner (own_action deed.now)) slice.now) }
+pub fn decide_own(alloc: Global, slice: &Slice, command: &PlantCmd) -> Result<Decision, AllocError>
+    requires { IsDeed IsOwn (asked_by command.now) }
+    ensures decides { IsDeed (λ a. IfOk result (Decides (by slice.now.owner a) slice.now)) (asked_by command.now) }
     ensures rules { IfOk result (DecisionKeepsRules slice.now) }
     ensures own { IfOk result (λ d. PutsOnly slice.now.owner (changes_of d)) }
 {
-    match deed {
-        OwnDeed::Stock(deed) => decide_stock(alloc, slice, deed),
-        OwnDeed::Work(deed) => decide_work(alloc, slice, deed),
-    }
-}
-
-fn decide_stock(alloc: Global, slice: &Slice, deed: &StockDeed) -> Result<Decision, AllocError>
-    ensures decides { IfOk result (Decides (by slice.now.owner (stock_action deed.now)) slice.now) }
-    ensures rules { IfOk result (DecisionKeepsRules slice.now) }
-    ensures own { IfOk result (λ d. PutsOnly slice.now.owner (changes_of d)) }
-{
-    match *deed {
-        StockDeed::AddMaterial { material, measure } => {
-            add_material(alloc, slice, material, measure)
-        }
-        StockDeed::AddTest {
+    match *command {
+        PlantCmd::MaterialAdd {
+            material,
+            measure,
+            ..
+        } => add_material(alloc, slice, material, measure),
+        PlantCmd::TestAdd {
             material,
             test,
             limits,
+            ..
         } => add_test(alloc, slice, material, test, limits),
-        StockDeed::Receive {
+        PlantCmd::Result {
+            lot,
+            test,
+            value,
+            day,
+            ..
+        } => record_result(alloc, slice, lot, test, value, day),
+        PlantCmd::RecipeAdd {
+            recipe,
+            segments,
+            ..
+        } => add_recipe(alloc, slice, recipe, segments),
+        PlantCmd::Order {
+            order,
+            recipe,
+            batches,
+        } => place_order(alloc, slice, order, recipe, batches),
+        PlantCmd::Cancel { order } => cancel_order(alloc, slice, order),
+        PlantCmd::Do {
+            order,
+            number,
+            command,
+            ..
+        } => command_batch(alloc, slice, order, number, command),
+        PlantCmd::Close { order, number, .. } => close_batch(alloc, slice, order, number),
+        _ => decide_lot(alloc, slice, command),
+    }
+}
+
+// The same of a movement, and of a lot's release and rejection.
+fn decide_lot(alloc: Global, slice: &Slice, command: &PlantCmd) -> Result<Decision, AllocError>
+    requires { IsDeed IsOfLot (asked_by command.now) }
+    ensures decides { IsDeed (λ a. IfOk result (Decides (by slice.now.owner a) slice.now)) (asked_by command.now) }
+    ensures rules { IfOk result (DecisionKeepsRules slice.now) }
+    ensures own { IfOk result (λ d. PutsOnly slice.now.owner (changes_of d)) }
+{
+    match *command {
+        PlantCmd::Receive {
             key,
             material,
             lot,
             sublot,
             amount,
             day,
+            ..
         } => receive(alloc, slice, key, material, lot, sublot, amount, day),
-        StockDeed::Split {
+        PlantCmd::Split {
             key,
             lot,
             sublot,
             target,
             amount,
             day,
+            ..
         } => split(alloc, slice, key, lot, sublot, target, amount, day),
-        StockDeed::Ship {
+        PlantCmd::Ship {
             key,
             lot,
             sublot,
             amount,
             day,
+            ..
         } => ship(alloc, slice, key, lot, sublot, amount, day),
-        StockDeed::Scrap {
+        PlantCmd::Scrap {
             key,
             lot,
             sublot,
             amount,
             day,
+            ..
         } => scrap(alloc, slice, key, lot, sublot, amount, day),
-        StockDeed::Result {
-            lot,
-            test,
-            value,
-            day,
-        } => record_result(alloc, slice, lot, test, value, day),
-        StockDeed::Release(lot) => release(alloc, slice, lot),
-        StockDeed::Reject(lot) => reject(alloc, slice, lot),
-    }
-}
-
-fn decide_work(alloc: Global, slice: &Slice, deed: &WorkDeed) -> Result<Decision, AllocError>
-    ensures decides { IfOk result (Decides (by slice.now.owner (work_action deed.now)) slice.now) }
-    ensures rules { IfOk result (DecisionKeepsRules slice.now) }
-    ensures own { IfOk result (λ d. PutsOnly slice.now.owner (changes_of d)) }
-{
-    match *deed {
-        WorkDeed::AddRecipe { recipe, segments } => add_recipe(alloc, slice, recipe, segments),
-        WorkDeed::Place {
-            order,
-            recipe,
-            batches,
-        } => place_order(alloc, slice, order, recipe, batches),
-        WorkDeed::Cancel(order) => cancel_order(alloc, slice, order),
-        WorkDeed::Command {
-            order,
-            number,
-            command,
-        } => command_batch(alloc, slice, order, number, command),
-        WorkDeed::Close { order, number } => close_batch(alloc, slice, order, number),
+        PlantCmd::Release { lot } => release(alloc, slice, lot),
+        PlantCmd::Reject { lot } => reject(alloc, slice, lot),
+        _ => unreachable!(),
     }
 }
 
@@ -113,18 +121,19 @@ pub fn decide_shared(
     alloc: Global,
     own: &Slice,
     house: &Slice,
-    deed: &SharedDeed,
+    command: &PlantCmd,
 ) -> Result<Decision, AllocError>
-    ensures decides { IfOk result (DecidesWith (by own.now.owner (shared_action deed.now)) own.now house.now) }
+    requires { IsDeed (λ a. is_shared a ≡ true) (asked_by command.now) }
+    ensures decides { IsDeed (λ a. IfOk result (DecidesWith (by own.now.owner a) own.now house.now)) (asked_by command.now) }
     ensures rules { IfOk result (DecisionKeepsRules own.now) }
     ensures house_rules { same_bytes own.now.owner house.now.owner ≡ false → IfOk result (DecisionKeepsRules house.now) }
     ensures own { IfOk result (λ d. PutsShared own.now.owner (changes_of d)) }
 {
     // What its owner keeps holds of HOUSE's slice too.
     let _house = house.owner();
-    match *deed {
-        SharedDeed::Require(row) => require(alloc, own, house, row),
-        SharedDeed::Actual {
+    match *command {
+        PlantCmd::Require { row, .. } => require(alloc, own, house, row),
+        PlantCmd::Actual {
             key,
             order,
             number,
@@ -135,6 +144,7 @@ pub fn decide_shared(
             sublot,
             amount,
             day,
+            ..
         } => {
             let what = Move::Actual {
                 order,
@@ -153,6 +163,7 @@ pub fn decide_shared(
             };
             record_actual(alloc, own, house, row)
         }
-        SharedDeed::Void(key) => void_actual(alloc, own, house, key),
+        PlantCmd::Void { key, .. } => void_actual(alloc, own, house, key),
+        _ => unreachable!(),
     }
 }

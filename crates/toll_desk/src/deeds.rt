@@ -4,40 +4,39 @@ ghost use Rattle.toll_history.specs.Verdict.{IsValid};
 ghost use Rattle.toll_keep.specs.Content.{ContentKeepsRules};
 ghost use Rattle.toll_keep.specs.Goes.{Goes, IsReading};
 ghost use Rattle.toll_keep.specs.Meaning.{OverHeld};
-ghost use Rattle.toll_desk.specs.Clauses.{IsDeedDone, IsDeedPlanned};
-ghost use Rattle.toll_desk.specs.Asking.{is_accepted, plant_told};
-ghost use Rattle.toll_desk.specs.PlantForms.{command_in};
+ghost use Rattle.toll_desk.specs.Clauses.{IsPlantDone, IsPlantPlanned};
+ghost use Rattle.toll_desk.specs.Asking.{asked_by, is_accepted, plant_told};
 ghost use Rattle.toll_desk.specs.Reads.{Over};
+ghost use Rattle.toll_desk.specs.Subjects.{IsDeed};
 
 use crate::carrying::carry;
 use crate::deciding::decide;
-use crate::plant_cmd::{PlantPlan, PlantReply};
-use crate::plant_form::Deed;
+use crate::plant_cmd::{PlantCmd, PlantPlan, PlantReply};
 use std::alloc::Global;
 use toll_keep::{Keep, KeepFault};
 
 /// Does what a command of the plant says, where it is accepted.
-pub fn do_deed<K: Keep>(alloc: Global, keep: &mut K, deed: &Deed) -> PlantReply
-    requires { IsValid (command_in deed.now).action }
+pub fn do_deed<K: Keep>(alloc: Global, keep: &mut K, command: &PlantCmd) -> PlantReply
+    requires { IsDeed IsValid (asked_by command.now) }
     ensures goes { Goes K.meaning keep.old keep.new (plant_told result) }
     ensures whole { OverHeld K.meaning keep.old keep.new (λ c. ContentKeepsRules c → plant_told result ≢ Err KeepFault.Damaged) }
     ensures quiet { OverHeld K.meaning keep.old keep.new (λ c. is_accepted (plant_told result) ≡ false → K.meaning.holds keep.new c) }
-    ensures done { IsDeedDone K.meaning keep.old keep.new (command_in deed.now) (plant_told result) }
+    ensures done { IsPlantDone K.meaning keep.old keep.new (asked_by command.now) (plant_told result) }
 {
-    let planned = plan(alloc, keep, deed);
+    let planned = plan(alloc, keep, command);
     let made = carry(alloc, keep, &planned.changes);
     planned.finished(made)
 }
 
 // The reply as it will stand, and what must be applied for it. Nothing is changed.
-fn plan<K: Keep>(alloc: Global, keep: &mut K, deed: &Deed) -> PlantPlan
-    requires { IsValid (command_in deed.now).action }
+fn plan<K: Keep>(alloc: Global, keep: &mut K, command: &PlantCmd) -> PlantPlan
+    requires { IsDeed IsValid (asked_by command.now) }
     ensures reads { IsReading K.meaning keep.old keep.new (plant_told result.reply) }
     ensures none { OnErr (plant_told result.reply) (result.changes.items ≡ []) }
     ensures quiet { is_accepted (plant_told result.reply) ≡ false → result.changes.items ≡ [] }
-    ensures plan { Over K.meaning keep.old keep.new (λ c H. IsDeedPlanned c H (command_in deed.now) result) }
+    ensures plan { Over K.meaning keep.old keep.new (λ c H. IsPlantPlanned c H (asked_by command.now) result) }
 {
-    match decide(alloc, keep, deed) {
+    match decide(alloc, keep, command) {
         Ok(decision) => PlantPlan::of(alloc, decision),
         Err(fault) => PlantPlan::unchanged(alloc, PlantReply::Fault(fault)),
     }

@@ -1,5 +1,6 @@
 //! The office's desk: owners' requests and the plant's commands and questions, over any keep. What a
-//! request and a command looks at is its form; how each goes is `owner.rt` and `plant.rt`.
+//! request looks at is its form; a command is matched where it is decided. How each goes is `owner.rt`
+//! and `plant.rt`.
 #![tactic(auto)]
 
 mod admission;
@@ -11,7 +12,6 @@ mod form;
 mod owner;
 mod plant;
 mod plant_cmd;
-mod plant_form;
 mod questions;
 mod reading;
 mod recalls;

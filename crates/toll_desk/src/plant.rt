@@ -12,7 +12,6 @@ ghost use Rattle.toll_desk.specs.Reads.{Over};
 
 use crate::deeds::do_deed;
 use crate::plant_cmd::{PlantCmd, PlantReply};
-use crate::plant_form::{PlantForm, form_of};
 use crate::questions::ask;
 use std::alloc::Global;
 use toll_keep::{Keep, KeepFault};
@@ -32,9 +31,15 @@ pub fn plant_do<K: Keep>(alloc: Global, keep: &mut K, command: &PlantCmd) -> Pla
     ensures quiet { OverHeld K.meaning keep.old keep.new (λ c. is_accepted (plant_told result) ≡ false → K.meaning.holds keep.new c) }
     ensures done { IsPlantDone K.meaning keep.old keep.new (asked_by command.now) (plant_told result) }
 {
-    match form_of(command) {
-        PlantForm::Do(deed) => do_deed(alloc, keep, &deed),
-        PlantForm::Ask(question) => ask(alloc, keep, &question),
-        PlantForm::Unread(why) => PlantReply::Refused(why),
+    // For the proof: what types say of the values.
+    command.keeps_bounds();
+    match *command {
+        PlantCmd::Unread(why) => PlantReply::Refused(why),
+        PlantCmd::Orders { .. }
+        | PlantCmd::Stock { .. }
+        | PlantCmd::Batch { .. }
+        | PlantCmd::Trace { .. }
+        | PlantCmd::Recall { .. } => ask(alloc, keep, command),
+        _ => do_deed(alloc, keep, command),
     }
 }

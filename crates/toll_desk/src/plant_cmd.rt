@@ -3,8 +3,9 @@ ghost use Rattle.std.specs.Prelude.{◌≡◌, false, [], Ok};
 ghost use Rattle.toll_base.specs.Changes.{changes_of};
 ghost use Rattle.toll_history.specs.Decision.{verdict_of};
 ghost use Rattle.toll_answers.specs.PlantAnswers.{Judged};
-ghost use Rattle.toll_desk.specs.Asking.{is_accepted, plant_told};
+ghost use Rattle.toll_desk.specs.Asking.{asked_by, is_accepted, plant_told, IsValidDeed};
 ghost use Rattle.toll_desk.specs.Outcome.{finished};
+ghost use Rattle.toll_desk.specs.Subjects.{concerned};
 
 use std::alloc::Global;
 use toll_base::{
@@ -184,6 +185,56 @@ pub enum PlantCmd {
     },
     /// A value of the command couldn't be read. It is refused so, and the keep isn't asked.
     Unread(Refusal),
+}
+
+impl PlantCmd {
+    /// Whom it concerns: HOUSE, where it names nobody.
+    pub(crate) fn owner(&self) -> Name
+        ensures { result ≡ concerned (asked_by self.now) }
+    {
+        match *self {
+            PlantCmd::OwnerAdd { owner, .. }
+            | PlantCmd::MaterialAdd { owner, .. }
+            | PlantCmd::TestAdd { owner, .. }
+            | PlantCmd::RecipeAdd { owner, .. }
+            | PlantCmd::Require { owner, .. }
+            | PlantCmd::Open { owner, .. }
+            | PlantCmd::Do { owner, .. }
+            | PlantCmd::Close { owner, .. }
+            | PlantCmd::Receive { owner, .. }
+            | PlantCmd::Split { owner, .. }
+            | PlantCmd::Ship { owner, .. }
+            | PlantCmd::Scrap { owner, .. }
+            | PlantCmd::Result { owner, .. }
+            | PlantCmd::Actual { owner, .. }
+            | PlantCmd::Void { owner, .. }
+            | PlantCmd::Orders { owner }
+            | PlantCmd::Stock { owner }
+            | PlantCmd::Batch { owner, .. } => owner,
+            PlantCmd::Trace { lot, .. } | PlantCmd::Recall { lot } => lot.owner,
+            _ => Name::house(),
+        }
+    }
+
+    /// A law: its values are within the bounds of their types. A proof learns so of a number from its
+    /// [`get`](toll_base::Bounded::get).
+    pub fn keeps_bounds(&self)
+        ensures { IsValidDeed (asked_by self.now) }
+    {
+        match *self {
+            PlantCmd::Order { batches, .. } => {
+                let _within = batches.get();
+            }
+            PlantCmd::Receive { amount, .. }
+            | PlantCmd::Split { amount, .. }
+            | PlantCmd::Ship { amount, .. }
+            | PlantCmd::Scrap { amount, .. }
+            | PlantCmd::Actual { amount, .. } => {
+                let _within = amount.get();
+            }
+            _ => {}
+        }
+    }
 }
 
 /// The reply to a command of the plant.

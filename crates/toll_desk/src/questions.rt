@@ -6,16 +6,15 @@ ghost use Rattle.toll_history.specs.Tables.{IsRowsOf};
 ghost use Rattle.toll_history.specs.Verdict.{IsLawful, Refused};
 ghost use Rattle.toll_trace.specs.Edges.{AreEdges};
 ghost use Rattle.toll_genealogy.specs.Edges.{ArePlantEdges, IsPlantEdge};
-ghost use Rattle.toll_answers.specs.PlantAnswers.{IsPlantAnswer, AreOrdersShown, IsTraceShown, AsksTrace, AsksRecall, AsksBatch, Shows};
+ghost use Rattle.toll_answers.specs.PlantAnswers.{IsPlantAnswer, AreOrdersShown, IsTraceShown, AsksTrace, AsksRecall, AsksBatch, Shows, after_plant};
 ghost use Rattle.toll_keep.specs.Goes.{IsReading, Keeps};
 ghost use Rattle.toll_desk.specs.Clauses.{IsRefusedAs, IsTextAs};
-ghost use Rattle.toll_desk.specs.Asking.{plant_told, asks_recall, is_accepted};
-ghost use Rattle.toll_desk.specs.PlantForms.{asked_of_rows, asked_by_question};
+ghost use Rattle.toll_desk.specs.Asking.{asked_by, asks_recall, is_accepted, plant_told};
 ghost use Rattle.toll_desk.specs.Questions.{IsGoing, is_known_lot};
 ghost use Rattle.toll_desk.specs.Reads.{Over};
+ghost use Rattle.toll_desk.specs.Subjects.{AsksRows, IsQuestion, asked_of_rows};
 
-use crate::plant_cmd::PlantReply;
-use crate::plant_form::{Question, Shown};
+use crate::plant_cmd::{PlantCmd, PlantReply};
 use crate::recalls::recall;
 use crate::tracing::{is_joined, trace_over};
 use std::alloc::{AllocError, Global};
@@ -29,18 +28,20 @@ use toll_work::batch_view;
 /// [`Refusal::UnknownOrder`] and [`Refusal::UnknownBatch`], a trace and a recall as
 /// [`Refusal::UnknownLot`]. A recall answers [`KeepFault::Damaged`] where a lot of it has no row, and
 /// the keep goes on then.
-pub fn ask<K: Keep>(alloc: Global, keep: &mut K, question: &Question) -> PlantReply
+pub fn ask<K: Keep>(alloc: Global, keep: &mut K, command: &PlantCmd) -> PlantReply
+    requires { IsQuestion (asked_by command.now) }
+    ensures stays { (H : History) → after_plant H (asked_by command.now) ≡ H }
     ensures going { IsGoing K.meaning keep.old keep.new (plant_told result) }
-    ensures reads { asks_recall (asked_by_question question.now) ≡ false → IsReading K.meaning keep.old keep.new (plant_told result) }
+    ensures reads { asks_recall (asked_by command.now) ≡ false → IsReading K.meaning keep.old keep.new (plant_told result) }
     ensures whole { Over K.meaning keep.old keep.new (λ c H. plant_told result ≢ Err KeepFault.Damaged) }
     ensures keeps { K.meaning.is_honest keep.new → Keeps K.meaning keep.old keep.new }
     ensures shown { is_accepted (plant_told result) ≡ false }
-    ensures over { Over K.meaning keep.old keep.new (λ c H. IfOk (plant_told result) (IsPlantAnswer H (asked_by_question question.now))) }
+    ensures over { Over K.meaning keep.old keep.new (λ c H. IfOk (plant_told result) (IsPlantAnswer H (asked_by command.now))) }
 {
-    match question {
-        Question::Rows(owner, shown) => ask_rows(alloc, keep, owner, shown),
-        Question::Trace { lot, way } => ask_trace(alloc, keep, lot, *way),
-        Question::Recall(lot) => ask_recall(alloc, keep, lot),
+    match *command {
+        PlantCmd::Trace { lot, way } => ask_trace(alloc, keep, &lot, way),
+        PlantCmd::Recall { lot } => ask_recall(alloc, keep, &lot),
+        _ => ask_rows(alloc, keep, command),
     }
 }
 
@@ -48,13 +49,14 @@ pub fn ask<K: Keep>(alloc: Global, keep: &mut K, question: &Question) -> PlantRe
 
 // The text of an owner's rows: [`Refusal::UnknownOwner`]; of a batch [`Refusal::UnknownOrder`], then
 // [`Refusal::UnknownBatch`].
-fn ask_rows<K: Keep>(alloc: Global, keep: &mut K, owner: &Name, shown: &Shown) -> PlantReply
+fn ask_rows<K: Keep>(alloc: Global, keep: &mut K, command: &PlantCmd) -> PlantReply
+    requires { AsksRows (asked_by command.now) }
     ensures reads { IsReading K.meaning keep.old keep.new (plant_told result) }
     ensures shown { is_accepted (plant_told result) ≡ false }
-    ensures over { Over K.meaning keep.old keep.new (λ c H. IfOk (plant_told result) (IsPlantAnswer H (asked_of_rows owner.now shown.now))) }
+    ensures over { Over K.meaning keep.old keep.new (λ c H. IfOk (plant_told result) (IsPlantAnswer H (asked_by command.now))) }
 {
-    match keep.slice(alloc, owner) {
-        Ok(Some(slice)) => match show(alloc, &slice, shown) {
+    match keep.slice(alloc, &command.owner()) {
+        Ok(Some(slice)) => match show(alloc, &slice, command) {
             Ok(Ok(text)) => PlantReply::Text(text),
             Ok(Err(why)) => PlantReply::Refused(why),
             Err(_) => PlantReply::Fault(KeepFault::Memory),
@@ -65,14 +67,20 @@ fn ask_rows<K: Keep>(alloc: Global, keep: &mut K, owner: &Name, shown: &Shown) -
 }
 
 // The text of the rows of the slice's owner, or why there is none.
-fn show(alloc: Global, slice: &Slice, shown: &Shown) -> Result<Result<Vec<u8>, Refusal>, AllocError>
-    ensures text { OverOwnRows slice.now (λ H. IsTextAs H (asked_of_rows slice.now.owner shown.now) result) }
-    ensures refused { OverOwnRows slice.now (λ H. IsRefusedAs H (asked_of_rows slice.now.owner shown.now) result) }
+fn show(
+    alloc: Global,
+    slice: &Slice,
+    command: &PlantCmd,
+) -> Result<Result<Vec<u8>, Refusal>, AllocError>
+    requires { AsksRows (asked_by command.now) }
+    ensures text { OverOwnRows slice.now (λ H. IsTextAs H (asked_of_rows slice.now.owner (asked_by command.now)) result) }
+    ensures refused { OverOwnRows slice.now (λ H. IsRefusedAs H (asked_of_rows slice.now.owner (asked_by command.now)) result) }
 {
-    match shown {
-        Shown::Orders => Ok(Ok(orders_in(alloc, slice)?)),
-        Shown::Stock => Ok(Ok(stock_text(alloc, slice)?)),
-        Shown::Batch { order, number } => show_batch(alloc, slice, order, *number),
+    match *command {
+        PlantCmd::Orders { .. } => Ok(Ok(orders_in(alloc, slice)?)),
+        PlantCmd::Stock { .. } => Ok(Ok(stock_text(alloc, slice)?)),
+        PlantCmd::Batch { order, number, .. } => show_batch(alloc, slice, &order, number),
+        _ => unreachable!(),
     }
 }
 

@@ -6,9 +6,10 @@ ghost use Rattle.toll_base.specs.Values.{house_name};
 ghost use Rattle.toll_base.specs.declared.decision.Change.TheVariants as Change;
 ghost use Rattle.toll_history.specs.Command.{AddOwner, AddUnit, by};
 ghost use Rattle.toll_history.specs.Decision.{IsDecided};
+ghost use Rattle.toll_answers.specs.PlantAnswers.{Does};
 ghost use Rattle.toll_keep.specs.Goes.{IsReading};
 ghost use Rattle.toll_desk.specs.Admission.{owner_row_checks, unit_row_checks};
-ghost use Rattle.toll_desk.specs.Plans.{IsDeedDecision};
+ghost use Rattle.toll_desk.specs.Plans.{IsPlantDecision};
 ghost use Rattle.toll_desk.specs.Reads.{Over};
 
 use crate::admission::{find_owner, is_house, is_same};
@@ -26,7 +27,7 @@ pub fn decide_owner<K: Keep>(
     key: OwnerKey,
 ) -> Result<Decision, KeepFault>
     ensures reads { IsReading K.meaning keep.old keep.new result }
-    ensures over { Over K.meaning keep.old keep.new (λ c H. IfOk result (IsDeedDecision c H (by owner (AddOwner key)))) }
+    ensures over { Over K.meaning keep.old keep.new (λ c H. IfOk result (IsPlantDecision c H (Does (by owner (AddOwner key))))) }
 {
     match keep.owners(alloc) {
         Ok(rows) => match judge_owner(alloc, &rows, OwnerRow { owner, key }) {
@@ -55,7 +56,7 @@ fn judge_owner(alloc: Global, rows: &[OwnerRow], row: OwnerRow) -> Result<Decisi
 /// The decision on a unit to be added.
 pub fn decide_unit<K: Keep>(alloc: Global, keep: &mut K, unit: Name) -> Result<Decision, KeepFault>
     ensures reads { IsReading K.meaning keep.old keep.new result }
-    ensures over { Over K.meaning keep.old keep.new (λ c H. IfOk result (IsDeedDecision c H (by house_name (AddUnit unit)))) }
+    ensures over { Over K.meaning keep.old keep.new (λ c H. IfOk result (IsPlantDecision c H (Does (by house_name (AddUnit unit))))) }
 {
     match keep.units(alloc) {
         Ok(rows) => match judge_unit(alloc, &rows, UnitRow { unit }) {

@@ -1,10 +1,8 @@
 use Rattle.std.proofs.Common.{◌≡◌, [], OnErr, sym, subst}
 use Rattle.std.proofs.lemmas.Result.{on_ok_weaker}
-use Rattle.toll_answers.specs.PlantAnswers.{Judged}
-use Rattle.toll_history.specs.Verdict.{grow, verdict}
+use Rattle.toll_answers.specs.PlantAnswers.{IsPlantAnswer, after_plant}
 use Rattle.toll_keep.specs.Goes.{Goes}
-use Rattle.toll_desk.specs.PlantForms.{command_in}
-use Rattle.toll_desk.specs.Asking.{is_accepted, plant_told}
+use Rattle.toll_desk.specs.Asking.{asked_by, is_accepted, plant_told}
 use Rattle.toll_desk.proofs.Carried.{done_of, goes_on, quiet_of}
 use Rattle.toll_desk.proofs.deeds.do_deed.Goals as goal
 
@@ -31,14 +29,15 @@ returns-clause-quiet g c honest content held none =
 pub returns-clause-done : goal.returns-clause-done
 returns-clause-done g c honest content H held stands lawful =
     let K = g.K.Keep in
-    let command = command_in c.args.deed.now in
+    let q = asked_by c.args.command.now in
     let planned = c.plan-planned in
     let carried = c.carry-made.ensures in
     let outcome = plant_told planned.result.reply in
     let before = carried.honest honest in
     let keeps = planned.ensures.reads.keeps before in
     let between = keeps.content content held in
-    done_of K.meaning c.args.keep.now planned.new.keep c.carry-made.new.keep c.carry-made.result content (grow H command) (λ told. told ≡ Judged (verdict H command)) planned.result.changes.items _ c.deref.ensures.value
+    done_of K.meaning c.args.keep.now planned.new.keep c.carry-made.new.keep c.carry-made.result content
+    (after_plant H q) (IsPlantAnswer H q) planned.result.changes.items _ c.deref.ensures.value
     (record { idle = carried.idle; all = carried.all honest content between; none = carried.none honest content between; crash = λ live. carried.crash honest live content between }) between
     outcome planned.ensures.none (planned.ensures.plan before content H held stands lawful)
     (on_ok_weaker outcome (λ live was. live) (planned.ensures.reads.goes.shown before)) (λ live. keeps.crash live content held) _ c.finished.ensures

@@ -1,8 +1,6 @@
-use Rattle.std.proofs.Common.{ap}
-use Rattle.toll_answers.specs.PlantAnswers.{Judged}
 use Rattle.toll_desk.proofs.deeds.plan.Goals as goal
 
 pub returns-in-Ok-clause-plan : goal.returns-in-Ok-clause-plan
 returns-in-Ok-clause-plan g c honest content H held stands lawful =
     let decided = c.in-Ok.ensures.over honest content H held stands lawful in
-    rw (c.of.ensures.told, c.of.ensures.changes) (ap Judged decided.verdict_is, decided.leads)
+    rw (c.of.ensures.told, c.of.ensures.changes) (decided.answer, decided.leads)
