@@ -8,3 +8,4 @@ pub mod Drafts
 pub mod Remembered
 pub mod Around
 pub mod Reads
+pub mod Refused

@@ -28,5 +28,5 @@ pub use ghosts::{
 pub use holder::Holder;
 pub use keep::Keep;
 pub use mem_keep::MemKeep;
-pub use refusing::Refusing;
+pub use refusing::{Refused, Refusing};
 pub use remembering::Remembering;

@@ -1,8 +1,9 @@
 //! A keep that once has no memory.
-ghost use Rattle.std.specs.Prelude.{◌≡◌, ◌≢◌, true, false, Err, [], ◌∷◌, IsErr, OnOk, OnErr};
+ghost use Rattle.std.specs.Prelude.{◌≡◌, ◌≢◌, ◌↔◌, Err, [], ◌∷◌, IsErr, IsTrue, OnOk, OnErr};
 ghost use Rattle.toll_keep.specs.Content.{after, ContentKeepsRules, Fits};
 ghost use Rattle.toll_keep.specs.Goes.{Goes};
 ghost use Rattle.toll_keep.specs.Meaning.{OverHeld, OverLive, meaning_of};
+ghost use Rattle.toll_keep.specs.Refused.{IsNext, IsRefused, after_call};
 
 use crate::fault::KeepFault;
 use crate::holder::Holder;
@@ -10,13 +11,55 @@ use crate::keep::Keep;
 use std::alloc::Global;
 use toll_base::{Change, Edge, Name, OwnerRow, Slice, UnitRow};
 
-/// A keep around another one, that answers the next `apply` with [`KeepFault::Memory`], and passes on
-/// all else. It is for the tests of what stands on a keep.
+/// Which call a keep refuses.
+#[derive(Clone, Copy, Debug, PartialEq, Eq)]
+pub enum Refused {
+    /// The next `apply`.
+    Apply,
+    /// Whichever call comes behind so many others.
+    Behind(u64),
+    /// None, or none any more.
+    None,
+}
+
+// What a call does.
+#[derive(Clone, Copy, PartialEq, Eq)]
+enum Call {
+    Read,
+    Apply,
+}
+
+impl Refused {
+    // Whether it is this call.
+    fn is_next(self, call: Call) -> bool
+        ensures { IsTrue result ↔ IsNext self call }
+    {
+        match self {
+            Refused::Apply => call == Call::Apply,
+            Refused::Behind(calls) => calls == 0,
+            Refused::None => false,
+        }
+    }
+
+    // Which one it is behind this call.
+    fn after(self, call: Call) -> Self
+        ensures { result ≡ after_call self call }
+    {
+        match self {
+            Refused::Apply if call == Call::Read => Refused::Apply,
+            Refused::Behind(calls) if calls > 0 => Refused::Behind(calls - 1),
+            Refused::Apply | Refused::Behind(_) | Refused::None => Refused::None,
+        }
+    }
+}
+
+/// A keep around another one, that answers one call with [`KeepFault::Memory`], and passes on all else. It
+/// is for the tests of what stands on a keep.
 pub struct Refusing<K> {
     /// The keep that it is around.
     pub keep: K,
-    /// The next `apply` is refused.
-    pub refuses: bool,
+    /// The call that is refused.
+    pub refused: Refused,
 }
 
 /// By hand, since what is derived is written out at every exit of every function that owns a keep.
@@ -24,21 +67,38 @@ impl<K: Drop> Drop for Refusing<K> {
     fn drop(self) {
         let Refusing {
             keep: _,
-            refuses: _,
+            refused: _,
         } = self;
     }
 }
 
 impl<K: Keep> Refusing<K> {
     /// Around this keep.
-    pub fn new(keep: K) -> Self
-        ensures keep { result.keep ≡ keep }
-        ensures refuses { result.refuses ≡ true }
+    pub fn new(keep: K, refused: Refused) -> Self
+        ensures { (result.keep ≡ keep) × (result.refused ≡ refused) }
     {
-        Refusing {
-            keep,
-            refuses: true,
-        }
+        Refusing { keep, refused }
+    }
+
+    // Whether this call is refused.
+    fn refuses(&mut self, call: Call) -> bool
+        ensures result { IsTrue result ↔ IsNext self.old.refused call }
+        ensures refused { self.new.refused ≡ after_call self.old.refused call }
+        ensures keep { self.new.keep ≡ self.old.keep }
+    {
+        let refused = self.refused;
+        self.refused = refused.after(call);
+        refused.is_next(call)
+    }
+}
+
+// Memory, or Closed of a closed keep: whether it is closed is seen only by asking it.
+fn refusal<T>(asked: Result<Vec<OwnerRow>, KeepFault>) -> Result<T, KeepFault>
+    ensures { IsRefused asked result }
+{
+    match asked {
+        Ok(_) => Err(KeepFault::Memory),
+        Err(fault) => Err(fault),
     }
 }
 
@@ -46,47 +106,60 @@ impl<K: Keep> Keep for Refusing<K> {
     ghost meaning = { meaning_of (λ r. r.keep) K.meaning };
 
     fn slice(&mut self, alloc: Global, owner: &Name) -> Result<Option<Slice>, KeepFault> {
+        if self.refuses(Call::Read) {
+            return refusal(self.keep.owners(alloc));
+        }
         self.keep.slice(alloc, owner)
     }
 
     fn owners(&mut self, alloc: Global) -> Result<Vec<OwnerRow>, KeepFault> {
+        if self.refuses(Call::Read) {
+            return refusal(self.keep.owners(alloc));
+        }
         self.keep.owners(alloc)
     }
 
     fn units(&mut self, alloc: Global) -> Result<Vec<UnitRow>, KeepFault> {
+        if self.refuses(Call::Read) {
+            return refusal(self.keep.owners(alloc));
+        }
         self.keep.units(alloc)
     }
 
     fn holder(&mut self, alloc: Global, unit: &Name) -> Result<Option<Holder>, KeepFault> {
+        if self.refuses(Call::Read) {
+            return refusal(self.keep.owners(alloc));
+        }
         self.keep.holder(alloc, unit)
     }
 
     fn edges(&mut self, alloc: Global, owner: &Name) -> Result<Vec<Edge>, KeepFault> {
+        if self.refuses(Call::Read) {
+            return refusal(self.keep.owners(alloc));
+        }
         self.keep.edges(alloc, owner)
     }
 
     fn all_edges(&mut self, alloc: Global) -> Result<Vec<Edge>, KeepFault> {
+        if self.refuses(Call::Read) {
+            return refusal(self.keep.owners(alloc));
+        }
         self.keep.all_edges(alloc)
     }
 
-    // A closed keep answers Closed, and whether it is closed is seen only by asking it.
     fn apply(&mut self, alloc: Global, changes: &[Change]) -> Result<(), KeepFault>
         ensures goes { Goes (meaning_of (λ r. r.keep) K.meaning) self.old self.new result }
         ensures all { OverHeld K.meaning self.old.keep self.new.keep (λ c. Fits c changes.now → OnOk result (K.meaning.holds self.new.keep (after changes.now c))) }
         ensures none { OverHeld K.meaning self.old.keep self.new.keep (λ c. OnErr result (K.meaning.holds self.new.keep c)) }
         ensures whole { OverHeld K.meaning self.old.keep self.new.keep (λ c. ContentKeepsRules c → result ≢ Err KeepFault.Damaged) }
         ensures crash { OverLive K.meaning self.old.keep self.new.keep (λ c. Fits c changes.now → K.meaning.leaves self.new.keep (c ∷ after changes.now c ∷ [])) }
-        ensures refused { self.old.refuses ≡ true → IsErr result }
-        ensures once { self.new.refuses ≡ false }
+        ensures refused { IsNext self.old.refused Call.Apply → IsErr result }
+        ensures once { self.new.refused ≡ after_call self.old.refused Call.Apply }
     {
-        if !self.refuses {
-            return self.keep.apply(alloc, changes);
+        if self.refuses(Call::Apply) {
+            return refusal(self.keep.owners(alloc));
         }
-        self.refuses = false;
-        match self.keep.owners(alloc) {
-            Ok(_) => Err(KeepFault::Memory),
-            Err(fault) => Err(fault),
-        }
+        self.keep.apply(alloc, changes)
     }
 
     ghost settled = { λ r c honest live held. K.settled r.keep c honest live held };

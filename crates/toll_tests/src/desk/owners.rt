@@ -2,7 +2,7 @@
 use crate::desk::lines::Asked;
 use crate::stories::{Line, check_said, check_said_over};
 use std::test::Fail;
-use toll_keep::{MemKeep, Refusing};
+use toll_keep::{MemKeep, Refused, Refusing};
 
 const WITH_ACME: &[Line] = &[
     ("owner-add ACME ACMEKEY1", "accepted"),
@@ -81,7 +81,7 @@ fn an_order_without_memory_is_not_placed(rt: HostRuntime) -> Result<(), Fail> {
     check_said_over::<Asked, _>(rt.alloc(), &mut keep, &[WITH_ACME])?;
     check_said_over::<Asked, _>(
         rt.alloc(),
-        &mut Refusing::new(keep),
+        &mut Refusing::new(keep, Refused::Apply),
         &[NOT_PLACED_WITHOUT_MEMORY],
     )
 }
@@ -95,6 +95,6 @@ const NOT_ADDED_WITHOUT_MEMORY: &[Line] = &[
 
 #[test]
 fn an_owner_without_memory_is_not_added(rt: HostRuntime) -> Result<(), Fail> {
-    let mut keep = Refusing::new(MemKeep::new(rt.alloc()));
+    let mut keep = Refusing::new(MemKeep::new(rt.alloc()), Refused::Apply);
     check_said_over::<Asked, _>(rt.alloc(), &mut keep, &[NOT_ADDED_WITHOUT_MEMORY])
 }

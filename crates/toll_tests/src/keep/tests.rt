@@ -7,7 +7,7 @@ use crate::stories::check;
 use std::alloc::Global;
 use std::test::Fail;
 use toll_base::{Change, Disposition, LotRow, Name, Origin, Role, Row};
-use toll_keep::{Keep, KeepFault, MemKeep, Refusing, Remembering};
+use toll_keep::{Keep, KeepFault, MemKeep, Refused, Refusing, Remembering};
 
 fn filled(alloc: Global) -> Result<MemKeep, Fail> {
     let mut keep = MemKeep::new(alloc);
@@ -38,7 +38,7 @@ fn edges_are_told(rt: HostRuntime) -> Result<(), Fail> {
 #[test]
 fn one_change_is_refused(rt: HostRuntime) -> Result<(), Fail> {
     let alloc = rt.alloc();
-    let mut keep = Refusing::new(filled(alloc)?);
+    let mut keep = Refusing::new(filled(alloc)?, Refused::Apply);
     let changes = [Change::Owner(acme()?)];
     let refused = keep.apply(alloc, &changes).err();
     keep.apply(alloc, &changes)?;
@@ -90,7 +90,8 @@ fn remembered_rows_follow_the_changes(rt: HostRuntime) -> Result<(), Fail> {
 #[test]
 fn a_refused_change_makes_it_forget(rt: HostRuntime) -> Result<(), Fail> {
     let alloc = rt.alloc();
-    let mut keep = Remembering::new(alloc, Counting::new(Refusing::new(filled(alloc)?)));
+    let refusing = Refusing::new(filled(alloc)?, Refused::Apply);
+    let mut keep = Remembering::new(alloc, Counting::new(refusing));
     let owner = acme()?.owner;
     check_counts(alloc, &mut keep, &owner, Some((1, 2)))?;
     let refused = keep.apply(alloc, &[Change::Put(owner, Row::Batch(batch()?))]);

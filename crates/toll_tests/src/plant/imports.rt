@@ -3,7 +3,7 @@ use crate::desk::setups::WITH_BATCH;
 use crate::plant::lines::Asked;
 use crate::stories::{Line, WITH_RECIPE, check_said, check_said_over};
 use std::test::Fail;
-use toll_keep::{MemKeep, Refusing};
+use toll_keep::{MemKeep, Refused, Refusing};
 
 const IMPORTED: &[Line] = &[
     (
@@ -95,5 +95,6 @@ const FAULTY: &[Line] = &[(
 fn a_fault_ends_an_import(rt: HostRuntime) -> Result<(), Fail> {
     let mut keep = MemKeep::new(rt.alloc());
     check_said_over::<Asked, _>(rt.alloc(), &mut keep, &[WITH_RECIPE, WITH_BATCH])?;
-    check_said_over::<Asked, _>(rt.alloc(), &mut Refusing::new(keep), &[FAULTY, IMPORTED])
+    let mut keep = Refusing::new(keep, Refused::Apply);
+    check_said_over::<Asked, _>(rt.alloc(), &mut keep, &[FAULTY, IMPORTED])
 }

@@ -64,6 +64,61 @@ fn check_empty<K: Keep>(alloc: Global, keep: &mut K) -> Result<bool, Fail> {
     Err("a new office has rows".into())
 }
 
+/// The tables of an office of version 1 are adopted, and are of version 2 then.
+pub struct Adopting {
+    /// What was told to the office.
+    pub story: &'static [&'static [Line]],
+    /// What shows it.
+    pub rows: &'static [Line],
+}
+
+impl Adopting {
+    /// The files of the office.
+    pub fn files(&self, alloc: Global) -> Result<Disks, Fail> {
+        match connect(alloc, empty_files(alloc)) {
+            Ok(conn) => Ok(disconnect(as_version_1(told_to_new(alloc, conn, self.story)?)?)),
+            Err(_) => Err("no store".into()),
+        }
+    }
+}
+
+// What version 2 has and version 1 has not is taken away.
+fn as_version_1<S: Alter + Drop>(mut conn: Connection<S>) -> Result<Connection<S>, Fail> {
+    for statement in [
+        "DROP INDEX moves_by_batch",
+        "DROP TABLE voids",
+        "UPDATE meta SET value = 1",
+    ] {
+        conn.execute(statement, &[])?;
+    }
+    Ok(conn)
+}
+
+impl Run for Adopting {
+    fn go<S: Alter + Drop>(&self, alloc: Global, conn: Connection<S>) -> (Connection<S>, Told) {
+        match SqlKeep::adopt(alloc, conn) {
+            Ok(keep) => (keep.into_connection(), Told::Done),
+            Err((fault, conn)) => (conn, told_of(fault)),
+        }
+    }
+
+    fn is_after<S: Alter + Drop>(
+        &self,
+        alloc: Global,
+        mut conn: Connection<S>,
+    ) -> Result<bool, Fail> {
+        let row = conn.query_row("SELECT value FROM meta", &[])?;
+        let version: i64 = row.get(0)?;
+        match SqlKeep::adopt(alloc, conn) {
+            Ok(mut keep) => {
+                check_lines::<Asked, SqlKeep<S>>(alloc, &mut keep, self.rows)?;
+                Ok(version == 2)
+            }
+            Err((fault, _)) => Err(fault.into()),
+        }
+    }
+}
+
 /// A line is told to an office.
 pub struct Telling {
     /// What was told before.

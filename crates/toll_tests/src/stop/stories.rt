@@ -1,10 +1,13 @@
 //! Runs over an office whose files stop, and what shows the office before and after each.
 use crate::stop::disks::empty_files;
-use crate::stop::runs::{Making, Telling};
+use crate::stop::refused::{check_refused_of_lists, check_refused_of_tables};
+use crate::stop::runs::{Adopting, Making, Telling};
 use crate::stop::stops::check_stops;
-use crate::stories::{A_CONSUMED, P1_PRODUCED, WITH_HOUSE};
+use crate::stories::{
+    A_CONSUMED, CONSUMED_AND_PRODUCED, Line, P1_PRODUCED, WITH_HOUSE, WITH_RECIPE,
+};
 use crate::wire::setups::{
-    RELEASED_AND_PLACED, WITH_ACME, WITH_PRODUCT_OF_HOUSE, WITH_RECIPE_OF_HOUSE,
+    RELEASED_AND_PLACED, WITH_ACME, WITH_BATCH, WITH_PRODUCT_OF_HOUSE, WITH_RECIPE_OF_HOUSE,
 };
 use std::test::Fail;
 
@@ -82,21 +85,26 @@ const OPENING: Telling = Telling {
     ],
 };
 
+// A batch that consumed HOUSE's `H-1`, of which nothing is left.
+const WITH_H1_CONSUMED: &[&[Line]] = &[WITH_HOUSE, RELEASED_AND_PLACED, A_CONSUMED, P1_PRODUCED];
+
+const H1_CONSUMED: &[Line] = &[
+    (
+        "stock HOUSE",
+        "H-1              S                W                released                 0 kg\n",
+    ),
+    (
+        "> ACME ACMEKEY1 GET /trace/house/H-1",
+        "200 {\"lots\":[{\"lot\":\"H-1\",\"owner\":\"HOUSE\",\"steps\":0},{\"lot\":\"P1\",\"owner\":\"ACME\",\"steps\":1}]}",
+    ),
+];
+
 // The batch gives back what it consumed of HOUSE's.
 const VOIDING: Telling = Telling {
-    story: &[WITH_HOUSE, RELEASED_AND_PLACED, A_CONSUMED, P1_PRODUCED],
+    story: WITH_H1_CONSUMED,
     line: ("void ACME K4", "accepted"),
     fault: "fault Disk",
-    before: &[
-        (
-            "stock HOUSE",
-            "H-1              S                W                released                 0 kg\n",
-        ),
-        (
-            "> ACME ACMEKEY1 GET /trace/house/H-1",
-            "200 {\"lots\":[{\"lot\":\"H-1\",\"owner\":\"HOUSE\",\"steps\":0},{\"lot\":\"P1\",\"owner\":\"ACME\",\"steps\":1}]}",
-        ),
-    ],
+    before: H1_CONSUMED,
     after: &[
         (
             "stock HOUSE",
@@ -109,7 +117,22 @@ const VOIDING: Telling = Telling {
     ],
 };
 
-const RUNS: &[Telling] = &[PLACING, CONSUMING, OPENING, VOIDING];
+// The batch gives back what it consumed of ACME's.
+const VOIDING_OWN: Telling = Telling {
+    story: &[WITH_RECIPE, WITH_BATCH, CONSUMED_AND_PRODUCED],
+    line: ("void ACME K2", "accepted"),
+    fault: "fault Disk",
+    before: &[(
+        "stock ACME",
+        "A                S1               M                released                60 kg\nP1               S1               P                quarantined             30 kg\n",
+    )],
+    after: &[(
+        "stock ACME",
+        "A                S1               M                released               100 kg\nP1               S1               P                quarantined             30 kg\n",
+    )],
+};
+
+const RUNS: &[Telling] = &[PLACING, CONSUMING, OPENING, VOIDING, VOIDING_OWN];
 
 #[test]
 fn a_stop_leaves_the_rows_from_before_or_after(rt: HostRuntime) -> Result<(), Fail> {
@@ -117,4 +140,37 @@ fn a_stop_leaves_the_rows_from_before_or_after(rt: HostRuntime) -> Result<(), Fa
         check_stops(rt.alloc(), run, &run.files(rt.alloc())?)?;
     }
     Ok(())
+}
+
+// The office of version 1 in which HOUSE's `H-1` was consumed.
+const ADOPTING: Adopting = Adopting {
+    story: WITH_H1_CONSUMED,
+    rows: H1_CONSUMED,
+};
+
+#[test]
+fn a_stop_leaves_version_1_or_version_2_with_its_rows(rt: HostRuntime) -> Result<(), Fail> {
+    check_stops(rt.alloc(), &ADOPTING, &ADOPTING.files(rt.alloc())?)
+}
+
+// An owner is shown where HOUSE's `H-1` went.
+const TRACING: Telling = Telling {
+    story: WITH_H1_CONSUMED,
+    line: (
+        "> ACME ACMEKEY1 GET /trace/house/H-1",
+        "200 {\"lots\":[{\"lot\":\"H-1\",\"owner\":\"HOUSE\",\"steps\":0},{\"lot\":\"P1\",\"owner\":\"ACME\",\"steps\":1}]}",
+    ),
+    fault: "503 {\"error\":\"Unavailable\"}",
+    before: H1_CONSUMED,
+    after: H1_CONSUMED,
+};
+
+#[test]
+fn a_refused_call_of_a_keep_leaves_the_rows_from_before(rt: HostRuntime) -> Result<(), Fail> {
+    for run in RUNS {
+        check_refused_of_lists(rt.alloc(), run)?;
+        check_refused_of_tables(rt.alloc(), run)?;
+    }
+    check_refused_of_lists(rt.alloc(), &TRACING)?;
+    check_refused_of_tables(rt.alloc(), &TRACING)
 }

@@ -6,7 +6,7 @@ use crate::wire::setups::WITH_ACME;
 use std::alloc::{AllocError, Global};
 use std::test::Fail;
 use toll_desk::PlantReply;
-use toll_keep::{Keep, MemKeep, Refusing};
+use toll_keep::{Keep, MemKeep, Refused, Refusing};
 use toll_wire::{Answer, answer, run_events};
 
 /// The body that asks for order O-1, of two batches by recipe R-1.
@@ -207,7 +207,7 @@ const PLACED_AT_LAST: &[(Request, &[u8])] = &[
 
 #[test]
 fn an_order_that_is_not_kept_is_not_placed(rt: HostRuntime) -> Result<(), Fail> {
-    let mut keep = Refusing::new(office(rt.alloc())?);
+    let mut keep = Refusing::new(office(rt.alloc())?, Refused::Apply);
     for row in PLACED_AT_LAST {
         let (asked, wanted) = *row;
         check_bytes(rt.alloc(), &mut keep, asked, wanted)?;
