@@ -14,5 +14,6 @@ pub mod SharedView
 pub mod Former
 pub mod States
 pub mod Lots
+pub mod ValueWords
 pub mod Moves
 pub mod Changes

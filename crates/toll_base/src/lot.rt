@@ -1,6 +1,7 @@
 //! Lots: their names, their origin and their disposition.
 ghost use Rattle.std.specs.Prelude.{◌≡◌};
 ghost use Rattle.toll_base.specs.Lots.{lot_cmp, edge_cmp};
+ghost use Rattle.toll_base.specs.ValueWords.{disposition_word};
 
 use crate::bounded::BatchNo;
 use crate::name::Name;
@@ -16,6 +17,19 @@ pub enum Disposition {
     Released,
     /// For good: it takes no material, and gives none to a batch or a shipment.
     Rejected,
+}
+
+impl Disposition {
+    /// The word.
+    pub fn word(&self) -> &'static str
+        ensures { result.now ≡ disposition_word self.now }
+    {
+        match self {
+            Disposition::Quarantined => "quarantined",
+            Disposition::Released => "released",
+            Disposition::Rejected => "rejected",
+        }
+    }
 }
 
 /// Where a lot comes from: receipts, or one batch of its owner, never both.

@@ -3,6 +3,7 @@ ghost use Rattle.std.specs.Prelude.{◌≡◌, Some, refl};
 ghost use Rattle.std.proofs.lemmas.Cmp.{nat_cmp_total, on_total};
 ghost use Rattle.std.specs.Cmp.{partial_equiv_from_equiv, eq_by_cmp_equiv, partial_order_from_total};
 ghost use Rattle.toll_base.specs.Roles.{role_rank, role_cmp, same_role};
+ghost use Rattle.toll_base.specs.ValueWords.{use_word};
 
 use std::cmp::Ordering;
 
@@ -15,6 +16,16 @@ pub enum Role {
 }
 
 impl Role {
+    /// The word.
+    pub fn word(&self) -> &'static str
+        ensures { result.now ≡ use_word self.now }
+    {
+        match self {
+            Role::Consumed => "consumed",
+            Role::Produced => "produced",
+        }
+    }
+
     fn rank(&self) -> u8
         ensures { result ≡ role_rank self.now }
     {

@@ -1,4 +1,7 @@
 //! Rows: what the office keeps of the plant and of each owner. The fields of a row's key come first.
+ghost use Rattle.std.specs.Prelude.{◌≡◌};
+ghost use Rattle.toll_base.specs.ValueWords.{order_status};
+
 use crate::bounded::{Amount, BatchNo, Day, Segment};
 use crate::limits::Limits;
 use crate::lot::{Disposition, Origin};
@@ -65,6 +68,15 @@ pub struct OrderRow {
     pub recipe: Name,
     pub batches: BatchNo,
     pub cancelled: bool,
+}
+
+impl OrderRow {
+    /// Whether it stands, as a word.
+    pub fn status(&self) -> &'static str
+        ensures { result.now ≡ order_status self.now.cancelled }
+    {
+        if self.cancelled { "cancelled" } else { "open" }
+    }
 }
 
 /// A batch, which is a job order (IEC 62264-4), numbered from 1 within its order.

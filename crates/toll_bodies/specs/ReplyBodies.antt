@@ -13,7 +13,7 @@ use Rattle.toll_base.specs.declared.rows.LotRow.{LotRow}
 use Rattle.toll_base.specs.declared.rows.OrderRow.{OrderRow}
 use Rattle.toll_base.specs.declared.rows.ResultRow.{ResultRow}
 use Rattle.toll_base.specs.declared.rows.SublotRow.{SublotRow}
-use Rattle.toll_print.specs.Texts.{disposition_word, order_status, use_word}
+use Rattle.toll_base.specs.ValueWords.{disposition_word, order_status, use_word}
 use Rattle.toll_trace.specs.declared.step.Step.{Step}
 use Rattle.toll_views.specs.declared.stock.StockLine.{StockLine}
 use Rattle.toll_work.specs.declared.views.RequirementLine.{RequirementLine}

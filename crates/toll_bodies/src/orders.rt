@@ -1,7 +1,6 @@
 //! The bodies of an order and of orders.
 ghost use Rattle.std.specs.Prelude.{◌≡◌, IfOk, refl, string_bytes};
 ghost use Rattle.serde_json.specs.Written.{compact_text};
-ghost use Rattle.toll_print.specs.Texts as print;
 ghost use Rattle.toll_bodies.specs.ReplyBodies.{order_data, orders_data};
 
 use crate::listed::list_text;
@@ -35,13 +34,7 @@ impl Told for OrderRow {
         send_member("batches", &self.batches, out)?;
         send_member("order", &self.order, out)?;
         send_member("recipe", &self.recipe, out)?;
-        send_member("status", &order_status(self.cancelled), out)?;
+        send_member("status", &self.status(), out)?;
         out.end_map()
     }
-}
-
-fn order_status(cancelled: bool) -> &'static str
-    ensures { result.now ≡ print.order_status cancelled }
-{
-    if cancelled { "cancelled" } else { "open" }
 }

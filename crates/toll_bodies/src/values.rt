@@ -2,7 +2,7 @@
 ghost use Rattle.std.specs.Prelude.{◌≡◌, refl};
 ghost use Rattle.serde_json.specs.Data.{boolean, string};
 ghost use Rattle.toll_base.specs.States.{word_of_state};
-ghost use Rattle.toll_print.specs.Texts as print;
+ghost use Rattle.toll_base.specs.ValueWords.{disposition_word, use_word};
 ghost use Rattle.toll_bodies.specs.Exact.{whole_exact};
 ghost use Rattle.toll_bodies.specs.ReplyBodies.{count, whole};
 
@@ -86,29 +86,22 @@ impl Told for Measure {
 }
 
 impl Told for Disposition {
-    ghost said = { λ disposition. string (print.disposition_word disposition) };
+    ghost said = { λ disposition. string (disposition_word disposition) };
 
     ghost exact = { λ _. refl };
 
     fn send<S: Serializer>(&self, out: &mut S) -> Result<(), S::Error> {
-        out.str(match self {
-            Disposition::Quarantined => "quarantined",
-            Disposition::Released => "released",
-            Disposition::Rejected => "rejected",
-        })
+        out.str(self.word())
     }
 }
 
 impl Told for Role {
-    ghost said = { λ role. string (print.use_word role) };
+    ghost said = { λ role. string (use_word role) };
 
     ghost exact = { λ _. refl };
 
     fn send<S: Serializer>(&self, out: &mut S) -> Result<(), S::Error> {
-        out.str(match self {
-            Role::Consumed => "consumed",
-            Role::Produced => "produced",
-        })
+        out.str(self.word())
     }
 }
 

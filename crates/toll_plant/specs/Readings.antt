@@ -2,6 +2,7 @@
 use Rattle.std.specs.Prelude.{ℕ, ℤ, pos, neg_ℤ, nat_abs, ◌==◌, ◌&&◌, nat_le, [], ◌∷◌, find, codes, Option, Some, None, option_map, option_and_then, Result, Ok, Err, if◌then◌else◌}
 use Rattle.toll_base.specs.Bytes.{Bytes, same_bytes}
 use Rattle.toll_base.specs.States.{read_command}
+use Rattle.toll_base.specs.ValueWords.{use_word}
 use Rattle.toll_base.specs.Values.{is_measure, is_name, is_owner_key, number_of}
 use Rattle.toll_base.specs.Words.{where_so}
 use Rattle.toll_base.specs.declared.bounded.TheConstants.{MOST_AMOUNT, MOST_BATCHES, MOST_DAY, MOST_SEGMENTS}
@@ -10,7 +11,6 @@ use Rattle.toll_base.specs.declared.refusal.Refusal.TheVariants.{BadName, BadAmo
 use Rattle.toll_base.specs.declared.role.Role.{Role}
 use Rattle.toll_base.specs.declared.role.Role.TheVariants.{Consumed, Produced}
 use Rattle.toll_base.specs.declared.value.TheConstants.{LEAST_VALUE, MOST_VALUE}
-use Rattle.toll_print.specs.Texts.{use_word}
 use Rattle.toll_trace.specs.declared.way.Way.{Way}
 use Rattle.toll_trace.specs.declared.way.Way.TheVariants.{Back, Forward}
 use Rattle.toll_plant.specs.declared.argument.Reading.{Reading}

@@ -7,13 +7,11 @@ use Rattle.toll_base.specs.Keys.{pair_cmp}
 use Rattle.toll_base.specs.Slice.{Slice, lot_at, material_at}
 use Rattle.toll_base.specs.States.{word_of_state}
 use Rattle.toll_base.specs.Table.{AreRowsGiven}
+use Rattle.toll_base.specs.ValueWords.{disposition_word, order_status, use_word}
 use Rattle.toll_history.specs.History.{History, acts}
 use Rattle.toll_history.specs.Tables.{lot_row, sublot_row}
 use Rattle.toll_history.specs.Work.{measure_of}
 use Rattle.toll_base.specs.declared.lot.Disposition.{Disposition}
-use Rattle.toll_base.specs.declared.lot.Disposition.TheVariants.{Quarantined, Released, Rejected}
-use Rattle.toll_base.specs.declared.role.Role.{Role}
-use Rattle.toll_base.specs.declared.role.Role.TheVariants.{Consumed, Produced}
 use Rattle.toll_base.specs.declared.rows.BatchRow.{BatchRow}
 use Rattle.toll_base.specs.declared.rows.LotRow.{LotRow}
 use Rattle.toll_base.specs.declared.rows.OrderRow.{OrderRow}
@@ -22,25 +20,6 @@ use Rattle.toll_genealogy.specs.declared.recall.RecallLine.{RecallLine}
 use Rattle.toll_print.specs.Columns.{left, right, line}
 use Rattle.toll_trace.specs.declared.step.Step.{Step}
 use Rattle.toll_work.specs.declared.views.RequirementLine.{RequirementLine}
-
--- ---- words
-
-abbrev pub disposition_word : Disposition → Bytes
-disposition_word Quarantined = codes "quarantined"
-disposition_word Released = codes "released"
-disposition_word Rejected = codes "rejected"
-
-abbrev pub use_word : Role → Bytes
-use_word Consumed = codes "consumed"
-use_word Produced = codes "produced"
-
-abbrev pub order_status : Bool → Bytes
-order_status true = codes "cancelled"
-order_status false = codes "open"
-
-abbrev pub batch_status : Bool → Bytes
-batch_status true = codes "closed"
-batch_status false = codes "open"
 
 -- ---- orders
 
@@ -84,6 +63,11 @@ pub record IsStockText (H : History) (o : Bytes) (text : Bytes) : Type 0 where
   pub is : text ≡ stock_text shown
 
 -- ---- a batch
+
+-- of a batch that was closed or not
+abbrev pub batch_status : Bool → Bytes
+batch_status true = codes "closed"
+batch_status false = codes "open"
 
 abbrev pub batch_head : BatchRow → Bytes
 batch_head row = line ((row.order ++ codes "/" ++ decimal row.number) ∷ word_of_state row.state ∷ row.unit ∷ batch_status row.closed ∷ [])

@@ -4,7 +4,7 @@ ghost use Rattle.toll_print.specs.Texts as spec;
 
 use crate::column::{BLANK, LINE_FEED, push_left, push_number, push_whole};
 use std::alloc::{AllocError, Global};
-use toll_base::{BatchRow, Role};
+use toll_base::BatchRow;
 use toll_work::{BatchView, RequirementLine, StateWord};
 
 /// A batch: its order and number, its state, its unit and `open` or `closed`; and a line for each
@@ -41,7 +41,7 @@ fn push_requirement(
     ensures { OnOk result (text.new.items ≡ text.old.items ++ spec.requirement_line line.now) }
 {
     push_number(alloc, text, 2, line.row.segment.get(), BLANK)?;
-    push_left(text, 8, use_word(line.row.role), BLANK)?;
+    push_left(text, 8, line.row.role.word().as_bytes(), BLANK)?;
     push_left(text, 16, line.row.source.as_bytes(), BLANK)?;
     push_left(text, 16, line.row.material.as_bytes(), BLANK)?;
     push_number(alloc, text, 10, line.row.amount.get(), BLANK)?;
@@ -52,13 +52,4 @@ fn batch_status(closed: bool) -> &'static [u8]
     ensures { result.now ≡ spec.batch_status closed }
 {
     if closed { b"closed" } else { b"open" }
-}
-
-fn use_word(role: Role) -> &'static [u8]
-    ensures { result.now ≡ spec.use_word role }
-{
-    match role {
-        Role::Consumed => b"consumed",
-        Role::Produced => b"produced",
-    }
 }

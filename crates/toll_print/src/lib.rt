@@ -7,7 +7,6 @@ mod orders;
 mod recalls;
 mod stock;
 mod traces;
-mod words;
 
 pub use batches::batch_text;
 pub use orders::orders_text;

@@ -24,11 +24,5 @@ fn push_order(alloc: Global, text: &mut Vec<u8>, row: &OrderRow) -> Result<(), A
     push_left(text, 16, row.order.as_bytes(), BLANK)?;
     push_left(text, 16, row.recipe.as_bytes(), BLANK)?;
     push_number(alloc, text, 2, row.batches.get(), BLANK)?;
-    push_whole(text, order_status(row.cancelled), LINE_FEED)
-}
-
-fn order_status(cancelled: bool) -> &'static [u8]
-    ensures { result.now ≡ spec.order_status cancelled }
-{
-    if cancelled { b"cancelled" } else { b"open" }
+    push_whole(text, row.status().as_bytes(), LINE_FEED)
 }

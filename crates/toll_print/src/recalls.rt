@@ -3,7 +3,6 @@ ghost use Rattle.std.specs.Prelude.{◌≡◌, ◌++◌, IfOk, OnOk};
 ghost use Rattle.toll_print.specs.Texts as spec;
 
 use crate::column::{BLANK, LINE_FEED, push_left, push_number};
-use crate::words::disposition_word;
 use std::alloc::{AllocError, Global};
 use toll_genealogy::RecallLine;
 
@@ -35,7 +34,7 @@ fn push_line(alloc: Global, text: &mut Vec<u8>, line: &RecallLine) -> Result<(),
     push_number(alloc, text, 6, line.step.steps, BLANK)?;
     push_left(text, 16, lot.owner.as_bytes(), BLANK)?;
     push_left(text, 16, lot.lot.as_bytes(), BLANK)?;
-    push_left(text, 11, disposition_word(line.disposition), BLANK)?;
+    push_left(text, 11, line.disposition.word().as_bytes(), BLANK)?;
     push_number(alloc, text, 14, line.totals.on_hand, BLANK)?;
     push_number(alloc, text, 14, line.totals.shipped, LINE_FEED)
 }

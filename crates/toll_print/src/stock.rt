@@ -8,7 +8,6 @@ ghost use Rattle.toll_history.specs.Verdict.{IsLawful};
 ghost use Rattle.toll_print.specs.Texts as spec;
 
 use crate::column::{BLANK, LINE_FEED, push_left, push_number, push_whole};
-use crate::words::disposition_word;
 use std::alloc::{AllocError, Global};
 use toll_base::{LotRow, Measure, Slice, SublotRow};
 
@@ -63,7 +62,7 @@ fn push_sublot(
     push_left(text, 16, row.lot.as_bytes(), BLANK)?;
     push_left(text, 16, row.sublot.as_bytes(), BLANK)?;
     push_left(text, 16, lot.material.as_bytes(), BLANK)?;
-    push_left(text, 11, disposition_word(lot.disposition), BLANK)?;
+    push_left(text, 11, lot.disposition.word().as_bytes(), BLANK)?;
     push_number(alloc, text, 14, row.amount, BLANK)?;
     push_whole(text, measure.as_bytes(), LINE_FEED)
 }

@@ -20,10 +20,10 @@ const TRACED: &[Line] = &[
         "> ACME ACMEKEY1 house H-1",
         "     0 HOUSE            H-1\n     1 ACME             P1\n",
     ),
-    ("> ACME ACMEKEY1 house H-9", "refused 27"),
-    ("> ACME ACMEKEY1 back H-1", "refused 27"),
-    ("trace ACME H-1 back", "refused 27"),
-    ("trace ACME P1 sideways", "refused 1"),
+    ("> ACME ACMEKEY1 house H-9", "refused UnknownLot"),
+    ("> ACME ACMEKEY1 back H-1", "refused UnknownLot"),
+    ("trace ACME H-1 back", "refused UnknownLot"),
+    ("trace ACME P1 sideways", "refused BadName"),
 ];
 
 #[test]
@@ -139,7 +139,7 @@ const H2_PRODUCED: &[Line] = &[
 ];
 
 const RECALLED_THROUGH_H2: &[Line] = &[
-    ("> ACME ACMEKEY1 house H-1", "refused 27"),
+    ("> ACME ACMEKEY1 house H-1", "refused UnknownLot"),
     (
         "> ACME ACMEKEY1 back P1",
         "     0 ACME             P1\n     1 HOUSE            H-2\n",
@@ -205,7 +205,7 @@ const NOT_RECALLED: &[Line] = &[
         "recall HOUSE H-2",
         " steps owner            lot              disposition        on-hand        shipped\n     0 HOUSE            H-2              released                 6              0\n     1 ACME             P1               quarantined              5              0\n",
     ),
-    ("recall HOUSE H-3", "refused 27"),
+    ("recall HOUSE H-3", "refused UnknownLot"),
 ];
 
 #[test]

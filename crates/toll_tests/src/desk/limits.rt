@@ -54,7 +54,7 @@ fn there_are_64_owners_at_most(rt: HostRuntime) -> Result<(), Fail> {
         rt.alloc(),
         &mut keep,
         &["owner-add W-", " OWNERKEY1"],
-        "64, refused 39",
+        "64, refused LimitReached",
     )
 }
 
@@ -65,7 +65,7 @@ fn there_are_200_units_at_most(rt: HostRuntime) -> Result<(), Fail> {
         rt.alloc(),
         &mut keep,
         &["unit-add U-", ""],
-        "200, refused 39",
+        "200, refused LimitReached",
     )
 }
 
@@ -107,7 +107,7 @@ fn receive_all(
 }
 
 const ONE_LOT_MORE: &[Line] = &[
-    ("receive ACME K M L5000 S1 1 10", "refused 39"),
+    ("receive ACME K M L5000 S1 1 10", "refused LimitReached"),
     ("receive ACME K M L0 S1 1 10", "accepted"),
 ];
 
@@ -121,7 +121,7 @@ fn an_owner_has_5000_lots(rt: HostRuntime) -> Result<(), Fail> {
 }
 
 const ONE_MOVEMENT_MORE: &[Line] = &[
-    ("receive ACME K M L0 S1 1 10", "refused 39"),
+    ("receive ACME K M L0 S1 1 10", "refused LimitReached"),
     ("receive ACME K19999 M L0 S1 1 10", "repeated"),
 ];
 
@@ -144,13 +144,13 @@ fn an_order_has_its_batches_and_no_more(rt: HostRuntime) -> Result<(), Fail> {
         rt.alloc(),
         &mut keep,
         &["unit-add U-", ""],
-        "199, refused 39",
+        "199, refused LimitReached",
     )?;
     check_filled(
         rt.alloc(),
         &mut keep,
         &["open ACME O U-", ""],
-        "99, refused 21",
+        "99, refused NoMoreBatches",
     )
 }
 
@@ -159,7 +159,7 @@ const VOIDED: &[Line] = &[
     ("void ACME N7", "accepted"),
     (
         "actual N200 ACME O 1 1 produced P ACME P1 S1 1 11",
-        "refused 39",
+        "refused LimitReached",
     ),
     (
         "actual N8 ACME O 1 1 produced P ACME P1 S1 1 11",
@@ -179,7 +179,7 @@ fn a_batch_has_200_actuals(rt: HostRuntime) -> Result<(), Fail> {
         rt.alloc(),
         &mut keep,
         &["actual N", " ACME O 1 1 produced P ACME P1 S1 1 11"],
-        "200, refused 39",
+        "200, refused LimitReached",
     )?;
     check_said_over::<Asked, _>(rt.alloc(), &mut keep, &[VOIDED])
 }

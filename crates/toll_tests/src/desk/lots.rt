@@ -5,18 +5,18 @@ use std::test::Fail;
 
 const TESTED: &[Line] = &[
     ("owner-add ACME ACMEKEY1", "accepted"),
-    ("material-add ACME ABCDEFGHIJKLMNOPQ kg", "refused 1"),
+    ("material-add ACME ABCDEFGHIJKLMNOPQ kg", "refused BadName"),
     ("material-add ACME M kg", "accepted"),
-    ("test-add ACME M PH 8 M5", "refused 2"),
+    ("test-add ACME M PH 8 M5", "refused BadAmount"),
     ("test-add ACME M PH M5 008", "accepted"),
-    ("test-add ACME M PH M5 8", "refused 11"),
+    ("test-add ACME M PH M5 8", "refused TestExists"),
     ("receive ACME K1 M A S 10 1", "accepted"),
     ("receive ACME K1 M A S 10 1", "repeated"),
-    ("receive ACME K1 M A S 9 1", "refused 35"),
-    ("receive ACME K1 M A S 10 2", "refused 35"),
-    ("> ACME ACMEKEY1 release A", "refused 36"),
+    ("receive ACME K1 M A S 9 1", "refused KeyConflict"),
+    ("receive ACME K1 M A S 10 2", "refused KeyConflict"),
+    ("> ACME ACMEKEY1 release A", "refused TestsOpen"),
     ("result ACME A PH M6 1", "accepted"),
-    ("> ACME ACMEKEY1 release A", "refused 36"),
+    ("> ACME ACMEKEY1 release A", "refused TestsOpen"),
     ("result ACME A PH 8 1", "accepted"),
     (
         "> ACME ACMEKEY1 release A",
@@ -30,16 +30,16 @@ const OUT_OF_LIMITS: &[Line] = &[
         "> ACME ACMEKEY1 lot A",
         "lot A M kg receipts quarantined, PH -6 on 1, PH 8 on 1, PH 9 on 2, S 10",
     ),
-    ("> ACME ACMEKEY1 release A", "refused 36"),
-    ("ship ACME K9 A S 1 3", "refused 31"),
-    ("test-add ACME M PH2 0 1", "refused 10"),
+    ("> ACME ACMEKEY1 release A", "refused TestsOpen"),
+    ("ship ACME K9 A S 1 3", "refused NotReleased"),
+    ("test-add ACME M PH2 0 1", "refused MaterialInUse"),
     (
         "> ACME ACMEKEY1 reject A",
         "lot A M kg receipts rejected, PH -6 on 1, PH 8 on 1, PH 9 on 2, S 10",
     ),
-    ("> ACME ACMEKEY1 reject A", "refused 42"),
-    ("result ACME A PH 8 3", "refused 42"),
-    ("> ACME ACMEKEY1 lot B", "refused 27"),
+    ("> ACME ACMEKEY1 reject A", "refused Rejected"),
+    ("result ACME A PH 8 3", "refused Rejected"),
+    ("> ACME ACMEKEY1 lot B", "refused UnknownLot"),
 ];
 
 #[test]

@@ -29,7 +29,7 @@ const CONSUMED_AGAIN: &[Line] = &[("require ACME R 2 consumed ACME P 1", "accept
 const PRODUCT_CONSUMED: &[Line] = &[
     (
         "actual K2 ACME O 1 2 consumed P ACME P1 S1 1 11",
-        "refused 27",
+        "refused UnknownLot",
     ),
     (
         "actual K3 ACME O 1 1 produced P ACME P1 S1 30 11",
@@ -37,16 +37,16 @@ const PRODUCT_CONSUMED: &[Line] = &[
     ),
     (
         "actual K2 ACME O 1 2 consumed P ACME P1 S1 1 11",
-        "refused 31",
+        "refused NotReleased",
     ),
-    ("receive ACME K9 P P1 S1 1 11", "refused 30"),
+    ("receive ACME K9 P P1 S1 1 11", "refused WrongOrigin"),
     (
         "actual K9 ACME O 1 1 produced P ACME A S1 1 11",
-        "refused 30",
+        "refused WrongOrigin",
     ),
     (
         "actual K9 ACME O 1 3 consumed M ACME A S1 1 11",
-        "refused 15",
+        "refused BadSegment",
     ),
     (
         "actual K3 ACME O 1 1 produced P ACME P1 S1 30 11",
@@ -80,7 +80,7 @@ fn a_product_is_consumed_once_it_is_released(rt: HostRuntime) -> Result<(), Fail
 
 const SPLIT_AND_SHIPPED: &[Line] = &[
     ("split ACME K4 A S1 S2 30 12", "accepted"),
-    ("split ACME K5 A S1 S1 1 12", "refused 34"),
+    ("split ACME K5 A S1 S1 1 12", "refused SameSublot"),
     ("scrap ACME K6 A S2 30 12", "accepted"),
     (
         "stock ACME",
@@ -91,19 +91,19 @@ const SPLIT_AND_SHIPPED: &[Line] = &[
         "recall ACME A",
         " steps owner            lot              disposition        on-hand        shipped\n     0 ACME             A                released                 0             70\n",
     ),
-    ("ship ACME K8 A S1 1 12", "refused 33"),
-    ("ship ACME K8 A S3 1 12", "refused 28"),
+    ("ship ACME K8 A S1 1 12", "refused NotEnough"),
+    ("ship ACME K8 A S3 1 12", "refused UnknownSublot"),
     (
         "batch ACME O 1",
         "O/1 running U1 open\n 1 consumed ACME             M                       100              0\n 1 produced ACME             P                        90              0\n",
     ),
-    ("batch ACME O 2", "refused 22"),
+    ("batch ACME O 2", "refused UnknownBatch"),
     ("stock BOLT", ""),
     ("orders BOLT", ""),
-    ("stock NOBODY", "refused 3"),
-    ("receive ACME K9 M A S1 0 12", "refused 2"),
-    ("receive ACME K9 M A S1 1000000001 12", "refused 2"),
-    ("receive ACME K9 M A S1 1 12", "refused 32"),
+    ("stock NOBODY", "refused UnknownOwner"),
+    ("receive ACME K9 M A S1 0 12", "refused BadAmount"),
+    ("receive ACME K9 M A S1 1000000001 12", "refused BadAmount"),
+    ("receive ACME K9 M A S1 1 12", "refused NotQuarantined"),
 ];
 
 #[test]

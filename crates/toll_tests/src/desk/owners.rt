@@ -15,10 +15,10 @@ const PLACED_ONCE: &[Line] = &[
     ("> ACME ACMEKEY1 place O-1 R-1 2", "order O-1 R-1 2 open"),
     ("> ACME ACMEKEY1 orders", "orders, O-1 R-1 2 open"),
     ("> ACME ACMEKEY1 place O-1 R-1 2", "order O-1 R-1 2 open"),
-    ("> ACME ACMEKEY1 place O-1 R-1 3", "refused 17"),
+    ("> ACME ACMEKEY1 place O-1 R-1 3", "refused OrderExists"),
     ("> ACME ACMEKEY1 orders", "orders, O-1 R-1 2 open"),
     ("> ACME ACMEKEY1 order O-1", "order O-1 R-1 2 open"),
-    ("> ACME ACMEKEY1 order O-2", "refused 18"),
+    ("> ACME ACMEKEY1 order O-2", "refused UnknownOrder"),
 ];
 
 #[test]
@@ -54,13 +54,13 @@ fn a_wrong_key_is_forbidden(rt: HostRuntime) -> Result<(), Fail> {
 }
 
 const ADDED_ONCE: &[Line] = &[
-    ("owner-add ACME ACMEKEY1", "refused 4"),
-    ("owner-add HOUSE HOUSEKEY1", "refused 4"),
-    ("owner-add BOLT BOLT", "refused 1"),
-    ("recipe-add ACME R-1 2", "refused 12"),
-    ("recipe-add BOLT R-1 2", "refused 3"),
+    ("owner-add ACME ACMEKEY1", "refused OwnerExists"),
+    ("owner-add HOUSE HOUSEKEY1", "refused OwnerExists"),
+    ("owner-add BOLT BOLT", "refused BadName"),
+    ("recipe-add ACME R-1 2", "refused RecipeExists"),
+    ("recipe-add BOLT R-1 2", "refused UnknownOwner"),
     ("unit-add U1", "accepted"),
-    ("unit-add U1", "refused 5"),
+    ("unit-add U1", "refused UnitExists"),
 ];
 
 #[test]

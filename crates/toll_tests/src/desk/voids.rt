@@ -23,19 +23,19 @@ const AS_IF_NOT_CONSUMED: &[Line] = &[
 const KEYS_STAY_TAKEN: &[Line] = &[
     (
         "actual K2 ACME O 1 1 consumed M ACME A S1 40 11",
-        "refused 41",
+        "refused Voided",
     ),
     (
         "actual K2 ACME O 1 1 consumed M ACME A S1 41 11",
-        "refused 35",
+        "refused KeyConflict",
     ),
-    ("void ACME K1", "refused 40"),
-    ("void ACME K9", "refused 40"),
+    ("void ACME K1", "refused UnknownKey"),
+    ("void ACME K9", "refused UnknownKey"),
     ("do ACME O 1 stop", "accepted"),
     ("do ACME O 1 done", "accepted"),
     ("close ACME O 1", "accepted"),
-    ("void ACME K3", "refused 24"),
-    ("void ACME K2", "refused 41"),
+    ("void ACME K3", "refused BatchClosed"),
+    ("void ACME K2", "refused Voided"),
 ];
 
 #[test]
@@ -59,7 +59,7 @@ const GIVEN_BACK_TO_HOUSE: &[Line] = &[
         "H-1              S                W                released                 0 kg\n",
     ),
     ("void ACME K4", "accepted"),
-    ("> ACME ACMEKEY1 house H-1", "refused 27"),
+    ("> ACME ACMEKEY1 house H-1", "refused UnknownLot"),
     (
         "stock HOUSE",
         "H-1              S                W                released                10 kg\n",

@@ -71,7 +71,7 @@ const OPENING: Telling = Telling {
             "> ACME ACMEKEY1 GET /batches/O/1",
             "404 {\"code\":22,\"error\":\"UnknownBatch\"}",
         ),
-        ("batch ACME O 1", "refused 22"),
+        ("batch ACME O 1", "refused UnknownBatch"),
     ],
     after: &[
         (

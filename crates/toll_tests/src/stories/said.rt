@@ -12,10 +12,10 @@ pub fn text_of(bytes: &[u8]) -> &str {
     }
 }
 
-/// What is said of a refusal: `refused` and its number. An `Err` means that there was no memory.
+/// What is said of a refusal: `refused` and its word. An `Err` means that there was no memory.
 pub fn said_refusal(alloc: Global, why: &Refusal) -> Result<String, AllocError> {
-    let code = why.code();
-    format!(in alloc; "refused {code}")
+    let word = why.title();
+    format!(in alloc; "refused {word}")
 }
 
 /// What is said of a fault of the keep: `fault` and its name. An `Err` means that there was no memory.
@@ -29,7 +29,7 @@ pub fn said_text(alloc: Global, bytes: &[u8]) -> Result<String, AllocError> {
     String::from_str(alloc, text_of(bytes))
 }
 
-/// What the plant is told: `accepted`, `repeated`, `refused` and its number, the text itself, or
+/// What the plant is told: `accepted`, `repeated`, `refused` and its word, the text itself, or
 /// `fault` and its name. An `Err` means that there was no memory.
 pub fn plant_said(alloc: Global, reply: &PlantReply) -> Result<String, AllocError> {
     match reply {

@@ -25,11 +25,11 @@ pub const CONSUMED_ONCE: &[Line] = &[
     ),
     (
         "actual K2 ACME O 1 1 consumed M ACME A S1 99 11",
-        "refused 35",
+        "refused KeyConflict",
     ),
     (
         "actual K3 ACME O 1 1 consumed M ACME A S1 1 11",
-        "refused 33",
+        "refused NotEnough",
     ),
 ];
 
@@ -48,9 +48,9 @@ pub const CONSUMED_AND_PRODUCED: &[Line] = &[
 
 /// Then the consumption is voided, once.
 pub const CONSUMPTION_VOIDED: &[Line] = &[
-    ("void ACME K3", "refused 33"),
+    ("void ACME K3", "refused NotEnough"),
     ("void ACME K2", "accepted"),
-    ("void ACME K2", "refused 41"),
+    ("void ACME K2", "refused Voided"),
 ];
 
 /// ACME with two lots of `M`, HOUSE with a released one of `W`, and a recipe of two segments that

@@ -25,8 +25,8 @@ const OUT_OF_LIMITS: &[Line] = &[
         "> ACME ACMEKEY1 GET /lots/A",
         "200 {\"disposition\":\"quarantined\",\"lot\":\"A\",\"material\":\"M\",\"measure\":\"kg\",\"origin\":\"receipts\",\"results\":[{\"day\":1,\"test\":\"PH\",\"value\":8},{\"day\":2,\"test\":\"PH\",\"value\":9}],\"sublots\":[{\"amount\":10,\"sublot\":\"S\"}]}",
     ),
-    ("ship ACME K9 A S 1 3", "refused 31"),
-    ("test-add ACME M PH2 0 1", "refused 10"),
+    ("ship ACME K9 A S 1 3", "refused NotReleased"),
+    ("test-add ACME M PH2 0 1", "refused MaterialInUse"),
     (
         "> ACME ACMEKEY1 POST /lots/A/reject",
         "200 {\"disposition\":\"rejected\",\"lot\":\"A\",\"material\":\"M\",\"measure\":\"kg\",\"origin\":\"receipts\",\"results\":[{\"day\":1,\"test\":\"PH\",\"value\":8},{\"day\":2,\"test\":\"PH\",\"value\":9}],\"sublots\":[{\"amount\":10,\"sublot\":\"S\"}]}",

@@ -100,7 +100,7 @@ const UNIT_IS_HELD: &[Line] = &[
         "> BOLT BOLTKEY1 POST /orders {\"order\":\"O\",\"recipe\":\"R\",\"batches\":1}",
         "200 {\"batches\":1,\"order\":\"O\",\"recipe\":\"R\",\"status\":\"open\"}",
     ),
-    ("open BOLT O U1", "refused 7"),
+    ("open BOLT O U1", "refused UnitBusy"),
     (
         "> BOLT BOLTKEY1 GET /batches/O/1",
         "404 {\"code\":22,\"error\":\"UnknownBatch\"}",
