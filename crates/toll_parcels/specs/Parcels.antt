@@ -12,6 +12,10 @@ parcel content = to_be_bytes w32 (length content) ++ content
 abbrev pub Holds : ℕ → Bytes → Bytes → Bytes → Type 0
 Holds most text content rest = (text ≡ parcel content ++ rest) × (length content ≤ most)
 
+-- what stands at the front of the text can be read as this content, with this behind it, and as nothing else
+abbrev pub HoldsOnly : ℕ → Bytes → Bytes → Bytes → Type 0
+HoldsOnly most text content rest = (other behind : Bytes) → Holds most text other behind → (content ≡ other) × (rest ≡ behind)
+
 -- the text is the parcel of a content that has at most so many bytes
 abbrev pub IsParcelOf : ℕ → Bytes → Bytes → Type 0
 IsParcelOf most text content = (text ≡ parcel content) × (length content ≤ most)
@@ -27,3 +31,7 @@ IsThere most (Some len) text = (most < len) ⊎ (len + HEAD_BYTES ≤ length tex
 -- a whole parcel has come, or a length that is above the most
 abbrev pub IsEnough : ℕ → Bytes → Type 0
 IsEnough most text = IsThere most (claimed text) text
+
+-- less of the text than all of it is not enough
+abbrev pub NoPartIsEnough : ℕ → Bytes → Type 0
+NoPartIsEnough most text = (n : ℕ) → n < length text → ¬ (IsEnough most (take n text))

@@ -20,6 +20,10 @@ pub record IsWord (word : Bytes) : Type 0 where
 abbrev pub AreWords : List Bytes → Type 0
 AreWords words = AllByRecursion IsWord words
 
+-- these are words, and the text is these
+abbrev pub AreWordsOf : List Bytes → Bytes → Type 0
+AreWordsOf words text = AreWords words × (text ≡ words_text words)
+
 -- a zero stands there, and none before it
 pub record IsFirstZero (text : Bytes) (n : ℕ) : Type 0 where
   pub before : HasNoZero (take n text)

@@ -1,7 +1,7 @@
 //! Words as one text.
 ghost use Rattle.std.specs.Prelude.{◌≡◌, ◌↔◌, List, [], ◌∷◌, ◌++◌, map, IfNone, IfOk, IfSome, IsTrue};
 ghost use Rattle.toll_base.specs.Bytes.{Bytes};
-ghost use Rattle.toll_parcels.specs.Words.{AreWords, HasNoZero, IsFirstZero, IsWord, words_text};
+ghost use Rattle.toll_parcels.specs.Words.{AreWords, AreWordsOf, HasNoZero, IsFirstZero, IsWord, words_text};
 
 use std::alloc::{AllocError, Global};
 
@@ -31,8 +31,7 @@ pub fn text_of(alloc: Global, words: &[&str]) -> Result<Vec<u8>, AllocError>
 
 /// The words that a text is; `None` where it isn't words.
 pub fn words_of(alloc: Global, text: &[u8]) -> Result<Option<Vec<&str>>, AllocError>
-    ensures found { IfOk result (λ found. IfSome found (λ words. AreWords (map (λ word. word.now) words.items)
-        × (text.now ≡ words_text (map (λ word. word.now) words.items)))) }
+    ensures found { IfOk result (λ found. IfSome found (λ words. AreWordsOf (map (λ word. word.now) words.items) text.now)) }
     ensures none { IfOk result (λ found. IfNone found ((words : List Bytes) → AreWords words → text.now ≡ words_text words → ⊥)) }
 {
     let mut words = Vec::new(alloc);

@@ -54,6 +54,14 @@ module _ {S : Type 0} where
   IsNewcomer door socket now peer =
       (peer.socket ≡ socket) × (came_of peer.request ≡ []) × (door_of peer.request ≡ door) × (peer.reply ≡ None) × (peer.until ≡ until_from now)
 
+  -- who is there is who was there, or this newcomer
+  abbrev pub IsOldOrNew : Door → S → ℕ → Option (Peer S) → Option (Peer S) → Type 0
+  IsOldOrNew door socket now was is = IfSome is (λ peer. (was ≡ Some peer) ⊎ IsNewcomer door socket now peer)
+
+  -- where the peer with this key was there and is there still, this holds of it
+  abbrev pub IfStays : ℕ → Slab (Peer S) → Slab (Peer S) → (Peer S → Peer S → Type 0) → Type 0
+  IfStays key old new P = IfSome (get old key) (λ peer. IfSome (get new key) (λ later. P peer later))
+
   -- those whose time is over are there no more, and all others are as they were
   abbrev pub left_at : ℕ → Option (Peer S) → Option (Peer S)
   left_at now None = None

@@ -1,7 +1,7 @@
 //! The peers that are there.
-ghost use Rattle.std.specs.Prelude.{◌≡◌, ◌↔◌, ◌≤◌, ◌<◌, ◌+◌, ◌⊎◌, Some, IfSome, IsTrue};
+ghost use Rattle.std.specs.Prelude.{◌≡◌, ◌↔◌, ◌≤◌, ◌<◌, ◌+◌, ◌⊎◌, IfSome, IsTrue};
 ghost use Rattle.slab.specs.Slab.{get, slab_len};
-ghost use Rattle.toll_peers.specs.Halls.{IsDueAt, IsDueTo, IsInTime, IsNewcomer, KeepsReplies, OnlyAt, ShedsFirst, TurnsOut};
+ghost use Rattle.toll_peers.specs.Halls.{IfStays, IsDueAt, IsDueTo, IsInTime, IsOldOrNew, KeepsReplies, OnlyAt, ShedsFirst, TurnsOut};
 ghost use Rattle.toll_peers.specs.Runs.{IsRun};
 ghost use Rattle.toll_peers.specs.Steps.{IsStuck, until_after};
 ghost use Rattle.toll_peers.specs.Worlds.{IsShut, IsShutAt, LetsIn, Tallies, owners_at};
@@ -131,8 +131,7 @@ impl<S: Socket> Hall<S> {
         requires { 0 < self.old.to_come }
         ensures to_come { self.new.to_come + owners_at door ≡ self.old.to_come }
         ensures kept { slab_len self.old.peers < MOST_PEERS → OnlyAt self.old.peers.vacant_key self.old.peers self.new.peers }
-        ensures came { IfSome (get self.new.peers self.old.peers.vacant_key) (λ peer.
-            (get self.old.peers self.old.peers.vacant_key ≡ Some peer) ⊎ IsNewcomer door socket now peer) }
+        ensures came { let key = self.old.peers.vacant_key in IsOldOrNew door socket now (get self.old.peers key) (get self.new.peers key) }
         ensures replies { KeepsReplies self.old.peers self.new.peers }
         ensures full { slab_len self.old.peers ≤ MOST_PEERS → slab_len self.new.peers ≤ MOST_PEERS }
     {
@@ -155,10 +154,9 @@ impl<S: Socket> Hall<S> {
     pub fn advance<O: Office>(&mut self, alloc: Global, key: usize, office: &mut O, now: u64)
         ensures run { IsRun O.answers office.old office.new }
         ensures others { OnlyAt key self.old.peers self.new.peers }
-        ensures stuck { IfSome (get self.old.peers key) (λ peer. IfSome (get self.new.peers key) (λ later.
-            IsStuck S.Source.has_failed S.Sink.has_failed peer later)) }
-        ensures until { IfSome (get self.old.peers key) (λ peer. IfSome (get self.new.peers key) (λ later.
-            later.until ≡ until_after peer.reply later.reply peer.until now)) }
+        ensures stuck { IfStays key self.old.peers self.new.peers (IsStuck S.Source.has_failed S.Sink.has_failed) }
+        ensures until { IfStays key self.old.peers self.new.peers (λ peer later.
+            later.until ≡ until_after peer.reply later.reply peer.until now) }
         ensures fewer { slab_len self.new.peers ≤ slab_len self.old.peers }
         ensures to_come { self.new.to_come ≡ self.old.to_come }
     {
