@@ -1,0 +1,4 @@
+pub mod Wanted
+pub mod Doors
+pub mod Events
+pub mod Serving

@@ -1,0 +1,19 @@
+//! A server's answers at its two doors, over any keep: owners' requests, and what the plant asks in parcels.
+//! What peers ask, side by side, is a run of events.
+#![tactic(auto)]
+
+mod answering;
+mod kept_office;
+mod laws;
+mod plant;
+mod printout;
+mod reply;
+mod serving;
+#[cfg(test)]
+mod tests;
+
+pub use answering::answer_at;
+pub use kept_office::KeptOffice;
+pub use laws::what_peers_ask_over_a_keep_is_a_run;
+pub use reply::Reply;
+pub use serving::serve_keep;

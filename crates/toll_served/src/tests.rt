@@ -1,0 +1,130 @@
+//! A keep that is asked at both doors, and peers that ask it side by side.
+mod street;
+
+use crate::tests::street::{Log, Street};
+use crate::{KeptOffice, answer_at, serve_keep};
+use std::alloc::{AllocError, Global};
+use toll_keep::{Keep, MemKeep, Refused, Refusing};
+use toll_parcels::Told;
+use toll_peers::{Door, Served};
+
+/// Who comes to a door, what it asks, and what it is told.
+#[derive(Clone, Copy)]
+struct Visit {
+    door: Door,
+    asked: &'static [u8],
+    told: &'static [u8],
+}
+
+const ADD_OWNER: Visit = Visit {
+    door: Door::Plant,
+    asked: b"\0\0\0\x1c\0\0\0\x18owner-add\0ACME\0ACMEKEY1\0",
+    told: b"\0\0\0\x0e\0\0\0\0\x09accepted\n",
+};
+
+const ADD_RECIPE: Visit = Visit {
+    door: Door::Plant,
+    asked: b"\0\0\0\x1a\0\0\0\x16recipe-add\0ACME\0R-1\02\0",
+    told: b"\0\0\0\x0e\0\0\0\0\x09accepted\n",
+};
+
+const ADD_AGAIN: Visit = Visit {
+    door: Door::Plant,
+    asked: b"\0\0\0\x1c\0\0\0\x18owner-add\0ACME\0ACMEKEY1\0",
+    told: b"\0\0\0\x1b\x01\0\0\0\x16refused 4 OwnerExists\n",
+};
+
+const PLACE: Visit = Visit {
+    door: Door::Owners,
+    asked: b"POST /orders HTTP/1.1\r\nhost: a\r\ntoll-owner: ACME\r\ntoll-key: ACMEKEY1\r\ncontent-length: 42\r\n\r\n{\"order\":\"O-1\",\"recipe\":\"R-1\",\"batches\":2}",
+    told: b"HTTP/1.1 200 OK\r\ncontent-type: application/json\r\ncontent-length: 58\r\nconnection: close\r\n\r\n{\"batches\":2,\"order\":\"O-1\",\"recipe\":\"R-1\",\"status\":\"open\"}",
+};
+
+const IMPORT: Visit = Visit {
+    door: Door::Plant,
+    asked: b"\0\0\0\x82\0\0\0\x07import\0\x01key,owner,order,batch,segment,use,material,lot_owner,lot,sublot,amount,day\nK2,NOBODY,O,1,1,consumed,M,ACME,A,S1,40,11\n",
+    told: b"\0\0\0Q\x01\0\0\0L     1 refused 3 UnknownOwner\naccepted 0 repeated 0 refused 1 bad 0 fault 0\n",
+};
+
+const BAD_IMPORT: Visit = Visit {
+    door: Door::Plant,
+    asked: b"\0\0\0\x1b\0\0\0\rimport\0a.csv\0\x01no header",
+    told: b"\0\0\0\x10\x02\0\0\0\0bad header\n",
+};
+
+const LIST: Visit = Visit {
+    door: Door::Owners,
+    asked: b"GET /orders HTTP/1.1\r\nhost: a\r\ntoll-owner: ACME\r\ntoll-key: ACMEKEY1\r\ncontent-length: 0\r\n\r\n",
+    told: b"HTTP/1.1 200 OK\r\ncontent-type: application/json\r\ncontent-length: 71\r\nconnection: close\r\n\r\n{\"orders\":[{\"batches\":2,\"order\":\"O-1\",\"recipe\":\"R-1\",\"status\":\"open\"}]}",
+};
+
+/// Words that are no command, in a parcel, and a front of one that would be.
+const NO_COMMAND: &[u8] = b"\0\0\0\x09\0\0\0\x05frob\0";
+
+const CUT: &[u8] = b"\0\0\0\x1c\0\0\0\x18owner-add\0BOLT\0BOLT";
+
+/// What the plant is told where a change had no memory.
+const NO_MEMORY: &[u8] = b"\0\0\0\x12\x03\0\0\0\0fault Memory\n";
+
+const VISITS: &[Visit] = &[
+    ADD_OWNER, ADD_RECIPE, ADD_AGAIN, PLACE, IMPORT, BAD_IMPORT, LIST,
+];
+
+// Whether a peer that comes so is told just this, and the keep goes on or not.
+fn is_told<K: Keep>(
+    alloc: Global,
+    keep: &mut K,
+    visit: &Visit,
+    goes_on: bool,
+) -> Result<bool, AllocError> {
+    let reply = answer_at(alloc, keep, visit.door, visit.asked)?;
+    Ok(reply.bytes.as_slice() == visit.told && reply.goes_on == goes_on)
+}
+
+#[test]
+fn each_door_tells_what_the_program_would(rt: HostRuntime) -> Result<(), AllocError> {
+    let mut keep = MemKeep::new(rt.alloc());
+    for visit in VISITS {
+        let told = is_told(rt.alloc(), &mut keep, visit, true)?;
+        assert!(rt; told, "at {:?}", visit.asked);
+    }
+    Ok(())
+}
+
+#[test]
+fn peers_side_by_side_are_told_what_each_asked(rt: HostRuntime) -> Result<(), AllocError> {
+    let keep = MemKeep::new(rt.alloc());
+    let mut office = KeptOffice { keep };
+    let log = Log::new();
+    let served = serve_keep(rt.alloc(), &mut Street::new(VISITS, &log), &mut office, 2);
+    assert_eq!(rt; served, Served::All);
+    assert_eq!(rt; log.told.get(), VISITS.len());
+    let placed = is_told(rt.alloc(), &mut office.keep, &LIST, true)?;
+    assert!(rt; placed);
+    Ok(())
+}
+
+#[test]
+fn a_parcel_that_was_cut_does_nothing(rt: HostRuntime) -> Result<(), AllocError> {
+    let mut keep = MemKeep::new(rt.alloc());
+    let reply = answer_at(rt.alloc(), &mut keep, Door::Plant, CUT)?;
+    assert!(rt; reply.bytes.is_empty());
+    let reply = answer_at(rt.alloc(), &mut keep, Door::Plant, NO_COMMAND)?;
+    let status = Told::read(&reply.bytes).map(|told| told.status);
+    assert_eq!(rt; status, Some(2));
+    Ok(())
+}
+
+#[test]
+fn after_a_fault_the_keep_is_left(rt: HostRuntime) -> Result<(), AllocError> {
+    let mut keep = Refusing::new(MemKeep::new(rt.alloc()), Refused::Apply);
+    let refused = Visit {
+        told: NO_MEMORY,
+        ..ADD_OWNER
+    };
+    let told = is_told(rt.alloc(), &mut keep, &refused, false)?;
+    assert!(rt; told);
+    let told = is_told(rt.alloc(), &mut keep, &ADD_OWNER, true)?;
+    assert!(rt; told);
+    Ok(())
+}

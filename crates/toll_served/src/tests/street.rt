@@ -1,0 +1,129 @@
+//! Peers of a world of memory, who come at once, each with all that it asks.
+use crate::tests::Visit;
+use std::cell::Cell;
+use std::io;
+use std::io::{ErrorKind, Read, Write};
+use toll_peers::{Coming, Socket, World, WorldFault};
+
+/// How many peers were told just what they are to be told.
+#[derive(Drop)]
+pub struct Log {
+    pub told: Cell<usize>,
+}
+
+impl Log {
+    /// Nobody was told anything.
+    pub fn new() -> Self {
+        Log { told: Cell::new(0) }
+    }
+}
+
+/// Who comes, one after another. All may go on after the one wait that there is.
+#[derive(Drop)]
+pub struct Street<'l> {
+    coming: &'l [Visit],
+    came: usize,
+    ready: usize,
+    log: &'l Log,
+}
+
+impl<'l> Street<'l> {
+    /// Nobody has come yet.
+    pub fn new(coming: &'l [Visit], log: &'l Log) -> Self {
+        Street {
+            coming,
+            came: 0,
+            ready: 0,
+            log,
+        }
+    }
+}
+
+impl<'l> World for Street<'l> {
+    type Socket = Guest<'l>;
+
+    fn wait(&mut self, most: Option<u64>) -> Result<(), WorldFault> {
+        if self.ready == 0 || most == Some(0) {
+            return Ok(());
+        }
+        Err(WorldFault)
+    }
+
+    fn next_ready(&mut self) -> Option<usize> {
+        if self.ready == self.came {
+            return None;
+        }
+        let key = self.ready;
+        self.ready = key.saturating_add(1);
+        Some(key)
+    }
+
+    fn take_next(&mut self, _key: usize) -> Result<Coming<Guest<'l>>, WorldFault> {
+        match self.coming.split_first() {
+            Some((visit, rest)) => {
+                self.coming = rest;
+                self.came = self.came.saturating_add(1);
+                Ok(Coming::Came(visit.door, Guest::new(visit, self.log)))
+            }
+            None => Ok(Coming::Nobody),
+        }
+    }
+
+    fn now(&mut self) -> u64 {
+        0
+    }
+}
+
+/// One of them, with what it still asks, and what it is still to be told.
+#[derive(Drop)]
+pub struct Guest<'l> {
+    asks: &'l [u8],
+    wants: &'l [u8],
+    log: &'l Log,
+}
+
+impl<'l> Guest<'l> {
+    fn new(visit: &Visit, log: &'l Log) -> Self {
+        Guest {
+            asks: visit.asked,
+            wants: visit.told,
+            log,
+        }
+    }
+}
+
+impl Read for Guest<'_> {
+    fn read(&mut self, buffer: &mut [u8]) -> io::Result<usize> {
+        if self.asks.is_empty() {
+            return Err(ErrorKind::WouldBlock.into());
+        }
+        let n = self.asks.len().min(buffer.len());
+        let (given, rest) = self.asks.split_at(n);
+        buffer[..n].copy_from_slice(given);
+        self.asks = rest;
+        Ok(n)
+    }
+}
+
+impl Write for Guest<'_> {
+    fn write(&mut self, bytes: &[u8]) -> io::Result<usize> {
+        let Some(rest) = self.wants.strip_prefix(bytes) else {
+            return Err(ErrorKind::BrokenPipe.into());
+        };
+        self.wants = rest;
+        if rest.is_empty() {
+            self.log.told.set(self.log.told.get().saturating_add(1));
+        }
+        Ok(bytes.len())
+    }
+
+    fn flush(&mut self) -> io::Result<()> {
+        Ok(())
+    }
+}
+
+impl Socket for Guest<'_> {
+    ghost use Rattle.std.specs.Prelude.{refl};
+
+    ghost apart = { λ _. refl };
+}
