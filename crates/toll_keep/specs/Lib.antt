@@ -8,4 +8,5 @@ pub mod Drafts
 pub mod Remembered
 pub mod Around
 pub mod Reads
+pub mod Overlays
 pub mod Refused

@@ -11,6 +11,7 @@ mod keep;
 mod known;
 mod mem_keep;
 mod opening;
+mod overlay;
 mod plant_row;
 mod recollection;
 mod refusing;
@@ -28,5 +29,6 @@ pub use ghosts::{
 pub use holder::Holder;
 pub use keep::Keep;
 pub use mem_keep::MemKeep;
+pub use overlay::Overlay;
 pub use refusing::{Refused, Refusing};
 pub use remembering::Remembering;

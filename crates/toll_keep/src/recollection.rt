@@ -54,8 +54,8 @@ impl Recollection {
     }
 }
 
-// Whether a change adds an owner or a unit.
-fn has_addition(changes: &[Change]) -> bool
+/// Whether a change adds an owner or a unit.
+pub fn has_addition(changes: &[Change]) -> bool
     ensures { result ≡ list_any is_addition changes.now }
 {
     changes.iter().any(is_addition)

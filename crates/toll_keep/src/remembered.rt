@@ -99,7 +99,9 @@ pub fn follow_all(
     Ok(())
 }
 
-fn follow(alloc: Global, slice: &mut Known, changes: &[Change]) -> Result<(), AllocError>
+/// Makes the changes in this slice, in place where no other copy has its rows. Where there is no memory,
+/// or a row does not fit, the slice is of no more use.
+pub fn follow(alloc: Global, slice: &mut Known, changes: &[Change]) -> Result<(), AllocError>
     ensures { OnOk result (slice.new ≡ after_changes changes.now slice.old) }
 {
     for change in changes {

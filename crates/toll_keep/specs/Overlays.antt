@@ -1,0 +1,31 @@
+-- Changes that are held back from a keep, and what was read of it.
+use Rattle.std.specs.Prelude.{◌≡◌, ◌⊎◌, false, Some, [], Result, OnOk, OnErr}
+use Rattle.std.specs.List.{list_any}
+use Rattle.toll_base.specs.Bytes.{Bytes}
+use Rattle.toll_base.specs.Slice.{Slice}
+use Rattle.toll_keep.specs.Content.{Content, after, slice_of}
+use Rattle.toll_keep.specs.Goes.{IsReading}
+use Rattle.toll_keep.specs.Meaning.{Meaning}
+use Rattle.toll_keep.specs.Reads.{HaveRead, IsKept}
+use Rattle.toll_keep.specs.Remembered.{AreOf, is_addition}
+use Rattle.toll_keep.specs.declared.fault.KeepFault.{KeepFault}
+use Rattle.toll_keep.specs.declared.overlay.Overlay.{Overlay}
+
+-- the slices of the overlay are those of the content with its changes put, none of which adds an owner or a unit
+pub record IsOver (c : Content) (o : Overlay) : Type 0 where
+  pub slices : AreOf (after o.changes.items c) o.slices.items
+  pub puts : list_any is_addition o.changes.items ≡ false
+
+-- the slice is the owner's, as the content has it
+abbrev pub IsReadOf : Content → Bytes → Slice → Type 0
+IsReadOf c o s = slice_of c o ≡ Some s
+
+-- since the first of these keeps none was asked, and the overlay read nothing; or each reading call was answered
+abbrev pub IsReadThrough : {K : Type 0} → Meaning K → (first now : K) → Overlay → Type 0
+IsReadThrough meaning first now o = ((now ≡ first) × (o.slices.items ≡ [])) ⊎ HaveRead meaning first now
+
+-- the keep was read through the overlay, which had read of it since the first of these keeps, or not
+pub record ReadsThrough {K X : Type 0} (meaning : Meaning K) (old new : K) (before : Overlay) (result : Result X KeepFault) : Type 0 where
+  pub answered : (first : K) → IsReadThrough meaning first old before → OnOk result (HaveRead meaning first new)
+  pub failed : (first : K) → IsReadThrough meaning first old before → OnErr result (IsReading meaning first new result)
+  pub kept : IsKept meaning old new

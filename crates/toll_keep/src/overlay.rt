@@ -1,0 +1,122 @@
+//! Changes that are held back from a keep.
+ghost use Rattle.std.specs.Prelude.{◌≡◌, ◌++◌, [], IfOk, OnErr, OnOk};
+ghost use Rattle.toll_base.specs.Changes.{after_changes};
+ghost use Rattle.toll_keep.specs.Content.{Content, after, slice_of};
+ghost use Rattle.toll_keep.specs.Meaning.{OverHeld};
+ghost use Rattle.toll_keep.specs.Overlays.{IsOver, IsReadOf, ReadsThrough};
+
+use crate::fault::KeepFault;
+use crate::keep::Keep;
+use crate::known::Known;
+use crate::recollection::has_addition;
+use crate::remembered::{follow, follow_all, remembered};
+use std::alloc::{AllocError, Global};
+use std::mem;
+use toll_base::{Change, Name, Row, Slice};
+
+/// Changes that a keep does not have yet, and those of its slices that were read, with these changes put.
+/// It lies over one keep, which each call that reads is passed; that is not changed, and nothing of the
+/// overlay outlives a stop.
+pub struct Overlay {
+    slices: Vec<Known>,
+    changes: Vec<Change>,
+}
+
+/// By hand, since what is derived is written out at every exit of every function that owns one.
+impl Drop for Overlay {
+    fn drop(self) {
+        let Overlay {
+            slices: _,
+            changes: _,
+        } = self;
+    }
+}
+
+impl Overlay {
+    /// Over any keep: nothing is held back, and nothing was read. It takes no memory yet.
+    pub fn new(alloc: Global) -> Self
+        ensures changes { result.changes.items ≡ [] }
+        ensures slices { result.slices.items ≡ [] }
+        ensures over { (c : Content) → IsOver c result }
+    {
+        Overlay {
+            slices: Vec::new(alloc),
+            changes: Vec::new(alloc),
+        }
+    }
+
+    /// All rows of an owner, as the keep has them once the changes are made: `None` for an unknown one.
+    /// The keep is asked for them once, as long as there is the memory to remember them.
+    pub fn slice<K: Keep>(
+        &mut self,
+        alloc: Global,
+        keep: &mut K,
+        owner: &Name,
+    ) -> Result<Option<Slice>, KeepFault>
+        ensures reading { ReadsThrough K.meaning keep.old keep.new self.old result }
+        ensures reads { OverHeld K.meaning keep.old keep.new (λ c. IsOver c self.old → IfOk result (λ slice. slice ≡ slice_of (after self.old.changes.items c) owner.now)) }
+        ensures over { OverHeld K.meaning keep.old keep.new (λ c. IsOver c self.old → IsOver c self.new) }
+        ensures changes { self.new.changes.items ≡ self.old.changes.items }
+    {
+        if let Some(known) = remembered(&self.slices, owner) {
+            return match known.copy(alloc) {
+                Ok(copied) => Ok(Some(copied)),
+                Err(_) => Err(KeepFault::Memory),
+            };
+        }
+        match keep.slice(alloc, owner) {
+            Ok(Some(read)) => match self.lay(alloc, owner, read) {
+                Ok(slice) => Ok(Some(slice)),
+                Err(_) => Err(KeepFault::Memory),
+            },
+            Ok(None) => Ok(None),
+            Err(fault) => Err(fault),
+        }
+    }
+
+    // The slice that was read for the owner, with the changes put. It is remembered where it is the owner's
+    // and there is memory.
+    fn lay(&mut self, alloc: Global, owner: &Name, mut read: Slice) -> Result<Slice, AllocError>
+        ensures laid { IfOk result (λ slice. slice ≡ after_changes self.old.changes.items read) }
+        ensures over { (c : Content) → IsReadOf c owner.now read → IsOver c self.old → IsOver c self.new }
+        ensures changes { self.new.changes.items ≡ self.old.changes.items }
+    {
+        read.share(alloc)?;
+        let mut known = Known::of(read);
+        follow(alloc, &mut known, &self.changes)?;
+        let slice = known.copy(alloc)?;
+        if *known.owner() != *owner {
+            return Ok(slice);
+        }
+        let _ = self.slices.push(known);
+        Ok(slice)
+    }
+
+    /// Holds these changes back, behind those from before. An `Err` means that they are not held: there
+    /// was no memory, or one of them adds an owner or a unit, which no overlay can hold.
+    pub fn hold(&mut self, alloc: Global, changes: &[Change]) -> Result<(), AllocError>
+        ensures held { OnOk result (self.new.changes.items ≡ self.old.changes.items ++ changes.now) }
+        ensures none { OnErr result (self.new.changes.items ≡ self.old.changes.items) }
+        ensures over { (c : Content) → IsOver c self.old → IsOver c self.new }
+    {
+        // Named for the proof: a change may have a row.
+        let _row: Option<Row> = None;
+        if has_addition(changes) {
+            return Err(AllocError);
+        }
+        self.changes.extend_from_slice(changes)?;
+        let mut slices = mem::replace(&mut self.slices, Vec::new(alloc));
+        if follow_all(alloc, &mut slices, changes).is_ok() {
+            self.slices = slices;
+        }
+        Ok(())
+    }
+
+    /// What was held back, in order.
+    pub fn into_changes(self) -> Vec<Change>
+        ensures { result.items ≡ self.changes.items }
+    {
+        let Overlay { slices: _, changes } = self;
+        changes
+    }
+}
