@@ -13,3 +13,4 @@ pub mod PlantQuestions
 pub mod PlantShown
 pub mod RecallLines
 pub mod Going
+mod Held

@@ -4,6 +4,7 @@ pub mod Admission
 pub mod Plans
 pub mod Outcome
 pub mod Clauses
+pub mod PlantHeld
 pub mod PlantServed
 pub mod Forms
 pub mod Subjects

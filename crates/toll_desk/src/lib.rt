@@ -9,6 +9,7 @@ mod deciding;
 mod decisions;
 mod deeds;
 mod form;
+mod holding;
 mod owner;
 mod plant;
 mod plant_cmd;
@@ -22,6 +23,7 @@ mod writing;
 
 pub use admission::admit;
 pub use carrying::carry;
+pub use holding::plant_hold;
 pub use owner::{owner_do, owner_plan};
 pub use plant::plant_do;
 pub use plant_cmd::{PlantCmd, PlantReply};

@@ -5,7 +5,7 @@ use Rattle.toll_base.specs.Bytes.{Bytes}
 use Rattle.toll_base.specs.Slice.{Slice}
 use Rattle.toll_keep.specs.Content.{Content, after, slice_of}
 use Rattle.toll_keep.specs.Goes.{IsReading}
-use Rattle.toll_keep.specs.Meaning.{Meaning}
+use Rattle.toll_keep.specs.Meaning.{Meaning, OverHeld}
 use Rattle.toll_keep.specs.Reads.{HaveRead, IsKept}
 use Rattle.toll_keep.specs.Remembered.{AreOf, is_addition}
 use Rattle.toll_keep.specs.declared.fault.KeepFault.{KeepFault}
@@ -15,6 +15,10 @@ use Rattle.toll_keep.specs.declared.overlay.Overlay.{Overlay}
 pub record IsOver (c : Content) (o : Overlay) : Type 0 where
   pub slices : AreOf (after o.changes.items c) o.slices.items
   pub puts : list_any is_addition o.changes.items ≡ false
+
+-- what is so of the content that the keep held before with the changes of the overlay put, where it is honest after
+abbrev pub OverLaid : {K : Type 0} → Meaning K → (old new : K) → Overlay → (Content → Type 0) → Type 0
+OverLaid meaning old new o P = OverHeld meaning old new (λ c. IsOver c o → P (after o.changes.items c))
 
 -- the slice is the owner's, as the content has it
 abbrev pub IsReadOf : Content → Bytes → Slice → Type 0

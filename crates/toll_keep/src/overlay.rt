@@ -1,9 +1,9 @@
 //! Changes that are held back from a keep.
 ghost use Rattle.std.specs.Prelude.{◌≡◌, ◌++◌, [], IfOk, OnErr, OnOk};
 ghost use Rattle.toll_base.specs.Changes.{after_changes};
-ghost use Rattle.toll_keep.specs.Content.{Content, after, slice_of};
+ghost use Rattle.toll_keep.specs.Content.{Content, slice_of};
 ghost use Rattle.toll_keep.specs.Meaning.{OverHeld};
-ghost use Rattle.toll_keep.specs.Overlays.{IsOver, IsReadOf, ReadsThrough};
+ghost use Rattle.toll_keep.specs.Overlays.{IsOver, IsReadOf, OverLaid, ReadsThrough};
 
 use crate::fault::KeepFault;
 use crate::keep::Keep;
@@ -54,7 +54,7 @@ impl Overlay {
         owner: &Name,
     ) -> Result<Option<Slice>, KeepFault>
         ensures reading { ReadsThrough K.meaning keep.old keep.new self.old result }
-        ensures reads { OverHeld K.meaning keep.old keep.new (λ c. IsOver c self.old → IfOk result (λ slice. slice ≡ slice_of (after self.old.changes.items c) owner.now)) }
+        ensures reads { OverLaid K.meaning keep.old keep.new self.old (λ c. IfOk result (λ slice. slice ≡ slice_of c owner.now)) }
         ensures over { OverHeld K.meaning keep.old keep.new (λ c. IsOver c self.old → IsOver c self.new) }
         ensures changes { self.new.changes.items ≡ self.old.changes.items }
     {

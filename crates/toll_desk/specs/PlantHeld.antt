@@ -1,0 +1,70 @@
+-- Commands of the plant of which the changes are held back.
+use Rattle.std.specs.Prelude.{◌≡◌, ◌++◌, ◌⊎◌, Bool, true, false, Option, List, [], Result, Ok, Err, IfOk, IsOk}
+use Rattle.toll_base.specs.declared.decision.Change.{Change}
+use Rattle.toll_history.specs.History.{History}
+use Rattle.toll_history.specs.Verdict.{IsLawful, Verdict}
+use Rattle.toll_keep.specs.Content.{Content, after}
+use Rattle.toll_keep.specs.Meaning.{Meaning, OverHeld}
+use Rattle.toll_keep.specs.Overlays.{IsOver, ReadsThrough}
+use Rattle.toll_keep.specs.declared.fault.KeepFault.{KeepFault}
+use Rattle.toll_keep.specs.declared.fault.KeepFault.TheVariants.{Memory}
+use Rattle.toll_keep.specs.declared.overlay.Overlay.{Overlay}
+use Rattle.toll_standing.specs.Standing.{StandsFor}
+use Rattle.toll_answers.specs.PlantAnswers.{CannotRead, Does, IsPlantAnswer, Judged, PlantAsked, PlantTold, after_plant}
+use Rattle.toll_desk.specs.Asking.{is_accepted, plant_told}
+use Rattle.toll_desk.specs.Clauses.{IsPlantPlanned}
+use Rattle.toll_desk.specs.Plans.{LeadsTo}
+use Rattle.toll_desk.specs.Reads.{AreBoth}
+use Rattle.toll_desk.specs.Subjects.{concerned, is_shared}
+use Rattle.toll_desk.specs.declared.deciding.Both.{Both}
+use Rattle.toll_desk.specs.declared.plant_cmd.PlantPlan.{PlantPlan}
+use Rattle.toll_desk.specs.declared.plant_cmd.PlantReply.{PlantReply}
+
+-- it is decided over its owner's rows and HOUSE's, or couldn't be read
+abbrev pub looks_at_two : PlantAsked → Bool
+looks_at_two (Does command) = is_shared command.action
+looks_at_two (CannotRead why) = true
+looks_at_two _ = false
+
+-- over any content that has these rows of the command's owner and of HOUSE, the plan is the command's
+abbrev pub IsPlannedOn : Option Both → PlantAsked → PlantPlan → Type 0
+IsPlannedOn both q plan = (c : Content) (H : History) → AreBoth c (concerned q) both → StandsFor c H → IsLawful H → IsPlantPlanned c H q plan
+
+-- ---- what is held back
+
+-- the changes of the plan are held back and its reply is given, or there was no memory for it and no more is held
+abbrev pub IsHeldAs : (before after : Overlay) → PlantPlan → PlantReply → Type 0
+IsHeldAs before after plan reply =
+    ((plant_told reply ≡ plant_told plan.reply) × (after.changes.items ≡ before.changes.items ++ plan.changes.items))
+    ⊎ ((plant_told reply ≡ Err Memory) × (after.changes.items ≡ before.changes.items))
+
+-- a verdict is told, or that there was no memory
+abbrev pub IsVerdictOrMemory : Result PlantTold KeepFault → Type 0
+IsVerdictOrMemory (Ok told) = (v : Verdict) × (told ≡ Judged v)
+IsVerdictOrMemory (Err fault) = fault ≡ Memory
+
+-- the command was accepted
+abbrev pub grants : Result PlantReply KeepFault → Bool
+grants (Ok reply) = is_accepted (plant_told reply)
+grants (Err fault) = false
+
+-- where it is told, it is the answer to what is asked, and the changes lead to the content after it
+abbrev pub IsToldOver : Content → History → PlantAsked → List Change → Result PlantTold KeepFault → Type 0
+IsToldOver c H asked changes outcome = IfOk outcome (λ told. IsPlantAnswer H asked told × LeadsTo c changes (after_plant H asked))
+
+-- neither the keep nor the overlay was asked, and there was no fault
+pub record IsUnasked {K : Type 0} (old new : K) (before now : Overlay) (result : Result PlantReply KeepFault) : Type 0 where
+  pub keep : new ≡ old
+  pub overlay : now ≡ before
+  pub told : IfOk result (λ reply. IsOk (plant_told reply))
+  pub answered : IsOk result
+
+-- what is asked was answered over what the keep holds with the changes of the overlay put, and what it changes the overlay holds back too
+pub record IsPlantHeld {K : Type 0} (meaning : Meaning K) (old new : K) (before now : Overlay) (asked : PlantAsked) (result : Result PlantReply KeepFault) : Type 0 where
+  pub reading : IsUnasked old new before now result ⊎ ReadsThrough meaning old new before result
+  pub made : List Change
+  pub held : now.changes.items ≡ before.changes.items ++ made
+  pub quiet : grants result ≡ false → made ≡ []
+  pub judged : IfOk result (λ reply. IsVerdictOrMemory (plant_told reply))
+  pub over : OverHeld meaning old new (λ c. IsOver c before → IsOver c now)
+  pub told : OverHeld meaning old new (λ c. IsOver c before → (H : History) → StandsFor (after before.changes.items c) H → IsLawful H → IfOk result (λ reply. IsToldOver (after before.changes.items c) H asked made (plant_told reply)))
