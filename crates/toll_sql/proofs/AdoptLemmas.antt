@@ -1,24 +1,36 @@
 -- Tables that are ours already, and the version that is read.
-use Rattle.std.proofs.Common.{◌≡◌, ◌≢◌, ◌⊎◌, inl, inr, ℕ, false, None, Some, Ok, Result, Option, IfOk, IfSome, OnOk, IsTrue, length, sym, ap, subst, ◌∙◌}
+use Rattle.std.proofs.Common.{◌≡◌, ◌≢◌, ◌⊎◌, inl, inr, ℕ, true, false, if◌then◌else◌, List, [], ◌∷◌, ◌++◌, slice_get, None, Some, Ok, Result, Option, IfOk, IfSome, OnOk, IsTrue, refl, sym, ap, subst, ◌∙◌}
 use Rattle.sqlite.proofs.StateLemmas.{survives_weaker}
 use Rattle.sqlite.specs.Effect.{Database}
+use Rattle.sqlite.specs.Schema.{Schema}
+use Rattle.sqlite.specs.Table.{Table}
+use Rattle.sqlite_catalog.specs.Change.{KeepsRows, indexed}
 use Rattle.sqlite.specs.State.{State, HasCleanDisk}
 use Rattle.sqlite.specs.Tree.{Trees}
 use Rattle.sqlite.specs.declared.error.Error.{Error}
 use Rattle.toll_keep.specs.Content.{Content}
 use Rattle.toll_sql.specs.Asking.{IsQuerying}
-use Rattle.toll_sql.specs.First.{HasVersion, Tells, first_ours, first_version, meta_rows}
+use Rattle.toll_sql.specs.First.{AreFirst, HasVersion, Tells, first_version, meta_rows}
 use Rattle.toll_sql.specs.Holds.{Holds, version}
 use Rattle.toll_sql.specs.Opening.{Adopts, FindsVersion, HoldsEither, LeavesRaised, without_limit}
-use Rattle.toll_sql.specs.Tables.{ours}
+use Rattle.toll_sql.specs.Others.{HasOurs, Indexed, has_its_name}
+use Rattle.toll_sql.specs.Tables.{by_batch, made_all, table_of}
+use Rattle.toll_sql.specs.declared.table_kind.TableKind.TheVariants.{Moves, Voids}
 use Rattle.toll_sql.specs.declared.open_fault.OpenFault.{OpenFault}
 use Rattle.toll_sql.specs.declared.open_fault.OpenFault.TheVariants.{Disk, Damaged, NotOurs}
 use Rattle.toll_sql.specs.Stores.{IsOurs}
 use Rattle.toll_sql.proofs.MetaLemmas.{shows_it, shows_neither}
 use Rattle.toll_sql.proofs.OverLemmas.{done, refused}
 
-pub versions_differ : ours ≢ first_ours
-versions_differ same = absurd (let counts : length ours.tables ≡ length first_ours.tables = ap (λ s. length s.tables) same in let number : 14 ≡ 13 = counts in cc)
+-- the tables of version 1 are one less
+pub apart : {schema : Schema} → HasOurs schema → ¬ AreFirst schema
+apart has first =
+    let none : None ≡ slice_get (made_all.tables ++ has.tables.0) 13 = ap (λ (tables : List Table). slice_get tables 13) (ap (λ (s : Schema). s.tables) (sym first) ∙ has.tables.1) in
+    absurd (let no : None ≡ Some (table_of Voids) = none in cc)
+
+all_same : (tables : List Table) (db : Trees) → KeepsRows tables db db
+all_same [] db = tt
+all_same (t ∷ tables) db = (refl, all_same tables db)
 
 -- the fault of tables that are not of the version that was told: Damaged where it is this other one, and else NotOurs
 pub record IsMisfit (told : Option ℕ) (other : ℕ) (fault : OpenFault) : Type 0 where
@@ -32,7 +44,7 @@ no_disk told other fault m is = elim m.known [ inl d ↦ (let x : Damaged ≡ Di
 pub found_in : (db : Database) (told : Option ℕ) (r : Result (Option ℕ) Error) → r ≡ Ok told → IfOk r (FindsVersion db) → FindsVersion db told
 found_in db told r is h = subst (λ (x : Result (Option ℕ) Error). IfOk x (FindsVersion db)) is h
 
-module _ (old new : State) (auto : old.in_transaction ≡ false) (settled : IsTrue old.is_open → old.now ≡ old.committed) (has : old.now.schema ≡ ours) (free : old.step_limit ≡ None) (told : Option ℕ) (r : Result (Option ℕ) Error) (is : r ≡ Ok told)
+module _ (old new : State) (auto : old.in_transaction ≡ false) (settled : IsTrue old.is_open → old.now ≡ old.committed) (has : HasOurs old.now.schema) (free : old.step_limit ≡ None) (told : Option ℕ) (r : Result (Option ℕ) Error) (is : r ≡ Ok told)
     (asking : IsQuerying old new r) (found : HasCleanDisk new → IfOk r (FindsVersion old.now)) where
   -- another version was told
   pub other_version : told ≢ Some version → (HasCleanDisk new → (n : ℕ) → HasVersion n old.now.trees → IfOk r (λ v. v ≡ Some n)) → (fault : OpenFault) → IsMisfit told first_version fault → Adopts old new (refused (Unit {0}) fault)
@@ -51,22 +63,25 @@ module _ (old new : State) (auto : old.in_transaction ≡ false) (settled : IsTr
         };
         known_as = λ _. tt;
         ours = λ _ _. tt;
+        indexed = λ _ _. tt;
+        raised = λ _ _. tt;
         holds = λ _ c h. tt;
         known = λ clean _ c h. elim h [
           | inl held ↦ absurd (other (subst (λ (x : Result (Option ℕ) Error). IfOk x (λ v. v ≡ Some version)) is (tells clean version held.rows.meta)))
-          | inr first ↦ absurd (versions_differ (sym has ∙ first.first.schema))
+          | inr first ↦ absurd (apart has first.first.schema)
         ];
-        damaged = λ clean same. (let it : fault ≡ Damaged = cc in inr (record { schema = λ first. versions_differ (sym has ∙ first); told = shows_it old.now told (found_in old.now told r is (found clean)) first_version (m.damaged it) }));
+        damaged = λ clean same. (let it : fault ≡ Damaged = cc in inr (record { tables = apart has; told = shows_it old.now told (found_in old.now told r is (found clean)) first_version (m.damaged it) }));
         foreign = λ clean same. (let it : fault ≡ NotOurs = cc in inr (inl (shows_neither old.now told (found_in old.now told r is (found clean)) (m.foreign it) other)));
       }
 
   -- this version was told
-  pub this_version : told ≡ Some version → (HasCleanDisk new → IfOk r (λ v. IfSome v (λ n. Tells n (meta_rows old.now.trees)))) → Adopts old new done
-  this_version so tells =
+  pub this_version : has_its_name new.now.schema ≡ true → told ≡ Some version → (HasCleanDisk new → IfOk r (λ v. IfSome v (λ n. Tells n (meta_rows old.now.trees)))) → Adopts old new done
+  this_version named so tells =
       let a = asking.asks in
       let live = λ (clean : HasCleanDisk new). (let it : IsTrue new.is_open = subst (λ (x : Result (Option ℕ) Error). OnOk x (IsTrue new.is_open)) is (a.shown clean) in it) in
       let idle = λ (clean : HasCleanDisk new). (let it : old.now ≡ old.committed = settled (a.live clean (live clean)) in it) in
       let same = λ (clean : HasCleanDisk new). (let it : (new.now ≡ old.now) × (new.committed ≡ old.committed) = a.same clean has (live clean) (idle clean) in it) in
+      let was_named = λ (clean : HasCleanDisk new). (let it : has_its_name old.now.schema ≡ true = ap (λ (d : Database). has_its_name d.schema) (sym (same clean).0) ∙ named in it) in
       let it_tells = λ (clean : HasCleanDisk new). (let it : Tells version (meta_rows old.now.trees) = subst (λ (v : Option ℕ). IfSome v (λ n. Tells n (meta_rows old.now.trees))) so (subst (λ (x : Result (Option ℕ) Error). IfOk x (λ v. IfSome v (λ n. Tells n (meta_rows old.now.trees)))) is (tells clean)) in it) in
       record {
         over = record {
@@ -79,18 +94,20 @@ module _ (old new : State) (auto : old.in_transaction ≡ false) (settled : IsTr
           cause = λ _ no. absurd cc;
           survives = record { clean = a.survives.clean; shield = a.survives.shield; counts = a.survives.counts; limit = a.survives.limit ∙ free; closes = a.survives.closes; crash = λ clean db left. elim (a.survives.crash clean db left) [ inl was ↦ inl was | inr h ↦ absurd (h has settled) ] };
         };
-        known_as = λ clean. inl (record { schema = has; told = it_tells clean });
+        known_as = λ clean. inl (record { tables = has; told = it_tells clean });
         ours = λ clean h. elim h [
           | inl own ↦ (subst IsOurs (sym (same clean).0) own, subst (λ (db : Database). Tells version (meta_rows db.trees)) (sym (same clean).0) (it_tells clean))
-          | inr first ↦ absurd (versions_differ (sym has ∙ first.schema))
+          | inr first ↦ absurd (apart has first.schema)
         ];
+        indexed = λ clean _. subst (Indexed old.now) (sym (same clean).0) (record { schema = ap (λ b. if b then old.now.schema else indexed old.now.schema (table_of Moves) by_batch) (sym (was_named clean)); rows = all_same old.now.schema.tables old.now.trees });
+        raised = λ _ first. absurd (apart has first.schema);
         holds = λ clean c h. elim h [
           | inl held ↦ record {
             ours = subst IsOurs (sym (same clean).0) held.ours;
             idle = (same clean).0 ∙ idle clean ∙ sym (same clean).1;
             rows = subst (λ (db : Database). Holds db.trees c) (sym (same clean).0) held.rows;
           }
-          | inr first ↦ absurd (versions_differ (sym has ∙ first.first.schema))
+          | inr first ↦ absurd (apart has first.first.schema)
         ];
         known = λ _ _ _ _. (λ no. absurd cc, λ no. absurd cc);
         damaged = λ _ no. absurd cc;
@@ -103,7 +120,7 @@ either s c (inl h) = inl (record { ours = h.ours; idle = h.idle; rows = h.rows }
 either s c (inr h) = inr (record { first = h.first; idle = h.idle; rows = h.rows })
 
 leaves : (s : State) (db : Trees) → LeavesRaised (without_limit s) db → LeavesRaised s db
-leaves s db h = record { schema = h.schema; rows = λ c held. h.rows c (record { first = held.first; idle = held.idle; rows = held.rows }) }
+leaves s db h = record { lacking = h.lacking; rows = λ c held. h.rows c (either s c held) }
 
 pub adopted : {X : Type 0} (old new : State) (r : Result X OpenFault) → Adopts (without_limit old) new r → Adopts old new r
 adopted old new r h = record {
@@ -119,6 +136,8 @@ adopted old new r h = record {
   };
   known_as = h.known_as;
   ours = h.ours;
+  indexed = h.indexed;
+  raised = λ clean first. h.raised clean first;
   holds = λ clean c held. h.holds clean c (either old c held);
   known = λ clean auto c held. h.known clean auto c (either old c held);
   damaged = h.damaged;

@@ -23,7 +23,9 @@ use Rattle.toll_sql.specs.Bag.{owned_by}
 use Rattle.toll_sql.specs.Cells.{columns_from, key_cells, key_order}
 use Rattle.toll_sql.specs.Rows.{AreSorted, AreOfOwner, AreAll}
 use Rattle.toll_sql.specs.Select.{AreShown}
-use Rattle.toll_sql.specs.Tables.{ours, tree_of, keys_of, width_of, is_owned, select_text}
+use Rattle.toll_sql.specs.Others.{HasOurs}
+use Rattle.toll_sql.proofs.Beside.{Others, is_ours, others_of, ours_and}
+use Rattle.toll_sql.specs.Tables.{tree_of, keys_of, width_of, is_owned, select_text}
 use Rattle.toll_sql.specs.declared.table_kind.TableKind.{TableKind}
 use Rattle.toll_sql.specs.declared.table_kind.TableKind.TheVariants.{Meta, Owners, Units, Materials, Tests, Recipes, Requirements, Orders, Batches, Lots, Sublots, Moves, Results, Voids}
 use Rattle.toll_sql.proofs.Calls.{plain_given, shown_same}
@@ -36,9 +38,9 @@ use Rattle.toll_sql.proofs.SelectTexts.{owner_is, test_of, keys_from, query_of, 
 
 -- ---- any text that is understood, whatever it asks
 
-module _ (sql : List ℕ) (params : Row) (old new : State) (plain : IsPlain (understood ours sql)) where
-  under : old.now.schema ≡ ours → IsPlain (understood old.now.schema sql)
-  under has = subst (λ s. IsPlain (understood s sql)) (sym has) plain
+module _ (sql : List ℕ) (params : Row) (old new : State) (plain : (others : Others) → IsPlain (understood (ours_and others) sql)) where
+  under : HasOurs old.now.schema → IsPlain (understood old.now.schema sql)
+  under has = subst (λ s. IsPlain (understood s sql)) (sym (is_ours has)) (plain (others_of has))
 
   pub querying : {X : Type 0} (items : X → List Row) (r : Result X Error) → (old.in_transaction ≡ false → new.in_transaction ≡ false) → (HasCleanDisk new → IfOk r (λ x. Shown sql params old new (items x)))
       → (HasCleanDisk new → IfErr r (FailsToQuery sql params old new)) → Survives old new (CommitsShowing sql params old) → IsQuerying old new r
@@ -135,20 +137,17 @@ module _ (k : TableKind) (params : Row) (old new : State) (schema : Schema) (has
       }
 
 module _ (k : TableKind) (old new : State) where
-  plain_of : (n : ℕ) → cond (is_owned k) 1 0 ≡ n → IsPlain (understood ours (select_text k))
-  plain_of n is = plain_given (select_text k) (cond (is_owned k) 1 0) (understood ours (select_text k)) (select_given k)
+  pub plain : (others : Others) → IsPlain (understood (ours_and others) (select_text k))
+  plain others = plain_given (select_text k) (cond (is_owned k) 1 0) (understood (ours_and others) (select_text k)) (select_given others k)
 
-  pub plain : IsPlain (understood ours (select_text k))
-  plain = plain_of (cond (is_owned k) 1 0) refl
-
-  pub owners_selected : (o : Bytes) → is_owned k ≡ true → old.now.schema ≡ ours → (rows : List Row) → Shown (select_text k) (Text o ∷ []) old new rows → AreOfOwner k o old.now.trees rows
-  owners_selected o owned has rows h = selected k (Text o ∷ []) old new ours has (select_is k) (owned_by o (old.now.trees (tree_of k)))
-      (ap (λ (b : Bool). filter (λ row. list_all (holds ((Text o ∷ []) ∷ row ∷ [])) (test_of b)) (old.now.trees (tree_of k))) owned ∙ own_pass o (old.now.trees (tree_of k))) plain rows h
+  pub owners_selected : (o : Bytes) → is_owned k ≡ true → HasOurs old.now.schema → (rows : List Row) → Shown (select_text k) (Text o ∷ []) old new rows → AreOfOwner k o old.now.trees rows
+  owners_selected o owned has rows h = selected k (Text o ∷ []) old new (ours_and (others_of has)) (is_ours has) (select_is (others_of has) k) (owned_by o (old.now.trees (tree_of k)))
+      (ap (λ (b : Bool). filter (λ row. list_all (holds ((Text o ∷ []) ∷ row ∷ [])) (test_of b)) (old.now.trees (tree_of k))) owned ∙ own_pass o (old.now.trees (tree_of k))) (plain (others_of has)) rows h
 
   pub all_selected_in : (schema : Schema) → old.now.schema ≡ schema → (command_of (understood schema (select_text k)) ≡ selecting k) × (reads_listing schema (select_text k) ≡ false) → IsPlain (understood schema (select_text k)) → is_owned k ≡ false
       → (rows : List Row) → Shown (select_text k) [] old new rows → AreAll k old.now.trees rows
   all_selected_in schema has is plain unowned rows h = selected k [] old new schema has is (old.now.trees (tree_of k))
       (ap (λ (b : Bool). filter (λ row. list_all (holds ([] ∷ row ∷ [])) (test_of b)) (old.now.trees (tree_of k))) unowned ∙ all_pass (old.now.trees (tree_of k)) []) plain rows h
 
-  pub all_selected : is_owned k ≡ false → old.now.schema ≡ ours → (rows : List Row) → Shown (select_text k) [] old new rows → AreAll k old.now.trees rows
-  all_selected unowned has rows h = all_selected_in ours has (select_is k) plain unowned rows h
+  pub all_selected : is_owned k ≡ false → HasOurs old.now.schema → (rows : List Row) → Shown (select_text k) [] old new rows → AreAll k old.now.trees rows
+  all_selected unowned has rows h = all_selected_in (ours_and (others_of has)) (is_ours has) (select_is (others_of has) k) (plain (others_of has)) unowned rows h

@@ -27,7 +27,7 @@ fills (Put o (of.Void row)) = refl
 
 module _ (change : Change) (old new : State) (valid : IsValid change) where
   made : {X : Type 0} (r : Result X Error) → OnOk r (MakesRow (table_of_change change) (cells_of_change change) old new) → OnOk r (MakesPut change old new)
-  made (Ok x) h = record { put = record { valid = valid; put = h.put }; ready = h.ready; committed = h.committed }
+  made (Ok x) h = record { put = record { valid = valid; put = h.put }; ready = h.ready; schema = h.schema; committed = h.committed }
   made (Err e) h = tt
 
   pub as_change : {X : Type 0} (cells : Row) (r : Result X Error) → cells ≡ cells_of_change change

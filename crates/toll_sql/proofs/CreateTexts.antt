@@ -1,8 +1,8 @@
--- What the texts that make the tables and the index mean. Written by tools/sql-texts.
-use Rattle.std.proofs.Common.{◌≡◌, ◌<◌, ℕ, zero, suc, false, [], ◌∷◌, take, slice_get, get_or, Some, Ok, refl, arith}
+-- What the texts that make the tables and the index mean.
+use Rattle.std.proofs.Common.{◌≡◌, ◌<◌, ℕ, zero, suc, false, [], ◌∷◌, take, get_or, Ok, refl, arith}
 use Rattle.sqlite.proofs.Callers.{IsPlain, command_of, statement_of}
 use Rattle.sqlite.specs.Change.{created, next_tree}
-use Rattle.sqlite.specs.Command.TheVariants.{CreateTable, CreateIndex}
+use Rattle.sqlite.specs.Command.TheVariants.{CreateTable}
 use Rattle.sqlite.specs.Compile.{table_defined_by}
 use Rattle.sqlite.specs.Does.{lacks_sequence}
 use Rattle.sqlite.specs.Listing.{understood}
@@ -10,7 +10,7 @@ use Rattle.sqlite.specs.Table.{Table}
 use Rattle.sqlite_resolve.specs.Compile.{compiled, index_defined_by}
 use Rattle.sqlite_tied.specs.Compute.{everything}
 use Rattle.toll_sql.specs.Plain.{no_schema}
-use Rattle.toll_sql.specs.Tables.{every_table, with_tables, earlier, table_of, tree_of, made_before, made_all, by_batch, create_text, index_text}
+use Rattle.toll_sql.specs.Tables.{every_table, with_tables, earlier, table_of, tree_of, made_before, by_batch, create_text, index_text}
 use Rattle.toll_sql.specs.declared.table_kind.TableKind.{TableKind}
 use Rattle.toll_sql.specs.declared.table_kind.TableKind.TheVariants.{Meta, Owners, Units, Materials, Tests, Recipes, Requirements, Orders, Batches, Lots, Sublots, Moves, Results, Voids}
 use Rattle.toll_sql.proofs.PutTexts.{number_of}
@@ -141,16 +141,6 @@ next_is Sublots = refl
 next_is Moves = refl
 next_is Results = refl
 next_is Voids = refl
-
-index_compiles : compiled made_all index_text ≡ Ok (one_statement (CreateIndex (number_of Moves)) [] index_text)
-unfolding everything
-index_compiles = refl
-
-pub index_is : (command_of (understood made_all index_text) ≡ CreateIndex (number_of Moves)) × (statement_of index_text (understood made_all index_text) ≡ index_text) × IsPlain (understood made_all index_text)
-index_is = (command_is made_all index_text index_compiles, statement_is made_all index_text index_compiles, plain made_all index_text index_compiles)
-
-pub index_listed : slice_get made_all.tables (number_of Moves) ≡ Some (table_of Moves)
-index_listed = refl
 
 pub index_defines : index_defined_by (table_of Moves) index_text ≡ Ok by_batch
 unfolding everything

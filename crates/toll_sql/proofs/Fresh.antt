@@ -130,6 +130,7 @@ made_new old mid new h f =
     let empty = λ (k : TableKind). at_table (λ tree. mid.now.trees tree ≡ []) k h.empty in
     record {
       ours = f.ours;
+      alone = f.alone;
       rows = finished_holds nothing (as_second no_rows) [] mid new f (subst (λ stored. HasRows Meta [] stored) (sym (empty Meta)) (record { same = λ g. refl; rising = tt })) refl (λ k other. empty k ∙ none_there k other) holds_nothing;
     }
 

@@ -39,7 +39,9 @@ use Rattle.toll_sql.specs.Encode.{flag, batch_cells}
 use Rattle.toll_sql.specs.HolderRows.{HasNoHolder, IsNamedHolder, IsShownIn, ShowHolders, holder_cells}
 use Rattle.toll_sql.specs.Holds.{Holds, HoldsSlice}
 use Rattle.toll_sql.specs.Select.{plain_query}
-use Rattle.toll_sql.specs.Tables.{ours, tree_of}
+use Rattle.toll_sql.specs.Others.{HasOurs}
+use Rattle.toll_sql.proofs.Beside.{Others, is_ours, others_of, ours_and}
+use Rattle.toll_sql.specs.Tables.{tree_of}
 use Rattle.toll_sql.specs.Valid.{IsBatch}
 use Rattle.toll_sql.specs.declared.table_kind.TableKind.TheVariants.{Batches}
 use Rattle.toll_sql.specs.AskedTexts.{unit_text}
@@ -65,16 +67,16 @@ unit_query = plain_query (tree_of Batches) unit_tests batch_columns []
 abbrev selecting : Command
 selecting = Select (record { lets = []; body = unit_query }) (codes "owner" ∷ codes "ord" ∷ codes "number" ∷ [])
 
-unit_is : (command_of (understood ours unit_text) ≡ selecting) × (reads_listing ours unit_text ≡ false)
+unit_is : (others : Others) → (command_of (understood (ours_and others) unit_text) ≡ selecting) × (reads_listing (ours_and others) unit_text ≡ false)
 unfolding understood everything
-unit_is = (refl, refl)
+unit_is others = (refl, refl)
 
-pub unit_plain : IsPlain (understood ours unit_text)
+pub unit_plain : (others : Others) → IsPlain (understood (ours_and others) unit_text)
 unfolding understood everything
-unit_plain = (refl, refl)
+unit_plain others = (refl, refl)
 
-pub unit_answered : (old new : State) → old.now.schema ≡ ours → (params : Row) (rows : List Row) → Shown unit_text params old new rows → IsAnswer unit_query (overlay old.now.trees []) params rows
-unit_answered old new has params rows h = (reads_as unit_text params old new ours has selecting unit_is.0 unit_plain unit_is.1 rows h).answer Null
+pub unit_answered : (old new : State) → HasOurs old.now.schema → (params : Row) (rows : List Row) → Shown unit_text params old new rows → IsAnswer unit_query (overlay old.now.trees []) params rows
+unit_answered old new has params rows h = (reads_as unit_text params old new (ours_and (others_of has)) (is_ours has) selecting (unit_is (others_of has)).0 (unit_plain (others_of has)) (unit_is (others_of has)).1 rows h).answer Null
 
 -- ---- the stored rows that are answered
 

@@ -14,7 +14,9 @@ use Rattle.sqlite.specs.declared.types.Value.TheVariants.{Null, Int}
 use Rattle.sqlite_sql.specs.declared.ops.BinaryOp.TheVariants.{Compare, Is}
 use Rattle.sqlite_sql.specs.declared.ops.CompareOp.TheVariants.{Eq, Le}
 use Rattle.sqlite_tied.specs.Compute.{everything}
-use Rattle.toll_sql.specs.Tables.{ours, tree_of}
+use Rattle.toll_sql.specs.Others.{HasOurs}
+use Rattle.toll_sql.proofs.Beside.{Others, is_ours, others_of, ours_and}
+use Rattle.toll_sql.specs.Tables.{tree_of}
 use Rattle.toll_sql.specs.declared.table_kind.TableKind.TheVariants.{Moves, Voids}
 use Rattle.toll_sql.specs.AskedTexts.{owners_text, all_text}
 
@@ -63,25 +65,25 @@ pairs_that tests = record {
 abbrev selecting : List Term → Command
 selecting tests = Select (record { lets = []; body = pairs_that tests }) (codes "lot_owner" ∷ codes "lot" ∷ codes "lot_owner" ∷ codes "lot" ∷ [])
 
-owners_is : (command_of (understood ours owners_text) ≡ selecting owners_tests) × (reads_listing ours owners_text ≡ false)
+owners_is : (others : Others) → (command_of (understood (ours_and others) owners_text) ≡ selecting owners_tests) × (reads_listing (ours_and others) owners_text ≡ false)
 unfolding understood everything
-owners_is = (refl, refl)
+owners_is others = (refl, refl)
 
-pub owners_plain : IsPlain (understood ours owners_text)
+pub owners_plain : (others : Others) → IsPlain (understood (ours_and others) owners_text)
 unfolding understood everything
-owners_plain = (refl, refl)
+owners_plain others = (refl, refl)
 
-all_is : (command_of (understood ours all_text) ≡ selecting all_tests) × (reads_listing ours all_text ≡ false)
+all_is : (others : Others) → (command_of (understood (ours_and others) all_text) ≡ selecting all_tests) × (reads_listing (ours_and others) all_text ≡ false)
 unfolding understood everything
-all_is = (refl, refl)
+all_is others = (refl, refl)
 
-pub all_plain : IsPlain (understood ours all_text)
+pub all_plain : (others : Others) → IsPlain (understood (ours_and others) all_text)
 unfolding understood everything
-all_plain = (refl, refl)
+all_plain others = (refl, refl)
 
-module _ (old new : State) (has : old.now.schema ≡ ours) (params : Row) (rows : List Row) where
+module _ (old new : State) (has : HasOurs old.now.schema) (params : Row) (rows : List Row) where
   pub owners_answered : Shown owners_text params old new rows → IsAnswer (pairs_that owners_tests) (overlay old.now.trees []) params rows
-  owners_answered h = (reads_as owners_text params old new ours has (selecting owners_tests) owners_is.0 owners_plain owners_is.1 rows h).answer Null
+  owners_answered h = (reads_as owners_text params old new (ours_and (others_of has)) (is_ours has) (selecting owners_tests) (owners_is (others_of has)).0 (owners_plain (others_of has)) (owners_is (others_of has)).1 rows h).answer Null
 
   pub all_answered : Shown all_text params old new rows → IsAnswer (pairs_that all_tests) (overlay old.now.trees []) params rows
-  all_answered h = (reads_as all_text params old new ours has (selecting all_tests) all_is.0 all_plain all_is.1 rows h).answer Null
+  all_answered h = (reads_as all_text params old new (ours_and (others_of has)) (is_ours has) (selecting all_tests) (all_is (others_of has)).0 (all_plain (others_of has)) (all_is (others_of has)).1 rows h).answer Null

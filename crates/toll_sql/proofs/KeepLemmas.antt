@@ -17,7 +17,7 @@ use Rattle.toll_sql.specs.Causes.{HasCause, Reason}
 use Rattle.toll_sql.specs.Holds.{Holds}
 use Rattle.toll_sql.specs.Meant.{means}
 use Rattle.toll_sql.specs.Stores.{HoldsIn, IsOurs, LeavesIn, LiesOpen, HasApplied, PutsAll}
-use Rattle.toll_sql.specs.Tables.{ours}
+use Rattle.toll_sql.specs.Others.{HasOurs}
 use Rattle.toll_sql.proofs.HoldsAfter.{holds_all}
 
 -- ---- the store
@@ -46,7 +46,7 @@ crash_left old new changes c free h only s clean db may = elim (s.crash clean db
   | inr puts ↦ inr (inl (holds_all changes c old.now.trees db h.rows (puts h.ours free)))
 ]
 
-still_left : (old new : State) (c : Content) → HoldsIn old c → OnlyLeaves old → Survives old new (λ db. old.now.schema ≡ ours → (IsTrue old.is_open → old.now ≡ old.committed) → ⊥) → HasCleanDisk new → LeavesIn new (c ∷ [])
+still_left : (old new : State) (c : Content) → HoldsIn old c → OnlyLeaves old → Survives old new (λ db. HasOurs old.now.schema → (IsTrue old.is_open → old.now ≡ old.committed) → ⊥) → HasCleanDisk new → LeavesIn new (c ∷ [])
 still_left old new c h only s clean db may = elim (s.crash clean db may) [
   | inl before ↦ inl (committed_held old c only h db before)
   | inr never ↦ absurd (never h.ours.schema (λ _. h.idle))

@@ -2,6 +2,8 @@ pub mod SelectLemmas
 pub mod TableLemmas
 pub mod Calls
 pub mod PutCommon
+pub mod Beside
+pub mod OthersLemmas
 pub mod Refusals
 pub mod CauseLemmas
 pub mod QueryLemmas
@@ -12,6 +14,7 @@ pub mod PutTexts
 pub mod CellLemmas
 pub mod PutRows
 pub mod CreateTexts
+pub mod IndexText
 pub mod CloseLemmas
 pub mod CreateLemmas
 pub mod SoFar
@@ -30,10 +33,12 @@ pub mod Rowwise
 pub mod HoldsAfter
 pub mod Fresh
 pub mod Whole
+pub mod Applied
 pub mod OverLemmas
 pub mod AskInside
 pub mod AdoptLemmas
 pub mod Raising
+pub mod Indexing
 pub mod RaiseLemmas
 pub mod SelectTexts
 pub mod AskLemmas

@@ -1,23 +1,28 @@
 -- What is made of the tables by making one more, the index, and the row of the version.
-use Rattle.std.proofs.Common.{◌≡◌, inl, ℕ, suc, ◌+◌, false, List, [], ◌∷◌, ◌++◌, take, arith, Ok, Result, IsTrue, ap, subst, ◌∙◌, sym, refl}
+use Rattle.std.proofs.Common.{◌≡◌, ◌&&◌, ◌==◌, inl, ℕ, suc, ◌+◌, false, List, [], ◌∷◌, ◌++◌, take, arith, Ok, Result, IsTrue, ap, subst, ◌∙◌, sym, refl}
 use Rattle.std.specs.List.{AllByRecursion}
 use Rattle.sqlite.specs.State.{State, ExecutesInside, Survives, HasCleanDisk}
+use Rattle.sqlite.specs.Schema.{Schema}
 use Rattle.sqlite.specs.Table.{Table}
 use Rattle.sqlite.specs.Tree.{Trees}
 use Rattle.sqlite.specs.declared.error.Error.{Error}
-use Rattle.sqlite_catalog.specs.Change.{KeepsRows, next_tree}
+use Rattle.sqlite_schema.specs.Names.{same_name}
+use Rattle.sqlite_schema.specs.declared.schema.Index.{Index}
+use Rattle.sqlite_catalog.specs.Change.{KeepsRows, indexed, next_tree}
 use Rattle.sqlite_trees.specs.View.{IsShaped}
 use Rattle.sqlite_trees.specs.declared.store.Shape.TheVariants as shape
-use Rattle.toll_sql.specs.Create.{AreEmpty, IsStep, IsMaking, MakesTable, Keeps, IsShapedAs, Finishes}
+use Rattle.toll_sql.specs.Create.{AreEmpty, IsStep, IsMaking, IsUnindexed, MakesIndex, MakesTable, Keeps, IsShapedAs, Finishes}
 use Rattle.toll_sql.specs.Encode.{meta_cells}
 use Rattle.toll_sql.specs.Holds.{version}
+use Rattle.toll_sql.specs.Others.{GuardsNone, HasOurs, has_its_name}
 use Rattle.toll_sql.specs.Stores.{IsReady, MakesRow}
 use Rattle.toll_sql.specs.Plain.{no_schema}
 use Rattle.toll_sql.specs.Tables.{every_table, with_tables, made_before, made_all, ours, table_of, by_batch, create_text, index_text}
 use Rattle.toll_sql.specs.declared.table_kind.TableKind.{TableKind}
 use Rattle.toll_sql.specs.declared.table_kind.TableKind.TheVariants.{Meta, Moves}
 use Rattle.toll_sql.proofs.CreateLemmas.{adds, lists}
-use Rattle.toll_sql.proofs.CreateTexts.{unplaced, create_is, create_defines, create_uncounted, create_place, earlier_is, next_is, index_is, index_listed, index_defines}
+use Rattle.toll_sql.proofs.CreateTexts.{unplaced, create_is, create_defines, create_uncounted, create_place, earlier_is, next_is, index_defines}
+use Rattle.toll_sql.proofs.IndexText.{index_is, index_listed}
 use Rattle.toll_sql.proofs.PutTexts.{number_of}
 use Rattle.toll_sql.proofs.StepLemmas.{one_step}
 
@@ -32,9 +37,10 @@ table_step k old new r outside runs survives = one_step (IsMaking (made_before k
     }) outside runs survives
 
 pub index_step : (old new : State) (r : Result ℕ Error) → (old.in_transaction ≡ false → new ≡ old) → (HasCleanDisk new → IsTrue old.in_transaction → ExecutesInside 0 index_text [] old new r) → Survives old new (λ _. ⊥)
-    → IsStep (IsMaking made_all) (Keeps made_all ours) old new r
-index_step old new r outside runs survives = one_step (IsMaking made_all) (Keeps made_all ours) index_text [] old new r (λ count limit before h.
-    let it = lists index_text made_all index_is.1 index_is.2 old new count before.schema h.0 (table_of Moves) by_batch (number_of Moves) index_listed index_is.0 index_defines in
+    → IsStep IsUnindexed MakesIndex old new r
+index_step old new r outside runs survives = one_step IsUnindexed MakesIndex index_text [] old new r (λ count limit before h.
+    let is = index_is before.ours before.lacking in
+    let it = lists index_text old.now.schema is.1 is.2 old new count refl h.0 (table_of Moves) by_batch (number_of Moves) (index_listed before.ours) is.0 index_defines in
     record { making = record { schema = it.schema_is; unlimited = limit ∙ before.unlimited; inside = h.1.mode }; rows = it.others }) outside runs survives
 
 -- rows that stay have rowids still
@@ -42,15 +48,49 @@ pub shaped_still : (ts : List Table) (old new : Trees) → KeepsRows ts old new 
 shaped_still [] old new kept shaped = tt
 shaped_still (t ∷ ts) old new kept shaped = (subst (IsShaped shape.Table) (sym kept.0) shaped.0, shaped_still ts old new kept.1 shaped.1)
 
+pub all_more : {X : Type 0} (P : X → Type 0) (xs : List X) (x : X) → AllByRecursion P xs → P x → AllByRecursion P (xs ++ x ∷ [])
+all_more P [] x h p = (p, tt)
+all_more P (y ∷ xs) x h p = (h.0, all_more P xs x h.1 p)
+
+-- the office's tables alone have theirs
+pub all_ours : HasOurs made_all
+all_ours = record { tables = ([], refl, tt); indexes = ([], refl, tt) }
+
+no_guard : (i : Index) → i.is_unique ≡ false → (ts : List Table) → GuardsNone ts i
+no_guard i plain [] = tt
+no_guard i plain (t ∷ ts) = (ap (λ b. b && (i.table == t.tree)) plain, no_guard i plain ts)
+
+-- with the index they are theirs still
+pub ours_indexed : {schema : Schema} → HasOurs schema → HasOurs (indexed schema (table_of Moves) by_batch)
+ours_indexed {schema} has =
+    let index : Index = record by_batch { tree = next_tree schema } in
+    record { tables = has.tables; indexes = (has.indexes.0 ++ index ∷ [], ap (λ indexes. indexes ++ index ∷ []) has.indexes.1, all_more _ has.indexes.0 index has.indexes.2 (no_guard index refl made_all.tables)) }
+
+none_named : has_its_name made_all ≡ false
+unfolding same_name
+none_named = refl
+
+-- all tables are made, and not the index
+pub unindexed : (s : State) → IsShapedAs made_all s → IsUnindexed s
+unindexed s h = record {
+  ours = subst HasOurs (sym h.making.schema) all_ours;
+  lacking = ap has_its_name h.making.schema ∙ none_named;
+  unlimited = h.making.unlimited;
+  inside = h.making.inside;
+}
+
+pub indexed_all : (old new : State) → IsShapedAs made_all old → MakesIndex old new → Keeps made_all ours old new
+indexed_all old new before h = subst (λ s. Keeps s (indexed s (table_of Moves) by_batch) old new) before.making.schema h
+
 pub ready_indexed : (old new : State) → IsShapedAs made_all old → Keeps made_all ours old new → IsReady new
 ready_indexed old new before h = record {
-  ours = record { schema = h.making.schema; shaped = shaped_still made_all.tables old.now.trees new.now.trees h.rows before.shaped };
+  ours = record { schema = subst HasOurs (sym h.making.schema) (ours_indexed all_ours); shaped = shaped_still made_all.tables old.now.trees new.now.trees h.rows before.shaped };
   unlimited = h.making.unlimited;
   inside = h.making.inside;
 }
 
 pub finished : (old mid new : State) → Keeps made_all ours old mid → MakesRow Meta (meta_cells version) mid new → Finishes old new
-finished old mid new h put = record { mid = mid.now.trees; rows = h.rows; put = put.put; ours = put.ready.ours }
+finished old mid new h put = record { mid = mid.now.trees; rows = h.rows; put = put.put; ours = put.ready.ours; alone = put.schema ∙ h.making.schema }
 
 -- ---- the tables, one after another
 
@@ -65,10 +105,6 @@ none_yet = Ok tt
 all_kept : (ts : List Table) (old new : Trees) → KeepsRows ts old new → AllByRecursion (λ t. old t.tree ≡ []) ts → AllByRecursion (λ t. new t.tree ≡ []) ts
 all_kept [] old new h e = tt
 all_kept (t ∷ ts) old new h e = (h.0 ∙ e.0, all_kept ts old new h.1 e.1)
-
-pub all_more : (P : Table → Type 0) (ts : List Table) (t : Table) → AllByRecursion P ts → P t → AllByRecursion P (ts ++ t ∷ [])
-all_more P [] t h p = (p, tt)
-all_more P (u ∷ ts) t h p = (h.0, all_more P ts t h.1 p)
 
 -- before the table are the first ones
 before_is : (n : ℕ) (k : TableKind) → number_of k ≡ n → made_before k ≡ with_tables no_schema (take n every_table)

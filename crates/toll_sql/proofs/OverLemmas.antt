@@ -78,7 +78,7 @@ module _ (old new : State) (auto : old.in_transaction ≡ false) (has : old.now.
   pub created : IsWhole (IsMaking no_schema) IsNew (without_limit old) new made → Creates old new done
   created w = record {
     over = over_made (IsMaking no_schema) IsNew (λ db. Holds db nothing) old new auto leaves tt tt w;
-    made = λ clean. let h = w.all clean ready in (record { schema = has; autocommit = auto }, record { ours = h.ours; idle = (w.shown clean).1; rows = h.rows });
+    made = λ clean. let h = w.all clean ready in (record { schema = has; autocommit = auto }, record { ours = h.ours; idle = (w.shown clean).1; rows = h.rows }, h.alone);
     known = λ is. absurd cc;
     undamaged = λ is. absurd cc;
   }

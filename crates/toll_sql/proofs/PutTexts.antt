@@ -1,5 +1,6 @@
--- What the texts that put rows mean. Written by tools/sql-texts.
-use Rattle.std.proofs.Common.{◌≡◌, ◌⊎◌, inl, inr, ℕ, zero, suc, ◌+◌, nat_eq, List, [], ◌∷◌, length, codes, Some, Ok, slice_get, get_or, refl, sym, ap, ◌∙◌}
+-- What the texts that put rows mean.
+use Rattle.std.proofs.Common.{◌≡◌, ◌⊎◌, inl, inr, ℕ, zero, suc, nat_eq, List, [], ◌∷◌, ◌++◌, length, codes, Some, Ok, slice_get, get_or, refl, sym, ap, ◌∙◌}
+use Rattle.std.specs.Fmt.{decimal}
 use Rattle.std.proofs.lemmas.Bool.{cases_Bool, eqb-true, eq-eqb}
 use Rattle.sqlite.proofs.Callers.{command_of}
 use Rattle.sqlite.specs.Collation.TheVariants.{Binary}
@@ -20,6 +21,7 @@ use Rattle.toll_sql.specs.Select.{plain_query}
 use Rattle.toll_sql.specs.Tables.{ours, every_table, table_of, tree_of, keys_of, width_of, put_text}
 use Rattle.toll_sql.specs.declared.table_kind.TableKind.{TableKind}
 use Rattle.toll_sql.specs.declared.table_kind.TableKind.TheVariants.{Meta, Owners, Units, Materials, Tests, Recipes, Requirements, Orders, Batches, Lots, Sublots, Moves, Results, Voids}
+use Rattle.toll_sql.proofs.Beside.{Others, ours_and}
 use Rattle.toll_sql.proofs.TextLemmas.{one_statement, command_is, given}
 
 -- so many columns of a row, from this one on
@@ -31,9 +33,9 @@ terms_from slot at (suc n) = col slot at ∷ terms_from slot (suc at) n
 abbrev pub inserted : ℕ → List Term
 inserted width = lit Null ∷ terms_from 0 0 width
 
--- what the row with the key becomes: its rowid, and the row that would have been inserted, behind the parameters and two rowids
+-- what the row with the key becomes: its rowid twice, and the parameters
 abbrev pub becomes : ℕ → List Term
-becomes width = col 1 0 ∷ col 1 0 ∷ terms_from 0 (2 + width) width
+becomes width = col 1 0 ∷ col 1 0 ∷ terms_from 0 0 width
 
 abbrev pub update : ℕ → ℕ → Query
 update tree width = plain_query tree (op2 (Compare Eq Binary) (col 1 0) (col 0 width) ∷ []) (becomes width) []
@@ -135,59 +137,38 @@ tree_is Voids = refl
 abbrev pub putting : TableKind → Command
 putting k = InsertOr (number_of k) Abort (Values (inserted (width_of k)) (suc (width_of k))) (record { target = Some (keys_of k); update = Some (record { lets = []; body = update (tree_of k) (width_of k) }) } ∷ [])
 
--- the parameters, by their names
-abbrev pub slots_of : TableKind → List (List ℕ)
-slots_of Meta = codes "?1" ∷ codes "?2" ∷ []
-slots_of Owners = codes "?1" ∷ codes "?2" ∷ []
-slots_of Units = codes "?1" ∷ []
-slots_of Materials = codes "?1" ∷ codes "?2" ∷ codes "?3" ∷ []
-slots_of Tests = codes "?1" ∷ codes "?2" ∷ codes "?3" ∷ codes "?4" ∷ codes "?5" ∷ []
-slots_of Recipes = codes "?1" ∷ codes "?2" ∷ codes "?3" ∷ []
-slots_of Requirements = codes "?1" ∷ codes "?2" ∷ codes "?3" ∷ codes "?4" ∷ codes "?5" ∷ codes "?6" ∷ codes "?7" ∷ []
-slots_of Orders = codes "?1" ∷ codes "?2" ∷ codes "?3" ∷ codes "?4" ∷ codes "?5" ∷ []
-slots_of Batches = codes "?1" ∷ codes "?2" ∷ codes "?3" ∷ codes "?4" ∷ codes "?5" ∷ codes "?6" ∷ []
-slots_of Lots = codes "?1" ∷ codes "?2" ∷ codes "?3" ∷ codes "?4" ∷ codes "?5" ∷ codes "?6" ∷ []
-slots_of Sublots = codes "?1" ∷ codes "?2" ∷ codes "?3" ∷ codes "?4" ∷ []
-slots_of Moves = codes "?1" ∷ codes "?2" ∷ codes "?3" ∷ codes "?4" ∷ codes "?5" ∷ codes "?6" ∷ codes "?7" ∷ codes "?8" ∷ codes "?9" ∷ codes "?10" ∷ codes "?11" ∷ codes "?12" ∷ codes "?13" ∷ []
-slots_of Results = codes "?1" ∷ codes "?2" ∷ codes "?3" ∷ codes "?4" ∷ codes "?5" ∷ codes "?6" ∷ []
-slots_of Voids = codes "?1" ∷ codes "?2" ∷ []
+-- so many parameters, from this number on
+abbrev slots_from : ℕ → ℕ → List (List ℕ)
+slots_from at zero = []
+slots_from at (suc n) = (codes "?" ++ decimal at) ∷ slots_from (suc at) n
 
-slots_are : (k : TableKind) → length (slots_of k) ≡ width_of k
-slots_are Meta = refl
-slots_are Owners = refl
-slots_are Units = refl
-slots_are Materials = refl
-slots_are Tests = refl
-slots_are Recipes = refl
-slots_are Requirements = refl
-slots_are Orders = refl
-slots_are Batches = refl
-slots_are Lots = refl
-slots_are Sublots = refl
-slots_are Moves = refl
-slots_are Results = refl
-slots_are Voids = refl
+abbrev pub slots_of : TableKind → List (List ℕ)
+slots_of k = slots_from 1 (width_of k)
+
+slots_are : (at n : ℕ) → length (slots_from at n) ≡ n
+slots_are at zero = refl
+slots_are at (suc n) = ap suc (slots_are (suc at) n)
 
 -- (from here on no text is compiled again: all else follows)
-put_compiles : (k : TableKind) → compiled ours (put_text k) ≡ Ok (one_statement (putting k) (slots_of k) (put_text k))
+put_compiles : (others : Others) (k : TableKind) → compiled (ours_and others) (put_text k) ≡ Ok (one_statement (putting k) (slots_of k) (put_text k))
 unfolding everything
-put_compiles Meta = refl
-put_compiles Owners = refl
-put_compiles Units = refl
-put_compiles Materials = refl
-put_compiles Tests = refl
-put_compiles Recipes = refl
-put_compiles Requirements = refl
-put_compiles Orders = refl
-put_compiles Batches = refl
-put_compiles Lots = refl
-put_compiles Sublots = refl
-put_compiles Moves = refl
-put_compiles Results = refl
-put_compiles Voids = refl
+put_compiles others Meta = refl
+put_compiles others Owners = refl
+put_compiles others Units = refl
+put_compiles others Materials = refl
+put_compiles others Tests = refl
+put_compiles others Recipes = refl
+put_compiles others Requirements = refl
+put_compiles others Orders = refl
+put_compiles others Batches = refl
+put_compiles others Lots = refl
+put_compiles others Sublots = refl
+put_compiles others Moves = refl
+put_compiles others Results = refl
+put_compiles others Voids = refl
 
-pub put_is : (k : TableKind) → command_of (understood ours (put_text k)) ≡ putting k
-put_is k = command_is ours (put_text k) (put_compiles k)
+pub put_is : (others : Others) (k : TableKind) → command_of (understood (ours_and others) (put_text k)) ≡ putting k
+put_is others k = command_is (ours_and others) (put_text k) (put_compiles others k)
 
-pub put_given : (k : TableKind) → IsGiven (put_text k) (width_of k) (understood ours (put_text k))
-put_given k = given ours (put_text k) (put_compiles k) (slots_are k)
+pub put_given : (others : Others) (k : TableKind) → IsGiven (put_text k) (width_of k) (understood (ours_and others) (put_text k))
+put_given others k = given (ours_and others) (put_text k) (put_compiles others k) (slots_are 1 (width_of k))

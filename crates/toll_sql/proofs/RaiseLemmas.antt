@@ -1,39 +1,43 @@
 -- Version 1 found and brought to this version.
-use Rattle.std.proofs.Common.{◌≡◌, ◌≢◌, ◌⊎◌, inl, inr, ℕ, None, Some, Ok, Err, Result, Option, IfOk, IfSome, OnOk, arith, refl, sym, subst, ◌∙◌}
+use Rattle.std.proofs.Common.{◌≡◌, ◌≢◌, ◌⊎◌, inl, inr, ℕ, None, Some, Ok, Err, Result, Option, IfOk, IfSome, IsTrue, OnOk, false, arith, refl, sym, ap, subst, ◌∙◌}
 use Rattle.std.proofs.lemmas.Result.{on_ok_weaker, on_err_weaker}
 use Rattle.sqlite.proofs.StateLemmas.{survives_then, survives_weaker}
+use Rattle.sqlite.specs.Effect.{Database}
 use Rattle.sqlite.specs.State.{State, HasCleanDisk, IsUnchanged, Survives}
 use Rattle.sqlite.specs.Tree.{Trees}
 use Rattle.sqlite.specs.declared.error.Error.{Error}
+use Rattle.sqlite.specs.declared.error.Error.TheVariants.{SqliteFailure}
+use Rattle.sqlite.specs.declared.error.ErrorCode.TheVariants as code
 use Rattle.toll_keep.specs.Content.{Content}
-use Rattle.toll_sql.specs.Create.{IsShapedAs, IsWhole, LeavesMade, begin}
-use Rattle.toll_sql.specs.First.{HasVersion, HoldsFirst, IsFirst, Raised, Tells, first_ours, first_version, meta_rows}
+use Rattle.toll_sql.specs.Asked.{IsUnreadBy, meta_text}
+use Rattle.toll_sql.specs.Asking.{IsQuerying}
+use Rattle.toll_sql.specs.Causes.{is_disk_fault}
+use Rattle.toll_sql.specs.Create.{IsShapedAs, IsUnindexed, IsWhole, LeavesMade, begin}
+use Rattle.toll_sql.specs.First.{AreFirst, HasVersion, IsFirst, Raised, Tells, first_ours, first_version, meta_rows}
 use Rattle.toll_sql.specs.Holds.{Holds, version}
-use Rattle.toll_sql.specs.Opening.{Adopts, FindsVersion, IsLeft, LeavesRaised, Raises, without_limit}
+use Rattle.toll_sql.specs.Opening.{Adopts, Brings, FindsVersion, HoldsEither, IsLeft, IsUnreadFor, LeavesRaised, TakesOver, without_limit}
+use Rattle.toll_sql.specs.Others.{HasOurs, HasOursIn, Indexed, has_its_name}
 use Rattle.toll_sql.specs.Stores.{HoldsIn}
-use Rattle.toll_sql.specs.Tables.{ours}
 use Rattle.toll_sql.specs.declared.open_fault.OpenFault.{OpenFault}
 use Rattle.toll_sql.specs.declared.open_fault.OpenFault.TheVariants.{Disk, Damaged, NotOurs}
-use Rattle.toll_sql.proofs.AdoptLemmas.{IsMisfit, found_in, no_disk, versions_differ}
+use Rattle.toll_sql.proofs.AdoptLemmas.{IsMisfit, apart, found_in, no_disk}
 use Rattle.toll_sql.proofs.CauseLemmas.{reason_before}
+use Rattle.toll_sql.proofs.Indexing.{first_unnamed, holds_kept, indexed_ours, indexed_told, kept_ours}
 use Rattle.toll_sql.proofs.MetaLemmas.{shows_it, shows_neither}
 use Rattle.toll_sql.proofs.OverLemmas.{IsTold, disk_told, done, failed, made, not_damaged, not_foreign, refused}
 
-module _ (old new : State) where
+module _ (Found : Database → Type 0) (Brought : Database → Database → Type 0) (Before : State → Type 0) (old new : State) (start : Found old.now → old.step_limit ≡ None → Before (begin old)) where
   abbrev Leaves : Trees → Type 0
-  Leaves db = IsFirst old.now → old.step_limit ≡ None → (c : Content) → HoldsFirst old.now.trees c → Holds db c
+  Leaves = LeavesMade (Found old.now × (old.step_limit ≡ None)) (Brought old.now)
 
-  start : IsFirst old.now → old.step_limit ≡ None → IsShapedAs first_ours (begin old)
-  start first free = record { making = record { schema = first.schema; unlimited = free; inside = refl }; shaped = first.shaped }
+  leaves : (db : Trees) → LeavesMade (Before (begin old)) (Brought old.now) db → Leaves db
+  leaves db h found = h (start found.0 found.1)
 
-  leaves : (db : Trees) → LeavesMade (IsShapedAs first_ours (begin old)) (Raised old.now.trees) db → Leaves db
-  leaves db h first free c held = let it = h (start first free) in subst (λ d. Holds d c) (sym it.2) (it.1.rows c held)
-
-  pub all_raised : IsWhole (IsShapedAs first_ours) (Raised old.now.trees) old new made → Raises old new done
-  all_raised w = record {
+  pub all_brought : IsWhole Before (Brought old.now) old new made → Brings Found Brought old new done
+  all_brought w = record {
     ended = w.ended;
     live = w.live;
-    all = λ clean first free. w.all clean (start first free);
+    all = λ clean found free. w.all clean (start found free);
     shown = w.shown;
     none = λ _ _. tt;
     cause = λ _ is. absurd cc;
@@ -41,8 +45,8 @@ module _ (old new : State) where
     survives = survives_weaker old new _ Leaves (λ _. leaves) w.survives;
   }
 
-  pub none_raised : (e : Error) (fault : OpenFault) → IsTold e fault → IsWhole (IsShapedAs first_ours) (Raised old.now.trees) old new (failed (Unit {0}) e) → Raises old new (refused (Unit {0}) fault)
-  none_raised e fault told w = record {
+  pub none_brought : (e : Error) (fault : OpenFault) → IsTold e fault → IsWhole Before (Brought old.now) old new (failed (Unit {0}) e) → Brings Found Brought old new (refused (Unit {0}) fault)
+  none_brought e fault told w = record {
     ended = w.ended;
     live = w.live;
     all = λ _ _ _. tt;
@@ -52,6 +56,12 @@ module _ (old new : State) where
     known = (λ is. not_foreign e fault told (let same : fault ≡ NotOurs = cc in same), λ is. not_damaged e fault told (let same : fault ≡ Damaged = cc in same));
     survives = survives_weaker old new _ Leaves (λ _. leaves) w.survives;
   }
+
+pub start_first : (s : State) → IsFirst s.now → s.step_limit ≡ None → IsShapedAs first_ours (begin s)
+start_first s first free = record { making = record { schema = first.schema; unlimited = free; inside = refl }; shaped = first.shaped }
+
+pub start_unindexed : (s : State) → has_its_name s.now.schema ≡ false → HasOursIn s.now → s.step_limit ≡ None → IsUnindexed (begin s)
+start_unindexed s lacking ours free = record { ours = ours; lacking = lacking; unlimited = free; inside = refl }
 
 -- a call that has no limit of steps begins as one whose limit was lifted
 as_unlimited : (old new : State) (P : Trees → Type 0) → old.step_limit ≡ None → Survives old new P → Survives (without_limit old) new P
@@ -65,7 +75,44 @@ when_ok : {X E : Type 0} (A : Type 0) (r : Result X E) → A → OnOk r A
 when_ok A (Ok x) a = a
 when_ok A (Err e) a = tt
 
-module _ (old mid : State) (has : old.now.schema ≡ first_ours) (free : old.step_limit ≡ None) (told : Option ℕ) (r : Result (Option ℕ) Error) (is : r ≡ Ok told) (left : IsLeft old mid r) where
+-- the version was read, and then the tables were brought to what they are to be
+module _ (Found : Database → Type 0) (Brought : Database → Database → Type 0) (old mid new : State) (free : old.step_limit ≡ None) (survives : Survives old mid (λ _. ⊥)) (was_live : HasCleanDisk mid → IsTrue mid.is_open → IsTrue old.is_open)
+    (same : HasCleanDisk mid → (mid.now ≡ old.now) × (mid.committed ≡ old.committed)) (lacking : HasCleanDisk mid → has_its_name old.now.schema ≡ false)
+    (held : (c : Content) → HoldsEither old c → Found old.now × ((after : Database) → Brought old.now after → Holds after.trees c)) (q : Result (Unit {0}) OpenFault) (brings : Brings Found Brought mid new q) where
+  pub late : HasCleanDisk new → HasCleanDisk mid
+  late clean = omega (arith, clean, brings.survives.clean)
+
+  now : HasCleanDisk new → mid.now ≡ old.now
+  now clean = (same (late clean)).0
+
+  limit : mid.step_limit ≡ None
+  limit = survives.limit ∙ free
+
+  pub brought_in : HasCleanDisk new → Found old.now → OnOk q (Brought old.now new.now)
+  brought_in clean found = subst (λ d. OnOk q (Brought d new.now)) (now clean) (brings.all clean (subst Found (sym (now clean)) found) limit)
+
+  leaves_raised : HasCleanDisk new → (db : Trees) → LeavesMade (Found mid.now × (mid.step_limit ≡ None)) (Brought mid.now) db → LeavesRaised old db
+  leaves_raised clean db h = record {
+    lacking = lacking (late clean);
+    rows = λ c has.
+        let it = held c has in
+        let left = h (subst Found (sym (now clean)) it.0, limit) in
+        subst (λ d. Holds d c) (sym left.2) (it.1 left.0 (subst (λ d. Brought d left.0) (now clean) left.1));
+  }
+
+  pub brought_over : TakesOver (LeavesRaised old) old new q
+  brought_over = record {
+    unlimited = brings.survives.limit ∙ limit;
+    autocommit = λ _. brings.ended;
+    ended = when_ok _ q brings.ended;
+    live = λ clean live. was_live (late clean) (brings.live clean live);
+    shown = brings.shown;
+    refused = λ clean live. on_err_weaker q (λ h. (h.0 ∙ now clean, h.1 ∙ (same (late clean)).1)) (brings.none clean live);
+    cause = λ clean disk. reason_before (without_limit old) mid new (λ _. ⊥) _ (as_unlimited old mid (λ _. ⊥) free survives) brings.survives clean (brings.cause clean disk);
+    survives = survives_then (without_limit old) mid new (λ _. ⊥) _ (LeavesRaised old) (λ _ _ h. absurd h) leaves_raised (as_unlimited old mid (λ _. ⊥) free survives) brings.survives;
+  }
+
+module _ (old mid : State) (has : AreFirst old.now.schema) (free : old.step_limit ≡ None) (told : Option ℕ) (r : Result (Option ℕ) Error) (is : r ≡ Ok told) (left : IsLeft old mid r) where
   -- another version was told
   pub other_first : told ≢ Some first_version → (HasCleanDisk mid → (n : ℕ) → HasVersion n old.now.trees → IfOk r (λ v. v ≡ Some n)) → (HasCleanDisk mid → IfOk r (FindsVersion old.now)) → (fault : OpenFault) → IsMisfit told version fault → Adopts old mid (refused (Unit {0}) fault)
   other_first other tells found fault m = record {
@@ -81,56 +128,46 @@ module _ (old mid : State) (has : old.now.schema ≡ first_ours) (free : old.ste
     };
     known_as = λ _. tt;
     ours = λ _ _. tt;
+    indexed = λ _ _. tt;
+    raised = λ _ _. tt;
     holds = λ _ c h. tt;
     known = λ clean _ c h. elim h [
-      | inl held ↦ absurd (versions_differ (sym held.ours.schema ∙ has))
+      | inl held ↦ absurd (apart held.ours.schema has)
       | inr first ↦ absurd (other (subst (λ (x : Result (Option ℕ) Error). IfOk x (λ v. v ≡ Some first_version)) is (tells clean first_version first.rows.meta)))
     ];
-    damaged = λ clean same. (let it : fault ≡ Damaged = cc in inl (record { schema = λ this. versions_differ (sym this ∙ has); told = shows_it old.now told (found_in old.now told r is (found clean)) version (m.damaged it) }));
+    damaged = λ clean same. (let it : fault ≡ Damaged = cc in inl (record { tables = λ this. apart this has; told = shows_it old.now told (found_in old.now told r is (found clean)) version (m.damaged it) }));
     foreign = λ clean same. (let it : fault ≡ NotOurs = cc in inr (inl (shows_neither old.now told (found_in old.now told r is (found clean)) other (m.foreign it))));
   }
 
-  module _ (so : told ≡ Some first_version) (tells : HasCleanDisk mid → IfOk r (λ v. IfSome v (λ n. Tells n (meta_rows old.now.trees)))) (unchanged : HasCleanDisk mid → OnOk r (IsUnchanged old mid)) (new : State) (q : Result (Unit {0}) OpenFault) (raises : Raises mid new q) where
-    late : HasCleanDisk new → HasCleanDisk mid
-    late clean = omega (arith, clean, raises.survives.clean)
+  module _ (so : told ≡ Some first_version) (tells : HasCleanDisk mid → IfOk r (λ v. IfSome v (λ n. Tells n (meta_rows old.now.trees)))) (unchanged : HasCleanDisk mid → OnOk r (IsUnchanged old mid)) (new : State) (q : Result (Unit {0}) OpenFault) (raises : Brings IsFirst Raised mid new q) where
+    same : HasCleanDisk mid → (mid.now ≡ old.now) × (mid.committed ≡ old.committed)
+    same clean = let it = subst (λ (x : Result (Option ℕ) Error). OnOk x (IsUnchanged old mid)) is (unchanged clean) in (it.0.now_is, it.0.committed_is)
 
-    same : HasCleanDisk new → IsUnchanged old mid
-    same clean = subst (λ (x : Result (Option ℕ) Error). OnOk x (IsUnchanged old mid)) is (unchanged (late clean))
+    lacking : HasCleanDisk mid → has_its_name old.now.schema ≡ false
+    lacking _ = ap has_its_name has ∙ first_unnamed
 
-    now : HasCleanDisk new → mid.now ≡ old.now
-    now clean = (same clean).0.now_is
+    held : (c : Content) → HoldsEither old c → IsFirst old.now × ((after : Database) → Raised old.now after → Holds after.trees c)
+    held c (inl this) = absurd (apart this.ours.schema has)
+    held c (inr first) = (first.first, λ after it. it.rows c first.rows)
 
-    limit : mid.step_limit ≡ None
-    limit = left.survives.limit ∙ free
+    raised_in : HasCleanDisk new → IsFirst old.now → OnOk q (Raised old.now new.now)
+    raised_in = brought_in IsFirst Raised old mid new free left.survives left.live same lacking held q raises
 
-    leaves_raised : HasCleanDisk new → (db : Trees) → Leaves mid new db → LeavesRaised old db
-    leaves_raised clean db h = record {
-      schema = has;
-      rows = λ c held. h (subst IsFirst (sym (now clean)) held.first) limit c (subst (λ d. HoldsFirst d.trees c) (sym (now clean)) held.rows);
-    }
-
-    raised_in : HasCleanDisk new → IsFirst old.now → OnOk q (Raised old.now.trees new.now)
-    raised_in clean first = subst (λ d. OnOk q (Raised d.trees new.now)) (now clean) (raises.all clean (subst IsFirst (sym (now clean)) first) limit)
+    late_first : HasCleanDisk new → HasCleanDisk mid
+    late_first = late IsFirst Raised old mid new free left.survives left.live same lacking held q raises
 
     told_first : HasCleanDisk new → Tells first_version (meta_rows old.now.trees)
-    told_first clean = subst (λ (v : Option ℕ). IfSome v (λ n. Tells n (meta_rows old.now.trees))) so (subst (λ (x : Result (Option ℕ) Error). IfOk x (λ v. IfSome v (λ n. Tells n (meta_rows old.now.trees)))) is (tells (late clean)))
+    told_first clean = subst (λ (v : Option ℕ). IfSome v (λ n. Tells n (meta_rows old.now.trees))) so (subst (λ (x : Result (Option ℕ) Error). IfOk x (λ v. IfSome v (λ n. Tells n (meta_rows old.now.trees)))) is (tells (late_first clean)))
 
     pub all_adopted : Adopts old new q
     all_adopted = record {
-      over = record {
-        unlimited = raises.survives.limit ∙ limit;
-        autocommit = λ _. raises.ended;
-        ended = when_ok _ q raises.ended;
-        live = λ clean live. left.live (late clean) (raises.live clean live);
-        shown = raises.shown;
-        refused = λ clean live. on_err_weaker q (λ h. (h.0 ∙ now clean, h.1 ∙ (same clean).0.committed_is)) (raises.none clean live);
-        cause = λ clean disk. reason_before (without_limit old) mid new (λ _. ⊥) (Leaves mid new) (as_unlimited old mid (λ _. ⊥) free left.survives) raises.survives clean (raises.cause clean disk);
-        survives = survives_then (without_limit old) mid new (λ _. ⊥) (Leaves mid new) (LeavesRaised old) (λ _ _ h. absurd h) leaves_raised (as_unlimited old mid (λ _. ⊥) free left.survives) raises.survives;
-      };
-      known_as = λ clean. when_ok _ q (inr (record { schema = has; told = told_first clean }));
-      ours = λ clean h. elim h [ inl ours ↦ absurd (versions_differ (sym ours.schema ∙ has)) | inr first ↦ on_ok_weaker q (λ it. (it.ours, it.told)) (raised_in clean first) ];
+      over = brought_over IsFirst Raised old mid new free left.survives left.live same lacking held q raises;
+      known_as = λ clean. when_ok _ q (inr (record { tables = has; told = told_first clean }));
+      ours = λ clean h. elim h [ inl ours ↦ absurd (apart ours.schema has) | inr first ↦ on_ok_weaker q (λ it. (it.ours, it.told)) (raised_in clean first) ];
+      indexed = λ _ ours. absurd (apart ours has);
+      raised = λ clean first. on_ok_weaker q (λ it. it.alone) (raised_in clean first);
       holds = λ clean c h. elim h [
-        | inl held ↦ absurd (versions_differ (sym held.ours.schema ∙ has))
+        | inl held ↦ absurd (apart held.ours.schema has)
         | inr held ↦ both_ok _ _ (HoldsIn new c) q (λ it live. record { ours = it.ours; idle = live.1; rows = it.rows c held.rows }) (raised_in clean held.first) (raises.shown clean)
       ];
       known = λ _ _ c _. raises.known;
@@ -138,8 +175,52 @@ module _ (old mid : State) (has : old.now.schema ≡ first_ours) (free : old.ste
       foreign = λ _ no. absurd (raises.known.0 no);
     }
 
+-- tables of this version, and nothing is called as their index is
+module _ (old mid new : State) (auto : old.in_transaction ≡ false) (settled : IsTrue old.is_open → old.now ≡ old.committed) (has : HasOurs old.now.schema) (free : old.step_limit ≡ None) (told : Option ℕ) (r : Result (Option ℕ) Error) (is : r ≡ Ok told)
+    (asking : IsQuerying old mid r) (so : told ≡ Some version) (tells : HasCleanDisk mid → IfOk r (λ v. IfSome v (λ n. Tells n (meta_rows old.now.trees)))) (unnamed : has_its_name mid.now.schema ≡ false) (q : Result (Unit {0}) OpenFault)
+    (brings : Brings HasOursIn Indexed mid new q) where
+  unchanged : HasCleanDisk mid → (mid.now ≡ old.now) × (mid.committed ≡ old.committed)
+  unchanged clean =
+      let a = asking.asks in
+      let live : IsTrue mid.is_open = subst (λ (x : Result (Option ℕ) Error). OnOk x (IsTrue mid.is_open)) is (a.shown clean) in
+      a.same clean has live (settled (a.live clean live))
+
+  still : Survives old mid (λ _. ⊥)
+  still = survives_weaker old mid _ (λ _. ⊥) (λ _ _ h. h has settled) asking.asks.survives
+
+  lacks : HasCleanDisk mid → has_its_name old.now.schema ≡ false
+  lacks clean = ap (λ (d : Database). has_its_name d.schema) (sym (unchanged clean).0) ∙ unnamed
+
+  held_so : (c : Content) → HoldsEither old c → HasOursIn old.now × ((after : Database) → Indexed old.now after → Holds after.trees c)
+  held_so c (inl this) = (has, λ after it. holds_kept c old.now.trees after.trees (kept_ours old.now.trees after.trees has it.rows) this.rows)
+  held_so c (inr first) = absurd (apart has first.first.schema)
+
+  indexed_in : HasCleanDisk new → OnOk q (Indexed old.now new.now)
+  indexed_in clean = brought_in HasOursIn Indexed old mid new free still asking.asks.live unchanged lacks held_so q brings clean has
+
+  told_this : HasCleanDisk new → Tells version (meta_rows old.now.trees)
+  told_this clean =
+      let before = late HasOursIn Indexed old mid new free still asking.asks.live unchanged lacks held_so q brings clean in
+      subst (λ (v : Option ℕ). IfSome v (λ n. Tells n (meta_rows old.now.trees))) so (subst (λ (x : Result (Option ℕ) Error). IfOk x (λ v. IfSome v (λ n. Tells n (meta_rows old.now.trees)))) is (tells before))
+
+  pub all_indexed : Adopts old new q
+  all_indexed = record {
+    over = brought_over HasOursIn Indexed old mid new free still asking.asks.live unchanged lacks held_so q brings;
+    known_as = λ clean. when_ok _ q (inl (record { tables = has; told = told_this clean }));
+    ours = λ clean h. elim h [ inl own ↦ on_ok_weaker q (λ it. (indexed_ours old.now new.now own it, indexed_told old.now new.now has it (told_this clean))) (indexed_in clean) | inr first ↦ absurd (apart has first.schema) ];
+    indexed = λ clean _. indexed_in clean;
+    raised = λ _ first. absurd (apart has first.schema);
+    holds = λ clean c h. elim h [
+      | inl held ↦ both_ok _ _ (HoldsIn new c) q (λ it live. record { ours = indexed_ours old.now new.now held.ours it; idle = live.1; rows = (held_so c (inl held)).1 new.now it }) (indexed_in clean) (brings.shown clean)
+      | inr first ↦ absurd (apart has first.first.schema)
+    ];
+    known = λ _ _ c _. brings.known;
+    damaged = λ _ no. absurd (brings.known.1 no);
+    foreign = λ _ no. absurd (brings.known.0 no);
+  }
+
 -- tables of neither version
-module _ (old new : State) (free : old.step_limit ≡ None) (not_ours : old.now.schema ≢ ours) (not_first : old.now.schema ≢ first_ours) (told : Option ℕ) (r : Result (Option ℕ) Error) (is : r ≡ Ok told) (left : IsLeft old new r)
+module _ (old new : State) (free : old.step_limit ≡ None) (not_ours : ¬ HasOurs old.now.schema) (not_first : ¬ AreFirst old.now.schema) (told : Option ℕ) (r : Result (Option ℕ) Error) (is : r ≡ Ok told) (left : IsLeft old new r)
     (found : HasCleanDisk new → IfOk r (FindsVersion old.now)) where
   pub others_told : (fault : OpenFault) → (fault ≡ Damaged → (told ≡ Some first_version) ⊎ (told ≡ Some version)) → (fault ≡ NotOurs → (told ≢ Some first_version) × (told ≢ Some version)) → (fault ≡ Damaged) ⊎ (fault ≡ NotOurs) → Adopts old new (refused (Unit {0}) fault)
   others_told fault damaged foreign known = record {
@@ -155,14 +236,40 @@ module _ (old new : State) (free : old.step_limit ≡ None) (not_ours : old.now.
     };
     known_as = λ _. tt;
     damaged = λ clean same. (let it : fault ≡ Damaged = cc in elim (damaged it) [
-      | inl first ↦ inr (record { schema = not_first; told = shows_it old.now told (found_in old.now told r is (found clean)) first_version first })
-      | inr this ↦ inl (record { schema = not_ours; told = shows_it old.now told (found_in old.now told r is (found clean)) version this })
+      | inl first ↦ inr (record { tables = not_first; told = shows_it old.now told (found_in old.now told r is (found clean)) first_version first })
+      | inr this ↦ inl (record { tables = not_ours; told = shows_it old.now told (found_in old.now told r is (found clean)) version this })
     ]);
     foreign = λ clean same. (let it : fault ≡ NotOurs = cc in inr (inl (shows_neither old.now told (found_in old.now told r is (found clean)) (foreign it).0 (foreign it).1)));
     ours = λ _ _. tt;
+    indexed = λ _ _. tt;
+    raised = λ _ _. tt;
     holds = λ _ c h. tt;
     known = λ _ _ c h. elim h [ inl held ↦ absurd (not_ours held.ours.schema) | inr first ↦ absurd (not_first first.first.schema) ];
   }
     where
       neither : ¬ (fault ≡ Disk)
       neither same = elim known [ inl d ↦ (let x : Damaged ≡ Disk = sym d ∙ same in absurd cc) | inr n ↦ (let x : NotOurs ≡ Disk = sym n ∙ same in absurd cc) ]
+
+-- tables of neither version, which can't be asked for theirs
+module _ (old new : State) (free : old.step_limit ≡ None) (not_ours : ¬ HasOurs old.now.schema) (not_first : ¬ AreFirst old.now.schema) (e : Error) (left : IsLeft old new (failed (Option ℕ) e)) (unread : HasCleanDisk new → IsUnreadFor old.step_limit old.now e) where
+  pub others_unread : (fault : OpenFault) → (fault ≡ Disk → IsTrue (is_disk_fault e)) → (fault ≡ NotOurs → (e ≢ SqliteFailure code.OutOfMemory) × (is_disk_fault e ≡ false)) → fault ≢ Damaged → Adopts old new (refused (Unit {0}) fault)
+  others_unread fault disk foreign undamaged = record {
+    over = record {
+      unlimited = left.survives.limit ∙ free;
+      autocommit = λ _. left.ended;
+      ended = tt;
+      live = left.live;
+      shown = λ _. tt;
+      refused = left.same;
+      cause = λ clean same. left.fault clean (disk (let it : fault ≡ Disk = cc in it));
+      survives = as_unlimited old new (LeavesRaised old) free (survives_weaker old new (λ _. ⊥) (LeavesRaised old) (λ _ _ h. absurd h) left.survives);
+    };
+    known_as = λ _. tt;
+    damaged = λ _ same. absurd (undamaged (let it : fault ≡ Damaged = cc in it));
+    foreign = λ clean same. (let it = foreign (let is : fault ≡ NotOurs = cc in is) in inr (inr (subst (λ limit. IsUnreadBy limit old.now meta_text) free (unread clean it.0 it.1))));
+    ours = λ _ _. tt;
+    indexed = λ _ _. tt;
+    raised = λ _ _. tt;
+    holds = λ _ c h. tt;
+    known = λ _ _ c h. elim h [ inl held ↦ absurd (not_ours held.ours.schema) | inr first ↦ absurd (not_first first.first.schema) ];
+  }

@@ -59,9 +59,10 @@ in_place =
     let same : key_order Meta (meta_cells first_version) (meta_cells version) ≡ Equal = own _ ((key_order_total Meta).antisymm (meta_cells version) (meta_cells version)) in
     ap (λ r. match_ordering r (meta_cells first_version ∷ meta_cells version ∷ []) (meta_cells version ∷ []) (meta_cells version ∷ meta_cells first_version ∷ [])) same
 
-pub raised : (old mid new : State) → MakesTable Voids old mid → Finishes mid new → Raised old.now.trees new.now
+pub raised : (old mid new : State) → MakesTable Voids old mid → Finishes mid new → Raised old.now new.now
 raised old mid new h f = record {
   ours = f.ours;
+  alone = f.alone;
   told = put_told version f.mid new.now.trees f.put;
   rows = λ c held. finished_holds c (as_second old.now.trees) (meta_cells first_version ∷ []) mid new f (subst (λ stored. HasRows Meta (meta_cells first_version ∷ []) stored) (sym (meta_was old mid h)) held.meta) in_place (as_were old mid h) held.others;
 }

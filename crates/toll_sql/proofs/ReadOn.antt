@@ -11,6 +11,7 @@ use Rattle.toll_keep.specs.declared.fault.KeepFault.{KeepFault}
 use Rattle.toll_keep.specs.declared.fault.KeepFault.TheVariants.{Disk, Damaged, Closed}
 use Rattle.toll_sql.specs.Asking.{Asks, IsLooking}
 use Rattle.toll_sql.specs.Fronts.{front}
+use Rattle.toll_sql.specs.Others.{HasOurs}
 use Rattle.toll_sql.specs.Reading.{ReadsOn}
 use Rattle.toll_sql.specs.Shown.{AreRowsIn, Shows}
 use Rattle.toll_sql.specs.declared.table_kind.TableKind.{TableKind}
@@ -32,7 +33,7 @@ module _ (a b c : State) where
         let before = clean_before q.survives clean in
         let middle = q.live clean live in
         let one = p.same before has middle idle in
-        let two = q.same clean (ap (λ (db : Database). db.schema) one.0 ∙ has) live (one.0 ∙ idle ∙ sym one.1) in
+        let two = q.same clean (subst (λ (db : Database). HasOurs db.schema) (sym one.0) has) live (one.0 ∙ idle ∙ sym one.1) in
         (two.0 ∙ one.0, two.1 ∙ one.1);
     mode = λ outside. q.mode (p.mode outside);
     survives = record {
@@ -51,7 +52,7 @@ module _ (a b c : State) where
             let middle = p.shown before in
             let idle = quiet (p.live before middle) in
             let one = p.same before has middle idle in
-            committed (ap (λ (db : Database). db.schema) one.0 ∙ has) (λ _. one.0 ∙ idle ∙ sym one.1))
+            committed (subst (λ (db : Database). HasOurs db.schema) (sym one.0) has) (λ _. one.0 ∙ idle ∙ sym one.1))
       ];
     };
   }
@@ -84,7 +85,7 @@ pub shows_then : {X Y : Type 0} (kinds others : List TableKind) (o : Bytes) (a b
 shows_then kinds others o a b c x r p shown q more = λ clean has idle.
     let before = clean_before a b c q.asks.survives clean in
     let same = p.asks.same before has (p.asks.shown before) idle in
-    let behind = more clean (ap (λ (db : Database). db.schema) same.0 ∙ has) (same.0 ∙ idle ∙ sym same.1) in
+    let behind = more clean (subst (λ (db : Database). HasOurs db.schema) (sym same.0) has) (same.0 ∙ idle ∙ sym same.1) in
     on_ok_weaker r (λ all. all_append (AreRowsIn o a.now.trees) kinds others (shown before has idle) (subst (λ (db : Database). AllByRecursion (AreRowsIn o db.trees) others) same.0 all)) behind
 
 module _ (f g h : Slice → Slice) {kinds others : List TableKind} (o : Bytes) where

@@ -77,5 +77,5 @@ from_more Before More Makes a b r less s = record { makes = λ clean more within
 pub done : {X Y : Type 0} (Before : State → Type 0) (Makes : State → State → Type 0) (a b : State) (x : X) (y : Y) → IsStep Before Makes a b (Ok x) → IsStep Before Makes a b (Ok y)
 done Before Makes a b x y s = record { makes = s.makes; inside = s.inside; fault = λ _ _. tt; kept = s.kept; survives = s.survives }
 
-pub makes_more : {X : Type 0} (Before : State → Type 0) (First Makes : State → State → Type 0) (a b : State) (r : Result X Error) → (First a b → Makes a b) → IsStep Before First a b r → IsStep Before Makes a b r
-makes_more Before First Makes a b r so s = record { makes = λ clean before within. on_ok_weaker r so (s.makes clean before within); inside = s.inside; fault = s.fault; kept = s.kept; survives = s.survives }
+pub makes_more : {X : Type 0} (Before : State → Type 0) (First Makes : State → State → Type 0) (a b : State) (r : Result X Error) → (Before a → First a b → Makes a b) → IsStep Before First a b r → IsStep Before Makes a b r
+makes_more Before First Makes a b r so s = record { makes = λ clean before within. on_ok_weaker r (so before) (s.makes clean before within); inside = s.inside; fault = s.fault; kept = s.kept; survives = s.survives }

@@ -1,5 +1,5 @@
 -- One row put within a transaction.
-use Rattle.std.proofs.Common.{◌≡◌, ◌≢◌, ◌⊎◌, inl, inr, ℕ, zero, suc, true, false, List, [], ◌∷◌, slice_get, Some, Ok, Err, Result, OnOk, IsTrue, sym, ap, subst, ◌∙◌, nat_eq}
+use Rattle.std.proofs.Common.{◌≡◌, ◌≢◌, ◌⊎◌, inl, inr, ℕ, true, false, List, [], ◌∷◌, Ok, Err, Result, OnOk, IsTrue, sym, ap, subst, ◌∙◌, nat_eq}
 use Rattle.std.specs.List.{AllByRecursion}
 use Rattle.std.proofs.lemmas.Bool.{cases_Bool, eqb-true, eq-eqb}
 use Rattle.sqlite.proofs.InsideLemmas.{inside_keeps}
@@ -11,18 +11,15 @@ use Rattle.sqlite.specs.declared.error.Error.{Error}
 use Rattle.sqlite_trees.specs.View.{IsShaped}
 use Rattle.sqlite_trees.specs.declared.store.Shape.TheVariants as shape
 use Rattle.toll_sql.specs.Cells.{columns_from, fill}
+use Rattle.toll_sql.specs.Others.{HasOurs}
 use Rattle.toll_sql.specs.Stores.{IsReady, IsWriting, MakesRow, PutsRow}
 use Rattle.toll_sql.specs.Tables.{ours, table_of, tree_of, width_of, put_text}
 use Rattle.toll_sql.specs.declared.table_kind.TableKind.{TableKind}
 use Rattle.toll_sql.proofs.CauseLemmas.{exec_fault}
 use Rattle.toll_sql.proofs.CellLemmas.{all_columns, fit_length}
+use Rattle.toll_sql.proofs.OthersLemmas.{at_listed}
 use Rattle.toll_sql.proofs.PutRows.{puts_at}
 use Rattle.toll_sql.proofs.PutTexts.{listed, tree_is, columns_are, number_of}
-
-pub at_listed : {X : Type 0} (P : X → Type 0) (xs : List X) (i : ℕ) (x : X) → AllByRecursion P xs → slice_get xs i ≡ Some x → P x
-at_listed P [] i x all h = absurd cc
-at_listed P (y ∷ xs) zero x all h = let same : y ≡ x = cc in subst P same all.0
-at_listed P (y ∷ xs) (suc i) x all h = at_listed P xs i x all.1 h
 
 -- each of our tables
 pub at_table : (P : ℕ → Type 0) (k : TableKind) → AllByRecursion (λ (t : Table). P t.tree) ours.tables → P (tree_of k)
@@ -62,10 +59,11 @@ module _ (k : TableKind) (cells : Row) (fits : fill k cells ≡ true) (old new :
       record {
         put = put;
         ready = record {
-          ours = record { schema = p0.1; shaped = shaped_after (tree_of k) old.now.trees new.now.trees ours.tables put.shaped put.others ready.ours.shaped };
+          ours = record { schema = subst HasOurs (sym p0.1) ready.ours.schema; shaped = shaped_after (tree_of k) old.now.trees new.now.trees ours.tables put.shaped put.others ready.ours.shaped };
           unlimited = limit ∙ ready.unlimited;
           inside = h.1.mode;
         };
+        schema = p0.1;
         committed = h.1.committed_is;
       }
 

@@ -8,7 +8,8 @@ use Rattle.toll_keep.specs.declared.fault.KeepFault.{KeepFault}
 use Rattle.toll_keep.specs.declared.fault.KeepFault.TheVariants.{Disk, Damaged, Closed}
 use Rattle.toll_sql.specs.Causes.{IsCaused, Reason}
 use Rattle.toll_sql.specs.Stores.{HoldsIn, LiesIdle}
-use Rattle.toll_sql.specs.Tables.{is_owned, ours}
+use Rattle.toll_sql.specs.Others.{HasOurs}
+use Rattle.toll_sql.specs.Tables.{is_owned}
 use Rattle.toll_sql.specs.declared.table_kind.TableKind.{TableKind}
 
 -- this is so of each content that the store held, where the disk has returned what was written to it
@@ -17,7 +18,7 @@ ForHeld old new P = HasCleanDisk new → (c : Content) → HoldsIn old c → P c
 
 -- this is so of the rows that the store had, where its tables were ours and the disk has returned what was written to it
 abbrev pub OverOurs : State → State → (Trees → Type 0) → Type 0
-OverOurs old new P = HasCleanDisk new → old.now.schema ≡ ours → P old.now.trees
+OverOurs old new P = HasCleanDisk new → HasOurs old.now.schema → P old.now.trees
 
 -- so it is where the table is one that owners part
 abbrev pub OverOwned : TableKind → State → State → (Trees → Type 0) → Type 0
@@ -28,9 +29,9 @@ pub record Asks {X E : Type 0} (old new : State) (result : Result X E) : Type 0 
   -- a store that lies open now has always done so, and a call that succeeds shows it
   pub live : HasCleanDisk new → IsTrue new.is_open → IsTrue old.is_open
   pub shown : HasCleanDisk new → OnOk result (IsTrue new.is_open)
-  pub same : HasCleanDisk new → old.now.schema ≡ ours → IsTrue new.is_open → old.now ≡ old.committed → (new.now ≡ old.now) × (new.committed ≡ old.committed)
+  pub same : HasCleanDisk new → HasOurs old.now.schema → IsTrue new.is_open → old.now ≡ old.committed → (new.now ≡ old.now) × (new.committed ≡ old.committed)
   pub mode : old.in_transaction ≡ false → new.in_transaction ≡ false
-  pub survives : Survives old new (λ db. old.now.schema ≡ ours → LiesIdle old → ⊥)
+  pub survives : Survives old new (λ db. HasOurs old.now.schema → LiesIdle old → ⊥)
 
 -- one statement: an error of the disk has a cause
 pub record IsQuerying {X : Type 0} (old new : State) (result : Result X Error) : Type 0 where

@@ -6,7 +6,7 @@ use Rattle.sqlite.specs.Schema.{Schema}
 use Rattle.sqlite.specs.State.{State, HasCleanDisk, KeepsCommit, Survives}
 use Rattle.sqlite.specs.Tree.{Trees}
 use Rattle.sqlite.specs.declared.error.Error.{Error}
-use Rattle.sqlite_catalog.specs.Change.{KeepsRows}
+use Rattle.sqlite_catalog.specs.Change.{KeepsRows, indexed}
 use Rattle.sqlite_trees.specs.View.{IsShaped}
 use Rattle.sqlite_trees.specs.declared.store.Shape.TheVariants as shape
 use Rattle.toll_sql.specs.Causes.{IsCaused}
@@ -14,9 +14,10 @@ use Rattle.toll_sql.specs.Encode.{meta_cells}
 use Rattle.toll_keep.specs.Content.{nothing}
 use Rattle.toll_sql.specs.Holds.{Holds, version}
 use Rattle.toll_sql.specs.Stores.{IsOurs, PutsRow, StaysOnErr}
-use Rattle.toll_sql.specs.Tables.{made_all, made_before, with_tables, tree_of}
+use Rattle.toll_sql.specs.Others.{HasOurs, IsJustOurs, has_its_name}
+use Rattle.toll_sql.specs.Tables.{by_batch, made_all, made_before, table_of, with_tables, tree_of}
 use Rattle.toll_sql.specs.declared.table_kind.TableKind.{TableKind}
-use Rattle.toll_sql.specs.declared.table_kind.TableKind.TheVariants.{Meta}
+use Rattle.toll_sql.specs.declared.table_kind.TableKind.TheVariants.{Meta, Moves}
 
 -- no table of the schema has a row
 abbrev pub AreEmpty : Schema → Trees → Type 0
@@ -39,12 +40,24 @@ pub record Keeps (made after : Schema) (old new : State) : Type 0 where
   pub making : IsMaking after new
   pub rows : KeepsRows made.tables old.now.trees new.now.trees
 
+-- the office's tables are there and its index is not, within a transaction and without a limit of steps
+pub record IsUnindexed (s : State) : Type 0 where
+  pub ours : HasOurs s.now.schema
+  pub lacking : has_its_name s.now.schema ≡ false
+  pub unlimited : s.step_limit ≡ None
+  pub inside : IsTrue s.in_transaction
+
+-- the index is made, and all tables have the rows that they had
+abbrev pub MakesIndex : State → State → Type 0
+MakesIndex old new = Keeps old.now.schema (indexed old.now.schema (table_of Moves) by_batch) old new
+
 -- the index is made, and the version written
 pub record Finishes (old new : State) : Type 0 where
   pub mid : Trees
   pub rows : KeepsRows made_all.tables old.now.trees mid
   pub put : PutsRow Meta (meta_cells version) mid new.now.trees
   pub ours : IsOurs new.now
+  pub alone : IsJustOurs new.now.schema
 
 -- all tables are there, and their rows have rowids
 pub record IsShapedAs (made : Schema) (s : State) : Type 0 where
@@ -59,6 +72,7 @@ pub record MakesAllTables (old new : State) : Type 0 where
 -- these are all tables and the index, and they hold the empty content
 pub record IsNew (db : Database) : Type 0 where
   pub ours : IsOurs db
+  pub alone : IsJustOurs db.schema
   pub rows : Holds db.trees nothing
 
 -- what is so of each call within a transaction that writes: what it makes, where that is so first that it starts from

@@ -13,6 +13,7 @@ use Rattle.toll_keep.specs.Content.{Content}
 use Rattle.toll_sql.specs.Bag.{all_cells}
 use Rattle.toll_sql.specs.Encode.{meta_cells}
 use Rattle.toll_sql.specs.Holds.{HasRows, Holds, version}
+use Rattle.toll_sql.specs.Others.{IsJustOurs}
 use Rattle.toll_sql.specs.Stores.{IsOurs}
 use Rattle.toll_sql.specs.Tables.{made_before, tree_of}
 use Rattle.toll_sql.specs.declared.table_kind.TableKind.TheVariants.{Meta, Voids}
@@ -69,12 +70,17 @@ TellNeither rows = (n : ℕ) → Tells n rows → EachTells n rows → ¬ ((n �
 abbrev pub meta_rows : Trees → List Row
 meta_rows db = all_cells (db (tree_of Meta))
 
+-- these are the tables of version 1, and no others
+abbrev pub AreFirst : Schema → Type 0
+AreFirst schema = schema ≡ first_ours
+
 -- tables of version 1 are brought to this one
-pub record Raised (db : Trees) (after : Database) : Type 0 where
+pub record Raised (db after : Database) : Type 0 where
   pub ours : IsOurs after
+  pub alone : IsJustOurs after.schema
   pub told : Tells version (meta_rows after.trees)
-  pub rows : (c : Content) → HoldsFirst db c → Holds after.trees c
+  pub rows : (c : Content) → HoldsFirst db.trees c → Holds after.trees c
 
 -- the tables that a store had are brought to those that it has now
 abbrev pub MakesRaised : State → State → Type 0
-MakesRaised old new = Raised old.now.trees new.now
+MakesRaised old new = Raised old.now new.now

@@ -1,5 +1,6 @@
 pub mod Plain
 pub mod Tables
+pub mod Others
 pub mod Cells
 pub mod Encode
 pub mod Bag

@@ -10,11 +10,12 @@ use Rattle.sqlite.specs.declared.error.ErrorCode.TheVariants as code
 use Rattle.toll_keep.specs.Content.{Content, nothing}
 use Rattle.toll_sql.specs.Asked.{IsUnreadBy, ShowsMeta, meta_text}
 use Rattle.toll_sql.specs.Causes.{IsCaused, Reason, is_disk_fault}
-use Rattle.toll_sql.specs.First.{HoldsFirst, HoldsFirstIn, IsFirst, IsVersionIn, Raised, TellNeither, Tells, first_ours, first_version, meta_rows}
+use Rattle.toll_sql.specs.Create.{LeavesMade}
+use Rattle.toll_sql.specs.First.{AreFirst, HoldsFirstIn, IsFirst, IsVersionIn, TellNeither, Tells, first_version, meta_rows}
 use Rattle.toll_sql.specs.Holds.{Holds, version}
 use Rattle.toll_sql.specs.Plain.{no_schema}
 use Rattle.toll_sql.specs.Stores.{HoldsIn, IsOurs, LiesIdle, StaysOnErr}
-use Rattle.toll_sql.specs.Tables.{ours}
+use Rattle.toll_sql.specs.Others.{HasOurs, Indexed, IsJustOurs, has_its_name}
 use Rattle.toll_sql.specs.declared.open_fault.OpenFault.{OpenFault}
 use Rattle.toll_sql.specs.declared.open_fault.OpenFault.TheVariants.{Memory, Disk, Damaged, NotOurs}
 
@@ -49,27 +50,27 @@ pub record TakesOver {X : Type 0} (Leaves : Trees → Type 0) (old new : State) 
 -- a call that makes the tables: after it the store holds the empty content, and only a blank one comes to that
 pub record Creates {X : Type 0} (old new : State) (result : Result X OpenFault) : Type 0 where
   pub over : TakesOver (λ db. Holds db nothing) old new result
-  pub made : HasCleanDisk new → OnOk result (IsBlank old × HoldsIn new nothing)
+  pub made : HasCleanDisk new → OnOk result (IsBlank old × HoldsIn new nothing × IsJustOurs new.now.schema)
   pub known : result ≡ Err NotOurs → ¬ IsBlank old
   pub undamaged : result ≢ Err Damaged
-
--- the rows of a store of version 1 as version 2 has them: whatever the content is
-pub record LeavesRaised (old : State) (db : Trees) : Type 0 where
-  pub schema : old.now.schema ≡ first_ours
-  pub rows : (c : Content) → HoldsFirstIn old c → Holds db c
 
 -- the store holds the content, as this version or as version 1
 abbrev pub HoldsEither : State → Content → Type 0
 HoldsEither s c = HoldsIn s c ⊎ HoldsFirstIn s c
 
+-- a store without the index, as it has its rows with it: whatever the content is
+pub record LeavesRaised (old : State) (db : Trees) : Type 0 where
+  pub lacking : has_its_name old.now.schema ≡ false
+  pub rows : (c : Content) → HoldsEither old c → Holds db c
+
 -- these are the tables, and `meta` tells this version
-pub record IsOfVersion (n : ℕ) (tables : Schema) (db : Database) : Type 0 where
-  pub schema : db.schema ≡ tables
+pub record IsOfVersion (n : ℕ) (AreTables : Schema → Type 0) (db : Database) : Type 0 where
+  pub tables : AreTables db.schema
   pub told : Tells n (meta_rows db.trees)
 
 -- `meta` tells this version, and these are not the tables
-pub record IsUnlike (n : ℕ) (tables : Schema) (db : Database) : Type 0 where
-  pub schema : db.schema ≢ tables
+pub record IsUnlike (n : ℕ) (AreTables : Schema → Type 0) (db : Database) : Type 0 where
+  pub tables : ¬ AreTables db.schema
   pub told : ShowsMeta (Tells n) db
 
 -- `meta` tells neither version, or can't be asked
@@ -87,11 +88,14 @@ IsUnreadFor limit db e = e ≢ SqliteFailure code.OutOfMemory → is_disk_fault 
 -- a call that finds the tables: after it they are ours, and hold the content that they held
 pub record Adopts {X : Type 0} (old new : State) (result : Result X OpenFault) : Type 0 where
   pub over : TakesOver (LeavesRaised old) old new result
-  pub known_as : HasCleanDisk new → OnOk result (IsOfVersion version ours old.now ⊎ IsOfVersion first_version first_ours old.now)
+  pub known_as : HasCleanDisk new → OnOk result (IsOfVersion version HasOurs old.now ⊎ IsOfVersion first_version AreFirst old.now)
   -- a version of ours is told, and the tables are not those of it; or none is told
-  pub damaged : HasCleanDisk new → result ≡ Err Damaged → IsUnlike version ours old.now ⊎ IsUnlike first_version first_ours old.now
+  pub damaged : HasCleanDisk new → result ≡ Err Damaged → IsUnlike version HasOurs old.now ⊎ IsUnlike first_version AreFirst old.now
   pub foreign : HasCleanDisk new → result ≡ Err NotOurs → IsTrue old.in_transaction ⊎ IsForeign old.now
   pub ours : HasCleanDisk new → IsOurs old.now ⊎ IsFirst old.now → OnOk result (IsOurs new.now × Tells version (meta_rows new.now.trees))
+  -- tables of this version stay as they are, and so does what others have made beside them
+  pub indexed : HasCleanDisk new → HasOurs old.now.schema → OnOk result (Indexed old.now new.now)
+  pub raised : HasCleanDisk new → IsFirst old.now → OnOk result (IsJustOurs new.now.schema)
   pub holds : HasCleanDisk new → (c : Content) → HoldsEither old c → OnOk result (HoldsIn new c)
   pub known : HasCleanDisk new → old.in_transaction ≡ false → (c : Content) → HoldsEither old c → (result ≢ Err NotOurs) × (result ≢ Err Damaged)
 
@@ -109,16 +113,16 @@ pub record IsAskedInside {X : Type 0} (old new : State) (result : Result X Error
   pub fault : HasCleanDisk new → IfErr result (IsCaused old new)
   pub survives : Survives old new (λ _. ⊥)
 
--- a call that brings tables of version 1 to this one
-pub record Raises {X : Type 0} (old new : State) (result : Result X OpenFault) : Type 0 where
+-- a call that brings tables which are found so to what they are to be
+pub record Brings {X : Type 0} (Found : Database → Type 0) (Brought : Database → Database → Type 0) (old new : State) (result : Result X OpenFault) : Type 0 where
   pub ended : new.in_transaction ≡ false
   pub live : HasCleanDisk new → IsTrue new.is_open → IsTrue old.is_open
-  pub all : HasCleanDisk new → IsFirst old.now → old.step_limit ≡ None → OnOk result (Raised old.now.trees new.now)
+  pub all : HasCleanDisk new → Found old.now → old.step_limit ≡ None → OnOk result (Brought old.now new.now)
   pub shown : HasCleanDisk new → OnOk result (IsTrue new.is_open × (new.now ≡ new.committed))
   pub none : StaysOnErr old new result
   pub cause : HasCleanDisk new → result ≡ Err Disk → Reason old new
   pub known : (result ≢ Err NotOurs) × (result ≢ Err Damaged)
-  pub survives : Survives old new (λ db. IsFirst old.now → old.step_limit ≡ None → (c : Content) → HoldsFirst old.now.trees c → Holds db c)
+  pub survives : Survives old new (LeavesMade (Found old.now × (old.step_limit ≡ None)) (Brought old.now))
 
 -- the answers of a call that makes a keep
 abbrev pub succeeds : Result (Unit {0}) OpenFault

@@ -16,7 +16,8 @@ use Rattle.toll_sql.specs.Asked.{AreReadBy}
 use Rattle.toll_sql.specs.Bag.{owned_by}
 use Rattle.toll_sql.specs.Cells.{columns_from}
 use Rattle.toll_sql.specs.Encode.{origin_order, origin_number, owner_cells, material_cells, test_cells, recipe_cells, requirement_cells, order_cells, batch_cells, lot_cells, sublot_cells, move_cells, result_cells, void_cells}
-use Rattle.toll_sql.specs.Tables.{ours, select_text, tree_of, width_of}
+use Rattle.toll_sql.specs.Others.{HasOurs}
+use Rattle.toll_sql.specs.Tables.{select_text, tree_of, width_of}
 use Rattle.toll_sql.specs.Valid.{IsOwner, IsMaterial, IsTest, IsRecipe, IsRequirement, IsOrder, IsBatch, IsOrigin, IsLot, IsSublot, IsMovement, IsResult, IsVoid}
 use Rattle.toll_sql.specs.declared.table_kind.TableKind.{TableKind}
 use Rattle.toll_sql.specs.declared.table_kind.TableKind.TheVariants.{Meta, Owners, Units, Materials, Tests, Recipes, Requirements, Orders, Batches, Lots, Sublots, Moves, Results, Voids}
@@ -53,7 +54,7 @@ tables_of_owners = Materials ∷ Tests ∷ Recipes ∷ Requirements ∷ Orders �
 -- tables that are ours, with nothing pending: where an answer was given, each stored row of the owner in these is a row of the office
 abbrev pub Shows : {X : Type 0} → List TableKind → Bytes → State → State → Result X KeepFault → Type 0
 Shows kinds o old new result =
-    HasCleanDisk new → old.now.schema ≡ ours → old.now ≡ old.committed → OnOk result (AllByRecursion (AreRowsIn o old.now.trees) kinds)
+    HasCleanDisk new → HasOurs old.now.schema → old.now ≡ old.committed → OnOk result (AllByRecursion (AreRowsIn o old.now.trees) kinds)
 
 -- the rows told are those that sqlite's own account of the table's text gives, each of them, with values of their kinds
 pub record AreTold {X : Type 0} (k : TableKind) (cells : X → Row) (is_valid : X → Type 0) (db : Database) (told : List X) : Type 0 where
@@ -73,7 +74,7 @@ AreOwnedBy o rows = AllByRecursion (λ row. column row 0 ≡ Text o) rows
 -- of tables that are ours, with nothing pending: where a slice was given, each stored row of the owner is a row of the office
 abbrev pub ShowsSlice : {X E : Type 0} → Bytes → State → State → Result (Option X) E → Type 0
 ShowsSlice o old new result =
-    HasCleanDisk new → old.now.schema ≡ ours → old.now ≡ old.committed
+    HasCleanDisk new → HasOurs old.now.schema → old.now ≡ old.committed
     → IfOk result (λ slice. IfSome slice (λ _. AllByRecursion (AreRowsIn o old.now.trees) tables_of_owners))
 
 -- the owner is not HOUSE, and by sqlite's own account of the table of owners none of its rows names it

@@ -20,6 +20,7 @@ use Rattle.toll_sql.specs.Causes.{IsCaused}
 use Rattle.toll_sql.specs.Cells.{fill}
 use Rattle.toll_sql.specs.Encode.{owner_cells, unit_cells, table_for, cells_for}
 use Rattle.toll_sql.specs.Holds.{Holds}
+use Rattle.toll_sql.specs.Others.{HasOurs}
 use Rattle.toll_sql.specs.Put.{Puts}
 use Rattle.toll_sql.specs.Tables.{ours, tree_of, keys_of}
 use Rattle.toll_sql.specs.Valid.{IsOwner, IsUnit, IsRow}
@@ -28,7 +29,7 @@ use Rattle.toll_sql.specs.declared.table_kind.TableKind.TheVariants.{Owners, Uni
 
 -- the tables are ours, and each has its rows by rowids
 pub record IsOurs (db : Database) : Type 0 where
-  pub schema : db.schema ≡ ours
+  pub schema : HasOurs db.schema
   pub shaped : AllByRecursion (λ t. IsShaped shape.Table (db.trees t.tree)) ours.tables
 
 -- rows can be put: within a transaction, without a limit of steps
@@ -51,6 +52,7 @@ PutsRow k cells = Puts ours (tree_of k) (has_key k cells) cells
 pub record MakesRow (k : TableKind) (cells : Row) (old new : State) : Type 0 where
   pub put : PutsRow k cells old.now.trees new.now.trees
   pub ready : IsReady new
+  pub schema : new.now.schema ≡ old.now.schema
   pub committed : new.committed ≡ old.committed
 
 -- ---- changes
@@ -85,18 +87,27 @@ PutsAll (change ∷ more) old new = (mid : Trees) × PutsChange change old mid �
 pub record MakesPut (change : Change) (old new : State) : Type 0 where
   pub put : PutsChange change old.now.trees new.now.trees
   pub ready : IsReady new
+  pub schema : new.now.schema ≡ old.now.schema
   pub committed : new.committed ≡ old.committed
 
 -- so are all of these
 pub record MakesAll (changes : List Change) (old new : State) : Type 0 where
   pub put : PutsAll changes old.now.trees new.now.trees
   pub ready : IsReady new
+  pub schema : new.now.schema ≡ old.now.schema
   pub committed : new.committed ≡ old.committed
 
--- the changes were put in, and that is committed
+-- the changes are put into tables that are ours, and the schema stays
+pub record IsApplied (changes : List Change) (db after : Database) : Type 0 where
+  pub put : PutsAll changes db.trees after.trees
+  pub ours : IsOurs after
+  pub schema : after.schema ≡ db.schema
+
+-- the changes were put in, and that is committed; the schema stays
 pub record HasApplied (changes : List Change) (old new : State) : Type 0 where
   pub put : PutsAll changes old.now.trees new.now.trees
   pub ours : IsOurs new.now
+  pub schema : new.now.schema ≡ old.now.schema
   pub settled : new.committed ≡ new.now
   pub is_open : IsTrue new.is_open
 

@@ -5,31 +5,38 @@ ghost use Rattle.sqlite.specs.State.{HasCleanDisk};
 ghost use Rattle.sqlite.specs.Steps.{over_memory};
 ghost use Rattle.toll_keep.specs.Content.{nothing};
 ghost use Rattle.toll_sql.specs.Causes.{is_disk_fault};
-ghost use Rattle.toll_sql.specs.First.{first_ours, first_version};
+ghost use Rattle.toll_sql.specs.First.{AreFirst, IsFirst, Raised, first_version};
 ghost use Rattle.toll_sql.specs.Holds.{version};
-ghost use Rattle.toll_sql.specs.Opening.{Adopts, Raises};
+ghost use Rattle.toll_sql.specs.Opening.{Adopts, Brings};
+ghost use Rattle.toll_sql.specs.Others.{HasOurs, HasOursIn, Indexed, IsJustOurs, has_its_name};
 ghost use Rattle.toll_sql.specs.Stores.{HoldsIn, LiesIdle};
-ghost use Rattle.toll_sql.specs.Tables.{ours};
 
-use crate::creating::{create_tables, raise_or_none};
+use crate::creating::{create_tables, index_or_none, raise_or_none};
 use crate::open_fault::{OpenFault, open_fault_of};
 use crate::ours::{Layout, layout_of};
 use crate::version::{find_version, read_first_version, read_version};
 use sqlite::{Alter, Connection, Error, ErrorCode, MemStore};
+use sqlite_catalog::layout::is_used;
 use sqlite_schema::schema::Schema;
 use std::alloc::Global;
 
 /// The version of these tables.
 const VERSION: u64 = 2;
 
+/// The name of the index.
+const INDEX: &[u8] = b"moves_by_batch";
+
 /// The version before, which had no voids and no index.
 const FIRST_VERSION: u64 = 1;
 
-/// Takes the office's tables as they are: those of this version stay, those of version 1 are brought to
-/// it in one transaction. NotOurs where `meta` has no row of the office with one of these versions, or a
-/// transaction is open; Damaged where it has, and a table, a column, a key or the index is missing or
-/// differs; Memory where there is none, and Disk where the disk fails or refuses. No other row is read,
-/// and a refusal leaves the store as it is, or, after Disk, perhaps with all of this version.
+/// Takes the office's tables as they are: those of this version stay, and so do tables, indexes and views
+/// that others have made behind them; where nothing is called as the index of this version, it is made, in
+/// one transaction. Those of version 1, which are to be alone, are brought to this one in one transaction.
+/// NotOurs where `meta` has no row of the office with one of these versions, or a transaction is open;
+/// Damaged where it has, and a table, a column or a key is missing or differs, or comes in another order,
+/// or where another table refers to any, or another index lets no two rows of a table of the office have
+/// one key; Memory where there is none, and Disk where the disk fails or refuses. No other row is read, and
+/// a refusal leaves the store as it is, or, after Disk, perhaps with all of this version.
 pub fn adopt_tables<S: Alter>(alloc: Global, conn: &mut Connection<S>) -> Result<(), OpenFault>
     ensures adopts { Adopts (state S.Store conn.old) (state S.Store conn.new) result }
 {
@@ -47,9 +54,9 @@ pub fn adopt_tables<S: Alter>(alloc: Global, conn: &mut Connection<S>) -> Result
 
 // Which tables these are. Memory where there is none to make the office's beside them.
 fn layout_in(alloc: Global, schema: &Schema) -> Result<Layout, OpenFault>
-    ensures ours { result ≡ Ok Layout.Ours → schema.now ≡ ours }
-    ensures first { result ≡ Ok Layout.First → schema.now ≡ first_ours }
-    ensures other { result ≡ Ok Layout.Other → (schema.now ≢ ours) × (schema.now ≢ first_ours) }
+    ensures ours { result ≡ Ok Layout.Ours → HasOurs schema.now }
+    ensures first { result ≡ Ok Layout.First → AreFirst schema.now }
+    ensures other { result ≡ Ok Layout.Other → (¬ HasOurs schema.now) × (¬ AreFirst schema.now) }
     ensures fault { IfErr result (λ fault. fault ≡ OpenFault.Memory) }
 {
     match new_office(alloc) {
@@ -58,22 +65,37 @@ fn layout_in(alloc: Global, schema: &Schema) -> Result<Layout, OpenFault>
     }
 }
 
-// The tables are ours: the version is read.
+// The tables are ours: the version is read, and the index made where it is missing.
 fn adopt_ours<S: Alter>(conn: &mut Connection<S>) -> Result<(), OpenFault>
     requires autocommit { conn.old.in_transaction ≡ false }
     requires settled { LiesIdle (state S.Store conn.old) }
-    requires ours { (state S.Store conn.old).now.schema ≡ ours }
+    requires ours { HasOurs (state S.Store conn.old).now.schema }
     requires unlimited { conn.old.step_limit ≡ None }
     ensures adopts { Adopts (state S.Store conn.old) (state S.Store conn.new) result }
 {
     match read_version(conn) {
         Ok(told) => {
-            if told == Some(VERSION) {
+            if told != Some(VERSION) {
+                Err(misfit(told, FIRST_VERSION))
+            } else if is_used(conn.schema(), INDEX) {
                 Ok(())
             } else {
-                Err(misfit(told, FIRST_VERSION))
+                index_all(conn)
             }
         },
+        Err(error) => Err(open_fault_of(error)),
+    }
+}
+
+// The store is of this version, and nothing in it is called as the index is, which is made.
+fn index_all<S: Alter>(conn: &mut Connection<S>) -> Result<(), OpenFault>
+    requires autocommit { conn.old.in_transaction ≡ false }
+    requires settled { HasCleanDisk (state S.Store conn.old) → LiesIdle (state S.Store conn.old) }
+    requires unnamed { has_its_name (state S.Store conn.old).now.schema ≡ false }
+    ensures brings { Brings HasOursIn Indexed (state S.Store conn.old) (state S.Store conn.new) result }
+{
+    match index_or_none(conn) {
+        Ok(()) => Ok(()),
         Err(error) => Err(open_fault_of(error)),
     }
 }
@@ -96,7 +118,7 @@ fn misfit(told: Option<u64>, other: u64) -> OpenFault
 fn adopt_first<S: Alter>(conn: &mut Connection<S>) -> Result<(), OpenFault>
     requires autocommit { conn.old.in_transaction ≡ false }
     requires settled { LiesIdle (state S.Store conn.old) }
-    requires first { (state S.Store conn.old).now.schema ≡ first_ours }
+    requires first { AreFirst (state S.Store conn.old).now.schema }
     requires unlimited { conn.old.step_limit ≡ None }
     ensures adopts { Adopts (state S.Store conn.old) (state S.Store conn.new) result }
 {
@@ -116,7 +138,7 @@ fn adopt_first<S: Alter>(conn: &mut Connection<S>) -> Result<(), OpenFault>
 fn raise_all<S: Alter>(conn: &mut Connection<S>) -> Result<(), OpenFault>
     requires autocommit { conn.old.in_transaction ≡ false }
     requires settled { HasCleanDisk (state S.Store conn.old) → LiesIdle (state S.Store conn.old) }
-    ensures raises { Raises (state S.Store conn.old) (state S.Store conn.new) result }
+    ensures brings { Brings IsFirst Raised (state S.Store conn.old) (state S.Store conn.new) result }
 {
     match raise_or_none(conn) {
         Ok(()) => Ok(()),
@@ -156,7 +178,7 @@ fn fault_of_others(told: Option<u64>) -> OpenFault
 fn adopt_other<S: Alter>(conn: &mut Connection<S>) -> Result<(), OpenFault>
     requires autocommit { conn.old.in_transaction ≡ false }
     requires settled { LiesIdle (state S.Store conn.old) }
-    requires other { ((state S.Store conn.old).now.schema ≢ ours) × ((state S.Store conn.old).now.schema ≢ first_ours) }
+    requires other { (¬ HasOurs (state S.Store conn.old).now.schema) × (¬ AreFirst (state S.Store conn.old).now.schema) }
     requires unlimited { conn.old.step_limit ≡ None }
     ensures adopts { Adopts (state S.Store conn.old) (state S.Store conn.new) result }
 {
@@ -168,7 +190,7 @@ fn adopt_other<S: Alter>(conn: &mut Connection<S>) -> Result<(), OpenFault>
 
 /// A store in memory with the office's tables, which are empty. Memory where there is none.
 pub(crate) fn new_office(alloc: Global) -> Result<Connection<MemStore>, OpenFault>
-    ensures made { IfOk result (λ c. HoldsIn (state over_memory c) nothing) }
+    ensures made { IfOk result (λ c. HoldsIn (state over_memory c) nothing × IsJustOurs (state over_memory c).now.schema) }
     ensures unlimited { IfOk result (λ c. (c.step_limit ≡ None) × (c.in_transaction ≡ false)) }
     ensures fault { IfErr result (λ fault. fault ≡ OpenFault.Memory) }
 {

@@ -2,12 +2,13 @@
 ghost use Rattle.std.specs.Prelude.{◌≡◌, false};
 ghost use Rattle.sqlite.specs.Held.{state};
 ghost use Rattle.sqlite.specs.State.{HasCleanDisk};
-ghost use Rattle.toll_sql.specs.Create.{Finishes, IsMaking, IsNew, IsShapedAs, IsStep, IsWhole, Keeps, MakesAllTables, MakesTable};
+ghost use Rattle.toll_sql.specs.Create.{Finishes, IsMaking, IsNew, IsShapedAs, IsStep, IsUnindexed, IsWhole, MakesAllTables, MakesIndex, MakesTable};
 ghost use Rattle.toll_sql.specs.First.{MakesRaised, Raised, first_ours};
 ghost use Rattle.toll_sql.specs.Opening.{Creates};
+ghost use Rattle.toll_sql.specs.Others.{Indexed};
 ghost use Rattle.toll_sql.specs.Plain.{no_schema};
 ghost use Rattle.toll_sql.specs.Stores.{LiesIdle};
-ghost use Rattle.toll_sql.specs.Tables.{every_table, made_all, made_before, ours};
+ghost use Rattle.toll_sql.specs.Tables.{every_table, made_all, made_before};
 
 use crate::encode::meta_values;
 use crate::open_fault::{OpenFault, open_fault_of};
@@ -52,10 +53,10 @@ pub(crate) fn make_table<S: Alter>(
     tx.execute(table.create_text(), &[])
 }
 
-// Makes the index; all tables are there.
+// Makes the index; all tables are there, and nothing is called as it is.
 fn make_index<S: Alter>(tx: &mut Transaction<'_, S>) -> Result<usize, Error>
     ensures same_reference { tx.new.conn.ghost_name ≡ tx.old.conn.ghost_name }
-    ensures steps { IsStep (IsMaking made_all) (Keeps made_all ours) (state S.Store tx.old.conn.now) (state S.Store tx.new.conn.now) result }
+    ensures steps { IsStep IsUnindexed MakesIndex (state S.Store tx.old.conn.now) (state S.Store tx.new.conn.now) result }
 {
     tx.execute(
         "CREATE INDEX moves_by_batch ON moves (owner, ord, number, kind)",
@@ -133,9 +134,20 @@ fn raise<S: Alter>(tx: &mut Transaction<'_, S>) -> Result<(), Error>
 pub(crate) fn raise_or_none<S: Alter>(conn: &mut Connection<S>) -> Result<(), Error>
     requires autocommit { conn.old.in_transaction ≡ false }
     requires settled { HasCleanDisk (state S.Store conn.old) → LiesIdle (state S.Store conn.old) }
-    ensures whole { IsWhole (IsShapedAs first_ours) (Raised (state S.Store conn.old).now.trees) (state S.Store conn.old) (state S.Store conn.new) result }
+    ensures whole { IsWhole (IsShapedAs first_ours) (Raised (state S.Store conn.old).now) (state S.Store conn.old) (state S.Store conn.new) result }
 {
     let mut tx = conn.transaction();
     raise(&mut tx)?;
+    tx.commit()
+}
+
+/// Makes the index of the office's tables, in one transaction, or nothing; nothing is called as it is.
+pub(crate) fn index_or_none<S: Alter>(conn: &mut Connection<S>) -> Result<(), Error>
+    requires autocommit { conn.old.in_transaction ≡ false }
+    requires settled { HasCleanDisk (state S.Store conn.old) → LiesIdle (state S.Store conn.old) }
+    ensures whole { IsWhole IsUnindexed (Indexed (state S.Store conn.old).now) (state S.Store conn.old) (state S.Store conn.new) result }
+{
+    let mut tx = conn.transaction();
+    make_index(&mut tx)?;
     tx.commit()
 }

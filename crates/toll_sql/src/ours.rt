@@ -2,7 +2,8 @@
 ghost use Rattle.std.specs.Prelude.{◌≡◌, ◌≢◌, ◌↔◌, [], ◌∷◌, false, IsTrue};
 ghost use Rattle.sqlite_value.specs.Keys.{plain};
 ghost use Rattle.std.specs.List.{AllByRecursion};
-ghost use Rattle.toll_sql.specs.First.{first_ours};
+ghost use Rattle.toll_sql.specs.First.{AreFirst};
+ghost use Rattle.toll_sql.specs.Others.{BeginsWith, GuardsNone, HasOurs, RefersToNone};
 ghost use Rattle.toll_sql.specs.Plain.{no_schema, no_stamps, table_with};
 ghost use Rattle.toll_sql.specs.Plainly.{IsPlainColumn, IsPlainIndex, IsPlainTable, schema_of};
 ghost use Rattle.toll_sql.specs.Tables.{ours};
@@ -15,6 +16,9 @@ use sqlite_value::value::{Bytes, Value};
 
 /// How many tables version 1 has, and so many indexes.
 const FIRST: usize = 13;
+
+/// How many tables this version has, each with the index of its key.
+const TABLES: usize = 14;
 
 /// Whether there is nothing.
 pub(crate) fn is_blank(schema: &Schema) -> bool
@@ -156,9 +160,9 @@ fn are_indexes(indexes: &[Index], wanted: &[Index]) -> bool
 /// The tables that a schema has.
 #[derive(Clone, Copy)]
 pub(crate) enum Layout {
-    /// Those of the office, of this version.
+    /// Those of the office, of this version, with or without its index, and perhaps others behind them.
     Ours,
-    /// Those of the office, of version 1.
+    /// Those of the office, of version 1, and no others.
     First,
     /// Others, or not all.
     Other,
@@ -167,11 +171,11 @@ pub(crate) enum Layout {
 /// Which tables these are; `made` is the schema that is made for the office.
 pub(crate) fn layout_of(schema: &Schema, made: &Schema) -> Layout
     requires { made.now ≡ ours }
-    ensures ours { result ≡ Layout.Ours → schema.now ≡ ours }
-    ensures first { result ≡ Layout.First → schema.now ≡ first_ours }
-    ensures other { result ≡ Layout.Other → (schema.now ≢ ours) × (schema.now ≢ first_ours) }
+    ensures ours { result ≡ Layout.Ours → HasOurs schema.now }
+    ensures first { result ≡ Layout.First → AreFirst schema.now }
+    ensures other { result ≡ Layout.Other → (¬ HasOurs schema.now) × (¬ AreFirst schema.now) }
 {
-    if has_tables(schema, made.tables.as_slice(), made.indexes.as_slice()) {
+    if has_ours(schema, made) {
         return Layout::Ours;
     }
     if has_tables(
@@ -191,4 +195,63 @@ fn has_tables(schema: &Schema, tables: &[Table], indexes: &[Index]) -> bool
     are_tables(schema.tables.as_slice(), tables)
         && are_indexes(schema.indexes.as_slice(), indexes)
         && schema.views.is_empty()
+}
+
+// Whether the schema has the office's tables, and behind them none that touch their rows.
+fn has_ours(schema: &Schema, made: &Schema) -> bool
+    requires { made.now ≡ ours }
+    ensures { IsTrue result ↔ HasOurs schema.now }
+{
+    let keys = &made.indexes.as_slice()[..TABLES];
+    begin_with_tables(schema.tables.as_slice(), made.tables.as_slice())
+        && begin_with_indexes(schema.indexes.as_slice(), keys, made.tables.as_slice())
+}
+
+// Whether the first tables are the plain ones, and none behind them has a foreign key.
+fn begin_with_tables(tables: &[Table], wanted: &[Table]) -> bool
+    ensures { AllByRecursion IsPlainTable wanted.now → (IsTrue result ↔ BeginsWith RefersToNone wanted.now tables.now) }
+{
+    match tables.split_at_checked(wanted.len()) {
+        Some((first, others)) => are_tables(first, wanted) && refer_to_none(others),
+        None => false,
+    }
+}
+
+// Whether the first indexes are the plain ones, and none behind them is a unique one of these tables.
+fn begin_with_indexes(indexes: &[Index], wanted: &[Index], tables: &[Table]) -> bool
+    ensures { AllByRecursion IsPlainIndex wanted.now → (IsTrue result ↔ BeginsWith (GuardsNone tables.now) wanted.now indexes.now) }
+{
+    match indexes.split_at_checked(wanted.len()) {
+        Some((first, others)) => are_indexes(first, wanted) && all_guard_none(others, tables),
+        None => false,
+    }
+}
+
+fn refer_to_none(tables: &[Table]) -> bool
+    ensures { IsTrue result ↔ AllByRecursion RefersToNone tables.now }
+{
+    match tables {
+        [] => true,
+        [table, tables @ ..] => table.references.is_empty() && refer_to_none(tables),
+    }
+}
+
+fn all_guard_none(indexes: &[Index], tables: &[Table]) -> bool
+    ensures { IsTrue result ↔ AllByRecursion (GuardsNone tables.now) indexes.now }
+{
+    match indexes {
+        [] => true,
+        [index, indexes @ ..] => guards_none(index, tables) && all_guard_none(indexes, tables),
+    }
+}
+
+// Whether the index is a unique one of none of these tables.
+fn guards_none(index: &Index, tables: &[Table]) -> bool
+    ensures { IsTrue result ↔ GuardsNone tables.now index.now }
+{
+    match tables {
+        [] => true,
+        [table, tables @ ..] => !(index.is_unique && index.table == table.tree)
+            && guards_none(index, tables),
+    }
 }

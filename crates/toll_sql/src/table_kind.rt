@@ -64,33 +64,33 @@ impl TableKind {
     {
         match self {
             TableKind::Meta =>
-                "INSERT INTO meta (name, value) VALUES (?1, ?2) ON CONFLICT (name) DO UPDATE SET name = excluded.name, value = excluded.value",
+                "INSERT INTO meta (name, value) VALUES (?1, ?2) ON CONFLICT (name) DO UPDATE SET name = ?1, value = ?2",
             TableKind::Owners =>
-                "INSERT INTO owners (owner, okey) VALUES (?1, ?2) ON CONFLICT (owner) DO UPDATE SET owner = excluded.owner, okey = excluded.okey",
+                "INSERT INTO owners (owner, okey) VALUES (?1, ?2) ON CONFLICT (owner) DO UPDATE SET owner = ?1, okey = ?2",
             TableKind::Units =>
-                "INSERT INTO units (unit) VALUES (?1) ON CONFLICT (unit) DO UPDATE SET unit = excluded.unit",
+                "INSERT INTO units (unit) VALUES (?1) ON CONFLICT (unit) DO UPDATE SET unit = ?1",
             TableKind::Materials =>
-                "INSERT INTO materials (owner, material, measure) VALUES (?1, ?2, ?3) ON CONFLICT (owner, material) DO UPDATE SET owner = excluded.owner, material = excluded.material, measure = excluded.measure",
+                "INSERT INTO materials (owner, material, measure) VALUES (?1, ?2, ?3) ON CONFLICT (owner, material) DO UPDATE SET owner = ?1, material = ?2, measure = ?3",
             TableKind::Tests =>
-                "INSERT INTO tests (owner, material, test, low, high) VALUES (?1, ?2, ?3, ?4, ?5) ON CONFLICT (owner, material, test) DO UPDATE SET owner = excluded.owner, material = excluded.material, test = excluded.test, low = excluded.low, high = excluded.high",
+                "INSERT INTO tests (owner, material, test, low, high) VALUES (?1, ?2, ?3, ?4, ?5) ON CONFLICT (owner, material, test) DO UPDATE SET owner = ?1, material = ?2, test = ?3, low = ?4, high = ?5",
             TableKind::Recipes =>
-                "INSERT INTO recipes (owner, recipe, segments) VALUES (?1, ?2, ?3) ON CONFLICT (owner, recipe) DO UPDATE SET owner = excluded.owner, recipe = excluded.recipe, segments = excluded.segments",
+                "INSERT INTO recipes (owner, recipe, segments) VALUES (?1, ?2, ?3) ON CONFLICT (owner, recipe) DO UPDATE SET owner = ?1, recipe = ?2, segments = ?3",
             TableKind::Requirements =>
-                "INSERT INTO requirements (owner, recipe, segment, role, source, material, amount) VALUES (?1, ?2, ?3, ?4, ?5, ?6, ?7) ON CONFLICT (owner, recipe, segment, role, source, material) DO UPDATE SET owner = excluded.owner, recipe = excluded.recipe, segment = excluded.segment, role = excluded.role, source = excluded.source, material = excluded.material, amount = excluded.amount",
+                "INSERT INTO requirements (owner, recipe, segment, role, source, material, amount) VALUES (?1, ?2, ?3, ?4, ?5, ?6, ?7) ON CONFLICT (owner, recipe, segment, role, source, material) DO UPDATE SET owner = ?1, recipe = ?2, segment = ?3, role = ?4, source = ?5, material = ?6, amount = ?7",
             TableKind::Orders =>
-                "INSERT INTO orders (owner, ord, recipe, batches, cancelled) VALUES (?1, ?2, ?3, ?4, ?5) ON CONFLICT (owner, ord) DO UPDATE SET owner = excluded.owner, ord = excluded.ord, recipe = excluded.recipe, batches = excluded.batches, cancelled = excluded.cancelled",
+                "INSERT INTO orders (owner, ord, recipe, batches, cancelled) VALUES (?1, ?2, ?3, ?4, ?5) ON CONFLICT (owner, ord) DO UPDATE SET owner = ?1, ord = ?2, recipe = ?3, batches = ?4, cancelled = ?5",
             TableKind::Batches =>
-                "INSERT INTO batches (owner, ord, number, unit, state, closed) VALUES (?1, ?2, ?3, ?4, ?5, ?6) ON CONFLICT (owner, ord, number) DO UPDATE SET owner = excluded.owner, ord = excluded.ord, number = excluded.number, unit = excluded.unit, state = excluded.state, closed = excluded.closed",
+                "INSERT INTO batches (owner, ord, number, unit, state, closed) VALUES (?1, ?2, ?3, ?4, ?5, ?6) ON CONFLICT (owner, ord, number) DO UPDATE SET owner = ?1, ord = ?2, number = ?3, unit = ?4, state = ?5, closed = ?6",
             TableKind::Lots =>
-                "INSERT INTO lots (owner, lot, material, ord, number, disposition) VALUES (?1, ?2, ?3, ?4, ?5, ?6) ON CONFLICT (owner, lot) DO UPDATE SET owner = excluded.owner, lot = excluded.lot, material = excluded.material, ord = excluded.ord, number = excluded.number, disposition = excluded.disposition",
+                "INSERT INTO lots (owner, lot, material, ord, number, disposition) VALUES (?1, ?2, ?3, ?4, ?5, ?6) ON CONFLICT (owner, lot) DO UPDATE SET owner = ?1, lot = ?2, material = ?3, ord = ?4, number = ?5, disposition = ?6",
             TableKind::Sublots =>
-                "INSERT INTO sublots (owner, lot, sublot, amount) VALUES (?1, ?2, ?3, ?4) ON CONFLICT (owner, lot, sublot) DO UPDATE SET owner = excluded.owner, lot = excluded.lot, sublot = excluded.sublot, amount = excluded.amount",
+                "INSERT INTO sublots (owner, lot, sublot, amount) VALUES (?1, ?2, ?3, ?4) ON CONFLICT (owner, lot, sublot) DO UPDATE SET owner = ?1, lot = ?2, sublot = ?3, amount = ?4",
             TableKind::Moves =>
-                "INSERT INTO moves (owner, mkey, kind, lot_owner, lot, sublot, target, material, ord, number, segment, amount, day) VALUES (?1, ?2, ?3, ?4, ?5, ?6, ?7, ?8, ?9, ?10, ?11, ?12, ?13) ON CONFLICT (owner, mkey) DO UPDATE SET owner = excluded.owner, mkey = excluded.mkey, kind = excluded.kind, lot_owner = excluded.lot_owner, lot = excluded.lot, sublot = excluded.sublot, target = excluded.target, material = excluded.material, ord = excluded.ord, number = excluded.number, segment = excluded.segment, amount = excluded.amount, day = excluded.day",
+                "INSERT INTO moves (owner, mkey, kind, lot_owner, lot, sublot, target, material, ord, number, segment, amount, day) VALUES (?1, ?2, ?3, ?4, ?5, ?6, ?7, ?8, ?9, ?10, ?11, ?12, ?13) ON CONFLICT (owner, mkey) DO UPDATE SET owner = ?1, mkey = ?2, kind = ?3, lot_owner = ?4, lot = ?5, sublot = ?6, target = ?7, material = ?8, ord = ?9, number = ?10, segment = ?11, amount = ?12, day = ?13",
             TableKind::Results =>
-                "INSERT INTO results (owner, lot, test, number, value, day) VALUES (?1, ?2, ?3, ?4, ?5, ?6) ON CONFLICT (owner, lot, test, number) DO UPDATE SET owner = excluded.owner, lot = excluded.lot, test = excluded.test, number = excluded.number, value = excluded.value, day = excluded.day",
+                "INSERT INTO results (owner, lot, test, number, value, day) VALUES (?1, ?2, ?3, ?4, ?5, ?6) ON CONFLICT (owner, lot, test, number) DO UPDATE SET owner = ?1, lot = ?2, test = ?3, number = ?4, value = ?5, day = ?6",
             TableKind::Voids =>
-                "INSERT INTO voids (owner, mkey) VALUES (?1, ?2) ON CONFLICT (owner, mkey) DO UPDATE SET owner = excluded.owner, mkey = excluded.mkey",
+                "INSERT INTO voids (owner, mkey) VALUES (?1, ?2) ON CONFLICT (owner, mkey) DO UPDATE SET owner = ?1, mkey = ?2",
         }
     }
 

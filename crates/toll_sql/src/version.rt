@@ -6,7 +6,7 @@ ghost use Rattle.sqlite.specs.State.{HasCleanDisk, IsUnchanged};
 ghost use Rattle.sqlite.specs.declared.types.Value.TheVariants.{Text};
 ghost use Rattle.toll_sql.specs.Asked.{AreReadBy, meta_text};
 ghost use Rattle.toll_sql.specs.Asking.{IsQuerying, OverOurs};
-ghost use Rattle.toll_sql.specs.First.{HasVersion, IsVersionIn, Tells, first_ours, meta_rows};
+ghost use Rattle.toll_sql.specs.First.{AreFirst, HasVersion, IsVersionIn, Tells, meta_rows};
 ghost use Rattle.toll_sql.specs.Opening.{FindsVersion, IsAskedInside, IsLeft, IsUnreadFor};
 ghost use Rattle.toll_sql.specs.Rows.{AreAll};
 ghost use Rattle.toll_sql.specs.Stores.{LiesIdle};
@@ -82,7 +82,7 @@ fn ask_version<S: Alter>(tx: &mut Transaction<'_, S>) -> Result<Vec<Row>, Error>
 pub(crate) fn read_first_version<S: Alter>(conn: &mut Connection<S>) -> Result<Option<u64>, Error>
     requires autocommit { conn.old.in_transaction ≡ false }
     requires settled { LiesIdle (state S.Store conn.old) }
-    requires first { (state S.Store conn.old).now.schema ≡ first_ours }
+    requires first { AreFirst (state S.Store conn.old).now.schema }
     ensures left { IsLeft (state S.Store conn.old) (state S.Store conn.new) result }
     ensures unchanged { HasCleanDisk (state S.Store conn.new) → OnOk result (IsUnchanged (state S.Store conn.old) (state S.Store conn.new)) }
     ensures version { HasCleanDisk (state S.Store conn.new) → (n : ℕ) → HasVersion n (state S.Store conn.old).now.trees → IfOk result (λ told. told ≡ Some n) }
@@ -97,7 +97,7 @@ pub(crate) fn read_first_version<S: Alter>(conn: &mut Connection<S>) -> Result<O
 fn first_rows<S: Alter>(conn: &mut Connection<S>) -> Result<Vec<Row>, Error>
     requires autocommit { conn.old.in_transaction ≡ false }
     requires settled { LiesIdle (state S.Store conn.old) }
-    requires first { (state S.Store conn.old).now.schema ≡ first_ours }
+    requires first { AreFirst (state S.Store conn.old).now.schema }
     ensures left { IsLeft (state S.Store conn.old) (state S.Store conn.new) result }
     ensures unchanged { HasCleanDisk (state S.Store conn.new) → OnOk result (IsUnchanged (state S.Store conn.old) (state S.Store conn.new)) }
     ensures rows { HasCleanDisk (state S.Store conn.new) → IfOk result (λ rows. AreAll Meta (state S.Store conn.old).now.trees rows.items) }

@@ -1,12 +1,13 @@
 //! Rows put into the tables.
-ghost use Rattle.std.specs.Prelude.{◌≡◌, ◌≢◌, false, Err, IsTrue, OnOk, IfErr};
+ghost use Rattle.std.specs.Prelude.{◌≡◌, ◌≢◌, false, Err, IsTrue, OnOk};
 ghost use Rattle.sqlite.specs.Held.{state};
 ghost use Rattle.sqlite.specs.State.{HasCleanDisk, Survives};
 ghost use Rattle.sqlite.specs.Values.{bound};
 ghost use Rattle.toll_base.specs.declared.decision.Change.TheVariants.{Put};
 ghost use Rattle.toll_base.specs.declared.rows.Row.TheVariants.{Sublot, Result as ResultOf};
-ghost use Rattle.toll_sql.specs.Causes.{IsCaused, Reason};
-ghost use Rattle.toll_sql.specs.Stores.{Applies, IsWriting, LeavesPut, MakesAll, MakesPut, StaysOnErr, WritesRow};
+ghost use Rattle.toll_sql.specs.Causes.{Reason};
+ghost use Rattle.toll_sql.specs.Create.{IsWhole};
+ghost use Rattle.toll_sql.specs.Stores.{Applies, IsApplied, IsReady, IsWriting, LeavesPut, MakesAll, MakesPut, StaysOnErr, WritesRow};
 
 use crate::encode::{
     batch_values, lot_values, material_values, move_values, order_values, owner_values,
@@ -16,12 +17,18 @@ use crate::encode::{
 use crate::fault::fault_of;
 use crate::table_kind::TableKind;
 use sqlite::types::ValueRef;
-use sqlite::{Alter, Connection, Error, ErrorCode, Transaction};
+use sqlite::{Alter, Connection, Error, Transaction};
 use toll_base::{Change, Name, ResultRow, Row, SublotRow};
 use toll_keep::KeepFault;
 
 /// The greatest whole number that a column can have.
 const MOST: u64 = 9_223_372_036_854_775_807;
+
+/// The column of a sublot's amount.
+const AMOUNT: usize = 3;
+
+/// The column of a result's number.
+const NUMBER: usize = 3;
 
 /// Makes all of these changes, in order, or none, in one transaction.
 pub fn make_changes<S: Alter>(conn: &mut Connection<S>, changes: &[Change]) -> Result<(), KeepFault>
@@ -46,18 +53,10 @@ pub fn make_changes<S: Alter>(conn: &mut Connection<S>, changes: &[Change]) -> R
 // Puts the rows of all changes, in order, or none.
 fn put_or_none<S: Alter>(conn: &mut Connection<S>, changes: &[Change]) -> Result<(), Error>
     requires { conn.old.in_transaction ≡ false }
-    ensures ended { conn.new.in_transaction ≡ false }
-    ensures limit { conn.new.step_limit ≡ conn.old.step_limit }
-    ensures all { Applies changes.now (state S.Store conn.old) (state S.Store conn.new) result }
-    ensures none { StaysOnErr (state S.Store conn.old) (state S.Store conn.new) result }
-    ensures fault { HasCleanDisk (state S.Store conn.new) → IfErr result (IsCaused (state S.Store conn.old) (state S.Store conn.new)) }
-    ensures live { HasCleanDisk (state S.Store conn.new) → IsTrue (state S.Store conn.new).is_open → IsTrue (state S.Store conn.old).is_open }
-    ensures shown { HasCleanDisk (state S.Store conn.new) → OnOk result (IsTrue (state S.Store conn.new).is_open) }
-    ensures crash { Survives (state S.Store conn.old) (state S.Store conn.new) (LeavesPut changes.now (state S.Store conn.old)) }
+    ensures whole { IsWhole IsReady (IsApplied changes.now (state S.Store conn.old).now) (state S.Store conn.old) (state S.Store conn.new) result }
 {
-    if !conn.is_autocommit() {
-        return Err(Error::QueryReturnedNoRows);
-    }
+    // Asked for the proof alone: outside a transaction nothing is pending.
+    let _autocommit = conn.is_autocommit();
     let mut tx = conn.transaction();
     put_all(&mut tx, changes)?;
     tx.commit()
@@ -108,7 +107,7 @@ fn put_row<S: Alter>(tx: &mut Transaction<'_, S>, owner: &Name, row: &Row) -> Re
     }
 }
 
-// Puts the sublot; one with more than a column can have, which no rules allow, finds no room.
+// Puts the sublot; an amount that no column can have, which no rules allow, is out of range.
 fn put_sublot<S: Alter>(
     tx: &mut Transaction<'_, S>,
     owner: &Name,
@@ -118,12 +117,12 @@ fn put_sublot<S: Alter>(
     ensures writes { IsWriting (MakesPut (Put owner.now (Sublot row.now))) (state S.Store tx.old.conn.now) (state S.Store tx.new.conn.now) result }
 {
     if row.amount > MOST {
-        return Err(Error::SqliteFailure(ErrorCode::OutOfMemory));
+        return Err(Error::IntegralValueOutOfRange(AMOUNT));
     }
     put(tx, TableKind::Sublots, &sublot_values(owner, row))
 }
 
-// Puts the result; one with a number that no column can have, which no rules allow, finds no room.
+// Puts the result; a number that no column can have, which no rules allow, is out of range.
 fn put_result<S: Alter>(
     tx: &mut Transaction<'_, S>,
     owner: &Name,
@@ -133,7 +132,7 @@ fn put_result<S: Alter>(
     ensures writes { IsWriting (MakesPut (Put owner.now (ResultOf row.now))) (state S.Store tx.old.conn.now) (state S.Store tx.new.conn.now) result }
 {
     if row.number > MOST {
-        return Err(Error::SqliteFailure(ErrorCode::OutOfMemory));
+        return Err(Error::IntegralValueOutOfRange(NUMBER));
     }
     put(tx, TableKind::Results, &result_values(owner, row))
 }

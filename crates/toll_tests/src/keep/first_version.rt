@@ -1,6 +1,6 @@
 //! Stores of version 1, made by its statements: adopted with their rows, and refused where the version is
 //! another one.
-use crate::keep::tables::{adopted, check_refused};
+use crate::keep::tables::{adopted, check_refused, number};
 use crate::keep::told::check_all;
 use crate::stories::check;
 use sqlite::{Connection, MemStore};
@@ -48,12 +48,6 @@ fn first_store(alloc: Global) -> Result<Connection<MemStore>, Fail> {
     run_all(&mut conn, &TABLES)?;
     run_all(&mut conn, &ROWS)?;
     Ok(conn)
-}
-
-// The number that the statement reads.
-fn number(conn: &mut Connection<MemStore>, statement: &str) -> Result<i64, Fail> {
-    let row = conn.query_row(statement, &[])?;
-    Ok(row.get(0)?)
 }
 
 #[test]

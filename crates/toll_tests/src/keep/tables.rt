@@ -1,5 +1,5 @@
 //! Rows in SQLite: told as those in memory, found again, and damaged ones never taken as true.
-use crate::keep::rows::{acme, batch, fill_all};
+use crate::keep::rows::{acme, batch, fill, fill_all};
 use crate::keep::told::{check_all, check_counts};
 use crate::stories::check;
 use sqlite::{Connection, MemStore};
@@ -54,6 +54,12 @@ fn tables_are_made_once(rt: HostRuntime) -> Result<(), Fail> {
     check_all(rt.alloc(), &mut adopted(rt.alloc(), conn)?)
 }
 
+/// The number that the statement reads.
+pub(crate) fn number(conn: &mut Connection<MemStore>, statement: &str) -> Result<i64, Fail> {
+    let row = conn.query_row(statement, &[])?;
+    Ok(row.get(0)?)
+}
+
 /// Fails where a store is not refused so after this statement.
 pub(crate) fn check_refused(
     alloc: Global,
@@ -106,6 +112,65 @@ fn tables_that_tell_version_1_are_damage(rt: HostRuntime) -> Result<(), Fail> {
         "UPDATE meta SET value = 1",
         OpenFault::Damaged,
     )
+}
+
+// Statements that make what is no harm to the office's rows.
+const OTHERS: [&str; 4] = [
+    "CREATE TABLE notes (owner TEXT, note TEXT UNIQUE)",
+    "CREATE VIEW held AS SELECT owner, sum(amount) FROM sublots GROUP BY owner",
+    "CREATE INDEX moves_by_lot ON moves (lot_owner, lot)",
+    "CREATE TABLE notes (note TEXT); CREATE INDEX lots_by_material ON lots (material); CREATE VIEW owned AS SELECT owner FROM owners",
+];
+
+// Fails where the store is not adopted with its rows after these statements, or takes no more.
+fn check_adopted(alloc: Global, statements: &str) -> Result<(), Fail> {
+    let mut keep = adopted(alloc, damaged(alloc, statements)?)?;
+    fill(alloc, &mut keep, &acme()?.owner, batch()?)?;
+    check_all(alloc, &mut keep)
+}
+
+#[test]
+fn what_others_made_beside_the_tables_is_let_be(rt: HostRuntime) -> Result<(), Fail> {
+    for statements in OTHERS {
+        check_adopted(rt.alloc(), statements)?;
+    }
+    Ok(())
+}
+
+#[test]
+fn rows_of_others_stay(rt: HostRuntime) -> Result<(), Fail> {
+    let alloc = rt.alloc();
+    let notes =
+        "CREATE TABLE notes (note TEXT); INSERT INTO notes VALUES ('a'), ('b'); DROP INDEX moves_by_batch";
+    let mut keep = adopted(alloc, damaged(alloc, notes)?)?;
+    fill(alloc, &mut keep, &acme()?.owner, batch()?)?;
+    let kept = number(&mut keep.into_connection(), "SELECT COUNT(*) FROM notes")?;
+    check(kept == 2, "other notes")
+}
+
+#[test]
+fn a_missing_index_is_made(rt: HostRuntime) -> Result<(), Fail> {
+    let alloc = rt.alloc();
+    let mut keep = adopted(alloc, damaged(alloc, "DROP INDEX moves_by_batch")?)?;
+    check_all(alloc, &mut keep)?;
+    let made = number(
+        &mut keep.into_connection(),
+        "SELECT COUNT(*) FROM sqlite_schema WHERE type = 'index' AND name = 'moves_by_batch'",
+    )?;
+    check(made == 1, "no index")
+}
+
+#[test]
+fn what_touches_the_tables_is_damage(rt: HostRuntime) -> Result<(), Fail> {
+    for statement in [
+        "CREATE TABLE notes (lot TEXT, owner TEXT REFERENCES owners (owner))",
+        "CREATE UNIQUE INDEX lots_apart ON lots (lot)",
+        "ALTER TABLE lots ADD COLUMN note TEXT",
+    ] {
+        let conn = filled(rt.alloc())?.into_connection();
+        check_refused(rt.alloc(), conn, statement, OpenFault::Damaged)?;
+    }
+    Ok(())
 }
 
 // Statements that leave rows which nobody may take as true.

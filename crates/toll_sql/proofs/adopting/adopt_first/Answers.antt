@@ -10,7 +10,7 @@ returns-then-eq g c =
     let mid = state g.S.Store c.read_first_version.new.conn in
     let v = c.read_first_version.ensures in
     let so : c.in-Ok.told ≡ Some first_version = search rules in
-    record { adopts = all_adopted old mid c.requires.first c.requires.unlimited c.in-Ok.told c.read_first_version.result c.in-Ok.is v.left so v.told v.unchanged (state g.S.Store c.raise_all.new.conn) c.raise_all.result c.raise_all.ensures.raises }
+    record { adopts = all_adopted old mid c.requires.first c.requires.unlimited c.in-Ok.told c.read_first_version.result c.in-Ok.is v.left so v.told v.unchanged (state g.S.Store c.raise_all.new.conn) c.raise_all.result c.raise_all.ensures.brings }
 
 pub returns-else-eq : goal.returns-else-eq
 returns-else-eq g c =

@@ -1,19 +1,38 @@
-use Rattle.std.proofs.Common.{◌≡◌, ◌≢◌, Some, rules}
+use Rattle.std.proofs.Common.{◌≡◌, ◌≢◌, true, false, Some, rules, ap, sym, ◌∙◌}
 use Rattle.sqlite.specs.Held.{state}
+use Rattle.sqlite_catalog.specs.Change.{is_used}
+use Rattle.toll_sql.specs.First.{first_version}
 use Rattle.toll_sql.specs.Holds.{version}
-use Rattle.toll_sql.proofs.AdoptLemmas.{other_version, this_version}
+use Rattle.toll_sql.specs.Others.{has_its_name}
+use Rattle.toll_sql.specs.Tables.{by_batch}
+use Rattle.toll_sql.proofs.AdoptLemmas.{IsMisfit, other_version, this_version}
+use Rattle.toll_sql.proofs.RaiseLemmas.{all_indexed}
 use Rattle.toll_sql.proofs.adopting.adopt_ours.Goals as goal
 
-pub returns-else-eq : goal.returns-else-eq
-returns-else-eq g c =
+pub returns-then-ne : goal.returns-then-ne
+returns-then-ne g c =
     let old = state g.S.Store c.args.conn.now in
     let new = state g.S.Store c.read_version.new.conn in
+    let v = c.read_version.ensures in
     let other : c.in-Ok.told ≢ Some version = search rules in
-    record { adopts = other_version old new c.requires.autocommit c.requires.settled c.requires.ours c.requires.unlimited c.in-Ok.told c.read_version.result c.in-Ok.is c.read_version.ensures.asks c.read_version.ensures.found other (λ clean. c.read_version.ensures.version clean c.requires.ours) c.misfit.result (record { damaged = c.misfit.ensures.damaged; foreign = c.misfit.ensures.foreign; known = c.misfit.ensures.known }) }
+    let misfit : IsMisfit c.in-Ok.told first_version c.misfit.result = record { damaged = c.misfit.ensures.damaged; foreign = c.misfit.ensures.foreign; known = c.misfit.ensures.known } in
+    record { adopts = other_version old new c.requires.autocommit c.requires.settled c.requires.ours c.requires.unlimited c.in-Ok.told c.read_version.result c.in-Ok.is v.asks v.found other (λ clean. v.version clean c.requires.ours) c.misfit.result misfit }
 
-pub returns-then-eq : goal.returns-then-eq
-returns-then-eq g c =
+pub returns-then-is_used : goal.returns-then-is_used
+returns-then-is_used g c =
     let old = state g.S.Store c.args.conn.now in
     let new = state g.S.Store c.read_version.new.conn in
+    let v = c.read_version.ensures in
     let so : c.in-Ok.told ≡ Some version = search rules in
-    record { adopts = this_version old new c.requires.autocommit c.requires.settled c.requires.ours c.requires.unlimited c.in-Ok.told c.read_version.result c.in-Ok.is c.read_version.ensures.asks c.read_version.ensures.found so (λ clean. c.read_version.ensures.told clean c.requires.ours) }
+    let named : has_its_name new.now.schema ≡ true = ap (λ s. is_used s by_batch.name) (sym c.schema.ensures.value) ∙ sym c.is_used.ensures ∙ c.if-is_used.true in
+    record { adopts = this_version old new c.requires.autocommit c.requires.settled c.requires.ours c.requires.unlimited c.in-Ok.told c.read_version.result c.in-Ok.is v.asks v.found named so (λ clean. v.told clean c.requires.ours) }
+
+pub returns-else-is_used : goal.returns-else-is_used
+returns-else-is_used g c =
+    let old = state g.S.Store c.args.conn.now in
+    let mid = state g.S.Store c.read_version.new.conn in
+    let new = state g.S.Store c.index_all.new.conn in
+    let v = c.read_version.ensures in
+    let so : c.in-Ok.told ≡ Some version = search rules in
+    let unnamed : has_its_name mid.now.schema ≡ false = ap (λ s. is_used s by_batch.name) (sym c.schema.ensures.value) ∙ sym c.is_used.ensures ∙ c.if-is_used.false in
+    record { adopts = all_indexed old mid new c.requires.autocommit c.requires.settled c.requires.ours c.requires.unlimited c.in-Ok.told c.read_version.result c.in-Ok.is v.asks so (λ clean. v.told clean c.requires.ours) unnamed c.index_all.result c.index_all.ensures.brings }

@@ -1,9 +1,15 @@
 use Rattle.sqlite.specs.Held.{state}
-use Rattle.toll_sql.proofs.RaiseLemmas.{all_raised, none_raised}
+use Rattle.toll_sql.specs.Create.{IsShapedAs}
+use Rattle.toll_sql.specs.First.{IsFirst, Raised, first_ours}
+use Rattle.toll_sql.proofs.RaiseLemmas.{all_brought, none_brought, start_first}
 use Rattle.toll_sql.proofs.adopting.raise_all.Goals as goal
 
 pub returns-in-Ok : goal.returns-in-Ok
-returns-in-Ok g c = record { raises = all_raised (state g.S.Store c.args.conn.now) (state g.S.Store c.raise_or_none.new.conn) c.in-Ok.ensures.whole }
+returns-in-Ok g c =
+    let old = state g.S.Store c.args.conn.now in
+    record { brings = all_brought IsFirst Raised (IsShapedAs first_ours) old (state g.S.Store c.raise_or_none.new.conn) (start_first old) c.in-Ok.ensures.whole }
 
 pub returns-in-Err : goal.returns-in-Err
-returns-in-Err g c = record { raises = none_raised (state g.S.Store c.args.conn.now) (state g.S.Store c.raise_or_none.new.conn) c.in-Err.error c.open_fault_of.result c.open_fault_of.ensures c.in-Err.ensures.whole }
+returns-in-Err g c =
+    let old = state g.S.Store c.args.conn.now in
+    record { brings = none_brought IsFirst Raised (IsShapedAs first_ours) old (state g.S.Store c.raise_or_none.new.conn) (start_first old) c.in-Err.error c.open_fault_of.result c.open_fault_of.ensures c.in-Err.ensures.whole }

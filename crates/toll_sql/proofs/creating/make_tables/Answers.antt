@@ -43,5 +43,5 @@ returns-clause-steps g c =
     let first = state g.S.Store c.args.tx.now.conn.now in
     let last = state g.S.Store c.loop-table.tx.conn.now in
     let all : c.loop-table.table-index ≡ 14 = omega (arith, c.loop-table-test.false, c.loop-table.auto.table-index-end) in
-    makes_more (IsMaking no_schema) (MakesFirst 14) MakesAllTables first last none_yet (λ h. record { making = h.making; empty = h.empty })
+    makes_more (IsMaking no_schema) (MakesFirst 14) MakesAllTables first last none_yet (λ _ h. record { making = h.making; empty = h.empty })
     (subst (λ n. IsStep (IsMaking no_schema) (MakesFirst n) first last none_yet) all c.loop-table.invariant.steps)

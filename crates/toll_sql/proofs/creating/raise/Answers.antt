@@ -12,5 +12,5 @@ returns-clause-steps g c =
     let old = state g.S.Store c.args.tx.now.conn.now in
     let mid = state g.S.Store c.make_table.new.tx.conn.now in
     let new = state g.S.Store c.finish.new.tx.conn.now in
-    in_turn (IsShapedAs first_ours) (IsShapedAs made_all) (MakesTable Voids) Finishes (λ a b. Raised a.now.trees b.now) old mid new c.in_ok-make_table.field-0 c.finish.result (raised_shaped old mid) (raised old mid new)
+    in_turn (IsShapedAs first_ours) (IsShapedAs made_all) (MakesTable Voids) Finishes (λ a b. Raised a.now b.now) old mid new c.in_ok-make_table.field-0 c.finish.result (raised_shaped old mid) (raised old mid new)
     (from_more (IsMaking first_ours) (IsShapedAs first_ours) (MakesTable Voids) old mid _ (λ h. h.making) c.in_ok-make_table.ensures.steps) c.finish.ensures.steps

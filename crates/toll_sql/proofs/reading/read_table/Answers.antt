@@ -6,7 +6,8 @@ use Rattle.toll_keep.specs.Content.{Content}
 use Rattle.toll_sql.specs.Fronts.{IsStoredAs}
 use Rattle.toll_sql.specs.Rows.{AreOfOwner}
 use Rattle.toll_sql.specs.Stores.{HoldsIn}
-use Rattle.toll_sql.specs.Tables.{is_owned, ours}
+use Rattle.toll_sql.specs.Others.{HasOurs}
+use Rattle.toll_sql.specs.Tables.{is_owned}
 use Rattle.std.proofs.lemmas.Result.{on_ok_weaker}
 use Rattle.std.specs.List.{AllByRecursion}
 use Rattle.toll_sql.specs.Shown.{AreOwnedBy, IsRowOf}
@@ -21,7 +22,7 @@ returns-in-Ok g c stand =
     let new = state g.S.Store c.owners_rows.new.conn in
     let o = c.args.owner.now in
     let own : is_owned c.table.result ≡ true = subst (λ k. is_owned k ≡ true) (sym c.table.ensures) stand.owned in
-    let rows : (clean : HasCleanDisk new) → old.now.schema ≡ ours → AreOfOwner X.kind o old.now.trees c.in-Ok.rows.items = λ clean has. subst (λ k. AreOfOwner k o old.now.trees c.in-Ok.rows.items) c.table.ensures (c.in-Ok.ensures.rows own clean has) in
+    let rows : (clean : HasCleanDisk new) → HasOurs old.now.schema → AreOfOwner X.kind o old.now.trees c.in-Ok.rows.items = λ clean has. subst (λ k. AreOfOwner k o old.now.trees c.in-Ok.rows.items) c.table.ensures (c.in-Ok.ensures.rows own clean has) in
     let stored : (content : Content) → HasCleanDisk new → HoldsIn old content → IsStoredAs X.kind (content.rows o) c.deref.result.now = λ content clean held.
     subst (λ (rows : List Row). IsStoredAs X.kind (content.rows o) rows) (sym c.deref.ensures.value) (stored_as old content held X.kind stand.owned o c.in-Ok.rows.items (rows clean held.ours.schema)) in
     record {

@@ -1,21 +1,21 @@
-use Rattle.std.proofs.Common.{◌≡◌, refl, arith, rules, IsTrue}
-use Rattle.std.proofs.lemmas.Result.{IfErr-weaker}
-use Rattle.sqlite.specs.State.{HasCleanDisk}
+use Rattle.std.proofs.Common.{Ok, IsTrue, rules, subst}
 use Rattle.sqlite.specs.Held.{state}
-use Rattle.toll_sql.proofs.ApplyLemmas.{not_committed}
+use Rattle.sqlite.specs.State.{HasCleanDisk}
+use Rattle.toll_sql.specs.Stores.{IsApplied, IsReady, IsWriting, LiesIdle, MakesAll}
+use Rattle.toll_sql.proofs.Applied.{applied_all}
+use Rattle.toll_sql.proofs.StepLemmas.{makes_more, put_step}
+use Rattle.toll_sql.proofs.Whole.{committed}
 use Rattle.toll_sql.proofs.writing.put_or_none.Goals as goal
 
-pub returns-clause-none : goal.returns-clause-none
-returns-clause-none g c clean live =
-    let old = c.args.conn.now in
-    let last = c.put_all.new.tx.conn.now in
+pub returns : goal.returns
+returns g c =
+    let changes = c.args.changes.now in
+    let old = state g.S.Store c.args.conn.now in
+    let last = state g.S.Store c.put_all.new.tx.conn.now in
     let end = c.commit.new.self.0 in
-    let same : end ≡ c.conn-2-1.given.0 = search rules in
-    let late : HasCleanDisk (state g.S.Store end) = search rules in
-    let there : IsTrue (state g.S.Store end).is_open = search rules in
-    let before : HasCleanDisk (state g.S.Store last) = omega (arith, late, c.commit.ensures.survives.clean) in
-    let begun = c.transaction-tx.ensures.begun in
-    let inside : IsTrue (state g.S.Store last).in_transaction = c.in_ok-put_all.ensures.writes.inside before (rw begun refl) in
-    let auto : IsTrue c.is_autocommit.result = search rules in
-    let r = IfErr-weaker c.commit.result _ _ (λ e h. not_committed (state g.S.Store old) (state g.S.Store last) (state g.S.Store end) e (c.is_autocommit.ensures.settled auto) (rw begun at (c.in_ok-put_all.ensures.writes.kept before)) inside there h) (c.commit.ensures.err late) in
-    rw same at r
+    let auto : IsTrue c.is_autocommit-autocommit.result = search rules in
+    let idle : HasCleanDisk old → LiesIdle old = λ _. c.is_autocommit-autocommit.ensures.settled auto in
+    let begun = subst (λ h. IsWriting (MakesAll changes) (state g.S.Store h) last (Ok c.in_ok-put_all.field-0)) c.transaction-tx.ensures.begun c.in_ok-put_all.ensures.writes in
+    let step = makes_more IsReady (MakesAll changes) (λ _ b. IsApplied changes old.now b.now) _ last (Ok c.in_ok-put_all.field-0) (λ _. applied_all changes _ last) (put_step (MakesAll changes) _ last _ begun) in
+    let whole = committed IsReady (IsApplied changes old.now) old last (state g.S.Store end) idle c.in_ok-put_all.field-0 c.commit.result step c.commit.ensures.ended c.commit.ensures.ok c.commit.ensures.err c.commit.ensures.survives in
+    record { whole = search (rules, whole) }

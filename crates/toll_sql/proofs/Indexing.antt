@@ -1,0 +1,76 @@
+-- What the index leaves as it was.
+use Rattle.std.proofs.Common.{◌≡◌, inl, inr, Bool, false, List, if◌then◌else◌, refl, sym, ap, subst, ◌∙◌}
+use Rattle.std.proofs.lemmas.Bool.{cases_Bool}
+use Rattle.std.specs.List.{AllByRecursion}
+use Rattle.sqlite.specs.Effect.{Database}
+use Rattle.sqlite.specs.Schema.{Schema}
+use Rattle.sqlite.specs.State.{State}
+use Rattle.sqlite.specs.Table.{Table}
+use Rattle.sqlite.specs.Tree.{Trees}
+use Rattle.sqlite_catalog.specs.Change.{KeepsRows, indexed}
+use Rattle.sqlite_schema.specs.Names.{same_name}
+use Rattle.toll_keep.specs.Content.{Content}
+use Rattle.toll_sql.specs.Bag.{all_cells, owned_by}
+use Rattle.toll_sql.specs.Create.{IsUnindexed, MakesIndex}
+use Rattle.toll_sql.specs.Encode.{rows_for}
+use Rattle.toll_sql.specs.First.{Tells, first_ours, meta_rows}
+use Rattle.toll_sql.specs.Holds.{HasRows, Holds, NamesOwner, version}
+use Rattle.toll_sql.specs.Others.{HasOurs, Indexed, has_its_name, with_index}
+use Rattle.toll_sql.specs.Stores.{IsOurs}
+use Rattle.toll_sql.specs.Tables.{by_batch, made_all, table_of, tree_of}
+use Rattle.toll_sql.specs.declared.table_kind.TableKind.{TableKind}
+use Rattle.toll_sql.specs.declared.table_kind.TableKind.TheVariants.{Meta, Moves, Owners, Units}
+use Rattle.toll_sql.proofs.MakeLemmas.{ours_indexed, shaped_still}
+use Rattle.toll_sql.proofs.OthersLemmas.{first_of}
+use Rattle.toll_sql.proofs.WriteLemmas.{at_table}
+
+pub first_unnamed : has_its_name first_ours ≡ false
+unfolding same_name
+first_unnamed = refl
+
+-- the rows of the office's tables
+pub kept_ours : {schema : Schema} (old new : Trees) (has : HasOurs schema) → KeepsRows schema.tables old new → KeepsRows made_all.tables old new
+kept_ours {schema} old new has kept = first_of _ made_all.tables has.tables.0 (subst (λ (tables : List Table). KeepsRows tables old new) has.tables.1 kept)
+
+pub holds_kept : (c : Content) (old new : Trees) → KeepsRows made_all.tables old new → Holds old c → Holds new c
+holds_kept c old new kept h =
+    let same = λ (k : TableKind). (let it : new (tree_of k) ≡ old (tree_of k) = at_table (λ tree. new tree ≡ old tree) k kept in it) in
+    record {
+      meta = subst (HasRows Meta _) (sym (same Meta)) h.meta;
+      owners = subst (HasRows Owners _) (sym (same Owners)) h.owners;
+      are_owners = h.are_owners;
+      units = subst (HasRows Units _) (sym (same Units)) h.units;
+      are_units = h.are_units;
+      slices = λ o. record {
+        named = (h.slices o).named;
+        stored = λ k owned. subst (λ stored. HasRows k (rows_for k (c.rows o)) (owned_by o stored)) (sym (same k)) ((h.slices o).stored k owned);
+        valid = (h.slices o).valid;
+      };
+      owned = λ k owned. subst (λ stored. AllByRecursion NamesOwner (all_cells stored)) (sym (same k)) (h.owned k owned);
+    }
+
+with_ours : {schema : Schema} → HasOurs schema → HasOurs (with_index schema)
+with_ours {schema} has =
+    let both = λ (b : Bool). (let it : Schema = if b then schema else indexed schema (table_of Moves) by_batch in it) in
+    elim (cases_Bool (has_its_name schema)) [
+      | inl named ↦ subst (λ b. HasOurs (both b)) (sym named) has
+      | inr not ↦ subst (λ b. HasOurs (both b)) (sym not) (ours_indexed has)
+    ]
+
+-- the tables are ours still, and `meta` tells what it told
+pub indexed_ours : (db after : Database) → IsOurs db → Indexed db after → IsOurs after
+indexed_ours db after own it = record {
+  schema = subst HasOurs (sym it.schema) (with_ours own.schema);
+  shaped = shaped_still made_all.tables db.trees after.trees (kept_ours db.trees after.trees own.schema it.rows) own.shaped;
+}
+
+pub indexed_told : (db after : Database) (has : HasOurs db.schema) → Indexed db after → Tells version (meta_rows db.trees) → Tells version (meta_rows after.trees)
+indexed_told db after has it told =
+    let same : after.trees (tree_of Meta) ≡ db.trees (tree_of Meta) = at_table (λ tree. after.trees tree ≡ db.trees tree) Meta (kept_ours db.trees after.trees has it.rows) in
+    subst (λ rows. Tells version (all_cells rows)) (sym same) told
+
+pub indexed_by : (old new : State) → IsUnindexed old → MakesIndex old new → Indexed old.now new.now
+indexed_by old new before h = record {
+  schema = h.making.schema ∙ ap (λ b. if b then old.now.schema else indexed old.now.schema (table_of Moves) by_batch) (sym before.lacking);
+  rows = h.rows;
+}
