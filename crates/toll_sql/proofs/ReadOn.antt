@@ -1,5 +1,5 @@
 -- Readings one after another.
-use Rattle.std.proofs.Common.{◌≡◌, List, [], ◌∷◌, ◌++◌, take, length, inl, inr, Ok, Err, Result, OnOk, IsTrue, refl, sym, ap, subst, ◌∙◌, arith}
+use Rattle.std.proofs.Common.{◌≡◌, ◌<◌, ℕ, zero, suc, ◌+◌, true, List, [], ◌∷◌, ◌++◌, take, length, get_or, inl, inr, Ok, Err, Result, OnOk, IsTrue, refl, sym, ap, subst, subst₂, ◌∙◌, arith}
 use Rattle.std.proofs.lemmas.Result.{on_ok_weaker}
 use Rattle.std.specs.List.{AllByRecursion}
 use Rattle.sqlite.specs.Effect.{Database}
@@ -12,12 +12,14 @@ use Rattle.toll_keep.specs.declared.fault.KeepFault.TheVariants.{Disk, Damaged, 
 use Rattle.toll_sql.specs.Asking.{Asks, IsLooking}
 use Rattle.toll_sql.specs.Fronts.{front}
 use Rattle.toll_sql.specs.Others.{HasOurs}
-use Rattle.toll_sql.specs.Reading.{ReadsOn}
-use Rattle.toll_sql.specs.Shown.{AreRowsIn, Shows}
+use Rattle.toll_sql.specs.Reading.{ReadsNext, ReadsOn, next_of}
+use Rattle.toll_sql.specs.Shown.{AreRowsIn, Shows, tables_of_owners}
+use Rattle.toll_sql.specs.Tables.{is_owned}
 use Rattle.toll_sql.specs.declared.table_kind.TableKind.{TableKind}
-use Rattle.toll_sql.specs.declared.table_kind.TableKind.TheVariants.{Materials, Tests, Recipes, Requirements, Orders, Batches, Lots, Sublots, Moves, Results, Voids}
+use Rattle.toll_sql.specs.declared.table_kind.TableKind.TheVariants.{Meta, Materials, Tests, Recipes, Requirements, Orders, Batches, Lots, Sublots, Moves, Results, Voids}
 use Rattle.toll_sql.proofs.CauseLemmas.{reason_before}
 use Rattle.toll_sql.proofs.LookLemmas.{held_on}
+use Rattle.toll_sql.proofs.OpenLemmas.{found_still}
 
 -- ---- two looks are one
 
@@ -160,3 +162,44 @@ voids_behind s = ap (λ l. record s { voids = l }) (take_all s.voids)
 -- so what was read this far was read up to there
 pub reads_up_to : {X : Type 0} (f g h : Slice → Slice) {kinds : List TableKind} (o : Bytes) (a b : State) (s t : Slice) (r : Result X KeepFault) → ((s : Slice) → g s ≡ h s) → ReadsOn f g kinds o a b s t r → ReadsOn f h kinds o a b s t r
 reads_up_to f g h {kinds} o a b s t r same p = subst (λ (g : Slice → Slice). ReadsOn f g kinds o a b s t r) (λ i. λ s. same s i) p
+
+-- ---- each table behind the one before it
+
+pub read_next : {X : Type 0} (table k : TableKind) (g : Slice → Slice) (o : Bytes) (a b : State) (s t : Slice) (r : Result X KeepFault) → table ≡ k → ((s : Slice) → g s ≡ front (next_of k) 0 s) → ReadsOn (front k 0) g (k ∷ []) o a b s t r
+    → ReadsNext table o a b s t r
+read_next table k g o a b s t r is behind h = subst (λ k. ReadsNext k o a b s t r) (sym is) (reads_up_to _ g (front (next_of k) 0) o a b s t r behind h)
+
+-- the table with this number, and the first so many
+abbrev pub kind_at : ℕ → TableKind
+kind_at n = get_or tables_of_owners n Meta
+
+pub step_at : (i : ℕ) → i < 11 → (is_owned (kind_at i) ≡ true) × (next_of (kind_at i) ≡ kind_at (i + 1)) × (take i tables_of_owners ++ kind_at i ∷ [] ≡ take (i + 1) tables_of_owners)
+step_at zero low = (refl, refl, refl)
+step_at (suc zero) low = (refl, refl, refl)
+step_at (suc (suc zero)) low = (refl, refl, refl)
+step_at (suc (suc (suc zero))) low = (refl, refl, refl)
+step_at (suc (suc (suc (suc zero)))) low = (refl, refl, refl)
+step_at (suc (suc (suc (suc (suc zero))))) low = (refl, refl, refl)
+step_at (suc (suc (suc (suc (suc (suc zero)))))) low = (refl, refl, refl)
+step_at (suc (suc (suc (suc (suc (suc (suc zero))))))) low = (refl, refl, refl)
+step_at (suc (suc (suc (suc (suc (suc (suc (suc zero)))))))) low = (refl, refl, refl)
+step_at (suc (suc (suc (suc (suc (suc (suc (suc (suc zero))))))))) low = (refl, refl, refl)
+step_at (suc (suc (suc (suc (suc (suc (suc (suc (suc (suc zero)))))))))) low = (refl, refl, refl)
+step_at (suc (suc (suc (suc (suc (suc (suc (suc (suc (suc (suc i))))))))))) low = absurd (omega (arith, low))
+
+abbrev pub read_well : Result (Unit {0}) KeepFault
+read_well = Ok tt
+
+-- so many tables are read, of which the first stands behind none
+abbrev pub HasRead : ℕ → Bytes → State → State → Slice → Slice → Type 0
+HasRead n o a b s t = ReadsOn (front Materials 0) (front (kind_at n) 0) (take n tables_of_owners) o a b s t read_well
+
+pub none_read : (o : Bytes) (a : State) (s : Slice) → (HasCleanDisk a → IsTrue a.is_open) → HasRead 0 o a a s s
+none_read o a s live = record { looks = (found_still a live).looks; shows = λ _ _ _. tt; reads = λ _ _ _ first. first; whole = λ _ _ _ _ _ is. absurd cc }
+
+pub one_more_read : (i : ℕ) → i < 11 → (o : Bytes) (a b c : State) (s t u : Slice) (r : Result (Unit {0}) KeepFault) → HasRead i o a b s t → (is_owned (kind_at i) ≡ true → ReadsNext (kind_at i) o b c t u r)
+    → ReadsOn (front Materials 0) (front (kind_at (i + 1)) 0) (take (i + 1) tables_of_owners) o a c s u r
+one_more_read i low o a b c s t u r so one =
+    let k = kind_at i in
+    let step = step_at i low in
+    subst₂ (λ next kinds. ReadsOn (front Materials 0) (front next 0) kinds o a c s u r) step.1 step.2 (reads_then (front Materials 0) (front k 0) (front (next_of k) 0) o a b c s t u tt r so (one step.0))

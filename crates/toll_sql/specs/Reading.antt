@@ -13,7 +13,7 @@ use Rattle.toll_sql.specs.Fronts.{IsStoredAs, front, past}
 use Rattle.toll_sql.specs.Shown.{Shows}
 use Rattle.toll_sql.specs.StoredLaws.{StandIn}
 use Rattle.toll_sql.specs.declared.table_kind.TableKind.{TableKind}
-use Rattle.toll_sql.specs.declared.table_kind.TableKind.TheVariants.{Materials, Tests, Recipes, Requirements, Orders, Batches, Lots, Sublots, Moves, Results, Voids}
+use Rattle.toll_sql.specs.declared.table_kind.TableKind.TheVariants.{Meta, Materials, Tests, Recipes, Requirements, Orders, Batches, Lots, Sublots, Moves, Results, Voids}
 
 -- of the owner's slice, which was read this far, more is read, out of these tables; where it keeps the rules, no damage is found
 pub record ReadsOn (from to : Slice → Slice) (kinds : List TableKind) (o : Bytes) {X : Type 0} (old new : State) (before after : Slice) (result : Result X KeepFault) : Type 0 where
@@ -22,25 +22,23 @@ pub record ReadsOn (from to : Slice → Slice) (kinds : List TableKind) (o : Byt
   pub reads : ForHeld old new (λ c. before ≡ from (c.rows o) → OnOk result (after ≡ to (c.rows o)))
   pub whole : ForHeld old new (λ c. ContentKeepsRules c → before ≡ from (c.rows o) → result ≢ Err Damaged)
 
--- the tables of materials, of their tests, of recipes and of their requirements
-abbrev pub material_tables : List TableKind
-material_tables = Materials ∷ Tests ∷ Recipes ∷ Requirements ∷ []
+-- the table that is read behind this one; behind the last it is `Meta`, which has no row of a slice
+abbrev pub next_of : TableKind → TableKind
+next_of Materials = Tests
+next_of Tests = Recipes
+next_of Recipes = Requirements
+next_of Requirements = Orders
+next_of Orders = Batches
+next_of Batches = Lots
+next_of Lots = Sublots
+next_of Sublots = Moves
+next_of Moves = Results
+next_of Results = Voids
+next_of _ = Meta
 
--- the tables of orders and of batches
-abbrev pub work_tables : List TableKind
-work_tables = Orders ∷ Batches ∷ []
-
--- the tables of lots and of sublots
-abbrev pub lot_tables : List TableKind
-lot_tables = Lots ∷ Sublots ∷ []
-
--- the tables of movements, of results and of voids
-abbrev pub movement_tables : List TableKind
-movement_tables = Moves ∷ Results ∷ Voids ∷ []
-
--- all tables that owners part, but these last
-abbrev pub definition_tables : List TableKind
-definition_tables = Materials ∷ Tests ∷ Recipes ∷ Requirements ∷ Orders ∷ Batches ∷ Lots ∷ Sublots ∷ []
+-- the table's rows are read, behind those of the tables before it
+abbrev pub ReadsNext : {X : Type 0} → TableKind → Bytes → State → State → Slice → Slice → Result X KeepFault → Type 0
+ReadsNext {X} k o old new before after result = ReadsOn (front k 0) (front (next_of k) 0) (k ∷ []) o {X = X} old new before after result
 
 -- all rows of one kind, which stand in their table as such rows do, are read behind those of the tables before it
 abbrev pub ReadsKind : {X Y : Type 0} → TableKind → (Bytes → X → Row) → (X → Type 0) → (X → OfficeRow) → (Slice → List X)

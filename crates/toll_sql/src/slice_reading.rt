@@ -1,5 +1,5 @@
 //! All rows of an owner, read from the tables.
-ghost use Rattle.std.specs.Prelude.{◌≡◌, ◌≢◌, ◌||◌, None, Err, IfOk, is_some};
+ghost use Rattle.std.specs.Prelude.{◌≡◌, ◌≢◌, ◌||◌, true, None, Err, IfOk, IsTrue, is_some};
 ghost use Rattle.sqlite.specs.Held.{state};
 ghost use Rattle.sqlite.specs.State.{HasCleanDisk};
 ghost use Rattle.std.specs.List.{list_any};
@@ -9,12 +9,14 @@ ghost use Rattle.toll_base.specs.Values.{house_name};
 ghost use Rattle.toll_keep.specs.Content.{ContentKeepsRules, slice_of};
 ghost use Rattle.toll_sql.specs.Asking.{ForHeld, IsLooking};
 ghost use Rattle.toll_sql.specs.Fronts.{front};
-ghost use Rattle.toll_sql.specs.Reading.{ReadsOn, definition_tables, lot_tables, material_tables, movement_tables, work_tables};
+ghost use Rattle.toll_sql.specs.Reading.{ReadsNext, ReadsOn};
 ghost use Rattle.toll_sql.specs.Shown.{IsToldUnknown, Shows, ShowsSlice, tables_of_owners};
-ghost use Rattle.toll_sql.specs.declared.table_kind.TableKind.TheVariants.{Materials, Orders, Lots, Moves};
+ghost use Rattle.toll_sql.specs.Tables.{is_owned};
+ghost use Rattle.toll_sql.specs.declared.table_kind.TableKind.TheVariants.{Materials};
 
 use crate::listing::read_owners;
 use crate::reading::read_table;
+use crate::table_kind::TableKind;
 use sqlite::{Alter, Connection};
 use std::alloc::Global;
 use toll_base::{
@@ -64,77 +66,72 @@ fn read_rows_of<S: Alter>(
     alloc: Global,
     owner: &Name,
 ) -> Result<Slice, KeepFault>
+    requires { HasCleanDisk (state S.Store conn.old) → IsTrue (state S.Store conn.old).is_open }
     ensures looks { IsLooking (state S.Store conn.old) (state S.Store conn.new) result }
     ensures reads { ForHeld (state S.Store conn.old) (state S.Store conn.new) (λ c. IfOk result (λ slice. slice ≡ c.rows owner.now)) }
     ensures shown { Shows tables_of_owners owner.now (state S.Store conn.old) (state S.Store conn.new) result }
     ensures whole { ForHeld (state S.Store conn.old) (state S.Store conn.new) (λ c. ContentKeepsRules c → result ≢ Err KeepFault.Damaged) }
 {
     let mut slice = Slice::new(alloc, *owner);
-    read_definitions(conn, &mut slice, owner)?;
-    read_movements(conn, &mut slice, owner)?;
+    read_tables(conn, &mut slice, owner)?;
     Ok(slice)
 }
 
-// Materials, tests, recipes and requirements, and all behind them but movements.
-fn read_definitions<S: Alter>(
-    conn: &mut Connection<S>,
-    slice: &mut Slice,
-    owner: &Name,
-) -> Result<(), KeepFault>
-    ensures { ReadsOn (front Materials 0) (front Moves 0) definition_tables owner.now (state S.Store conn.old) (state S.Store conn.new) slice.old slice.new result }
+// The tables that owners part, each behind those of the rows that its own refer to.
+fn tables_of_owners() -> [TableKind; 11]
+    ensures { result ≡ tables_of_owners }
 {
-    read_materials(conn, slice, owner)?;
-    read_work(conn, slice, owner)?;
-    read_lots(conn, slice, owner)
+    [
+        TableKind::Materials,
+        TableKind::Tests,
+        TableKind::Recipes,
+        TableKind::Requirements,
+        TableKind::Orders,
+        TableKind::Batches,
+        TableKind::Lots,
+        TableKind::Sublots,
+        TableKind::Moves,
+        TableKind::Results,
+        TableKind::Voids,
+    ]
 }
 
-// Materials, their tests, recipes and their requirements.
-fn read_materials<S: Alter>(
+// Reads the owner's rows of each table.
+fn read_tables<S: Alter>(
     conn: &mut Connection<S>,
     slice: &mut Slice,
     owner: &Name,
 ) -> Result<(), KeepFault>
-    ensures { ReadsOn (front Materials 0) (front Orders 0) material_tables owner.now (state S.Store conn.old) (state S.Store conn.new) slice.old slice.new result }
+    requires { HasCleanDisk (state S.Store conn.old) → IsTrue (state S.Store conn.old).is_open }
+    ensures { ReadsOn (front Materials 0) (λ s. s) tables_of_owners owner.now (state S.Store conn.old) (state S.Store conn.new) slice.old slice.new result }
 {
-    read_table::<S, MaterialRow>(conn, slice, owner)?;
-    read_table::<S, TestRow>(conn, slice, owner)?;
-    read_table::<S, RecipeRow>(conn, slice, owner)?;
-    read_table::<S, RequirementRow>(conn, slice, owner)
+    for table in tables_of_owners() {
+        read_kind(conn, slice, owner, table)?;
+    }
+    Ok(())
 }
 
-// Orders and batches.
-fn read_work<S: Alter>(
+// Reads the owner's rows of this table.
+fn read_kind<S: Alter>(
     conn: &mut Connection<S>,
     slice: &mut Slice,
     owner: &Name,
+    table: TableKind,
 ) -> Result<(), KeepFault>
-    ensures { ReadsOn (front Orders 0) (front Lots 0) work_tables owner.now (state S.Store conn.old) (state S.Store conn.new) slice.old slice.new result }
+    ensures { is_owned table ≡ true → ReadsNext table owner.now (state S.Store conn.old) (state S.Store conn.new) slice.old slice.new result }
 {
-    read_table::<S, OrderRow>(conn, slice, owner)?;
-    read_table::<S, BatchRow>(conn, slice, owner)
-}
-
-// Lots and sublots.
-fn read_lots<S: Alter>(
-    conn: &mut Connection<S>,
-    slice: &mut Slice,
-    owner: &Name,
-) -> Result<(), KeepFault>
-    ensures { ReadsOn (front Lots 0) (front Moves 0) lot_tables owner.now (state S.Store conn.old) (state S.Store conn.new) slice.old slice.new result }
-{
-    read_table::<S, LotRow>(conn, slice, owner)?;
-    read_table::<S, SublotRow>(conn, slice, owner)
-}
-
-// Movements, results and voids.
-fn read_movements<S: Alter>(
-    conn: &mut Connection<S>,
-    slice: &mut Slice,
-    owner: &Name,
-) -> Result<(), KeepFault>
-    ensures { ReadsOn (front Moves 0) (λ s. s) movement_tables owner.now (state S.Store conn.old) (state S.Store conn.new) slice.old slice.new result }
-{
-    read_table::<S, MoveRow>(conn, slice, owner)?;
-    read_table::<S, ResultRow>(conn, slice, owner)?;
-    read_table::<S, VoidRow>(conn, slice, owner)
+    match table {
+        TableKind::Materials => read_table::<S, MaterialRow>(conn, slice, owner),
+        TableKind::Tests => read_table::<S, TestRow>(conn, slice, owner),
+        TableKind::Recipes => read_table::<S, RecipeRow>(conn, slice, owner),
+        TableKind::Requirements => read_table::<S, RequirementRow>(conn, slice, owner),
+        TableKind::Orders => read_table::<S, OrderRow>(conn, slice, owner),
+        TableKind::Batches => read_table::<S, BatchRow>(conn, slice, owner),
+        TableKind::Lots => read_table::<S, LotRow>(conn, slice, owner),
+        TableKind::Sublots => read_table::<S, SublotRow>(conn, slice, owner),
+        TableKind::Moves => read_table::<S, MoveRow>(conn, slice, owner),
+        TableKind::Results => read_table::<S, ResultRow>(conn, slice, owner),
+        TableKind::Voids => read_table::<S, VoidRow>(conn, slice, owner),
+        TableKind::Meta | TableKind::Owners | TableKind::Units => Ok(()),
+    }
 }

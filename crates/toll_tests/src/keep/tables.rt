@@ -165,7 +165,6 @@ fn what_touches_the_tables_is_damage(rt: HostRuntime) -> Result<(), Fail> {
     for statement in [
         "CREATE TABLE notes (lot TEXT, owner TEXT REFERENCES owners (owner))",
         "CREATE UNIQUE INDEX lots_apart ON lots (lot)",
-        "ALTER TABLE lots ADD COLUMN note TEXT",
     ] {
         let conn = filled(rt.alloc())?.into_connection();
         check_refused(rt.alloc(), conn, statement, OpenFault::Damaged)?;
