@@ -14,6 +14,8 @@ use Rattle.toll_plant.specs.Imports.{commands_in}
 use Rattle.toll_plant.specs.Table.{actual_line}
 use Rattle.toll_plant.specs.Words.{command_read, command_with, values_read}
 use Rattle.toll_plant.specs.declared.argument.Given.{Given}
+use Rattle.toll_desk.specs.PlantHeld.{looks_at_two}
+use Rattle.toll_plant.specs.Imports.{CanBeHeld}
 use Rattle.toll_plant.proofs.ImportRuns.{IsDeed, IsDeedOrNone}
 use Rattle.toll_plant.proofs.OfficeLemmas.{same_number}
 use Rattle.toll_plant.proofs.TableLemmas.{actual_makes, made, values_have}
@@ -22,23 +24,27 @@ use Rattle.toll_plant.proofs.TableLemmas.{actual_makes, made, values_have}
 pub asks_actual : (fields : Fields) → length fields ≡ length actual_line.values → IsSome (command_with actual_line fields)
 asks_actual fields same = made actual_line fields (values_read actual_line.values fields) actual_makes same refl
 
--- the command that the values of an actual make is a deed
+-- what is asked records a movement, or can't be read, and is decided over two owners' rows at most
+abbrev IsDeedOfTwo : PlantCmd → Type 0
+IsDeedOfTwo command = IsDeed (asked_by command) × (looks_at_two (asked_by command) ≡ true)
+
+-- the command that the values of an actual make is such a deed
 abbrev MakeDeed : List Given → Type 0
-MakeDeed values = (command : PlantCmd) → command_from actual_line.command values ≡ Some command → IsDeed (asked_by command)
+MakeDeed values = (command : PlantCmd) → command_from actual_line.command values ≡ Some command → IsDeedOfTwo command
 
 deeds_made : (fields : Fields) (read : Result (List Given) Refusal) → length fields ≡ length actual_line.values → values_read actual_line.values fields ≡ read
-    → (command : PlantCmd) → command_read actual_line.command read ≡ Some command → IsDeed (asked_by command)
+    → (command : PlantCmd) → command_read actual_line.command read ≡ Some command → IsDeedOfTwo command
 deeds_made fields (Err why) same e command is =
     let read : Unread why ≡ command = cc is in
-    inr (why, ap asked_by (sym read))
+    (inr (why, ap asked_by (sym read)), ap (λ c. looks_at_two (asked_by c)) (sym read))
 deeds_made fields (Ok values) same e command is =
     values_have actual_line.values MakeDeed fields values same
     (λ key owner order number segment role material lot_owner lot sublot amount day command is.
     let made : Actual key owner order number segment role material (lot_id lot_owner lot) sublot amount day ≡ command = cc is in
-    inl (owner, record { key = key; what = move.Actual order number segment role material (lot_id lot_owner lot) sublot; amount = amount; day = day }, ap asked_by (sym made)))
+    (inl (owner, record { key = key; what = move.Actual order number segment role material (lot_id lot_owner lot) sublot; amount = amount; day = day }, ap asked_by (sym made)), ap (λ c. looks_at_two (asked_by c)) (sym made)))
     e command is
 
-in_record : (fields : Fields) (b : Bool) → (length fields == length actual_line.values) ≡ b → (command : PlantCmd) → cond b (command_with actual_line fields) None ≡ Some command → IsDeed (asked_by command)
+in_record : (fields : Fields) (b : Bool) → (length fields == length actual_line.values) ≡ b → (command : PlantCmd) → cond b (command_with actual_line fields) None ≡ Some command → IsDeedOfTwo command
 in_record fields true same command is = deeds_made fields (values_read actual_line.values fields) (same_number (length fields) (length actual_line.values) same) refl command is
 in_record fields false same command is = absurd (cc is)
 
@@ -49,4 +55,13 @@ deed_or_none (Some c) deed = deed c refl
 -- records give deeds or nothing
 pub all_deeds : (records : List Fields) → AllByRecursion IsDeedOrNone (commands_in records)
 all_deeds [] = tt
-all_deeds (fields ∷ records) = (deed_or_none (command_in fields) (in_record fields (length fields == length actual_line.values) refl), all_deeds records)
+all_deeds (fields ∷ records) = (deed_or_none (command_in fields) (λ command is. (in_record fields (length fields == length actual_line.values) refl command is).0), all_deeds records)
+
+held_or_none : (command : Option PlantCmd) → ((c : PlantCmd) → command ≡ Some c → looks_at_two (asked_by c) ≡ true) → CanBeHeld command
+held_or_none None held = tt
+held_or_none (Some c) held = held c refl
+
+-- and what they change can be held back
+pub all_held : (records : List Fields) → AllByRecursion CanBeHeld (commands_in records)
+all_held [] = tt
+all_held (fields ∷ records) = (held_or_none (command_in fields) (λ command is. (in_record fields (length fields == length actual_line.values) refl command is).1), all_held records)

@@ -14,7 +14,7 @@ use Rattle.toll_desk.specs.Asking.{asked_by}
 use Rattle.toll_desk.specs.declared.plant_cmd.PlantCmd.{PlantCmd}
 use Rattle.toll_plant.specs.Outcomes.{judged, is_fault}
 use Rattle.toll_plant.specs.Imports.{Comes, IsImport, commands_in}
-use Rattle.toll_plant.specs.ImportTexts.{is_accepted}
+use Rattle.toll_plant.specs.Outcomes.{is_accepted}
 use Rattle.toll_plant.specs.ImportLaws.{AreImports, Imported, all_accepted, count_accepted, count_keyed, is_keyed, records_keyed}
 use Rattle.toll_plant.specs.declared.outcome.Outcome.{Outcome}
 use Rattle.toll_plant.specs.declared.outcome.Outcome.TheVariants as came

@@ -8,6 +8,11 @@ pub mod TableLemmas
 pub mod LimitLemmas
 pub mod FieldLemmas
 pub mod ImportRuns
+mod GroupRuns
+mod Holding
+mod GroupMade
+mod GroupChains
+mod ImportDone
 pub mod ActualLemmas
 pub mod FileLemmas
 pub mod ReaderLemmas

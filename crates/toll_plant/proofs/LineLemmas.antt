@@ -2,7 +2,8 @@
 use Rattle.std.proofs.Common.{◌≡◌, ◌+◌, ◌<◌, ℕ, suc, List, [], ◌∷◌, ◌++◌, length, drop, get_or, sym, ap, ◌∙◌, append_assoc, add-one, arith}
 use Rattle.std.proofs.Math.Seq.{drop-cons}
 use Rattle.toll_plant.specs.declared.outcome.Outcome.{Outcome}
-use Rattle.std.proofs.lemmas.List.{map-append}
+use Rattle.std.proofs.lemmas.List.{map-append, take_more}
+use Rattle.std.specs.Prelude.{take}
 use Rattle.toll_plant.specs.Imports.{AreNumbered, outcomes_in}
 use Rattle.toll_plant.specs.declared.report.ImportLine.{ImportLine}
 
@@ -11,11 +12,12 @@ pub numbered_more : (n : ℕ) (lines : List ImportLine) (l : ImportLine) → Are
 numbered_more n [] l numbered next = (omega (arith, next), tt)
 numbered_more n (k ∷ lines) l numbered next = (numbered.0, numbered_more (n + 1) lines l numbered.1 (omega (arith, next)))
 
--- and its outcome comes before those behind it
-pub outcomes_grow : (before grown : List ImportLine) (l : ImportLine) (behind : List Outcome) → grown ≡ before ++ l ∷ [] → outcomes_in grown ++ behind ≡ outcomes_in before ++ l.outcome ∷ behind
-outcomes_grow before grown l behind is =
-    ap (λ ls. outcomes_in ls ++ behind) is
-    ∙ (ap (λ os. os ++ behind) (map-append (λ (k : ImportLine). k.outcome) before (l ∷ [])) ∙ append_assoc (outcomes_in before) (l.outcome ∷ []) behind)
+-- and its outcome comes behind those from before
+pub outcomes_more : (first before grown : List ImportLine) (told : List Outcome) (i number : ℕ) (d : Outcome) → i < length told → grown ≡ before ++ record { number = number; outcome = get_or told i d } ∷ [] → outcomes_in before ≡ outcomes_in first ++ take i told
+    → outcomes_in grown ≡ outcomes_in first ++ take (i + 1) told
+outcomes_more first before grown told i number d there is so_far =
+    ap outcomes_in is ∙ map-append (λ (k : ImportLine). k.outcome) before (record { number = number; outcome = get_or told i d } ∷ [])
+    ∙ ap (λ os. os ++ get_or told i d ∷ []) so_far ∙ append_assoc (outcomes_in first) (take i told) (get_or told i d ∷ []) ∙ ap (λ os. outcomes_in first ++ os) (sym (take_more told i d there))
 
 -- an item stands before those behind it
 pub item_there : {X : Type 0} (items : List X) (i : ℕ) (x : X) → i < length items → x ≡ get_or items i x → drop i items ≡ x ∷ drop (i + 1) items

@@ -14,7 +14,7 @@ use Rattle.toll_desk.specs.Asking.{asked_by}
 use Rattle.toll_desk.specs.declared.plant_cmd.PlantCmd.{PlantCmd}
 use Rattle.toll_plant.specs.Files.{Fields}
 use Rattle.toll_plant.specs.Imports.{IsImport, commands_in}
-use Rattle.toll_plant.specs.ImportTexts.{is_accepted}
+use Rattle.toll_plant.specs.Outcomes.{is_accepted}
 use Rattle.toll_plant.specs.Outcomes.{is_fault}
 use Rattle.toll_plant.specs.declared.outcome.Outcome.{Outcome}
 use Rattle.toll_plant.specs.declared.outcome.Outcome.TheVariants.{Accepted, Repeated}

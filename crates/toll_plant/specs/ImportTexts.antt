@@ -4,7 +4,7 @@ use Rattle.toll_base.specs.Bytes.{Bytes}
 use Rattle.toll_base.specs.Refusal.{code_of, title_of}
 use Rattle.toll_keep.specs.Fault.{name_of}
 use Rattle.toll_print.specs.Columns.{right, line}
-use Rattle.toll_plant.specs.Outcomes.{is_fault}
+use Rattle.toll_plant.specs.Outcomes.{is_accepted, is_fault}
 use Rattle.toll_plant.specs.declared.outcome.Outcome.{Outcome}
 use Rattle.toll_plant.specs.declared.outcome.Outcome.TheVariants.{Accepted, Repeated, Refused, BadRecord, Fault}
 use Rattle.toll_plant.specs.declared.report.ImportLine.{ImportLine}
@@ -21,10 +21,6 @@ outcome_text (Fault fault) = codes "fault " ++ name_of fault
 -- a record's number, and what came of it
 abbrev pub record_line : ImportLine → Bytes
 record_line l = line (right 6 (decimal l.number) ∷ outcome_text l.outcome ∷ [])
-
-abbrev pub is_accepted : Outcome → Bool
-is_accepted Accepted = true
-is_accepted _ = false
 
 abbrev pub is_repeated : Outcome → Bool
 is_repeated Repeated = true

@@ -1,22 +1,25 @@
 -- What comes of the records of a file of actuals.
-use Rattle.std.specs.Prelude.{◌≡◌, ◌≢◌, ◌+◌, ◌⊎◌, ℕ, Option, Some, None, List, [], ◌∷◌, map}
+use Rattle.std.specs.Prelude.{◌≡◌, ◌≢◌, ◌+◌, ◌⊎◌, ◌≤◌, ℕ, true, false, if◌then◌else◌, Option, Some, None, List, [], ◌∷◌, ◌++◌, length, map, take, Result, Ok, Err}
 use Rattle.std.specs.Bool.{MatchBool}
-use Rattle.std.specs.List.{AllByRecursion}
+use Rattle.std.specs.List.{AllByRecursion, list_any}
 use Rattle.toll_base.specs.Bytes.{Bytes}
 use Rattle.toll_history.specs.History.{History}
 use Rattle.toll_history.specs.Verdict.{Verdict, IsLawful}
-use Rattle.toll_keep.specs.Meaning.{Meaning}
+use Rattle.toll_keep.specs.Goes.{FindsNoDamage, Goes, Settles}
+use Rattle.toll_keep.specs.Meaning.{Meaning, OverHeld}
 use Rattle.toll_keep.specs.Content.{Content}
 use Rattle.toll_keep.specs.declared.fault.KeepFault.{KeepFault}
 use Rattle.toll_keep.specs.declared.fault.KeepFault.TheVariants.{Memory, Damaged}
 use Rattle.toll_answers.specs.PlantAnswers.{Judged, IsPlantAnswer, after_plant}
-use Rattle.toll_desk.specs.Asking.{asked_by, plant_told}
+use Rattle.toll_standing.specs.Standing.{StandsFor}
+use Rattle.toll_desk.specs.PlantHeld.{looks_at_two}
+use Rattle.toll_desk.specs.Asking.{asked_by}
 use Rattle.toll_desk.specs.Outcome.{HoldsFor, LeavesOr}
-use Rattle.toll_desk.specs.PlantServed.{IsPlantServed}
+use Rattle.toll_desk.specs.Reads.{Over}
 use Rattle.toll_desk.specs.declared.plant_cmd.PlantCmd.{PlantCmd}
-use Rattle.toll_desk.specs.declared.plant_cmd.PlantReply.{PlantReply}
 use Rattle.toll_plant.specs.Files.{Fields, HasActuals, command_in}
-use Rattle.toll_plant.specs.Outcomes.{judged, outcome_of, is_fault}
+use Rattle.toll_plant.specs.Outcomes.{judged, is_accepted, is_fault}
+use Rattle.toll_plant.specs.declared.grouping.TheConstants.{GROUP_RECORDS}
 use Rattle.toll_plant.specs.declared.outcome.Outcome.{Outcome}
 use Rattle.toll_plant.specs.declared.outcome.Outcome.TheVariants.{BadRecord, Fault}
 use Rattle.toll_plant.specs.declared.report.ImportLine.{ImportLine}
@@ -57,35 +60,10 @@ IsImport old _ _ new = ⊥
 
 -- ---- over a keep
 
--- over a history whose rows were held, this comes of the record, and what it leaves is held; a stop on the way leaves the rows from before, or those that the record makes of them, and one behind it just what it left, or the store met a cause of Disk
-pub record IsRecordStep (holds : Content → Type 0) (was_live : Type 0) (leaves : List Content → Type 0) (met : Type 0) (c : Content) (H : History) (command : Option PlantCmd) (outcome : Outcome) : Type 0 where
-  pub next : History
-  pub comes : Comes H command outcome next
-  pub lawful : IsLawful next
-  pub left : HoldsFor holds next
-  pub crash : was_live → LeavesOr leaves c (after_record H command)
-  pub settled : was_live → leaves (left.content ∷ []) ⊎ met
-
-module _ {K : Type 0} (meaning : Meaning K) where
-  -- the record got this outcome: its command was done, or the keep was not called where it gives none
-  abbrev pub IsRecordServed : K → K → Option PlantCmd → Outcome → Type 0
-  IsRecordServed old new None outcome = (outcome ≡ BadRecord) × (new ≡ old)
-  IsRecordServed old new (Some command) outcome = (reply : PlantReply) × IsPlantServed meaning old new command reply × (outcome ≡ outcome_of (plant_told reply))
-
-  -- the records got these outcomes one after another, up to a fault, and made the one keep of the other
-  abbrev pub AreRecordsServed : K → List (Option PlantCmd) → List Outcome → K → Type 0
-  AreRecordsServed old [] [] new = new ≡ old
-  AreRecordsServed old (c ∷ commands) (o ∷ outcomes) new =
-      (middle : K) × IsRecordServed old middle c o × MatchBool (is_fault o) ((outcomes ≡ []) × (new ≡ middle)) (AreRecordsServed middle commands outcomes new)
-  AreRecordsServed old _ _ new = ⊥
-
-  -- the records are steps one after another, from rows that were held; a stop during one leaves the rows that all before it left, or those that it makes of them
-  abbrev pub AreRecordSteps : K → Content → History → List (Option PlantCmd) → List Outcome → K → Type 0
-  AreRecordSteps old c H [] [] new = new ≡ old
-  AreRecordSteps old c H (command ∷ commands) (o ∷ outcomes) new =
-      (middle : K) × (step : IsRecordStep (meaning.holds middle) (meaning.is_live old) (meaning.leaves middle) (meaning.has_cause old middle) c H command o)
-      × MatchBool (is_fault o) ((outcomes ≡ []) × (new ≡ middle)) (AreRecordSteps middle step.left.content step.next commands outcomes new)
-  AreRecordSteps old c H _ _ new = ⊥
+-- what records make of a history where they meet no fault
+abbrev pub after_records : History → List (Option PlantCmd) → History
+after_records H [] = H
+after_records H (command ∷ commands) = after_records (after_record H command) commands
 
 -- from this history the records got these outcomes, and what the import leaves is held
 pub record IsImportOf (holds : Content → Type 0) (H : History) (commands : List (Option PlantCmd)) (outcomes : List Outcome) : Type 0 where
@@ -93,6 +71,106 @@ pub record IsImportOf (holds : Content → Type 0) (H : History) (commands : Lis
   pub imported : IsImport H commands outcomes last
   pub lawful : IsLawful last
   pub left : HoldsFor holds last
+
+-- the record gives no command, or one of which the changes can be held back
+abbrev pub CanBeHeld : Option PlantCmd → Type 0
+CanBeHeld None = Unit {0}
+CanBeHeld (Some command) = looks_at_two (asked_by command) ≡ true
+
+-- the outcome of the last record, where it met a fault
+abbrev pub last_outcome : Result (Unit {0}) KeepFault → List Outcome
+last_outcome (Ok done) = []
+last_outcome (Err fault) = Fault fault ∷ []
+
+-- the outcomes before the first record that was accepted
+abbrev pub before_accepted : List Outcome → List Outcome
+before_accepted [] = []
+before_accepted (o ∷ outcomes) = if is_accepted o then [] else o ∷ before_accepted outcomes
+
+-- what is told where nothing of a group was made: up to the first record that would have changed something, which met the fault
+abbrev pub refused_at : KeepFault → List Outcome → List Outcome
+refused_at fault outcomes = before_accepted outcomes ++ Fault fault ∷ []
+
+-- the outcomes of records of which none met a fault, and that of the one behind them that did
+pub record EndWith (end : Result (Unit {0}) KeepFault) (told : List Outcome) : Type 0 where
+  pub calm : List Outcome
+  pub calmly : list_any is_fault calm ≡ false
+  pub said : told ≡ calm ++ last_outcome end
+
+-- over a history whose rows were held, a group of records got these outcomes, and what it leaves is held; a stop on the way leaves the rows from before, or those that a front of the group makes of them
+pub record IsGroupDone (holds : Content → Type 0) (was_live : Type 0) (leaves : List Content → Type 0) (c : Content) (H : History) (commands : List (Option PlantCmd)) (told : List Outcome) : Type 0 where
+  pub run : IsImportOf holds H commands told
+  pub front : ℕ
+  pub crash : was_live → LeavesOr leaves c (after_records H (take front commands))
+
+-- the records of a group, and what came of them up to a fault
+pub record Group : Type 0 where
+  pub commands : List (Option PlantCmd)
+  pub told : List Outcome
+  pub end : Result (Unit {0}) KeepFault
+
+-- of groups, the last of them first: their records, and what came of them
+abbrev pub all_commands : List Group → List (Option PlantCmd)
+all_commands [] = []
+all_commands (g ∷ earlier) = all_commands earlier ++ g.commands
+
+abbrev pub all_told : List Group → List Outcome
+all_told [] = []
+all_told (g ∷ earlier) = all_told earlier ++ g.told
+
+-- none of them met a fault
+abbrev pub NoneEnded : List Group → Type 0
+NoneEnded groups = AllByRecursion (λ g. g.end ≡ Ok tt) groups
+
+-- the records got these outcomes in these groups, of which none is longer than a group may be: all of them, or those up to a fault
+pub record IsInGroups (groups : List Group) (commands : List (Option PlantCmd)) (told : List Outcome) : Type 0 where
+  pub rest : List (Option PlantCmd)
+  pub asked : all_commands groups ++ rest ≡ commands
+  pub said : all_told groups ≡ told
+  pub all : NoneEnded groups → rest ≡ []
+  pub bounded : AllByRecursion (λ g. length g.commands ≤ GROUP_RECORDS) groups
+
+module _ {K : Type 0} (meaning : Meaning K) where
+  -- all that `import_group` ensures of a group of records: either the keep was not asked, or it went so; its changes are made by one call, all or none
+  pub record IsGroupServed (old new : K) (commands : List (Option PlantCmd)) (told : List Outcome) (end : Result (Unit {0}) KeepFault) : Type 0 where
+    pub ends : EndWith end told
+    pub goes : ((new ≡ old) × (end ≡ Ok tt)) ⊎ Goes meaning old new end
+    pub settles : Settles meaning old new
+    pub whole : FindsNoDamage meaning old new end
+    pub quiet : OverHeld meaning old new (λ c. list_any is_accepted told ≡ false → meaning.holds new c)
+    pub done : Over meaning old new (λ c H. IsGroupDone (meaning.holds new) (meaning.is_live old) (meaning.leaves new) c H commands told)
+
+  -- groups of records, the last of them first, made the one keep of the other; behind one that met a fault there is none
+  abbrev pub AreGroupsServed : K → List Group → K → Type 0
+  AreGroupsServed old [] new = new ≡ old
+  AreGroupsServed old (g ∷ earlier) new = (middle : K) × AreGroupsServed old earlier middle × NoneEnded earlier × IsGroupServed middle new g.commands g.told g.end
+
+  -- the records got these outcomes group by group, up to a fault, and made the one keep of the other
+  abbrev pub AreRecordsServed : K → List (Option PlantCmd) → List Outcome → K → Type 0
+  AreRecordsServed old commands told new = (groups : List Group) × IsInGroups groups commands told × AreGroupsServed old groups new
+
+  -- over a history whose rows were held, a group of records leads to another, whose rows are held then; a stop on the way leaves the rows from before, or those that a front of the group makes of them, and one behind it just what it left, or the store met a cause of Disk
+  pub record IsGroupStep (old new : K) (c : Content) (H : History) (g : Group) (d : Content) (G : History) : Type 0 where
+    pub comes : IsImport H g.commands g.told G
+    pub lawful : IsLawful G
+    pub held : meaning.holds new d
+    pub stands : StandsFor d G
+    pub front : ℕ
+    pub crash : meaning.is_live old → LeavesOr (meaning.leaves new) c (after_records H (take front g.commands))
+    pub settled : meaning.is_live old → meaning.leaves new (d ∷ []) ⊎ meaning.has_cause old new
+
+  -- so do groups one after another, the last of them first: a stop during one leaves the rows that all before it left, or those that a front of it makes of them
+  abbrev pub AreGroupSteps : K → Content → History → List Group → K → Content → History → Type 0
+  AreGroupSteps old c H [] new d G = (new ≡ old) × (d ≡ c) × (G ≡ H)
+  AreGroupSteps old c H (g ∷ earlier) new d G = (middle : K) × (b : Content) × (F : History) × AreGroupSteps old c H earlier middle b F × IsGroupStep middle new b F g d G
+
+  -- the records are such steps, from rows that were held
+  pub record AreRecordSteps (old : K) (c : Content) (H : History) (commands : List (Option PlantCmd)) (told : List Outcome) (new : K) : Type 0 where
+    pub groups : List Group
+    pub parts : IsInGroups groups commands told
+    pub content : Content
+    pub last : History
+    pub steps : AreGroupSteps old c H groups new content last
 
 -- the only fault is want of memory
 abbrev pub IsOpenOutcome : Outcome → Type 0

@@ -23,3 +23,8 @@ outcome_of (Err fault) = came.Fault fault
 abbrev pub is_fault : Outcome → Bool
 is_fault (came.Fault fault) = true
 is_fault _ = false
+
+-- the record changed something
+abbrev pub is_accepted : Outcome → Bool
+is_accepted came.Accepted = true
+is_accepted _ = false

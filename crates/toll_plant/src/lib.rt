@@ -8,6 +8,7 @@ mod batches;
 mod clap_words;
 mod command;
 mod fault;
+mod grouping;
 mod import_fault;
 mod importing;
 mod laws;
@@ -25,6 +26,7 @@ mod values;
 mod words;
 
 pub use fault::WordsFault;
+pub use grouping::{GROUP_RECORDS, import_group};
 pub use import_fault::ImportFault;
 pub use importing::{MOST_FILE_BYTES, import_actuals};
 pub use laws::{

@@ -1,7 +1,7 @@
 //! What comes of a record.
 ghost use Rattle.std.specs.Prelude.{◌≡◌};
 ghost use Rattle.toll_desk.specs.Asking.{plant_told};
-ghost use Rattle.toll_plant.specs.Outcomes.{is_fault, outcome_of};
+ghost use Rattle.toll_plant.specs.Outcomes.{is_accepted, is_fault, outcome_of};
 
 use std::fmt;
 use toll_base::Refusal;
@@ -33,6 +33,13 @@ impl Outcome {
             PlantReply::Text(_) => Outcome::Fault(KeepFault::Damaged),
             PlantReply::Fault(fault) => Outcome::Fault(fault),
         }
+    }
+
+    /// Whether the record changed something.
+    pub(crate) fn is_accepted(&self) -> bool
+        ensures { result ≡ is_accepted self.now }
+    {
+        matches!(self, Outcome::Accepted)
     }
 
     /// Whether no later record acts.

@@ -1,7 +1,7 @@
 //! How many records came to what.
 ghost use Rattle.std.specs.Prelude.{◌≡◌, count_by};
-ghost use Rattle.toll_plant.specs.ImportTexts.{is_accepted, is_bad, is_refused, is_repeated};
-ghost use Rattle.toll_plant.specs.Outcomes.{is_fault};
+ghost use Rattle.toll_plant.specs.ImportTexts.{is_bad, is_refused, is_repeated};
+ghost use Rattle.toll_plant.specs.Outcomes.{is_accepted, is_fault};
 
 use crate::outcome::Outcome;
 use crate::report::ImportLine;

@@ -1,0 +1,211 @@
+-- Groups of records, one after another, are a run.
+use Rattle.std.proofs.Common.{◌≡◌, ◌++◌, Bool, true, false, ◌||◌, Option, List, [], ◌∷◌, Result, Ok, Err, refl, sym, subst, ap, ◌∙◌, inl, inr}
+use Rattle.std.specs.List.{AllByRecursion, list_any}
+use Rattle.std.proofs.lemmas.List.{append-nil}
+use Rattle.std.proofs.lemmas.List.Folds.{list_any-append}
+use mathlib.Core.Bool.{false≢true}
+use Rattle.toll_history.specs.History.{History}
+use Rattle.toll_history.specs.Verdict.{IsLawful}
+use Rattle.toll_keep.specs.Content.{Content}
+use Rattle.toll_keep.specs.Goes.{Goes}
+use Rattle.toll_keep.specs.Meaning.{Meaning}
+use Rattle.toll_keep.specs.declared.fault.KeepFault.{KeepFault}
+use Rattle.toll_keep.specs.declared.fault.KeepFault.TheVariants.{Memory, Disk, Damaged, Closed}
+use Rattle.toll_standing.specs.Standing.{StandsFor}
+use Rattle.toll_standing.proofs.KeptRules.{standing_keeps_rules}
+use Rattle.toll_desk.specs.declared.plant_cmd.PlantCmd.{PlantCmd}
+use Rattle.toll_plant.specs.Imports.{AreGroupSteps, AreGroupsServed, AreRecordSteps, EndWith, Group, IsGroupServed, IsImport, IsImportOf, IsInGroups, IsOpenOutcome, IsWholeOutcome, NoneEnded, all_commands, all_told, last_outcome}
+use Rattle.toll_plant.specs.Outcomes.{is_fault}
+use Rattle.toll_plant.specs.declared.outcome.Outcome.{Outcome}
+use Rattle.toll_plant.specs.declared.outcome.Outcome.TheVariants as came
+use Rattle.toll_plant.proofs.GroupRuns.{import_longer, imports_then}
+
+abbrev End : Type 0
+End = Result (Unit {0}) KeepFault
+
+-- ---- outcomes of groups
+
+either_false : (a b : Bool) → a ≡ false → b ≡ false → (a || b) ≡ false
+either_false true b none more = absurd (cc none)
+either_false false b none more = more
+
+either_true : (a b : Bool) → b ≡ true → (a || b) ≡ true
+either_true true b some = refl
+either_true false b some = some
+
+calm_group : (end : End) (told : List Outcome) → EndWith end told → end ≡ Ok tt → list_any is_fault told ≡ false
+calm_group (Ok done) told ends is = ap (list_any is_fault) (ends.said ∙ append-nil ends.calm) ∙ ends.calmly
+calm_group (Err fault) told ends is = absurd (cc is)
+
+faulty_group : (fault : KeepFault) (told : List Outcome) → EndWith (Err fault) told → list_any is_fault told ≡ true
+faulty_group fault told ends = ap (list_any is_fault) ends.said ∙ list_any-append is_fault ends.calm (came.Fault fault ∷ []) ∙ either_true (list_any is_fault ends.calm) true refl
+
+module _ (P : Outcome → Type 0) (each : (o : Outcome) → is_fault o ≡ false → P o) where
+  calm_first : (b : Bool) (o : Outcome) (told : List Outcome) → is_fault o ≡ b → (b || list_any is_fault told) ≡ false → (list_any is_fault told ≡ false → AllByRecursion P told) → AllByRecursion P (o ∷ told)
+  calm_first true o told is none rest = absurd (cc none)
+  calm_first false o told is none rest = (each o is, rest none)
+
+  all_calm : (told : List Outcome) → list_any is_fault told ≡ false → AllByRecursion P told
+  all_calm [] calm = tt
+  all_calm (o ∷ told) calm = calm_first (is_fault o) o told refl calm (all_calm told)
+
+  all_both : (xs ys : List Outcome) → AllByRecursion P xs → AllByRecursion P ys → AllByRecursion P (xs ++ ys)
+  all_both [] ys first more = more
+  all_both (x ∷ xs) ys first more = (first.0, all_both xs ys first.1 more)
+
+  all_last : (end : End) → ((fault : KeepFault) → end ≡ Err fault → P (came.Fault fault)) → AllByRecursion P (last_outcome end)
+  all_last (Ok done) last = tt
+  all_last (Err fault) last = (last fault refl, tt)
+
+  all_ended : (end : End) (told : List Outcome) → EndWith end told → ((fault : KeepFault) → end ≡ Err fault → P (came.Fault fault)) → AllByRecursion P told
+  all_ended end told ends last = subst (AllByRecursion P) (sym ends.said) (all_both ends.calm (last_outcome end) (all_calm ends.calm ends.calmly) (all_last end last))
+
+-- what met no fault is no damage, and no fault but want of memory
+calm_whole : (o : Outcome) → is_fault o ≡ false → IsWholeOutcome o
+calm_whole o calm is = false≢true (sym calm ∙ ap is_fault is)
+
+calm_open : (o : Outcome) → is_fault o ≡ false → IsOpenOutcome o
+calm_open o calm fault is = absurd (false≢true (sym calm ∙ ap is_fault is))
+
+module _ {K : Type 0} (meaning : Meaning K) where
+  abbrev Served : K → List Group → K → Type 0
+  Served old groups new = AreGroupsServed meaning old groups new
+
+  abbrev GroupServed : K → K → Group → Type 0
+  GroupServed old new g = IsGroupServed meaning old new g.commands g.told g.end
+
+  -- a keep that is honest now has always been so
+  group_honest : (old new : K) (g : Group) → GroupServed old new g → meaning.is_honest new → meaning.is_honest old
+  group_honest old new g served now = elim served.goes [ inl none ↦ subst meaning.is_honest none.0 now | inr goes ↦ goes.honest now ]
+
+  pub all_honest : (old new : K) (groups : List Group) → Served old groups new → meaning.is_honest new → meaning.is_honest old
+  all_honest old new [] served now = subst meaning.is_honest served now
+  all_honest old new (g ∷ earlier) served now = all_honest old served.0 earlier served.1 (group_honest served.0 new g served.3 now)
+
+  -- groups of which none ended with a fault told none
+  calm_groups : (old new : K) (groups : List Group) → Served old groups new → NoneEnded groups → list_any is_fault (all_told groups) ≡ false
+  calm_groups old new [] served none = refl
+  calm_groups old new (g ∷ earlier) served none =
+      list_any-append is_fault (all_told earlier) g.told
+      ∙ either_false (list_any is_fault (all_told earlier)) (list_any is_fault g.told) (calm_groups old served.0 earlier served.1 none.1) (calm_group g.end g.told served.3.ends none.0)
+
+  -- ---- over a history whose rows were held
+
+  -- the groups lead to a history, whose rows are held
+  pub record Lead (old : K) (c : Content) (H : History) (groups : List Group) (new : K) : Type 0 where
+    pub content : Content
+    pub last : History
+    pub steps : AreGroupSteps meaning old c H groups new content last
+    pub imported : IsImport H (all_commands groups) (all_told groups) last
+    pub held : meaning.holds new content
+    pub stands : StandsFor content last
+    pub lawful : IsLawful last
+
+  pub leads : (old new : K) (groups : List Group) → Served old groups new → meaning.is_honest new → (c : Content) (H : History) → meaning.holds old c → StandsFor c H → IsLawful H → Lead old c H groups new
+  leads old new [] served now c H held stands lawful = record {
+    content = c;
+    last = H;
+    steps = (served, refl, refl);
+    imported = refl;
+    held = subst (λ k. meaning.holds k c) (sym served) held;
+    stands = stands;
+    lawful = lawful;
+  }
+  leads old new (g ∷ earlier) served now c H held stands lawful =
+      let middle = served.0 in
+      let group = served.3 in
+      let first = leads old middle earlier served.1 (group_honest middle new g group now) c H held stands lawful in
+      let done = group.done now first.content first.last first.held first.stands first.lawful in
+      let run = done.run in
+      record {
+        content = run.left.content;
+        last = run.last;
+        steps = (
+          middle,
+          first.content,
+          first.last,
+          first.steps,
+          record {
+            comes = run.imported;
+            lawful = run.lawful;
+            held = run.left.held;
+            stands = run.left.stands;
+            front = done.front;
+            crash = done.crash;
+            settled = λ live. elim (group.settles now live run.left.content run.left.held) [ inl left ↦ inl left.1 | inr cause ↦ inr cause ];
+          },
+        );
+        imported = imports_then H first.last run.last (all_commands earlier) g.commands (all_told earlier) g.told (calm_groups old middle earlier served.1 served.2) first.imported run.imported;
+        held = run.left.held;
+        stands = run.left.stands;
+        lawful = run.lawful;
+      }
+
+  -- ---- the records of a file, in groups
+
+  rest_done : (old new : K) (groups : List Group) (rest : List (Option PlantCmd)) → Served old groups new → (NoneEnded groups → rest ≡ []) → (H last : History) → IsImport H (all_commands groups) (all_told groups) last → IsImport H (all_commands groups ++ rest) (all_told groups) last
+  rest_done old new [] rest served none H last imported = subst (λ more. IsImport H ([] ++ more) [] last) (sym (none tt)) imported
+  rest_done old new (g ∷ earlier) rest served none H last imported = go g.end refl
+    where
+      go : (end : End) → g.end ≡ end → IsImport H (all_commands (g ∷ earlier) ++ rest) (all_told (g ∷ earlier)) last
+      go (Ok done) is = subst (λ more. IsImport H (all_commands (g ∷ earlier) ++ more) (all_told (g ∷ earlier)) last) (sym (none (is, served.2))) (subst (λ commands. IsImport H commands (all_told (g ∷ earlier)) last) (sym (append-nil (all_commands (g ∷ earlier)))) imported)
+      go (Err fault) is =
+          let faulty : list_any is_fault (all_told (g ∷ earlier)) ≡ true =
+          list_any-append is_fault (all_told earlier) g.told ∙ either_true (list_any is_fault (all_told earlier)) (list_any is_fault g.told) (faulty_group fault g.told (subst (λ end. EndWith end g.told) is served.3.ends)) in
+          import_longer H last (all_commands (g ∷ earlier)) rest (all_told (g ∷ earlier)) faulty imported
+
+  module _ (old new : K) (commands : List (Option PlantCmd)) (told : List Outcome) (groups : List Group) (parts : IsInGroups groups commands told) (served : Served old groups new) (now : meaning.is_honest new)
+      (c : Content) (H : History) (held : meaning.holds old c) (stands : StandsFor c H) (lawful : IsLawful H) where
+    led : Lead old c H groups new
+    led = leads old new groups served now c H held stands lawful
+
+    pub steps_of : AreRecordSteps meaning old c H commands told new
+    steps_of = record { groups = groups; parts = parts; content = led.content; last = led.last; steps = led.steps }
+
+    pub run_of : IsImportOf (meaning.holds new) H commands told
+    run_of = record {
+      last = led.last;
+      imported = subst (λ asked. IsImport H asked told led.last) parts.asked (subst (λ said. IsImport H (all_commands groups ++ parts.rest) said led.last) parts.said (rest_done old new groups parts.rest served parts.all H led.last led.imported));
+      lawful = led.lawful;
+      left = record { content = led.content; held = led.held; stands = led.stands };
+    }
+
+  -- ---- what is so of each outcome
+
+  module _ (P : Outcome → Type 0) (each : (o : Outcome) → is_fault o ≡ false → P o)
+      (last : (old new : K) (g : Group) → GroupServed old new g → meaning.is_honest new → (c : Content) (H : History) → meaning.holds old c → StandsFor c H → IsLawful H → (fault : KeepFault) → g.end ≡ Err fault → P (came.Fault fault)) where
+    all_in : (old new : K) (groups : List Group) → Served old groups new → meaning.is_honest new → (c : Content) (H : History) → meaning.holds old c → StandsFor c H → IsLawful H → AllByRecursion P (all_told groups)
+    all_in old new [] served now c H held stands lawful = tt
+    all_in old new (g ∷ earlier) served now c H held stands lawful =
+        let middle = served.0 in
+        let before = group_honest middle new g served.3 now in
+        let first = leads old middle earlier served.1 before c H held stands lawful in
+        all_both P each (all_told earlier) g.told (all_in old middle earlier served.1 before c H held stands lawful)
+        (all_ended P each g.end g.told served.3.ends (last middle new g served.3 now first.content first.last first.held first.stands first.lawful))
+
+  whole_last : (old new : K) (g : Group) → GroupServed old new g → meaning.is_honest new → (c : Content) (H : History) → meaning.holds old c → StandsFor c H → IsLawful H → (fault : KeepFault) → g.end ≡ Err fault → IsWholeOutcome (came.Fault fault)
+  whole_last old new g served now c H held stands lawful fault is damaged =
+      let same : fault ≡ Damaged = cc damaged in
+      served.whole now c held (standing_keeps_rules H c lawful stands) (is ∙ ap (λ f. Err f) same)
+
+  pub all_whole : (old new : K) (groups : List Group) → Served old groups new → meaning.is_honest new → (c : Content) (H : History) → meaning.holds old c → StandsFor c H → IsLawful H → AllByRecursion IsWholeOutcome (all_told groups)
+  all_whole = all_in IsWholeOutcome calm_whole whole_last
+
+  -- over a keep that never closes
+  module _ (never_closes : (k : K) → meaning.is_closed k ≡ false) where
+    memory_alone : (old new : K) (fault : KeepFault) → Goes {X = Unit {0}} meaning old new (Err fault) → fault ≡ Memory
+    memory_alone old new Memory goes = refl
+    memory_alone old new Disk goes = absurd (false≢true (sym (never_closes new) ∙ goes.closes))
+    memory_alone old new Damaged goes = absurd (false≢true (sym (never_closes new) ∙ goes.closes))
+    memory_alone old new Closed goes = absurd (false≢true (sym (never_closes new) ∙ goes.closes))
+
+    open_last : (old new : K) (g : Group) → GroupServed old new g → meaning.is_honest new → (c : Content) (H : History) → meaning.holds old c → StandsFor c H → IsLawful H → (fault : KeepFault) → g.end ≡ Err fault → IsOpenOutcome (came.Fault fault)
+    open_last old new g served now c H held stands lawful fault is other same =
+        let e : fault ≡ other = cc same in
+        sym e ∙ elim served.goes [
+          | inl none ↦ (let never : Err fault ≡ Ok tt = sym is ∙ none.1 in absurd (cc never))
+          | inr goes ↦ memory_alone old new fault (subst (λ end. Goes meaning old new end) is goes)
+        ]
+
+    pub all_open : (old new : K) (groups : List Group) → Served old groups new → meaning.is_honest new → (c : Content) (H : History) → meaning.holds old c → StandsFor c H → IsLawful H → AllByRecursion IsOpenOutcome (all_told groups)
+    all_open = all_in IsOpenOutcome calm_open open_last

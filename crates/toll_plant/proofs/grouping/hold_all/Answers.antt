@@ -1,0 +1,114 @@
+use Rattle.std.proofs.Common.{◌≡◌, ◌+◌, ◌++◌, true, false, [], ◌∷◌, drop, Ok, Err, refl, sym, subst, ap, ◌∙◌}
+use Rattle.std.specs.List.{list_any}
+use Rattle.std.proofs.lemmas.List.{append-nil, drop_all}
+use Rattle.toll_keep.specs.declared.fault.KeepFault.TheVariants.{Memory}
+use Rattle.toll_plant.specs.HeldRecords.{IsHeldFor}
+use Rattle.toll_plant.specs.Outcomes.{is_accepted, is_fault}
+use Rattle.toll_plant.proofs.GroupRuns.{SoFar, held_all, held_to, refused_now, so_far_more}
+use Rattle.toll_plant.proofs.Holding.{asked_all, asked_next, calm_next, failed_next, faulty_memory, kept_next, kept_one, quiet_next, some_comes, through_next}
+use Rattle.toll_plant.proofs.LineLemmas.{item_there}
+use Rattle.toll_plant.proofs.grouping.hold_all.Goals as goal
+
+pub returns-in-Err-clause-held : goal.returns-in-Err-clause-held
+returns-in-Err-clause-held g c =
+    let K = g.K.Keep in
+    let l = c.loop-command in
+    let so = l.invariant in
+    let held = c.in-Err.ensures in
+    let i = l.command-index in
+    let commands = c.args.commands.now in
+    let command = c.command-item.result in
+    let told = l.told.items in
+    record {
+      ends = record { calm = told; calmly = so.calm; said = sym (append-nil told) };
+      memory = tt;
+      asked = tt;
+      failed = failed_next K.meaning c.args.keep.now l.keep c.act.new.keep l.overlay c.act.new.overlay c.in-Err.fault held.reading so.through;
+      kept = kept_next K.meaning c.args.keep.now l.keep c.act.new.keep l.overlay c.act.new.overlay (Err c.in-Err.fault) held.reading so.kept;
+      quiet = tt;
+      over = λ honest content H there stands lawful.
+          let before = (kept_one K.meaning c.args.keep.now l.keep c.act.new.keep l.overlay c.act.new.overlay (Err c.in-Err.fault) held.reading honest).0 in
+          let here = item_there commands i command c.loop-command-test.true c.command-item.is in
+          let so_far = subst (λ left. SoFar content H commands left told l.overlay.changes.items) here (so.so_far before content H there stands lawful) in
+          refused_now content H commands (drop (i + 1) commands) command told l.overlay.changes.items so_far (list_any is_accepted told) refl c.in-Err.fault (some_comes so_far.now command c.in-Err.fault held.some);
+    }
+
+pub returns-then-is_fault-clause-held : goal.returns-then-is_fault-clause-held
+returns-then-is_fault-clause-held g c =
+    let K = g.K.Keep in
+    let l = c.loop-command in
+    let so = l.invariant in
+    let o = c.in-Ok.outcome in
+    let held = c.in-Ok.ensures in
+    let i = l.command-index in
+    let commands = c.args.commands.now in
+    let command = c.command-item.result in
+    let told = l.told.items in
+    let faulty : is_fault o ≡ true = sym c.is_fault.ensures ∙ c.if-is_fault.true in
+    record {
+      ends = record { calm = told; calmly = so.calm; said = c.push_reserved.ensures.items ∙ ap (λ x. told ++ x ∷ []) (faulty_memory o faulty held.memory) };
+      memory = refl;
+      asked = asked_next K.meaning c.args.keep.now l.keep c.act.new.keep l.overlay c.act.new.overlay o (Err Memory) faulty held.reading so.through;
+      failed = tt;
+      kept = kept_next K.meaning c.args.keep.now l.keep c.act.new.keep l.overlay c.act.new.overlay (Ok o) held.reading so.kept;
+      quiet = λ none. quiet_next told o l.overlay.changes.items held.made c.into_changes.result.items (c.into_changes.ensures ∙ held.held) so.quiet held.quiet (ap (list_any is_accepted) (sym c.push_reserved.ensures.items) ∙ none);
+      over = λ honest content H there stands lawful.
+          let before = kept_one K.meaning c.args.keep.now l.keep c.act.new.keep l.overlay c.act.new.overlay (Ok o) held.reading honest in
+          let earlier = so.kept before.0 in
+          let here = item_there commands i command c.loop-command-test.true c.command-item.is in
+          let so_far = subst (λ left. SoFar content H commands left told l.overlay.changes.items) here (so.so_far before.0 content H there stands lawful) in
+          let over = held.told honest content (earlier.1 content there) (so.over before.0 content there) so_far.now so_far.leads.stands so_far.lawful in
+          subst (λ said. IsHeldFor content H commands said c.into_changes.result.items) (sym c.push_reserved.ensures.items)
+          (subst (IsHeldFor content H commands (told ++ o ∷ [])) (sym (c.into_changes.ensures ∙ held.held)) (held_to content H commands (drop (i + 1) commands) command told l.overlay.changes.items so_far o held.made over faulty));
+    }
+
+pub loop-command-preserved : goal.loop-command-preserved
+loop-command-preserved g c =
+    let K = g.K.Keep in
+    let l = c.loop-command in
+    let so = l.invariant in
+    let o = c.in-Ok.outcome in
+    let held = c.in-Ok.ensures in
+    let i = l.command-index in
+    let commands = c.args.commands.now in
+    let command = c.command-item.result in
+    let told = l.told.items in
+    let calm : is_fault o ≡ false = sym c.is_fault.ensures ∙ c.if-is_fault.false in
+    record {
+      count = c.push_reserved.ensures.len ∙ ap (λ n. n + 1) so.count;
+      capacity = c.push_reserved.ensures.capacity ∙ so.capacity;
+      calm = ap (list_any is_fault) c.push_reserved.ensures.items ∙ calm_next told o so.calm calm;
+      through = through_next K.meaning c.args.keep.now l.keep c.act.new.keep l.overlay c.act.new.overlay o held.reading so.through;
+      kept = kept_next K.meaning c.args.keep.now l.keep c.act.new.keep l.overlay c.act.new.overlay (Ok o) held.reading so.kept;
+      quiet = λ none. quiet_next told o l.overlay.changes.items held.made c.act.new.overlay.changes.items held.held so.quiet held.quiet (ap (list_any is_accepted) (sym c.push_reserved.ensures.items) ∙ none);
+      over = λ honest content there.
+          let before = kept_one K.meaning c.args.keep.now l.keep c.act.new.keep l.overlay c.act.new.overlay (Ok o) held.reading honest in
+          held.over honest content ((so.kept before.0).1 content there) (so.over before.0 content there);
+      so_far = λ honest content H there stands lawful.
+          let before = kept_one K.meaning c.args.keep.now l.keep c.act.new.keep l.overlay c.act.new.overlay (Ok o) held.reading honest in
+          let here = item_there commands i command c.loop-command-test.true c.command-item.is in
+          let so_far = subst (λ left. SoFar content H commands left told l.overlay.changes.items) here (so.so_far before.0 content H there stands lawful) in
+          let over = held.told honest content ((so.kept before.0).1 content there) (so.over before.0 content there) so_far.now so_far.leads.stands so_far.lawful in
+          subst (λ said. SoFar content H commands (drop (i + 1) commands) said c.act.new.overlay.changes.items) (sym c.push_reserved.ensures.items)
+          (subst (SoFar content H commands (drop (i + 1) commands) (told ++ o ∷ [])) (sym held.held) (so_far_more content H commands (drop (i + 1) commands) command told l.overlay.changes.items so_far o held.made over calm));
+    }
+
+pub returns-clause-held : goal.returns-clause-held
+returns-clause-held g c =
+    let K = g.K.Keep in
+    let l = c.loop-command in
+    let so = l.invariant in
+    let told = l.told.items in
+    let commands = c.args.commands.now in
+    record {
+      ends = record { calm = told; calmly = so.calm; said = sym (append-nil told) };
+      memory = tt;
+      asked = asked_all K.meaning c.args.keep.now l.keep l.overlay so.through;
+      failed = tt;
+      kept = so.kept;
+      quiet = λ none. c.into_changes-2.ensures ∙ so.quiet none;
+      over = λ honest content H there stands lawful.
+          let none = drop_all l.command-index commands c.loop-command-test.false in
+          subst (IsHeldFor content H commands told) (sym c.into_changes-2.ensures)
+          (held_all content H commands told l.overlay.changes.items (subst (λ left. SoFar content H commands left told l.overlay.changes.items) none (so.so_far honest content H there stands lawful)));
+    }

@@ -1,0 +1,26 @@
+use Rattle.std.proofs.Common.{◌≡◌, false, [], drop, vec_len, vec_capacity}
+use Rattle.std.specs.List.{list_any}
+use Rattle.toll_history.specs.History.{History}
+use Rattle.toll_history.specs.Verdict.{IsLawful}
+use Rattle.toll_keep.specs.Content.{Content}
+use Rattle.toll_keep.specs.Overlays.{IsOver, IsReadThrough}
+use Rattle.toll_keep.specs.Reads.{IsKept}
+use Rattle.toll_standing.specs.Standing.{StandsFor}
+use Rattle.toll_plant.specs.Outcomes.{is_accepted, is_fault}
+use Rattle.toll_plant.proofs.GroupRuns.{SoFar}
+use Rattle.toll_plant.proofs.grouping.hold_all.Given as goal
+
+-- the records so far met no fault, and what they changed is held back
+abbrev pub invariant-loop-command : goal.invariant-loop-command
+invariant-loop-command g l =
+    let K = g.K.Keep in
+    record {
+      count : vec_len l.told ≡ l.command-index;
+      capacity : vec_capacity l.told ≡ vec_capacity l.fn.told;
+      calm : list_any is_fault l.told.items ≡ false;
+      through : IsReadThrough K.meaning l.fn.keep l.keep l.overlay;
+      kept : IsKept K.meaning l.fn.keep l.keep;
+      quiet : list_any is_accepted l.told.items ≡ false → l.overlay.changes.items ≡ [];
+      over : K.meaning.is_honest l.keep → (c : Content) → K.meaning.holds l.fn.keep c → IsOver c l.overlay;
+      so_far : K.meaning.is_honest l.keep → (c : Content) (H : History) → K.meaning.holds l.fn.keep c → StandsFor c H → IsLawful H → SoFar c H l.commands (drop l.command-index l.commands) l.told.items l.overlay.changes.items;
+    }

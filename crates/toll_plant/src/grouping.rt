@@ -1,0 +1,164 @@
+//! A group of records of a file of actuals, with one change of the keep for all of them.
+ghost use Rattle.std.specs.Prelude.{◌≡◌, ◌+◌, ◌<◌, ◌≤◌, [], false, Err, OnErr, length, take, vec_capacity, vec_len};
+ghost use Rattle.std.specs.List.{AllByRecursion, list_any};
+ghost use Rattle.toll_plant.specs.HeldRecords.{AreHeld, IsMade, IsRecordHeld};
+ghost use Rattle.toll_plant.specs.Imports.{CanBeHeld, IsGroupServed, before_accepted, refused_at};
+ghost use Rattle.toll_plant.specs.Outcomes.{is_accepted};
+
+use crate::outcome::Outcome;
+use std::alloc::Global;
+use toll_base::{Change, Row};
+use toll_desk::{PlantCmd, carry, plant_hold};
+use toll_keep::{Keep, KeepFault, Overlay};
+
+/// How many records of a file are done with one change of the keep, at most. A disk is waited for once for
+/// so many, and what is held back until then takes little memory.
+pub const GROUP_RECORDS: usize = 500;
+
+/// Does a group of records of a file of actuals, one after another, and writes what came of them to `told`,
+/// which is emptied first. What they change is held back, and made in the keep at the end by one call: all of
+/// it, or none.
+///
+/// After the first fault, whose outcome is the last one and which is returned, no record acts. Where there was
+/// no memory to decide a record, those before it stand. Where rows couldn't be read, or the keep did not make
+/// the changes, none of the group stands: then the first record that would have changed something is told as
+/// the one that met the fault, and those before it, which changed nothing, as they were.
+///
+/// After [`KeepFault::Disk`] the keep is closed, and its store has, when it is opened again, the rows from
+/// before the group or those after all of it.
+pub fn import_group<K: Keep>(
+    alloc: Global,
+    keep: &mut K,
+    commands: &[Option<PlantCmd>],
+    told: &mut Vec<Outcome>,
+) -> Result<(), KeepFault>
+    requires can { AllByRecursion CanBeHeld commands.now }
+    requires room { length commands.now ≤ vec_capacity told.old }
+    ensures served { IsGroupServed K.meaning keep.old keep.new commands.now told.new.items result }
+    ensures within { vec_len told.new ≤ length commands.now }
+    ensures capacity { vec_capacity told.new ≡ vec_capacity told.old }
+{
+    told.clear();
+    match hold_all(alloc, keep, commands, told) {
+        Ok(held) => make(alloc, keep, held, told),
+        Err(fault) => refuse(told, fault),
+    }
+}
+
+// What records have changed, which the keep does not have yet.
+struct Held {
+    changes: Vec<Change>,
+    // There was no memory for the last of them.
+    end: Result<(), KeepFault>,
+}
+
+/// By hand, since what is derived is written out at every exit of every function that owns one.
+impl Drop for Held {
+    fn drop(self) {
+        let Held { changes: _, end: _ } = self;
+    }
+}
+
+// Does the records over what the keep has, one after another, and holds back what they change. An `Err` is a
+// fault of reading rows, behind the outcomes that are told.
+fn hold_all<K: Keep>(
+    alloc: Global,
+    keep: &mut K,
+    commands: &[Option<PlantCmd>],
+    told: &mut Vec<Outcome>,
+) -> Result<Held, KeepFault>
+    requires can { AllByRecursion CanBeHeld commands.now }
+    requires none { told.old.items ≡ [] }
+    requires room { length commands.now ≤ vec_capacity told.old }
+    ensures held { AreHeld K.meaning keep.old keep.new commands.now told.new.items result }
+    ensures within { vec_len told.new ≤ length commands.now }
+    ensures short { OnErr result (vec_len told.new < length commands.now) }
+    ensures capacity { vec_capacity told.new ≡ vec_capacity told.old }
+{
+    // Named for the proof: a change may have a row.
+    let _row: Option<Row> = None;
+    let mut overlay = Overlay::new(alloc);
+    for command in commands {
+        let outcome = match act(alloc, keep, &mut overlay, command) {
+            Ok(outcome) => outcome,
+            Err(fault) => return Err(fault),
+        };
+        told.push_reserved(outcome);
+        if outcome.is_fault() {
+            return Ok(Held {
+                changes: overlay.into_changes(),
+                end: Err(KeepFault::Memory),
+            });
+        }
+    }
+    Ok(Held {
+        changes: overlay.into_changes(),
+        end: Ok(()),
+    })
+}
+
+// What comes of a record with this command.
+fn act<K: Keep>(
+    alloc: Global,
+    keep: &mut K,
+    overlay: &mut Overlay,
+    command: &Option<PlantCmd>,
+) -> Result<Outcome, KeepFault>
+    requires { CanBeHeld command.now }
+    ensures { IsRecordHeld K.meaning keep.old keep.new overlay.old overlay.new command.now result }
+{
+    match command {
+        None => Ok(Outcome::BadRecord),
+        Some(command) => match plant_hold(alloc, keep, overlay, command) {
+            Ok(reply) => Ok(Outcome::of(reply)),
+            Err(fault) => Err(fault),
+        },
+    }
+}
+
+// Makes the changes in the keep.
+fn make<K: Keep>(
+    alloc: Global,
+    keep: &mut K,
+    held: Held,
+    told: &mut Vec<Outcome>,
+) -> Result<(), KeepFault>
+    requires { list_any is_accepted told.old.items ≡ false → held.changes.items ≡ [] }
+    ensures made { IsMade K.meaning keep.old keep.new held told.old.items told.new.items result }
+    ensures within { vec_len told.new ≤ vec_len told.old }
+    ensures capacity { vec_capacity told.new ≡ vec_capacity told.old }
+{
+    match carry(alloc, keep, &held.changes) {
+        Ok(()) => held.end,
+        Err(fault) => refuse(told, fault),
+    }
+}
+
+// Tells that nothing of the group was made, for this fault.
+fn refuse(told: &mut Vec<Outcome>, fault: KeepFault) -> Result<(), KeepFault>
+    requires { length (before_accepted told.old.items) < vec_capacity told.old }
+    ensures told { told.new.items ≡ refused_at fault told.old.items }
+    ensures fault { result ≡ Err fault }
+    ensures len { vec_len told.new ≡ length (before_accepted told.old.items) + 1 }
+    ensures capacity { vec_capacity told.new ≡ vec_capacity told.old }
+{
+    let unchanging = count_unchanging(told);
+    told.truncate(unchanging);
+    told.push_reserved(Outcome::Fault(fault));
+    Err(fault)
+}
+
+// How many of these come before the first record that was accepted.
+fn count_unchanging(told: &[Outcome]) -> usize
+    ensures front { take result told.now ≡ before_accepted told.now }
+    ensures count { result ≡ length (before_accepted told.now) }
+{
+    let mut count = 0;
+    for outcome in told {
+        if outcome.is_accepted() {
+            return count;
+        }
+        count += 1;
+    }
+    count
+}
