@@ -17,7 +17,7 @@ use Rattle.toll_programs.specs.Imported.{IsImported}
 use Rattle.toll_programs.specs.Told.{Streams}
 use Rattle.toll_served.specs.Doors.{IsDone, IsServedIfRoom, lists_of}
 use Rattle.toll_served.specs.Events.{AreAllEventsOf, AreEventsOf, AreImportEvents, AreRecordEvents, IsPrintedOf}
-use Rattle.toll_served.specs.Serving.{AnswersOver, HasServed, WereServed}
+use Rattle.toll_served.specs.Serving.{AnswersOver, HasServed, IsRunWhereAnswered}
 use Rattle.toll_served.specs.Wanted.{Wanted, Does, Imports, Unknown, wanted_of}
 use Rattle.toll_wire.proofs.Serving.{run_of, steps_of}
 use Rattle.toll_wire.specs.OfficeRuns.{AreServed}
@@ -53,16 +53,18 @@ module _ {K : Type 0} (meaning : Meaning K) where
   Records old new records outcomes = Served old new (AreRecordEvents outcomes records)
 
   -- the records behind one that was come to: none where it met a fault
-  records_behind : (b : Bool) (middle new : K) (records : List (Option PlantCmd)) (outcomes : List Outcome) (X : Type 0) → (X → Records middle new records outcomes)
-      → MatchBool b ((outcomes ≡ []) × (new ≡ middle)) X → Records middle new records outcomes
+  records_behind : (b : Bool) (middle new : K) (records : List (Option PlantCmd)) (outcomes : List Outcome) (X : Type 0)
+      → (X → Records middle new records outcomes) → MatchBool b ((outcomes ≡ []) × (new ≡ middle)) X → Records middle new records outcomes
   records_behind true middle new records outcomes X rest (none, same) =
       nothing middle new (AreRecordEvents outcomes records) same (subst (λ os. AreRecordEvents os records [] []) (sym none) tt)
   records_behind false middle new records outcomes X rest behind = rest behind
 
-  records_served : (old new : K) (records : List (Option PlantCmd)) (outcomes : List Outcome) → AreRecordsServed meaning old records outcomes new → Records old new records outcomes
+  records_served : (old new : K) (records : List (Option PlantCmd)) (outcomes : List Outcome) → AreRecordsServed meaning old records outcomes new
+      → Records old new records outcomes
   records_served old new [] [] same = nothing old new (AreRecordEvents [] []) same tt
   records_served old new (None ∷ records) (o ∷ outcomes) (middle, (bad, same), behind) =
-      let rest = records_behind (is_fault o) middle new records outcomes (AreRecordsServed meaning middle records outcomes new) (records_served middle new records outcomes) behind in
+      let rest = records_behind (is_fault o) middle new records outcomes (AreRecordsServed meaning middle records outcomes new)
+      (records_served middle new records outcomes) behind in
       record {
         events = rest.events;
         answers = rest.answers;
@@ -70,7 +72,8 @@ module _ {K : Type 0} (meaning : Meaning K) where
         served = subst (λ k. AreServed meaning k rest.events rest.answers new) same rest.served;
       }
   records_served old new (Some c ∷ records) (o ∷ outcomes) (middle, (reply, one, is), behind) =
-      let rest = records_behind (is_fault o) middle new records outcomes (AreRecordsServed meaning middle records outcomes new) (records_served middle new records outcomes) behind in
+      let rest = records_behind (is_fault o) middle new records outcomes (AreRecordsServed meaning middle records outcomes new)
+      (records_served middle new records outcomes) behind in
       record {
         events = Command c ∷ rest.events;
         answers = CommandReply reply ∷ rest.answers;
@@ -80,7 +83,8 @@ module _ {K : Type 0} (meaning : Meaning K) where
   records_served old new [] (o ∷ outcomes) served = absurd served
   records_served old new (r ∷ records) [] served = absurd served
 
-  imported_served : (old new : K) (file : Bytes) (imported : Result ImportReport ImportFault) → IsImported meaning old new file imported → Served old new (AreImportEvents file imported)
+  imported_served : (old new : K) (file : Bytes) (imported : Result ImportReport ImportFault) → IsImported meaning old new file imported
+      → Served old new (AreImportEvents file imported)
   imported_served old new file (Err fault) is = nothing old new (AreImportEvents file (Err fault)) is.err (refl, refl)
   imported_served old new file (Ok report) is =
       let (records, has, each) = is.served in
@@ -89,7 +93,8 @@ module _ {K : Type 0} (meaning : Meaning K) where
 
   -- ---- one peer
 
-  done_served : (old new : K) (wanted : Wanted) (s : Streams) (status : ℕ) → IsDone meaning old new wanted s status → Served old new (λ events answers. IsPrintedOf wanted events answers s status)
+  done_served : (old new : K) (wanted : Wanted) (s : Streams) (status : ℕ) → IsDone meaning old new wanted s status
+      → Served old new (λ events answers. IsPrintedOf wanted events answers s status)
   done_served old new (Does command) s status (reply, served, told) = record {
     events = Command command ∷ [];
     answers = CommandReply reply ∷ [];
@@ -114,15 +119,26 @@ module _ {K : Type 0} (meaning : Meaning K) where
       record {
         events = all.events;
         answers = all.answers;
-        are = inl (record { words = s.words; file = s.file; asks = s.asks; output = s.output; error = s.error; status = s.status; printed = all.are; tells = s.tells });
+        are = inl (record {
+          words = s.words;
+          file = s.file;
+          asks = s.asks;
+          output = s.output;
+          error = s.error;
+          status = s.status;
+          printed = all.are;
+          tells = s.telling.0;
+        });
         served = all.served;
       }
-  peer_served old new Plant asked told (inl (goes_on, inr (asks, same, none, on))) = nothing old new (AreEventsOf Plant asked told) same (inr (none, refl, refl))
+  peer_served old new Plant asked told (inl (goes_on, inr (asks, same, none, on))) =
+      nothing old new (AreEventsOf Plant asked told) same (inr (none, refl, refl))
   peer_served old new Plant asked told (inr (same, none)) = nothing old new (AreEventsOf Plant asked told) same (inr (none, refl, refl))
 
   -- ---- all of them
 
-  all_served : {O : Type 0} (keep : O → K) (old new : O) (asked : List Asking) → Runs (AnswersOver meaning keep) old asked new → Served (keep old) (keep new) (AreAllEventsOf asked)
+  all_served : {O : Type 0} (keep : O → K) (old new : O) (asked : List Asking) → Runs (AnswersOver meaning keep) old asked new
+      → Served (keep old) (keep new) (AreAllEventsOf asked)
   all_served keep old new [] same = nothing (keep old) (keep new) (AreAllEventsOf []) (ap keep same) (refl, refl)
   all_served keep old new (a ∷ asked) (middle, one, rest) =
       let first = peer_served (keep old) (keep middle) a.door a.asked a.told one in
@@ -141,7 +157,7 @@ module _ {K : Type 0} (meaning : Meaning K) where
   runs_over keep old new (a ∷ asked) (middle, one, rest) = (keep middle, one, runs_over keep middle new asked rest)
 
   module _ (settled : (k : K) (c : Content) → meaning.is_honest k → meaning.is_live k → meaning.holds k c → meaning.leaves k (c ∷ [])) where
-    pub were_served : {O : Type 0} (keep : O → K) (old new : O) (asked : List Asking) → Runs (AnswersOver meaning keep) old asked new → WereServed meaning (keep old) (keep new) asked
+    pub were_served : {O : Type 0} (keep : O → K) (old new : O) (asked : List Asking) → IsRunWhereAnswered meaning keep old new asked
     were_served keep old new asked runs =
         let all = all_served keep old new asked runs in
         record {

@@ -8,8 +8,9 @@ use Rattle.toll_peers.specs.declared.door.Door.{Door}
 use Rattle.toll_peers.specs.declared.door.Door.TheVariants.{Owners, Plant}
 use Rattle.toll_programs.specs.Done.{IsCommandDone, IsImportDone}
 use Rattle.toll_programs.specs.Statuses.{code_of}
-use Rattle.toll_programs.specs.Told.{IsTold, IsUntouched, Stream, Streams}
+use Rattle.toll_programs.specs.Told.{IsFailing, Stream, Streams}
 use Rattle.toll_programs.specs.declared.status.Status.TheVariants.{Failed, Unread}
+use Rattle.toll_served.specs.Unwritten.{unwritten}
 use Rattle.toll_served.specs.Wanted.{Wanted, Does, Imports, Unknown, wanted_of}
 use Rattle.toll_wire.specs.OutTexts.{out_bytes}
 use Rattle.toll_wire.specs.Steps.{IsAnswered}
@@ -26,13 +27,18 @@ list_of bytes = record { held = Some []; now_held = Some bytes; failed = None; n
 abbrev pub lists_of : (output error : Bytes) → Streams
 lists_of output error = record { output = list_of output; error = list_of error }
 
--- the error has how commands are written, and the program ends as for words that are none
+-- how commands are written goes to the error, and the program ends as for words that are none
 abbrev pub IsUsageTold : Streams → ℕ → Type 0
-IsUsageTold s status = (usage : Bytes) × (0 < length usage) × IsTold s.error usage Unread status × IsUntouched s.output
+IsUsageTold s status = (usage : Bytes) × (0 < length usage) × IsFailing s usage Unread status
 
--- a failure, with nothing printed: so the program ends where no write succeeds
-abbrev pub IsLost : Bytes → Type 0
-IsLost told = IsToldBy told (code_of Failed) [] []
+-- the parcel tells this, and the keep goes on but after a failure
+abbrev pub IsTelling : (told : Bytes) (goes_on : Bool) (status : ℕ) (output error : Bytes) → Type 0
+IsTelling told goes_on status output error = IsToldBy told status output error × (goes_on ≡ not (status == code_of Failed))
+
+-- or, where there is no memory for so much, what the program ends with where it can write nothing
+abbrev pub IsTellingIfRoom : (told : Bytes) (goes_on : Bool) (status : ℕ) (output error : Bytes) → Type 0
+IsTellingIfRoom told goes_on status output error =
+    IsTelling told goes_on status output error ⊎ IsTelling told goes_on (unwritten output status) [] []
 
 -- ---- the two doors
 
@@ -62,7 +68,7 @@ module _ {K : Type 0} (meaning : Meaning K) (old new : K) where
   IsDone (Imports file) s status = IsImportDone meaning old new file s status
   IsDone Unknown s status = (new ≡ old) × IsUsageTold s status
 
-  -- what the parcel asks for was done, and what the program would have printed is told; the keep goes on but after a failure
+  -- what the parcel asks for was done, and what the program would have printed of it is told, with its exit status
   pub record IsPlantServed (asked told : Bytes) (goes_on : Bool) : Type 0 where
     pub words : List Bytes
     pub file : Option Bytes
@@ -71,9 +77,7 @@ module _ {K : Type 0} (meaning : Meaning K) (old new : K) where
     pub error : Bytes
     pub status : ℕ
     pub done : IsDone (wanted_of words file) (lists_of output error) status
-    -- or there was no memory for so much
-    pub tells : IsToldBy told status output error ⊎ IsLost told
-    pub goes : goes_on ≡ not (status == code_of Failed)
+    pub telling : IsTelling told goes_on status output error
 
   -- what came in at the door was answered over the keep; bytes that ask nothing of the plant's door do nothing, and are told nothing
   abbrev pub IsServed : Door → (asked told : Bytes) → (goes_on : Bool) → Type 0

@@ -15,7 +15,7 @@ use Rattle.toll_plant.specs.declared.outcome.Outcome.{Outcome}
 use Rattle.toll_plant.specs.declared.outcome.Outcome.TheVariants.{BadRecord}
 use Rattle.toll_plant.specs.declared.report.ImportReport.{ImportReport}
 use Rattle.toll_programs.specs.Told.{IsImportTold, IsReplyTold, Streams}
-use Rattle.toll_served.specs.Doors.{IsLost, IsUsageTold, lists_of}
+use Rattle.toll_served.specs.Doors.{IsUsageTold, lists_of}
 use Rattle.toll_served.specs.Wanted.{Wanted, Does, Imports, Unknown, wanted_of}
 use Rattle.toll_wire.specs.OutTexts.{out_bytes}
 use Rattle.toll_wire.specs.declared.event.Answer.{Answer}
@@ -54,7 +54,7 @@ pub record IsParcelOf (asked told : Bytes) (events : List Event) (answers : List
   pub error : Bytes
   pub status : ℕ
   pub printed : IsPrintedOf (wanted_of words file) events answers (lists_of output error) status
-  pub tells : IsToldBy told status output error ⊎ IsLost told
+  pub tells : IsToldBy told status output error
 
 -- what came in at a door is these events, and their answers are told; where it is none, nothing is told
 abbrev pub AreEventsOf : Door → (asked told : Bytes) → List Event → List Answer → Type 0

@@ -1,4 +1,5 @@
 pub mod Wanted
+pub mod Unwritten
 pub mod Doors
 pub mod Events
 pub mod Serving

@@ -18,9 +18,9 @@ use toll_wire::{Out, answer};
 /// Words of which the first is `import`, where a file came with them, are an import of that file, and all
 /// others a command or a question. What is no parcel, or one that was cut, does nothing and is told nothing.
 ///
-/// An `Err` means that there was no memory: nothing was done, and nothing is told. Memory for the reply is
-/// taken before anything is done; where there is none for all that is printed, the plant is told an exit
-/// status of 3 alone, as where the program can't write.
+/// An `Err` means that there was no memory: nothing was done, and nothing is told. Memory for the shortest
+/// reply is taken before anything is done; where there is none for all that is printed, the plant is told
+/// the exit status of a program that can't write.
 pub fn answer_at<K: Keep>(
     alloc: Global,
     keep: &mut K,

@@ -1,7 +1,7 @@
 //! Laws of what peers ask over a keep.
 ghost use Rattle.std.specs.Prelude.{List};
-ghost use Rattle.toll_peers.specs.Runs.{Event, Runs};
-ghost use Rattle.toll_served.specs.Serving.{AnswersOver, WereServed};
+ghost use Rattle.toll_peers.specs.Runs.{Event};
+ghost use Rattle.toll_served.specs.Serving.{IsRunWhereAnswered};
 
 use toll_keep::Keep;
 
@@ -9,6 +9,5 @@ use toll_keep::Keep;
 /// events: of each request its own event, of each parcel of the plant the events that it asks for. So what
 /// holds of runs holds of all that they are told.
 pub fn what_peers_ask_over_a_keep_is_a_run<K: Keep, O>()
-    ensures { (keep : O → K) (old new : O) (asked : List Event) → Runs (AnswersOver K.meaning keep) old asked new
-        → WereServed K.meaning (keep old) (keep new) asked }
+    ensures { (keep : O → K) (old new : O) (asked : List Event) → IsRunWhereAnswered K.meaning keep old new asked }
 {}

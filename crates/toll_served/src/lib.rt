@@ -8,6 +8,7 @@ mod laws;
 mod plant;
 mod printout;
 mod reply;
+mod room;
 mod serving;
 #[cfg(test)]
 mod tests;

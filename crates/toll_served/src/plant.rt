@@ -4,8 +4,9 @@ ghost use Rattle.toll_peers.specs.declared.door.Door.{Door};
 ghost use Rattle.toll_served.specs.Doors.{IsDone, IsServed, lists_of};
 ghost use Rattle.toll_served.specs.Wanted.{is_import, wanted_by};
 
-use crate::printout::{Printout, lost};
+use crate::printout::Printout;
 use crate::reply::Reply;
+use crate::room::room;
 use std::alloc::{AllocError, Global};
 use toll_keep::Keep;
 use toll_parcels::Asked;
@@ -22,12 +23,9 @@ pub fn answer_plant<K: Keep>(alloc: Global, keep: &mut K, asked: &[u8]) -> Resul
             goes_on: true,
         });
     };
-    let lost = lost(alloc)?;
+    let room = room(alloc)?;
     let printout = print(alloc, keep, &asked)?;
-    Ok(Reply {
-        bytes: printout.told_or(alloc, lost),
-        goes_on: !printout.has_failed(),
-    })
+    Ok(printout.told(alloc, room))
 }
 
 // Does what is asked, once its words are read.

@@ -1,16 +1,17 @@
 //! What the program would print of what the plant asks.
-ghost use Rattle.std.specs.Prelude.{◌≡◌, ◌<◌, ◌⊎◌, ◌==◌, IfOk, length};
+ghost use Rattle.std.specs.Prelude.{◌≡◌, ◌<◌, [], length};
 ghost use Rattle.toll_parcels.specs.Messages.{IsToldBy};
 ghost use Rattle.toll_programs.specs.Done.{IsCommandDone, IsImportDone};
-ghost use Rattle.toll_programs.specs.Statuses.{code_of};
-ghost use Rattle.toll_programs.specs.declared.status.Status.{Status};
-ghost use Rattle.toll_served.specs.Doors.{IsLost, IsUsageTold, lists_of};
+ghost use Rattle.toll_served.specs.Doors.{IsTellingIfRoom, IsUsageTold, lists_of};
+ghost use Rattle.toll_served.specs.Unwritten.{unwritten};
 
-use std::alloc::{AllocError, Global};
+use crate::reply::Reply;
+use crate::room::status_alone;
+use std::alloc::Global;
 use toll_desk::PlantCmd;
 use toll_keep::Keep;
 use toll_parcels::Told;
-use toll_programs::{Status, plant_import, plant_line, tell};
+use toll_programs::{Status, plant_import, plant_line, warn};
 
 /// What goes to standard output and to standard error, and the exit status.
 #[derive(Drop)]
@@ -55,7 +56,7 @@ impl Printout {
         ensures { IsUsageTold (lists_of result.output.items result.error.items) result.status }
     {
         let mut error = Vec::new(alloc);
-        let status = tell(&mut error, usage, Status::Unread);
+        let status = warn(&mut error, usage, Status::Unread);
         Printout {
             output: Vec::new(alloc),
             error,
@@ -63,37 +64,34 @@ impl Printout {
         }
     }
 
-    /// Whether the exit status is that of a failure.
-    pub fn has_failed(&self) -> bool
-        ensures { result ≡ (self.now.status == code_of Status.Failed) }
-    {
-        self.status == Status::Failed.code()
-    }
-
-    /// What the plant is told; nothing but a failure where there is no memory for it.
-    pub fn told_or(&self, alloc: Global, lost: Vec<u8>) -> Vec<u8>
-        ensures { IsToldBy result.items self.now.status self.now.output.items self.now.error.items ⊎ (result.items ≡ lost.items) }
+    /// What the plant is told. Where there is no memory for all of this, that is the exit status with
+    /// nothing printed, as where the program can write nothing.
+    pub fn told(&self, alloc: Global, room: Vec<u8>) -> Reply
+        requires { IsToldBy room.items 0 [] [] }
+        ensures { let p = self.now in IsTellingIfRoom result.bytes.items result.goes_on p.status p.output.items p.error.items }
     {
         let told = Told {
             status: self.status,
             output: &self.output,
             error: &self.error,
         };
-        told.packed(alloc).unwrap_or(lost)
+        match told.packed(alloc) {
+            Ok(bytes) => Reply {
+                bytes,
+                goes_on: self.status != Status::Failed.code(),
+            },
+            Err(_) => status_alone(room, self.unwritten()),
+        }
     }
-}
 
-/// A failure, with nothing printed.
-pub fn lost(alloc: Global) -> Result<Vec<u8>, AllocError>
-    ensures { IfOk result (λ told. IsLost told.items) }
-{
-    let told = Told {
-        status: Status::Failed.code(),
-        output: b"",
-        error: b"",
-    };
-    match told.packed(alloc) {
-        Ok(bytes) => Ok(bytes),
-        Err(_) => Err(AllocError),
+    // The exit status where nothing of this can be written: a failure, if it goes to standard output.
+    fn unwritten(&self) -> u8
+        ensures { result ≡ unwritten self.now.output.items self.now.status }
+    {
+        if self.output.is_empty() {
+            self.status
+        } else {
+            Status::Failed.code()
+        }
     }
 }

@@ -1,0 +1,39 @@
+//! Memory that is taken before anything is done.
+ghost use Rattle.std.specs.Prelude.{[], IfOk};
+ghost use Rattle.toll_parcels.specs.Messages.{IsToldBy};
+ghost use Rattle.toll_served.specs.Doors.{IsTelling};
+
+use crate::reply::Reply;
+use std::alloc::{AllocError, Global};
+use toll_parcels::Told;
+use toll_programs::Status;
+
+/// Where the exit status stands in a parcel: behind its length.
+const STATUS_PLACE: usize = 4;
+
+/// Room for an exit status, and nothing printed.
+pub fn room(alloc: Global) -> Result<Vec<u8>, AllocError>
+    ensures { IfOk result (λ room. IsToldBy room.items 0 [] []) }
+{
+    let told = Told {
+        status: Status::Done.code(),
+        output: b"",
+        error: b"",
+    };
+    match told.packed(alloc) {
+        Ok(bytes) => Ok(bytes),
+        Err(_) => Err(AllocError),
+    }
+}
+
+/// What the plant is told where this exit status is all. It takes no memory.
+pub fn status_alone(mut room: Vec<u8>, status: u8) -> Reply
+    requires { IsToldBy room.items 0 [] [] }
+    ensures { IsTelling result.bytes.items result.goes_on status [] [] }
+{
+    room[STATUS_PLACE] = status;
+    Reply {
+        bytes: room,
+        goes_on: status != Status::Failed.code(),
+    }
+}
