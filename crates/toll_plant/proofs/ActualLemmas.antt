@@ -1,11 +1,11 @@
 -- The commands of records.
-use Rattle.std.proofs.Common.{◌≡◌, Bool, true, false, cond, Option, Some, None, List, [], ◌∷◌, length, refl, ap, sym, inl, inr}
+use Rattle.std.proofs.Common.{◌≡◌, Bool, true, false, cond, Option, Some, None, List, [], ◌∷◌, length, refl, ap, sym, subst, inl, inr}
 use Rattle.std.specs.Prelude.{◌==◌, IsSome, Result, Ok, Err}
 use Rattle.std.specs.List.{AllByRecursion}
 use Rattle.toll_base.specs.declared.refusal.Refusal.{Refusal}
 use Rattle.toll_base.specs.Lots.{lot_id}
 use Rattle.toll_base.specs.declared.movement.Move.TheVariants as move
-use Rattle.toll_desk.specs.Asking.{asked_by}
+use Rattle.toll_desk.specs.Asking.{IsValidDeed, asked_by}
 use Rattle.toll_desk.specs.declared.plant_cmd.PlantCmd.{PlantCmd}
 use Rattle.toll_desk.specs.declared.plant_cmd.PlantCmd.TheVariants.{Actual, Unread}
 use Rattle.toll_plant.specs.Commands.{command_from}
@@ -20,13 +20,18 @@ use Rattle.toll_plant.proofs.ImportRuns.{IsDeed, IsDeedOrNone}
 use Rattle.toll_plant.proofs.OfficeLemmas.{same_number}
 use Rattle.toll_plant.proofs.TableLemmas.{actual_makes, made, values_have}
 
+-- the values of a command are within their bounds
+abbrev pub IsValidOrNone : Option PlantCmd → Type 0
+IsValidOrNone None = Unit {0}
+IsValidOrNone (Some c) = IsValidDeed (asked_by c)
+
 -- as many fields as an actual has values give a command
 pub asks_actual : (fields : Fields) → length fields ≡ length actual_line.values → IsSome (command_with actual_line fields)
 asks_actual fields same = made actual_line fields (values_read actual_line.values fields) actual_makes same refl
 
 -- what is asked records a movement, or can't be read, and is decided over two owners' rows at most
 abbrev IsDeedOfTwo : PlantCmd → Type 0
-IsDeedOfTwo command = IsDeed (asked_by command) × (looks_at_two (asked_by command) ≡ true)
+IsDeedOfTwo command = IsDeed (asked_by command) × (looks_at_two (asked_by command) ≡ true) × IsValidDeed (asked_by command)
 
 -- the command that the values of an actual make is such a deed
 abbrev MakeDeed : List Given → Type 0
@@ -36,12 +41,12 @@ deeds_made : (fields : Fields) (read : Result (List Given) Refusal) → length f
     → (command : PlantCmd) → command_read actual_line.command read ≡ Some command → IsDeedOfTwo command
 deeds_made fields (Err why) same e command is =
     let read : Unread why ≡ command = cc is in
-    (inr (why, ap asked_by (sym read)), ap (λ c. looks_at_two (asked_by c)) (sym read))
+    (inr (why, ap asked_by (sym read)), ap (λ c. looks_at_two (asked_by c)) (sym read), subst (λ c. IsValidDeed (asked_by c)) read tt)
 deeds_made fields (Ok values) same e command is =
     values_have actual_line.values MakeDeed fields values same
-    (λ key owner order number segment role material lot_owner lot sublot amount day command is.
+    (λ key owner order number segment role material lot_owner lot sublot amount within day command is.
     let made : Actual key owner order number segment role material (lot_id lot_owner lot) sublot amount day ≡ command = cc is in
-    (inl (owner, record { key = key; what = move.Actual order number segment role material (lot_id lot_owner lot) sublot; amount = amount; day = day }, ap asked_by (sym made)), ap (λ c. looks_at_two (asked_by c)) (sym made)))
+    (inl (owner, record { key = key; what = move.Actual order number segment role material (lot_id lot_owner lot) sublot; amount = amount; day = day }, ap asked_by (sym made)), ap (λ c. looks_at_two (asked_by c)) (sym made), subst (λ c. IsValidDeed (asked_by c)) made within))
     e command is
 
 in_record : (fields : Fields) (b : Bool) → (length fields == length actual_line.values) ≡ b → (command : PlantCmd) → cond b (command_with actual_line fields) None ≡ Some command → IsDeedOfTwo command
@@ -65,3 +70,12 @@ held_or_none (Some c) held = held c refl
 pub all_held : (records : List Fields) → AllByRecursion CanBeHeld (commands_in records)
 all_held [] = tt
 all_held (fields ∷ records) = (held_or_none (command_in fields) (λ command is. (in_record fields (length fields == length actual_line.values) refl command is).1), all_held records)
+
+valid_or_none : (command : Option PlantCmd) → ((c : PlantCmd) → command ≡ Some c → IsValidDeed (asked_by c)) → IsValidOrNone command
+valid_or_none None valid = tt
+valid_or_none (Some c) valid = valid c refl
+
+-- and their values are within their bounds
+pub all_valid : (records : List Fields) → AllByRecursion IsValidOrNone (commands_in records)
+all_valid [] = tt
+all_valid (fields ∷ records) = (valid_or_none (command_in fields) (λ command is. (in_record fields (length fields == length actual_line.values) refl command is).2), all_valid records)

@@ -11,7 +11,7 @@ pub mod ImportRuns
 mod GroupRuns
 mod Holding
 mod GroupMade
-mod GroupChains
+pub mod GroupChains
 mod ImportDone
 pub mod ActualLemmas
 pub mod FileLemmas

@@ -1,11 +1,12 @@
 -- Each line of the table makes a command of its values.
 use Rattle.std.proofs.Common.{◌≡◌, ℕ, ℤ, Bool, true, false, cond, List, [], ◌∷◌, length, drop, refl, subst, arith, Option, Some, None}
-use Rattle.std.specs.Prelude.{◌==◌, IsSome, Result, Ok, Err, find}
+use Rattle.std.specs.Prelude.{◌==◌, ◌&&◌, IsSome, Result, Ok, Err, find, nat_le, option_and_then}
 use Rattle.std.specs.List.{AllByRecursion}
 use Rattle.std.specs.Str.{bytes_eq}
+use Rattle.std.proofs.lemmas.Bool.{leb-true}
 use Rattle.toll_base.specs.Bytes.{Bytes}
 use Rattle.toll_base.specs.States.{read_command}
-use Rattle.toll_base.specs.Values.{is_measure, is_name, is_owner_key}
+use Rattle.toll_base.specs.Values.{IsAmount, is_measure, is_name, is_owner_key, number_of}
 use Rattle.toll_base.specs.Words.{where_so}
 use Rattle.toll_base.specs.declared.role.Role.{Role}
 use Rattle.toll_base.specs.declared.state_command.StateCommand.{StateCommand}
@@ -32,7 +33,7 @@ HoldsOfAll by.Measure P = (measure : Bytes) → P (given.Measure measure)
 HoldsOfAll by.Role P = (role : Role) → P (given.Role role)
 HoldsOfAll by.Way P = (way : Way) → P (given.Way way)
 HoldsOfAll by.StateCommand P = (command : StateCommand) → P (given.StateCommand command)
-HoldsOfAll by.Amount P = (amount : ℕ) → P (given.Amount amount)
+HoldsOfAll by.Amount P = (amount : ℕ) → IsAmount amount → P (given.Amount amount)
 HoldsOfAll by.Day P = (day : ℕ) → P (given.Day day)
 HoldsOfAll by.Segment P = (segment : ℕ) → P (given.Segment segment)
 HoldsOfAll by.BatchNo P = (number : ℕ) → P (given.BatchNo number)
@@ -47,6 +48,19 @@ read_has : {A : Type 0} (why : Refusal) (made : A → Given) (o : Option A) (P :
 read_has why made None P v all e = absurd (cc e)
 read_has why made (Some x) P v all e = let same : made x ≡ v = cc in subst P same (all x)
 
+-- an amount that is read is one
+amount_has : (word : Bytes) (o : Option ℕ) (P : Given → Type 0) (v : Given) → ((n : ℕ) → IsAmount n → P (given.Amount n))
+    → or_refused BadAmount given.Amount (option_and_then (λ n. where_so (nat_le 1 n && nat_le n 1000000000) n) o) ≡ Ok v → P v
+amount_has word None P v all e = absurd (cc e)
+amount_has word (Some n) P v all e = on (nat_le 1 n && nat_le n 1000000000) refl e
+  where
+    on : (b : Bool) → (nat_le 1 n && nat_le n 1000000000) ≡ b → or_refused BadAmount given.Amount (where_so b n) ≡ Ok v → P v
+    on true within is =
+        let (least, most) = both (nat_le 1 n) (nat_le n 1000000000) within in
+        let same : given.Amount n ≡ v = cc in
+        subst P same (all n (leb-true 1 n least, leb-true n 1000000000 most))
+    on false within is = absurd (cc is)
+
 value_has : (r : Reading) (P : Given → Type 0) (word : Bytes) (v : Given) → HoldsOfAll r P → read_as r word ≡ Ok v → P v
 value_has by.Name P word v all e = read_has BadName given.Name (where_so (is_name word) word) P v all e
 value_has by.OwnerKey P word v all e = read_has BadName given.OwnerKey (where_so (is_owner_key word) word) P v all e
@@ -54,7 +68,7 @@ value_has by.Measure P word v all e = read_has BadName given.Measure (where_so (
 value_has by.Role P word v all e = read_has BadName given.Role (role_of word) P v all e
 value_has by.Way P word v all e = read_has BadName given.Way (way_of word) P v all e
 value_has by.StateCommand P word v all e = read_has BadName given.StateCommand (read_command word) P v all e
-value_has by.Amount P word v all e = read_has BadAmount given.Amount (number_within 1 1000000000 word) P v all e
+value_has by.Amount P word v all e = amount_has word (number_of word) P v all e
 value_has by.Day P word v all e = read_has BadAmount given.Day (number_within 0 9999999 word) P v all e
 value_has by.Segment P word v all e = read_has BadAmount given.Segment (number_within 1 50 word) P v all e
 value_has by.BatchNo P word v all e = read_has BadAmount given.BatchNo (number_within 1 99 word) P v all e
@@ -93,7 +107,7 @@ infixr 30 ◌and◌
 first and others = (first, others)
 
 pub actual_makes : Makes actual_line
-actual_makes = λ key owner order number segment role material lot_owner lot sublot amount day. refl
+actual_makes = λ key owner order number segment role material lot_owner lot sublot amount within day. refl
 
 every_line : AllByRecursion Makes plant_lines
 every_line =
@@ -102,16 +116,16 @@ every_line =
     and (λ owner material measure. refl)
     and (λ owner material test low high. refl)
     and (λ owner recipe segments. refl)
-    and (λ owner recipe segment role source material amount. refl)
+    and (λ owner recipe segment role source material amount within. refl)
     and (λ order recipe batches. refl)
     and (λ order. refl)
     and (λ owner order unit. refl)
     and (λ owner order number command. refl)
     and (λ owner order number. refl)
-    and (λ owner key material lot sublot amount day. refl)
-    and (λ owner key lot sublot target amount day. refl)
-    and (λ owner key lot sublot amount day. refl)
-    and (λ owner key lot sublot amount day. refl)
+    and (λ owner key material lot sublot amount within day. refl)
+    and (λ owner key lot sublot target amount within day. refl)
+    and (λ owner key lot sublot amount within day. refl)
+    and (λ owner key lot sublot amount within day. refl)
     and (λ owner lot test value day. refl)
     and (λ lot. refl)
     and (λ lot. refl)
