@@ -4,5 +4,5 @@
 mod cuts;
 mod files;
 mod imports;
-mod lines;
+pub(crate) mod lines;
 mod tests;

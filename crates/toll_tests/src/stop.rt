@@ -2,6 +2,7 @@
 //! and what is found when it is opened again; and a keep that refuses each of its calls in turn.
 
 mod disks;
+mod imports;
 mod refused;
 mod runs;
 mod stops;

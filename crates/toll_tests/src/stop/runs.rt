@@ -29,7 +29,8 @@ pub trait Run {
     fn is_after<S: Alter + Drop>(&self, alloc: Global, conn: Connection<S>) -> Result<bool, Fail>;
 }
 
-fn told_of(fault: OpenFault) -> Told {
+/// What comes of a run whose office isn't opened.
+pub fn told_of(fault: OpenFault) -> Told {
     match fault {
         OpenFault::Disk => Told::Fault,
         _ => Told::Other,
@@ -136,10 +137,7 @@ pub struct Telling {
 impl Telling {
     /// The files of the office to which the line is told.
     pub fn files(&self, alloc: Global) -> Result<Disks, Fail> {
-        match connect(alloc, empty_files(alloc)) {
-            Ok(conn) => Ok(disconnect(told_to_new(alloc, conn, self.story)?)),
-            Err(_) => Err("no store".into()),
-        }
+        files_of(alloc, self.story)
     }
 
     // What comes of the line.
@@ -159,6 +157,14 @@ impl Telling {
         }
         check_lines::<Asked, K>(alloc, keep, self.after)?;
         Ok(true)
+    }
+}
+
+/// The files of a new office to which these chapters were told.
+pub fn files_of(alloc: Global, story: &[&[Line]]) -> Result<Disks, Fail> {
+    match connect(alloc, empty_files(alloc)) {
+        Ok(conn) => Ok(disconnect(told_to_new(alloc, conn, story)?)),
+        Err(_) => Err("no store".into()),
     }
 }
 
