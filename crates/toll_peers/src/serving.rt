@@ -46,8 +46,10 @@ pub fn serve<W: World, O: Office>(
         if world.wait(patience).is_err() {
             return Served::Fault;
         }
+        // what an answer takes is nobody's time but the office's
+        let now = world.now();
         advance_all(alloc, world, &mut hall, office);
-        hall.turn_out(world.now());
+        hall.turn_out(now);
     }
     Served::Spent
 }

@@ -20,5 +20,5 @@ loop-preserved g c =
     (λ t u p. (omega (arith, p.0, stays), omega (arith, p.1))) looked in
     record {
       run = run_more _ _ _ _ c.loop.invariant.run c.advance_all.ensures.run;
-      tally = tallies_same (Has count c.turn_out.new.self.to_come (c.loop.counter + 1)) _ _ _ (c.now-in-loop.ensures ∙ c.advance_all.ensures.tally) waited;
+      tally = tallies_same (Has count c.turn_out.new.self.to_come (c.loop.counter + 1)) _ _ _ (c.advance_all.ensures.tally ∙ c.now-now.ensures) waited;
     }
