@@ -4,7 +4,7 @@ use std::fmt::Display;
 use std::fs::{File, OpenOptions};
 use std::io::ErrorKind;
 use std::{env, io};
-use toll_office::{OfficeFault, Sockets, do_command, do_import, do_script, serve_all};
+use toll_office::{OfficeFault, Sockets, ask_server, do_command, do_import, do_script, serve_all};
 use toll_peers::Served;
 use toll_plant::{MOST_FILE_BYTES, WordsFault, command_of};
 use toll_programs::{
@@ -74,7 +74,11 @@ fn run_words(rt: &HostRuntime, file: &str, words: &[&str]) -> u64 {
         Err(WordsFault::Memory) => return fail(rt, Status::Failed, "fault Memory"),
         Err(WordsFault::Usage(text)) => return tell(&mut rt.stderr(), &text, Status::Unread),
     };
-    let done = do_command(rt, file, &command, &mut io::writer(rt), &mut rt.stderr());
+    let (mut output, mut error) = (io::writer(rt), rt.stderr());
+    if let Some(status) = ask_server(rt, file, words, None, &mut output, &mut error) {
+        return status;
+    }
+    let done = do_command(rt, file, &command, &mut output, &mut error);
     status_of(rt, done)
 }
 
@@ -83,7 +87,11 @@ fn run_import(rt: &HostRuntime, file: &str, actuals: &str) -> u64 {
         Ok(text) => text,
         Err(fault) => return fail(rt, Status::Failed, format_args!("fault {fault}")),
     };
-    let done = do_import(rt, file, &text, &mut io::writer(rt), &mut rt.stderr());
+    let (mut output, mut error) = (io::writer(rt), rt.stderr());
+    if let Some(status) = ask_server(rt, file, &["import"], Some(&text), &mut output, &mut error) {
+        return status;
+    }
+    let done = do_import(rt, file, &text, &mut output, &mut error);
     status_of(rt, done)
 }
 
@@ -104,7 +112,7 @@ fn read_file(rt: &HostRuntime, path: &str) -> Result<Vec<u8>, FrontFault> {
 }
 
 fn run_serve(rt: &HostRuntime, file: &str, port: u16, count: u64) -> u64 {
-    let Ok(mut sockets) = Sockets::listen(rt, port) else {
+    let Ok(mut sockets) = Sockets::listen(rt, port, file) else {
         return fail(rt, Status::Failed, "fault Net");
     };
     let Ok(port) = sockets.port() else {

@@ -1,2 +1,4 @@
+pub mod Asking
+pub mod Faults
 pub mod Doing
 pub mod Serving

@@ -1,55 +1,112 @@
 //! The office in a file, as the peers of a server ask it.
-ghost use Rattle.toll_office.specs.Serving.{IsToldOver};
+ghost use Rattle.std.specs.Prelude.{◌≡◌, []};
+ghost use Rattle.toll_office.specs.Faults.{fault_text};
+ghost use Rattle.toll_office.specs.Serving.{IsTurnedAway, IsUnopened, TellsOver, standing_of};
+ghost use Rattle.toll_programs.specs.Statuses.{code_of};
+ghost use Rattle.toll_programs.specs.declared.status.Status.{Status};
 
-use crate::office::FileKeep;
+use crate::office::OfficeFault;
 use crate::session::Session;
+use crate::stored::Stored;
+use crate::watch::{ServingFault, Watch};
 use std::alloc::Global;
-use toll_keep::Keep;
+use toll_parcels::Told;
 use toll_peers::{Door, Office};
+use toll_programs::Status;
+use toll_wire::Out;
 
-/// An office that a server has open. What it is asked it answers by its session.
-pub struct Desk<'a> {
+/// An office that a server has open. What it is asked it answers by its session, and a fault that it meets
+/// it tells the operator.
+pub struct Desk<'a, K> {
     rt: &'a HostRuntime,
     path: &'a str,
-    session: Session,
+    session: Session<K>,
+    watch: Watch,
 }
 
 /// By hand, as a session's.
-impl Drop for Desk<'_> {
+impl<K: Drop> Drop for Desk<'_, K> {
     fn drop(self) {
         let Desk {
             rt: _,
             path: _,
             session: _,
+            watch: _,
         } = self;
     }
 }
 
-impl<'a> Desk<'a> {
+impl<'a, K: Stored> Desk<'a, K> {
     /// Of the office in this file, which is opened for the first request.
-    pub fn new(rt: &'a HostRuntime, path: &'a str) -> Self {
+    pub fn new(rt: &'a HostRuntime, path: &'a str) -> Self
+        ensures { IsUnopened (standing_of result.session) }
+    {
         Desk {
             rt,
             path,
             session: Session::new(),
+            watch: Watch::new(),
         }
     }
 
     /// Closes the file, if it is open.
     pub fn close(self) {
-        let Desk { rt, path, session } = self;
+        let Desk {
+            rt,
+            path,
+            session,
+            watch: _,
+        } = self;
         session.close(rt, path);
     }
 }
 
-impl Office for Desk<'_> {
-    ghost answers = { λ old door asked told new. IsToldOver ⟦<FileKeep as Keep>⟧ asked told };
+impl<K: Stored> Office for Desk<'_, K> {
+    ghost answers = { TellsOver K.Keep.meaning K.is_opened (λ desk. standing_of desk.session) };
 
-    fn answer(&mut self, alloc: Global, _door: Door, asked: &[u8]) -> Vec<u8> {
-        let reply = self.session.answer(self.rt, self.path, asked);
-        match Vec::from_slice(alloc, reply.bytes()) {
+    // Who came in at the plant's door and asked nothing only looked whether somebody is there.
+    fn answer(&mut self, alloc: Global, door: Door, asked: &[u8]) -> Vec<u8> {
+        if door == Door::Plant && asked.is_empty() {
+            return Vec::new(alloc);
+        }
+        match self.session.answer(self.rt, self.path, door, asked) {
+            Ok(reply) => {
+                let fault = (!reply.goes_on).then_some(ServingFault::Unavailable);
+                self.watch.note(self.rt, fault);
+                reply.bytes
+            }
+            Err(fault) => {
+                self.watch.note(self.rt, Some(ServingFault::Office(fault)));
+                refusal(alloc, door, fault)
+            }
+        }
+    }
+}
+
+// What is told at a door where no office could be asked; nothing, where there is no memory for it.
+fn refusal(alloc: Global, door: Door, fault: OfficeFault) -> Vec<u8>
+    ensures { IsTurnedAway door result.items }
+{
+    match door {
+        Door::Owners => match Vec::from_slice(alloc, Out::Unavailable.bytes()) {
             Ok(bytes) => bytes,
             Err(_) => Vec::new(alloc),
-        }
+        },
+        Door::Plant => match told_of(fault).packed(alloc) {
+            Ok(bytes) => bytes,
+            Err(_) => Vec::new(alloc),
+        },
+    }
+}
+
+// What the plant is told of such a fault.
+fn told_of(fault: OfficeFault) -> Told<'static>
+    ensures status { result.status ≡ code_of Status.Failed }
+    ensures texts { (result.output.now ≡ []) × (result.error.now ≡ fault_text fault) }
+{
+    Told {
+        status: Status::Failed.code(),
+        output: b"",
+        error: fault.line(),
     }
 }

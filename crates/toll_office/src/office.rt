@@ -1,8 +1,10 @@
 //! The office on a file.
-ghost use Rattle.std.specs.Prelude.{IfOk};
+ghost use Rattle.std.specs.Prelude.{◌≡◌, IfOk};
+ghost use Rattle.toll_office.specs.Faults.{fault_text};
 ghost use Rattle.toll_sql.specs.Opened.{IsOpened};
 ghost use Rattle.toll_wire.specs.Steps.{IsAnswered};
 
+use crate::stored::Stored;
 use sqlite::{File as StoreFile, FileStore, Unknown};
 use std::fs;
 use std::fs::{File, OpenOptions};
@@ -29,6 +31,21 @@ pub enum OfficeFault {
     File(OpenFault),
 }
 
+impl OfficeFault {
+    /// The line that tells it. It takes no memory.
+    pub fn line(self) -> &'static [u8]
+        ensures { result.now ≡ fault_text self }
+    {
+        match self {
+            OfficeFault::Locked => b"fault Locked\n",
+            OfficeFault::Memory | OfficeFault::File(OpenFault::Memory) => b"fault Memory\n",
+            OfficeFault::File(OpenFault::Disk) => b"fault Disk\n",
+            OfficeFault::File(OpenFault::Damaged) => b"fault Damaged\n",
+            OfficeFault::File(OpenFault::NotOurs) => b"fault NotOurs\n",
+        }
+    }
+}
+
 /// The office on a file that nobody else uses meanwhile. It can't be dropped: who opens it closes it.
 pub struct Office {
     pub keep: FileKeep,
@@ -42,7 +59,7 @@ impl Office {
         ensures { IfOk result (λ office. IsOpened office.keep) }
     {
         let lock = take_lock(rt, path)?;
-        match open_keep(rt, path) {
+        match FileKeep::open(rt, path) {
             Ok(keep) => Ok(Office { keep, lock }),
             Err(fault) => Err(OfficeFault::File(fault)),
         }
@@ -51,7 +68,7 @@ impl Office {
     /// Closes the file, and then gives back the lock.
     pub fn close(self) {
         let Office { keep, lock } = self;
-        close_keep(keep);
+        keep.close();
         let _ = lock.unlock();
     }
 }
@@ -75,20 +92,25 @@ pub fn take_lock(rt: &HostRuntime, path: &str) -> Result<File, OfficeFault> {
     }
 }
 
-/// The keep in the file. An office whose making was stopped may have its tables in the log alone, or no
-/// tables in a file that is not empty: so where the file is not as its length says, it is looked at the
-/// other way. A file that isn't there beside a log that has bytes was moved away, and its log would be
-/// written anew: it is NotOurs.
-pub fn open_keep(rt: &HostRuntime, path: &str) -> Result<FileKeep, OpenFault>
-    ensures { IfOk result IsOpened }
-{
-    let is_fresh = is_absent_or_empty(rt, path);
-    if is_fresh && was_moved_away(rt, path)? {
-        return Err(OpenFault::NotOurs);
+/// An office whose making was stopped may have its tables in the log alone, or no tables in a file that is
+/// not empty: so where the file is not as its length says, it is looked at the other way. A file that isn't
+/// there beside a log that has bytes was moved away, and its log would be written anew: it is NotOurs.
+impl Stored for FileKeep {
+    ghost is_opened = { λ keep. IsOpened keep };
+
+    fn open(rt: &HostRuntime, path: &str) -> Result<Self, OpenFault> {
+        let is_fresh = is_absent_or_empty(rt, path);
+        if is_fresh && was_moved_away(rt, path)? {
+            return Err(OpenFault::NotOurs);
+        }
+        match open_as(rt, path, is_fresh) {
+            Err(OpenFault::NotOurs) => open_as(rt, path, !is_fresh),
+            opened => opened,
+        }
     }
-    match open_as(rt, path, is_fresh) {
-        Err(OpenFault::NotOurs) => open_as(rt, path, !is_fresh),
-        opened => opened,
+
+    fn close(self) {
+        let _ = self.inside().close();
     }
 }
 
@@ -100,11 +122,6 @@ fn open_as(rt: &HostRuntime, path: &str, is_fresh: bool) -> Result<FileKeep, Ope
         Ok(keep) => Ok(Remembering::new(rt.alloc(), keep)),
         Err(fault) => Err(fault),
     }
-}
-
-/// Closes the file. What was answered stands in it whether or not the closing meets a fault.
-pub fn close_keep(keep: FileKeep) {
-    let _ = keep.inside().close();
 }
 
 /// The answer to a request, over the office in the file, as [`answer`] gives it.

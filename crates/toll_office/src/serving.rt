@@ -1,6 +1,6 @@
 //! Serving owners on a socket.
 use crate::desk::Desk;
-use crate::office::{Office, answer_from};
+use crate::office::{FileKeep, Office, answer_from};
 use crate::sockets::Sockets;
 use crate::timed::Timed;
 use std::net::{TcpListener, TcpStream};
@@ -33,11 +33,12 @@ pub fn serve_one(rt: &HostRuntime, listener: &TcpListener, path: &str) -> Served
     }
 }
 
-/// Serves so many owners side by side over the office in the file, as [`toll_peers::serve`] does: each is
-/// answered as [`serve_one`] answers it, but for how often the file is opened: it stays open between
-/// requests while nobody else changes it.
+/// Serves so many owners side by side over the office in the file, and the plant meanwhile, as
+/// [`toll_peers::serve`] does. Each is answered as [`serve_one`] answers it, and the plant as the program
+/// itself does it, but for how often the file is opened: it stays open between requests while nobody else
+/// changes it.
 pub fn serve_all(rt: &HostRuntime, sockets: &mut Sockets<'_>, path: &str, count: u64) -> Ended {
-    let mut desk = Desk::new(rt, path);
+    let mut desk: Desk<'_, FileKeep> = Desk::new(rt, path);
     let ended = serve(rt.alloc(), sockets, &mut desk, count);
     desk.close();
     ended

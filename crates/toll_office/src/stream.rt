@@ -1,5 +1,5 @@
 //! A connection.
-use mio::net::TcpStream;
+use mio::net::{TcpStream, UnixStream};
 use mio::{Interest, Registry, Token};
 use std::io;
 use std::io::{Read, Write};
@@ -7,29 +7,37 @@ use toll_peers::Socket;
 
 /// A connection that never waits: what would wait fails with `WouldBlock`.
 #[derive(Drop)]
-pub struct Stream(TcpStream);
+pub enum Stream {
+    Owner(TcpStream),
+    Plant(UnixStream),
+}
 
 impl Stream {
-    /// The connection, which is told from now on, by this token, when it may go on.
-    pub fn registered(
-        mut stream: TcpStream,
-        registry: &Registry,
-        token: Token,
-    ) -> io::Result<Self> {
-        registry.register(&mut stream, token, Interest::READABLE | Interest::WRITABLE)?;
-        Ok(Stream(stream))
+    /// Has it be told from now on, by this token, when it may go on.
+    pub fn register(&mut self, registry: &Registry, token: Token) -> io::Result<()> {
+        let both = Interest::READABLE | Interest::WRITABLE;
+        match self {
+            Stream::Owner(stream) => registry.register(stream, token, both),
+            Stream::Plant(stream) => registry.register(stream, token, both),
+        }
     }
 }
 
 impl Read for Stream {
     fn read(&mut self, buffer: &mut [u8]) -> io::Result<usize> {
-        self.0.read(buffer)
+        match self {
+            Stream::Owner(stream) => stream.read(buffer),
+            Stream::Plant(stream) => stream.read(buffer),
+        }
     }
 }
 
 impl Write for Stream {
     fn write(&mut self, bytes: &[u8]) -> io::Result<usize> {
-        self.0.write(bytes)
+        match self {
+            Stream::Owner(stream) => stream.write(bytes),
+            Stream::Plant(stream) => stream.write(bytes),
+        }
     }
 
     fn flush(&mut self) -> io::Result<()> {

@@ -1,0 +1,109 @@
+//! The socket file of a server.
+use mio::net::{UnixListener, UnixStream};
+use mio::{Interest, Registry, Token};
+use std::fs::Permissions;
+use std::io::ErrorKind;
+use std::os::unix::fs::{FileTypeExt, MetadataExt, PermissionsExt};
+use std::{fs, io};
+
+/// Only the user whose server it is may connect.
+const MODE: u32 = 0o600;
+
+/// How many may wait before the file has its mode.
+const MOST_EARLY: usize = 8192;
+
+/// A socket file at which a server listens. It is removed when the listening ends.
+pub struct SocketFile<'a> {
+    rt: &'a HostRuntime,
+    path: String,
+    made: Place,
+    listener: UnixListener,
+}
+
+/// Where a file lies on which disk.
+#[derive(Clone, Copy, PartialEq, Eq)]
+struct Place {
+    device: u64,
+    inode: u64,
+}
+
+impl Place {
+    fn of(rt: &HostRuntime, path: &str) -> io::Result<Self> {
+        let found = fs::symlink_metadata(rt, path)?;
+        Ok(Place {
+            device: found.dev(),
+            inode: found.ino(),
+        })
+    }
+}
+
+impl Drop for SocketFile<'_> {
+    fn drop(self) {
+        let SocketFile {
+            rt,
+            path,
+            made,
+            listener: _,
+        } = self;
+        if matches!(Place::of(rt, path.as_str()), Ok(found) if found == made) {
+            let _ = fs::remove_file(rt, path.as_str());
+        }
+    }
+}
+
+impl<'a> SocketFile<'a> {
+    /// Listens at this path, where a file is made. One that was left there by a server that is gone is
+    /// replaced. Where somebody listens there, where what is there is no such file, or another user's, or
+    /// where the path is longer than 107 bytes, that is a fault, and what is there stays.
+    pub fn listen(rt: &'a HostRuntime, path: String) -> io::Result<Self> {
+        clear(rt, path.as_str())?;
+        let listener = UnixListener::bind(rt, path.as_str())?;
+        let made = Place::of(rt, path.as_str())?;
+        let file = SocketFile {
+            rt,
+            path,
+            made,
+            listener,
+        };
+        fs::set_permissions(rt, file.path.as_str(), Permissions::from_mode(MODE))?;
+        file.turn_away_early();
+        Ok(file)
+    }
+
+    // Who connected before the file had its mode may be anybody.
+    fn turn_away_early(&self) {
+        for _ in 0..MOST_EARLY {
+            if self.listener.accept().is_err() {
+                return;
+            }
+        }
+    }
+
+    /// Has it be told, by this token, when somebody comes.
+    pub fn register(&mut self, registry: &Registry, token: Token) -> io::Result<()> {
+        registry.register(&mut self.listener, token, Interest::READABLE)
+    }
+
+    /// The next connection, or `WouldBlock` where none waits.
+    pub fn accept(&self) -> io::Result<UnixStream> {
+        let (stream, _) = self.listener.accept()?;
+        Ok(stream)
+    }
+}
+
+// Removes the file that a server left there that is gone.
+fn clear(rt: &HostRuntime, path: &str) -> io::Result<()> {
+    let found = match fs::symlink_metadata(rt, path) {
+        Ok(found) => found,
+        Err(fault) if fault.kind() == ErrorKind::NotFound => return Ok(()),
+        Err(fault) => return Err(fault),
+    };
+    if !found.file_type().is_socket() {
+        return Err(ErrorKind::AlreadyExists.into());
+    }
+    match UnixStream::connect(rt, path) {
+        Ok(_) => Err(ErrorKind::AddrInUse.into()),
+        Err(fault) if fault.kind() == ErrorKind::ConnectionRefused => fs::remove_file(rt, path),
+        Err(fault) => Err(fault),
+    }
+}
