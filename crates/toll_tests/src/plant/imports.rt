@@ -147,7 +147,7 @@ fn check_refused<K: Keep + Drop>(
     refused: &[&[Line]],
 ) -> Result<(), Fail> {
     check_said_over::<Asked, K>(alloc, &mut keep, before)?;
-    check_said_over::<Asked, Refusing<K>>(alloc, &mut Refusing::new(keep), refused)
+    check_said_over::<Asked, Refusing<K>>(alloc, &mut Refusing::new(keep, Refused::Apply), refused)
 }
 
 const REFUSED: &[(&[&[Line]], &[&[Line]])] = &[
@@ -212,7 +212,7 @@ fn groups_before_a_refused_one_stand(rt: HostRuntime) -> Result<(), Fail> {
         &mut keep,
         &[WITH_RECIPE, WITH_BATCH, K2_IMPORTED],
     )?;
-    let mut keep = Refusing::new(keep);
+    let mut keep = Refusing::new(keep, Refused::Apply);
     check_long(
         rt.alloc(),
         &mut keep,
