@@ -1,6 +1,6 @@
 //! A keep that refuses each of its calls in turn, and what is found behind it.
 use crate::stop::runs::Telling;
-use crate::stories::{Line, Teller, check, check_said_over};
+use crate::stories::{Teller, check, check_lines, check_said_over};
 use crate::wire::lines::Asked;
 use sqlite::MemStore;
 use std::alloc::Global;
@@ -11,10 +11,15 @@ use toll_sql::SqlKeep;
 // More calls of a keep than a line makes.
 const MANY_CALLS: u64 = 100;
 
-/// Refuses the first call that the line makes of a keep of lists, its second, and so on, until it makes no
-/// more. Fails where a refused call is not told as want of memory, or where it changes rows, or the same
-/// line is not done then.
-pub fn check_refused_of_lists(alloc: Global, telling: &Telling) -> Result<(), Fail> {
+/// Refuses the first call that the line makes of a keep, its second, and so on, until it makes no more: over
+/// lists, and over tables as a keep remembers them. Fails where a refused call is not told as want of memory,
+/// or where it changes rows, or the same line is not done then.
+pub fn check_refused(alloc: Global, telling: &Telling) -> Result<(), Fail> {
+    check_refused_of_lists(alloc, telling)?;
+    check_refused_of_tables(alloc, telling)
+}
+
+fn check_refused_of_lists(alloc: Global, telling: &Telling) -> Result<(), Fail> {
     for calls in 0..MANY_CALLS {
         if !is_refused_of_lists(alloc, telling, calls)? {
             return Ok(());
@@ -23,8 +28,7 @@ pub fn check_refused_of_lists(alloc: Global, telling: &Telling) -> Result<(), Fa
     Err("each run meets a refusal".into())
 }
 
-/// The same of tables, as a keep remembers them.
-pub fn check_refused_of_tables(alloc: Global, telling: &Telling) -> Result<(), Fail> {
+fn check_refused_of_tables(alloc: Global, telling: &Telling) -> Result<(), Fail> {
     for calls in 0..MANY_CALLS {
         if !is_refused_of_tables(alloc, telling, calls)? {
             return Ok(());
@@ -67,8 +71,9 @@ fn meets_refusal<K: Keep>(alloc: Global, keep: &mut K, telling: &Telling) -> Res
         return Ok(false);
     }
     check(said.as_str() == refusal_of(asked), "told otherwise")?;
-    let line: [Line; 1] = [telling.line];
-    check_said_over::<Asked, K>(alloc, keep, &[telling.before, &line, telling.after])?;
+    check_lines::<Asked, K>(alloc, keep, telling.before)?;
+    check(Asked::say(alloc, keep, asked)?.as_str() == done, "not done")?;
+    check_lines::<Asked, K>(alloc, keep, telling.after)?;
     Ok(true)
 }
 

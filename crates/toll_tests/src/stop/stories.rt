@@ -1,6 +1,6 @@
 //! Runs over an office whose files stop, and what shows the office before and after each.
 use crate::stop::disks::empty_files;
-use crate::stop::refused::{check_refused_of_lists, check_refused_of_tables};
+use crate::stop::refused::check_refused;
 use crate::stop::runs::{Adopting, Making, Telling};
 use crate::stop::stops::check_stops;
 use crate::stories::{
@@ -132,7 +132,7 @@ const VOIDING_OWN: Telling = Telling {
     )],
 };
 
-const RUNS: &[Telling] = &[PLACING, CONSUMING, OPENING, VOIDING, VOIDING_OWN];
+const RUNS: &[Telling] = &[PLACING, CONSUMING, OPENING, VOIDING];
 
 #[test]
 fn a_stop_leaves_the_rows_from_before_or_after(rt: HostRuntime) -> Result<(), Fail> {
@@ -140,6 +140,11 @@ fn a_stop_leaves_the_rows_from_before_or_after(rt: HostRuntime) -> Result<(), Fa
         check_stops(rt.alloc(), run, &run.files(rt.alloc())?)?;
     }
     Ok(())
+}
+
+#[test]
+fn a_stop_leaves_what_an_owner_consumed_or_gives_it_back(rt: HostRuntime) -> Result<(), Fail> {
+    check_stops(rt.alloc(), &VOIDING_OWN, &VOIDING_OWN.files(rt.alloc())?)
 }
 
 // The office of version 1 in which HOUSE's `H-1` was consumed.
@@ -168,9 +173,13 @@ const TRACING: Telling = Telling {
 #[test]
 fn a_refused_call_of_a_keep_leaves_the_rows_from_before(rt: HostRuntime) -> Result<(), Fail> {
     for run in RUNS {
-        check_refused_of_lists(rt.alloc(), run)?;
-        check_refused_of_tables(rt.alloc(), run)?;
+        check_refused(rt.alloc(), run)?;
     }
-    check_refused_of_lists(rt.alloc(), &TRACING)?;
-    check_refused_of_tables(rt.alloc(), &TRACING)
+    Ok(())
+}
+
+#[test]
+fn a_refused_call_of_a_void_or_a_trace_changes_nothing(rt: HostRuntime) -> Result<(), Fail> {
+    check_refused(rt.alloc(), &VOIDING_OWN)?;
+    check_refused(rt.alloc(), &TRACING)
 }
