@@ -171,7 +171,7 @@ fn tell_opening(rt: &HostRuntime, began: io::Result<Instant>) {
     }
 }
 
-// An open office, and its files where they can be lent.
+/// An open office, and its files where they can be lent.
 pub struct Opened<K> {
     keep: K,
     files: Option<Files>,
