@@ -1,5 +1,6 @@
 -- What is paired are just the edges of the slice whose rows the tables have.
 use Rattle.std.proofs.Common.{◌≡◌, ◌≤◌, true, false, is_some, List, [], ◌∷◌, refl, sym, ap, subst, subst₂, ◌∙◌}
+use mathlib.Core.Bool.{false≢true}
 use Rattle.std.specs.List.{list_all}
 use Rattle.std.specs.Ordering.{ordering_reverse}
 use Rattle.std.specs.Prelude.{Contains}
@@ -18,15 +19,17 @@ use Rattle.toll_base.specs.declared.movement.MoveRow.{MoveRow}
 use Rattle.toll_base.specs.declared.role.Role.TheVariants.{Consumed, Produced}
 use Rattle.toll_keep.specs.Content.{Content}
 use Rattle.toll_keep.specs.Holding.{IsEdgeOfSome}
-use Rattle.toll_sql.specs.EdgeRows.{ShowEdges, edge_cells}
+use Rattle.toll_sql.specs.EdgeRows.{ShowEdges, draws_edges, edge_cells}
 use Rattle.toll_sql.specs.Encode.{kind_number, lot_of, order_of, number_of, segment_of, move_cells, void_cells}
-use Rattle.toll_sql.specs.Holds.{Holds, HoldsSlice}
-use Rattle.toll_sql.specs.Tables.{tree_of}
+use Rattle.toll_sql.specs.Holds.{Holds, HoldsPart}
+use Rattle.toll_sql.specs.Tables.{is_owned, tree_of}
+use Rattle.toll_sql.specs.declared.table_kind.TableKind.{TableKind}
 use Rattle.toll_sql.specs.declared.table_kind.TableKind.TheVariants.{Moves, Voids}
 use Rattle.toll_sql.proofs.JoinQuery.{pairs_that, owners_tests, all_tests, lots}
 use Rattle.toll_sql.proofs.JoinRows.{IsMatch, match_of, match_shown}
 use Rattle.toll_sql.proofs.JoinTests.{Passes, IsPairOf, equals, is_text, null_is_none, owners_pass, pass_owners, all_pass, pass_all, pair_of, pair_passes, actual_of_kind}
-use Rattle.toll_sql.proofs.MemberRows.{AreRows, rows_kept, seen, under, named_owner}
+use Rattle.toll_sql.proofs.LookLemmas.{within}
+use Rattle.toll_sql.proofs.MemberRows.{AreRows, rows_kept, seen, under, under_name, named_owner}
 use Rattle.toll_sql.proofs.Orders.{moves_order}
 use Rattle.toll_sql.proofs.Placing.{in_key_order}
 use Rattle.toll_sql.proofs.Unvoided.{standing, missing}
@@ -111,9 +114,9 @@ module _ (db : Trees) (s : Slice) (o : Bytes)
         sym (ap (λ l. edge_cells (record { from = l; to = lot_of o y.what })) (ap (lot_of o) d.consumes.is) ∙ ap (λ l. edge_cells (record { from = e.from; to = l })) (ap (lot_of o) d.produces.is)),
       )
 
--- ---- over tables that hold a slice
+-- ---- over tables that hold an owner's movements and voids
 
-module _ (db : Trees) (s : Slice) (has : HoldsSlice db s.owner s) where
+module _ (db : Trees) (s : Slice) (has : HoldsPart draws_edges db s.owner s) where
   moves_kept : AreRows s.owner (move_cells s.owner) s.moves (db (tree_of Moves))
   moves_kept = rows_kept Moves s.owner (move_cells s.owner) s.moves (db (tree_of Moves)) (λ x. refl) (λ x. refl) (has.stored Moves refl).same
 
@@ -140,21 +143,29 @@ module _ (db : Trees) (s : Slice) (has : HoldsSlice db s.owner s) where
         subst (Contains rows) (sym m.3) (match_shown owners_tests (seen db) (Text s.owner ∷ []) rows a m.0 m.1 [] [] m.2);
   }
 
+pub owners_shown : (db : Trees) (o : Bytes) (s : Slice) → HoldsPart draws_edges db o s → (rows : List Row) → IsAnswer (pairs_that owners_tests) (seen db) (Text o ∷ []) rows → ShowEdges (IsEdge s) rows
+owners_shown db o s has rows a = owners_edges db s (under_name draws_edges db o s has) rows (subst (λ n. IsAnswer (pairs_that owners_tests) (seen db) (Text n ∷ []) rows) (sym has.named) a)
+
 -- ---- over tables that hold a content
 
+pub draws_owned : (k : TableKind) → draws_edges k ≡ true → is_owned k ≡ true
+draws_owned Moves draws = refl
+draws_owned Voids draws = refl
+draws_owned _ draws = absurd (false≢true draws)
+
 module _ (db : Trees) (c : Content) (has : Holds db c) where
-  pub owners_shown : (o : Bytes) (rows : List Row) → IsAnswer (pairs_that owners_tests) (seen db) (Text o ∷ []) rows → ShowEdges (IsEdge (c.rows o)) rows
-  owners_shown o rows a = owners_edges db (c.rows o) (under db c has o) rows (subst (λ n. IsAnswer (pairs_that owners_tests) (seen db) (Text n ∷ []) rows) (sym (has.slices o).named) a)
+  drawn : (o : Bytes) → HoldsPart draws_edges db (c.rows o).owner (c.rows o)
+  drawn o = within draws_edges is_owned draws_owned db (c.rows o).owner (c.rows o) (under db c has o)
 
   pub all_shown : (rows : List Row) → IsAnswer (pairs_that all_tests) (seen db) [] rows → ShowEdges (IsEdgeOfSome c) rows
   all_shown rows a = record {
     only = λ row i.
         let m = match_of all_tests (seen db) [] rows a row i in
         let o = named_owner db c has Moves refl m.0 m.4.consumption in
-        let e = draws db (c.rows o.0) (under db c has o.0) all_tests [] m.0 m.1 m.2 m.3 row m.4 (all_pass m.0 m.1 m.2 m.3 (c.rows o.0).owner o.2 m.4.passes) m.5 in
+        let e = draws db (c.rows o.0) (drawn o.0) all_tests [] m.0 m.1 m.2 m.3 row m.4 (all_pass m.0 m.1 m.2 m.3 (c.rows o.0).owner o.2 m.4.passes) m.5 in
         (e.0, record { owner = o.0; edge = e.1 }, e.2);
     every = λ e d.
         let s = c.rows d.owner in
-        let m = matched db s (under db c has d.owner) all_tests [] (λ c p t. pass_all c p [] [] s.owner t) e d.edge in
+        let m = matched db s (drawn d.owner) all_tests [] (λ c p t. pass_all c p [] [] s.owner t) e d.edge in
         subst (Contains rows) (sym m.3) (match_shown all_tests (seen db) [] rows a m.0 m.1 [] [] m.2);
   }

@@ -1,5 +1,5 @@
 -- What the tables hold once the index and the version are there.
-use Rattle.std.proofs.Common.{◌≡◌, true, List, [], ◌∷◌, map, refl, sym, subst, ◌∙◌, arith}
+use Rattle.std.proofs.Common.{◌≡◌, true, List, [], ◌∷◌, refl, sym, subst, ◌∙◌, arith}
 use Rattle.std.specs.List.{AllByRecursion}
 use Rattle.sqlite.specs.Order.{Row}
 use Rattle.sqlite.specs.State.{State}
@@ -17,10 +17,10 @@ use Rattle.toll_sql.specs.Encode.{meta_cells, owner_cells, unit_cells, rows_for}
 use Rattle.toll_sql.specs.First.{as_second}
 use Rattle.toll_sql.specs.Holds.{HasRows, Holds, HoldsSlice, NamesOwner, version}
 use Rattle.toll_sql.specs.Tables.{made_all, tree_of, is_owned}
-use Rattle.toll_sql.specs.Valid.{AreValidIn}
+use Rattle.toll_sql.specs.Valid.{AreValidIn, IsOwner, IsUnit}
 use Rattle.toll_sql.specs.declared.table_kind.TableKind.{TableKind}
 use Rattle.toll_sql.specs.declared.table_kind.TableKind.TheVariants.{Meta, Owners, Units, Materials, Tests, Recipes, Requirements, Orders, Batches, Lots, Sublots, Moves, Results, Voids}
-use Rattle.toll_sql.proofs.HoldsAfter.{other_tree, rows_after, same_slice, unowned_apart}
+use Rattle.toll_sql.proofs.HoldsAfter.{other_tree, rows_after, same_all, same_slice, unowned_apart}
 use Rattle.toll_sql.proofs.PutTexts.{number_of}
 use Rattle.toll_sql.proofs.WriteLemmas.{at_table}
 
@@ -34,10 +34,8 @@ holds_same c old new same meta h =
     let tables = λ (k : TableKind) (owned : is_owned k ≡ true). same k (λ e. unowned_apart Meta k refl owned (sym e)) in
     record {
       meta = meta;
-      owners = subst (λ tree. HasRows Owners (map owner_cells c.owners) tree) (sym (same Owners (λ e. absurd (omega (arith, e))))) h.owners;
-      are_owners = h.are_owners;
-      units = subst (λ tree. HasRows Units (map unit_cells c.units) tree) (sym (same Units (λ e. absurd (omega (arith, e))))) h.units;
-      are_units = h.are_units;
+      owners = same_all Owners owner_cells IsOwner old new c.owners (same Owners (λ e. absurd (omega (arith, e)))) h.owners;
+      units = same_all Units unit_cells IsUnit old new c.units (same Units (λ e. absurd (omega (arith, e)))) h.units;
       slices = λ o. same_slice old new o (c.rows o) tables (h.slices o);
       owned = λ k owned. subst (λ tree. AllByRecursion NamesOwner (all_cells tree)) (sym (tables k owned)) (h.owned k owned);
     }
@@ -111,16 +109,14 @@ no_slice o = record {
   named = refl;
   stored = λ k owned. subst (λ rows. HasRows k rows (owned_by o (as_second no_rows (tree_of k)))) (sym (none_for k o))
       (subst (λ tree. HasRows k [] (owned_by o tree)) (none_there k (other_is k owned)) (record { same = λ f. refl; rising = tt }));
-  valid = λ k. none_valid k o;
+  valid = λ k owned. none_valid k o;
 }
 
 holds_nothing : Holds (as_second no_rows) nothing
 holds_nothing = record {
   meta = record { same = λ f. refl; rising = (tt, tt) };
-  owners = record { same = λ f. refl; rising = tt };
-  are_owners = tt;
-  units = record { same = λ f. refl; rising = tt };
-  are_units = tt;
+  owners = record { stored = record { same = λ f. refl; rising = tt }; valid = tt };
+  units = record { stored = record { same = λ f. refl; rising = tt }; valid = tt };
   slices = no_slice;
   owned = λ k owned. subst (λ tree. AllByRecursion NamesOwner (all_cells tree)) (none_there k (other_is k owned)) tt;
 }

@@ -145,7 +145,7 @@ module _ (db : Trees) (c : Content) (has : Holds db c) (unit : Bytes) (rows : Li
       let o = named_owner db c has Batches refl r.0 r.1 in
       let s = c.rows o.0 in
       let x = (batches_kept db s (under db c has o.0)).only r.0 r.1 o.2 in
-      let valid = member_of_all IsBatch s.batches x.1 ((has.slices o.0).valid Batches) x.2 in
+      let valid = member_of_all IsBatch s.batches x.1 ((has.slices o.0).valid Batches refl) x.2 in
       let on = passes_on unit s.owner x.0 x.1 (subst (λ r. passes unit r ≡ true) x.3 r.2) in
       let h : Holder = record { owner = o.0; order = x.1.order; number = x.1.number } in (
         h,

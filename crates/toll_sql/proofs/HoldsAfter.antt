@@ -24,11 +24,11 @@ use Rattle.toll_keep.specs.Content.{Content, after}
 use Rattle.toll_sql.specs.Bag.{place, all_cells, owned_by}
 use Rattle.toll_sql.specs.Cells.{cells_of, fill, key_order}
 use Rattle.toll_sql.specs.Encode.{meta_cells, owner_cells, unit_cells, table_for, cells_for, rows_for}
-use Rattle.toll_sql.specs.Holds.{HasRows, Holds, HoldsSlice, NamesOwner, version}
+use Rattle.toll_sql.specs.Holds.{HasRows, Holds, HoldsAll, HoldsSlice, NamesOwner, version}
 use Rattle.toll_sql.specs.Put.{IsReplaced, IsAdded}
 use Rattle.toll_sql.specs.Stores.{PutsAll, PutsChange, PutsRow, has_key}
 use Rattle.toll_sql.specs.Tables.{tree_of, keys_of, table_of, width_of, is_owned}
-use Rattle.toll_sql.specs.Valid.{IsRow}
+use Rattle.toll_sql.specs.Valid.{IsOwner, IsRow, IsUnit}
 use Rattle.toll_sql.specs.declared.table_kind.TableKind.{TableKind}
 use Rattle.toll_sql.specs.declared.table_kind.TableKind.TheVariants.{Meta, Owners, Units, Materials, Tests, Recipes, Requirements, Orders, Batches, Lots, Sublots, Moves, Results, Voids}
 use Rattle.toll_sql.proofs.Bags.{placed_in}
@@ -168,7 +168,7 @@ module _ (o q : Bytes) (row : OfficeRow) (s : Slice) (old new : Trees) (put : Pu
   slice_after valid h true e = record {
     named = named_with row s ∙ h.named;
     stored = own_rows h (same_bytes-exact o q e);
-    valid = λ j. valid_with j s row valid h.valid;
+    valid = λ j owned. valid_with j s row valid (h.valid j owned);
   }
     where
       named_with : (row : OfficeRow) (s : Slice) → (with_row s row).owner ≡ s.owner
@@ -207,6 +207,10 @@ unowned_apart j k free owned same = elim (same_table j k) [
   | inr other ↦ other same
 ]
 
+-- a table as it was has the rows that it had
+pub same_all : {X : Type 0} (k : TableKind) (cells : X → Row) (is_valid : X → Type 0) (old new : Trees) (l : List X) → new (tree_of k) ≡ old (tree_of k) → HoldsAll k cells is_valid old l → HoldsAll k cells is_valid new l
+same_all k cells is_valid old new l same h = record { stored = subst (HasRows k (map cells l)) (sym same) h.stored; valid = h.valid }
+
 -- a slice whose owner's tables are as they were
 pub same_slice : (old new : Trees) (q : Bytes) (s : Slice) → ((j : TableKind) → is_owned j ≡ true → new (tree_of j) ≡ old (tree_of j)) → HoldsSlice old q s → HoldsSlice new q s
 same_slice old new q s same h = record { named = h.named; stored = λ j owned. subst (λ tree. HasRows j (rows_for j s) (owned_by q tree)) (sym (same j owned)) (h.stored j owned); valid = h.valid }
@@ -217,12 +221,13 @@ holds_one (Owner x) c old new h p =
     let tables = λ (j : TableKind) (owned : is_owned j ≡ true). other j (λ same. unowned_apart Owners j refl owned (sym same)) in
     record {
       meta = subst (λ tree. HasRows Meta (meta_cells version ∷ []) tree) (sym (other Meta (λ e. absurd (omega (arith, e))))) h.meta;
-      owners =
-          subst (λ rows. HasRows Owners rows (new (tree_of Owners))) (sym (put_placed bytes_cmp nat_list_cmp_total (λ (row : OwnerRow). row.owner) owner_cells (key_order Owners) owners_order x c.owners h.owners.rising))
-          (rows_after Owners (owner_cells x) (fills (Owner x)) (map owner_cells c.owners) (old (tree_of Owners)) (new (tree_of Owners)) h.owners p.put.here);
-      are_owners = all_put (λ (row : OwnerRow). row.owner) _ x p.valid bytes_cmp c.owners h.are_owners;
-      units = subst (λ tree. HasRows Units (map unit_cells c.units) tree) (sym (other Units (λ e. absurd (omega (arith, e))))) h.units;
-      are_units = h.are_units;
+      owners = record {
+        stored =
+            subst (λ rows. HasRows Owners rows (new (tree_of Owners))) (sym (put_placed bytes_cmp nat_list_cmp_total (λ (row : OwnerRow). row.owner) owner_cells (key_order Owners) owners_order x c.owners h.owners.stored.rising))
+            (rows_after Owners (owner_cells x) (fills (Owner x)) (map owner_cells c.owners) (old (tree_of Owners)) (new (tree_of Owners)) h.owners.stored p.put.here);
+        valid = all_put (λ (row : OwnerRow). row.owner) _ x p.valid bytes_cmp c.owners h.owners.valid;
+      };
+      units = same_all Units unit_cells IsUnit old new c.units (other Units (λ e. absurd (omega (arith, e)))) h.units;
       slices = λ o. same_slice old new o (c.rows o) tables (h.slices o);
       owned = λ j owned. subst (λ tree. AllByRecursion NamesOwner (all_cells tree)) (sym (tables j owned)) (h.owned j owned);
     }
@@ -231,12 +236,13 @@ holds_one (UnitAdded x) c old new h p =
     let tables = λ (j : TableKind) (owned : is_owned j ≡ true). other j (λ same. unowned_apart Units j refl owned (sym same)) in
     record {
       meta = subst (λ tree. HasRows Meta (meta_cells version ∷ []) tree) (sym (other Meta (λ e. absurd (omega (arith, e))))) h.meta;
-      owners = subst (λ tree. HasRows Owners (map owner_cells c.owners) tree) (sym (other Owners (λ e. absurd (omega (arith, e))))) h.owners;
-      are_owners = h.are_owners;
-      units =
-          subst (λ rows. HasRows Units rows (new (tree_of Units))) (sym (put_placed bytes_cmp nat_list_cmp_total (λ (row : UnitRow). row.unit) unit_cells (key_order Units) units_order x c.units h.units.rising))
-          (rows_after Units (unit_cells x) (fills (UnitAdded x)) (map unit_cells c.units) (old (tree_of Units)) (new (tree_of Units)) h.units p.put.here);
-      are_units = all_put (λ (row : UnitRow). row.unit) _ x p.valid bytes_cmp c.units h.are_units;
+      owners = same_all Owners owner_cells IsOwner old new c.owners (other Owners (λ e. absurd (omega (arith, e)))) h.owners;
+      units = record {
+        stored =
+            subst (λ rows. HasRows Units rows (new (tree_of Units))) (sym (put_placed bytes_cmp nat_list_cmp_total (λ (row : UnitRow). row.unit) unit_cells (key_order Units) units_order x c.units h.units.stored.rising))
+            (rows_after Units (unit_cells x) (fills (UnitAdded x)) (map unit_cells c.units) (old (tree_of Units)) (new (tree_of Units)) h.units.stored p.put.here);
+        valid = all_put (λ (row : UnitRow). row.unit) _ x p.valid bytes_cmp c.units h.units.valid;
+      };
       slices = λ o. same_slice old new o (c.rows o) tables (h.slices o);
       owned = λ j owned. subst (λ tree. AllByRecursion NamesOwner (all_cells tree)) (sym (tables j owned)) (h.owned j owned);
     }
@@ -245,10 +251,8 @@ holds_one (Put o row) c old new h p =
     let other = λ (j : TableKind) (free : is_owned j ≡ false). other_tree j k (cells_for o row) old new (unowned_apart j k free (is_owned_for row)) p.put in
     record {
       meta = subst (λ tree. HasRows Meta (meta_cells version ∷ []) tree) (sym (other Meta refl)) h.meta;
-      owners = subst (λ tree. HasRows Owners (map owner_cells c.owners) tree) (sym (other Owners refl)) h.owners;
-      are_owners = h.are_owners;
-      units = subst (λ tree. HasRows Units (map unit_cells c.units) tree) (sym (other Units refl)) h.units;
-      are_units = h.are_units;
+      owners = same_all Owners owner_cells IsOwner old new c.owners (other Owners refl) h.owners;
+      units = same_all Units unit_cells IsUnit old new c.units (other Units refl) h.units;
       slices = λ q.
           let s = c.rows q in
           subst (λ p. HoldsSlice new q (if same_bytes o p then with_row s row else s)) (sym (h.slices q).named) (slice_after o q row s old new p.put p.valid.1 (h.slices q) (same_bytes o q) refl);

@@ -10,16 +10,18 @@ use Rattle.sqlite.specs.Tree.{Trees}
 use Rattle.sqlite_catalog.specs.Change.{KeepsRows, indexed}
 use Rattle.sqlite_schema.specs.Names.{same_name}
 use Rattle.toll_keep.specs.Content.{Content}
-use Rattle.toll_sql.specs.Bag.{all_cells, owned_by}
+use Rattle.toll_sql.specs.Bag.{all_cells}
 use Rattle.toll_sql.specs.Create.{IsUnindexed, MakesIndex}
-use Rattle.toll_sql.specs.Encode.{rows_for}
+use Rattle.toll_sql.specs.Encode.{owner_cells, unit_cells}
 use Rattle.toll_sql.specs.First.{Tells, first_ours, meta_rows}
 use Rattle.toll_sql.specs.Holds.{HasRows, Holds, NamesOwner, version}
 use Rattle.toll_sql.specs.Others.{HasOurs, Indexed, has_its_name, with_index}
 use Rattle.toll_sql.specs.Stores.{IsOurs}
 use Rattle.toll_sql.specs.Tables.{by_batch, made_all, table_of, tree_of}
+use Rattle.toll_sql.specs.Valid.{IsOwner, IsUnit}
 use Rattle.toll_sql.specs.declared.table_kind.TableKind.{TableKind}
 use Rattle.toll_sql.specs.declared.table_kind.TableKind.TheVariants.{Meta, Moves, Owners, Units}
+use Rattle.toll_sql.proofs.HoldsAfter.{same_all, same_slice}
 use Rattle.toll_sql.proofs.MakeLemmas.{ours_indexed, shaped_still}
 use Rattle.toll_sql.proofs.OthersLemmas.{first_of}
 use Rattle.toll_sql.proofs.WriteLemmas.{at_table}
@@ -37,15 +39,9 @@ holds_kept c old new kept h =
     let same = λ (k : TableKind). (let it : new (tree_of k) ≡ old (tree_of k) = at_table (λ tree. new tree ≡ old tree) k kept in it) in
     record {
       meta = subst (HasRows Meta _) (sym (same Meta)) h.meta;
-      owners = subst (HasRows Owners _) (sym (same Owners)) h.owners;
-      are_owners = h.are_owners;
-      units = subst (HasRows Units _) (sym (same Units)) h.units;
-      are_units = h.are_units;
-      slices = λ o. record {
-        named = (h.slices o).named;
-        stored = λ k owned. subst (λ stored. HasRows k (rows_for k (c.rows o)) (owned_by o stored)) (sym (same k)) ((h.slices o).stored k owned);
-        valid = (h.slices o).valid;
-      };
+      owners = same_all Owners owner_cells IsOwner old new c.owners (same Owners) h.owners;
+      units = same_all Units unit_cells IsUnit old new c.units (same Units) h.units;
+      slices = λ o. same_slice old new o (c.rows o) (λ k owned. same k) (h.slices o);
       owned = λ k owned. subst (λ stored. AllByRecursion NamesOwner (all_cells stored)) (sym (same k)) (h.owned k owned);
     }
 

@@ -51,6 +51,7 @@ pub mod FrontRules
 pub mod RowsIn
 pub mod LookLemmas
 pub mod ReadOn
+pub mod Alone
 pub mod ListLemmas
 pub mod KeepLemmas
 pub mod JoinQuery

@@ -1,9 +1,10 @@
 -- What is read of a store whose tables hold a content.
-use Rattle.std.proofs.Common.{◌≡◌, ◌≢◌, true, List, [], ◌∷◌, map, Ok, Err, Result, OnOk, IsTrue, refl, sym, subst, ◌∙◌}
+use Rattle.std.proofs.Common.{◌≡◌, ◌≢◌, Bool, true, List, [], ◌∷◌, map, Ok, Err, Result, OnOk, IsTrue, refl, sym, subst, ◌∙◌}
 use Rattle.std.specs.List.{AllByRecursion}
 use Rattle.sqlite.specs.Effect.{Database}
 use Rattle.sqlite.specs.Order.{Row}
 use Rattle.sqlite.specs.State.{State, HasCleanDisk}
+use Rattle.sqlite.specs.Tree.{Trees}
 use Rattle.toll_base.specs.Bytes.{Bytes}
 use Rattle.toll_base.specs.Slice.{Slice}
 use Rattle.toll_keep.specs.Content.{Content}
@@ -14,9 +15,10 @@ use Rattle.toll_sql.specs.Bag.{owned_by}
 use Rattle.toll_sql.specs.Cells.{fill}
 use Rattle.toll_sql.specs.Encode.{rows_for, material_cells, test_cells, recipe_cells, requirement_cells, order_cells, batch_cells, lot_cells, sublot_cells, move_cells, result_cells, void_cells}
 use Rattle.toll_sql.specs.Fronts.{IsStoredAs}
-use Rattle.toll_sql.specs.Holds.{Holds}
+use Rattle.toll_sql.specs.Holds.{HoldsPart}
+use Rattle.toll_sql.specs.Others.{HasOurs}
 use Rattle.toll_sql.specs.Rows.{AreOfOwner}
-use Rattle.toll_sql.specs.Stores.{HoldsIn, IsOurs}
+use Rattle.toll_sql.specs.Stores.{HoldsIn, HoldsPartIn}
 use Rattle.toll_sql.specs.Tables.{tree_of, is_owned}
 use Rattle.toll_sql.specs.declared.table_kind.TableKind.{TableKind}
 use Rattle.toll_sql.specs.declared.table_kind.TableKind.TheVariants.{Meta, Owners, Units, Materials, Tests, Recipes, Requirements, Orders, Batches, Lots, Sublots, Moves, Results, Voids}
@@ -46,11 +48,10 @@ all_fill Voids s = all_map Voids (void_cells s.owner) (λ x. refl) s.voids
 
 -- ---- what is answered
 
-pub stored_as : (s : State) (c : Content) → HoldsIn s c → (k : TableKind) → is_owned k ≡ true → (o : Bytes) (rows : List Row) → AreOfOwner k o s.now.trees rows → IsStoredAs k (c.rows o) rows
-stored_as s c held k owned o rows read =
-    let slice = held.rows.slices o in
-    let has = slice.stored k owned in
-    record { are = rows_read k (owned_by o (s.now.trees (tree_of k))) rows (rows_for k (c.rows o)) read has (all_fill k (c.rows o)); rising = has.rising; valid = slice.valid k }
+pub stored_as : (s : State) (o : Bytes) (slice : Slice) → HoldsPartIn is_owned s o slice → (k : TableKind) → is_owned k ≡ true → (rows : List Row) → AreOfOwner k o s.now.trees rows → IsStoredAs k slice rows
+stored_as s o slice held k owned rows read =
+    let has = held.rows.stored k owned in
+    record { are = rows_read k (owned_by o (s.now.trees (tree_of k))) rows (rows_for k slice) read has (all_fill k slice); rising = has.rising; valid = held.rows.valid k owned }
 
 -- rows that were read are looked at without the store
 pub looking : {X Y E : Type 0} (old new : State) (x : X) (r : Result Y KeepFault) → Asks {X = X} {E = E} old new (Ok x) → r ≢ Err Disk → r ≢ Err Closed → IsLooking old new r
@@ -65,12 +66,23 @@ looking {X} {Y} {E} old new x r asks disk closed = record {
     shown (Ok y) live = live
     shown (Err e) live = tt
 
--- what was held is held after a look that succeeded
-pub held_on : {X E : Type 0} (old new : State) (x : X) (c : Content) → Asks {X = X} {E = E} old new (Ok x) → HasCleanDisk new → HoldsIn old c → HoldsIn new c
-held_on old new x c asks clean held =
-    let same = asks.same clean held.ours.schema (asks.shown clean) held.idle in
+-- what was held of an owner is held after a look that succeeded
+pub held_on : {X E : Type 0} (is_such : TableKind → Bool) (old new : State) (x : X) (o : Bytes) (slice : Slice) → Asks {X = X} {E = E} old new (Ok x) → HasCleanDisk new → HoldsPartIn is_such old o slice → HoldsPartIn is_such new o slice
+held_on is_such old new x o slice asks clean held =
+    let same = asks.same clean held.ours (asks.shown clean) held.idle in
     record {
-      ours = subst IsOurs (sym same.0) held.ours;
+      ours = subst (λ (db : Database). HasOurs db.schema) (sym same.0) held.ours;
       idle = same.0 ∙ held.idle ∙ sym same.1;
-      rows = subst (λ (db : Database). Holds db.trees c) (sym same.0) held.rows;
+      rows = subst (λ (db : Database). HoldsPart is_such db.trees o slice) (sym same.0) held.rows;
     }
+
+-- fewer tables hold their part of what more of them hold
+pub within : (is_such is_more : TableKind → Bool) → ((k : TableKind) → is_such k ≡ true → is_more k ≡ true) → (db : Trees) (o : Bytes) (s : Slice) → HoldsPart is_more db o s → HoldsPart is_such db o s
+within is_such is_more less db o s has = record { named = has.named; stored = λ k such. has.stored k (less k such); valid = λ k such. has.valid k (less k such) }
+
+-- a store that holds a content holds each owner's part
+pub part_of : (is_such : TableKind → Bool) → ((k : TableKind) → is_such k ≡ true → is_owned k ≡ true) → (s : State) (c : Content) → HoldsIn s c → (o : Bytes) → HoldsPartIn is_such s o (c.rows o)
+part_of is_such less s c held o = record { ours = held.ours.schema; idle = held.idle; rows = within is_such is_owned less s.now.trees o (c.rows o) (held.rows.slices o) }
+
+pub slice_part : (s : State) (c : Content) → HoldsIn s c → (o : Bytes) → HoldsPartIn is_owned s o (c.rows o)
+slice_part = part_of is_owned (λ k owned. owned)

@@ -13,11 +13,12 @@ use Rattle.sqlite.specs.declared.types.Value.TheVariants.{Text}
 use Rattle.sqlite_rules.specs.Lists.{Has}
 use Rattle.sqlite_value.proofs.OrderLemmas.{value_cmp_total}
 use Rattle.toll_base.specs.Bytes.{Bytes}
+use Rattle.toll_base.specs.Slice.{Slice}
 use Rattle.toll_base.specs.Values.{is_name}
 use Rattle.toll_keep.specs.Content.{Content}
 use Rattle.toll_sql.specs.Bag.{SameBag, total, all_cells, owned_by}
 use Rattle.toll_sql.specs.Cells.{cells_of, fill}
-use Rattle.toll_sql.specs.Holds.{Holds, HoldsSlice, NamesOwner}
+use Rattle.toll_sql.specs.Holds.{Holds, HoldsPart, HoldsSlice, NamesOwner}
 use Rattle.toll_sql.specs.Tables.{table_of, tree_of, is_owned}
 use Rattle.toll_sql.specs.declared.table_kind.TableKind.{TableKind}
 use Rattle.toll_sql.proofs.Keyed.{behind, cells_are}
@@ -120,10 +121,14 @@ module _ {X : Type 0} (k : TableKind) (o : Bytes) (cells : X → Row) (rows : Li
 abbrev pub seen : Trees → Trees
 seen db = overlay db []
 
+-- a slice is there under its own name
+pub under_name : (is_such : TableKind → Bool) (db : Trees) (o : Bytes) (s : Slice) → HoldsPart is_such db o s → HoldsPart is_such db s.owner s
+under_name is_such db o s has = subst (λ n. HoldsPart is_such db n s) (sym has.named) has
+
 module _ (db : Trees) (c : Content) (has : Holds db c) where
-  -- the owner's slice is there under its own name
+  -- so is each owner's
   pub under : (o : Bytes) → HoldsSlice db (c.rows o).owner (c.rows o)
-  under o = subst (λ n. HoldsSlice db n (c.rows o)) (sym (has.slices o).named) (has.slices o)
+  under o = under_name is_owned db o (c.rows o) (has.slices o)
 
   -- a stored row names its owner
   pub named_owner : (k : TableKind) → is_owned k ≡ true → (r : Row) → Contains (db (tree_of k)) r → (o : Bytes) × IsTrue (is_name o) × (column r 1 ≡ Text (c.rows o).owner)

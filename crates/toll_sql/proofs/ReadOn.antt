@@ -24,7 +24,7 @@ use Rattle.toll_sql.proofs.OpenLemmas.{found_still}
 -- ---- two looks are one
 
 module _ (a b c : State) where
-  clean_before : {P : Trees → Type 0} → Survives b c P → HasCleanDisk c → HasCleanDisk b
+  pub clean_before : {P : Trees → Type 0} → Survives b c P → HasCleanDisk c → HasCleanDisk b
   clean_before s clean = omega (arith, clean, s.clean)
 
   asks_then : {X Y E F : Type 0} (x : X) (r : Result Y F) → Asks {X = X} {E = E} a b (Ok x) → Asks b c r → Asks a c r
@@ -95,12 +95,12 @@ module _ (f g h : Slice → Slice) {kinds others : List TableKind} (o : Bytes) w
   reads_then a b c s t u x r p q = record {
     looks = looks_then a b c x r p.looks q.looks;
     shows = shows_then kinds others o a b c x r p.looks p.shows q.looks q.shows;
-    reads = λ clean content held first.
+    reads = λ clean slice held first.
         let before = clean_before a b c q.looks.asks.survives clean in
-        q.reads clean content (held_on a b x content p.looks.asks before held) (p.reads before content held first);
-    whole = λ clean content held keeps first.
+        q.reads clean slice (held_on is_owned a b x o slice p.looks.asks before held) (p.reads before slice held first);
+    whole = λ clean slice held keeps first.
         let before = clean_before a b c q.looks.asks.survives clean in
-        q.whole clean content (held_on a b x content p.looks.asks before held) keeps (p.reads before content held first);
+        q.whole clean slice (held_on is_owned a b x o slice p.looks.asks before held) keeps (p.reads before slice held first);
   }
 
   -- one that failed read nothing
@@ -113,8 +113,8 @@ module _ (f g h : Slice → Slice) {kinds others : List TableKind} (o : Bytes) w
       damaged = λ clean is. p.looks.damaged clean (ap Err (same_error is));
     };
     shows = λ clean has idle. tt;
-    reads = λ clean content held first. tt;
-    whole = λ clean content held keeps first is. p.whole clean content held keeps first (ap Err (same_error is));
+    reads = λ clean slice held first. tt;
+    whole = λ clean slice held keeps first is. p.whole clean slice held keeps first (ap Err (same_error is));
   }
     where
       same_error : {Z : Type 0} {d e : KeepFault} → ◌≡◌ {A = Result Z KeepFault} (Err d) (Err e) → d ≡ e

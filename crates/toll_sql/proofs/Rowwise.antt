@@ -150,8 +150,8 @@ its_valid s (of.Move x) is h = all_put (λ (row : MoveRow). row.key) _ x is byte
 its_valid s (of.Result x) is h = all_put (λ (row : ResultRow). (row.lot, row.test, row.number)) _ x is result_cmp s.results h
 its_valid s (of.Void x) is h = all_put (λ (row : VoidRow). row.key) _ x is bytes_cmp s.voids h
 
-pub valid_with : (k : TableKind) (s : Slice) (row : OfficeRow) → IsRow row → ((k : TableKind) → AreValidIn k s) → AreValidIn k (with_row s row)
-valid_with k s row is all = elim (same_table k (table_for row)) [
-  | inl same ↦ subst (λ k. AreValidIn k (with_row s row)) (sym same) (its_valid s row is (all (table_for row)))
-  | inr other ↦ still_valid k s row other (all k)
+pub valid_with : (k : TableKind) (s : Slice) (row : OfficeRow) → IsRow row → AreValidIn k s → AreValidIn k (with_row s row)
+valid_with k s row is valid = elim (same_table k (table_for row)) [
+  | inl same ↦ subst (λ k. AreValidIn k (with_row s row)) (sym same) (its_valid s row is (subst (λ k. AreValidIn k s) same valid))
+  | inr other ↦ still_valid k s row other valid
 ]

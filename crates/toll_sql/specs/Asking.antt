@@ -1,13 +1,15 @@
 -- What each call does that asks the store and writes nothing.
-use Rattle.std.specs.Prelude.{◌≡◌, ◌≢◌, true, false, IsTrue, Result, Err, IfErr, OnOk}
+use Rattle.std.specs.Prelude.{◌≡◌, ◌≢◌, Bool, true, false, IsTrue, Result, Err, IfErr, OnOk}
 use Rattle.sqlite.specs.State.{State, HasCleanDisk, Survives}
 use Rattle.sqlite.specs.Tree.{Trees}
 use Rattle.sqlite.specs.declared.error.Error.{Error}
+use Rattle.toll_base.specs.Bytes.{Bytes}
+use Rattle.toll_base.specs.Slice.{Slice}
 use Rattle.toll_keep.specs.Content.{Content}
 use Rattle.toll_keep.specs.declared.fault.KeepFault.{KeepFault}
 use Rattle.toll_keep.specs.declared.fault.KeepFault.TheVariants.{Disk, Damaged, Closed}
 use Rattle.toll_sql.specs.Causes.{IsCaused, Reason}
-use Rattle.toll_sql.specs.Stores.{HoldsIn, LiesIdle}
+use Rattle.toll_sql.specs.Stores.{HoldsIn, HoldsPartIn, LiesIdle}
 use Rattle.toll_sql.specs.Others.{HasOurs}
 use Rattle.toll_sql.specs.Tables.{is_owned}
 use Rattle.toll_sql.specs.declared.table_kind.TableKind.{TableKind}
@@ -15,6 +17,14 @@ use Rattle.toll_sql.specs.declared.table_kind.TableKind.{TableKind}
 -- this is so of each content that the store held, where the disk has returned what was written to it
 abbrev pub ForHeld : State → State → (Content → Type 0) → Type 0
 ForHeld old new P = HasCleanDisk new → (c : Content) → HoldsIn old c → P c
+
+-- this is so of the slice whose rows such tables held as this owner's, whatever rows they had of others
+abbrev pub ForPart : (TableKind → Bool) → Bytes → State → State → (Slice → Type 0) → Type 0
+ForPart is_such o old new P = HasCleanDisk new → (s : Slice) → HoldsPartIn is_such old o s → P s
+
+-- this is so of the slice that all tables held as this owner's
+abbrev pub ForSlice : Bytes → State → State → (Slice → Type 0) → Type 0
+ForSlice = ForPart is_owned
 
 -- this is so of the rows that the store had, where its tables were ours and the disk has returned what was written to it
 abbrev pub OverOurs : State → State → (Trees → Type 0) → Type 0

@@ -1,16 +1,31 @@
 -- Rows that show edges of genealogy.
-use Rattle.std.specs.Prelude.{◌≡◌, ◌≢◌, ℕ, List, [], ◌∷◌, map, Contains}
+use Rattle.std.specs.Prelude.{◌≡◌, ◌≢◌, ℕ, Bool, true, false, List, [], ◌∷◌, map, Contains}
 use Rattle.sqlite.specs.Effect.{Database}
 use Rattle.sqlite.specs.Order.{Row}
+use Rattle.sqlite.specs.State.{State}
 use Rattle.sqlite.specs.declared.types.Value.TheVariants.{Text}
 use Rattle.toll_base.specs.Bytes.{Bytes}
 use Rattle.toll_base.specs.Lots.{edge_cmp}
+use Rattle.toll_base.specs.Slice.{Slice}
 use Rattle.toll_base.specs.declared.lot.Edge.{Edge}
 use Rattle.toll_sql.specs.Asked.{AreReadWith}
+use Rattle.toll_sql.specs.Asking.{ForPart}
 use Rattle.toll_sql.specs.AskedTexts.{owners_text}
 use Rattle.toll_sql.specs.Cells.{columns_from}
 use Rattle.toll_sql.specs.Valid.{IsLotId}
+use Rattle.toll_sql.specs.declared.table_kind.TableKind.{TableKind}
+use Rattle.toll_sql.specs.declared.table_kind.TableKind.TheVariants.{Moves, Voids}
 use Rattle.toll_trace.specs.InOrder.{IsInOrder}
+
+-- the tables that edges are drawn from
+abbrev pub draws_edges : TableKind → Bool
+draws_edges Moves = true
+draws_edges Voids = true
+draws_edges _ = false
+
+-- this is so of the slice whose movements and voids the tables held as this owner's, whatever rows they had of others
+abbrev pub ForMoves : Bytes → State → State → (Slice → Type 0) → Type 0
+ForMoves = ForPart draws_edges
 
 -- the lot that the edge leads from, and the one that it leads to
 abbrev pub edge_cells : Edge → Row

@@ -1,5 +1,5 @@
 -- Tables that hold the rows of a content.
-use Rattle.std.specs.Prelude.{◌≡◌, ℕ, true, IsTrue, List, [], ◌∷◌, map}
+use Rattle.std.specs.Prelude.{◌≡◌, ℕ, Bool, true, IsTrue, List, [], ◌∷◌, map}
 use Rattle.std.specs.List.{AllByRecursion}
 use Rattle.sqlite.specs.Order.{Row, column}
 use Rattle.sqlite.specs.Tree.{Trees}
@@ -7,6 +7,8 @@ use Rattle.sqlite.specs.declared.types.Value.TheVariants.{Text}
 use Rattle.toll_base.specs.Bytes.{Bytes}
 use Rattle.toll_base.specs.Slice.{Slice}
 use Rattle.toll_base.specs.Values.{is_name}
+use Rattle.toll_base.specs.declared.rows.OwnerRow.{OwnerRow}
+use Rattle.toll_base.specs.declared.rows.UnitRow.{UnitRow}
 use Rattle.toll_keep.specs.Content.{Content}
 use Rattle.toll_sql.specs.Bag.{Rises, SameBag, all_cells, owned_by}
 use Rattle.toll_sql.specs.Cells.{key_order}
@@ -25,11 +27,26 @@ pub record HasRows (k : TableKind) (rows stored : List Row) : Type 0 where
   pub same : SameBag rows (all_cells stored)
   pub rising : Rises (key_order k) rows
 
--- the tables have the rows of this slice under its owner, and no others; all their values are values of their kinds
-pub record HoldsSlice (db : Trees) (o : Bytes) (s : Slice) : Type 0 where
+-- the table has these rows, which owners do not part, and no others; all their values are values of their kinds
+pub record HoldsAll {X : Type 0} (k : TableKind) (cells : X → Row) (is_valid : X → Type 0) (db : Trees) (l : List X) : Type 0 where
+  pub stored : HasRows k (map cells l) (db (tree_of k))
+  pub valid : AllByRecursion is_valid l
+
+abbrev pub HoldsOwners : Trees → List OwnerRow → Type 0
+HoldsOwners = HoldsAll Owners owner_cells IsOwner
+
+abbrev pub HoldsUnits : Trees → List UnitRow → Type 0
+HoldsUnits = HoldsAll Units unit_cells IsUnit
+
+-- of this owner, such tables have the rows of this slice, and no others; all their values are values of their kinds
+pub record HoldsPart (is_such : TableKind → Bool) (db : Trees) (o : Bytes) (s : Slice) : Type 0 where
   pub named : s.owner ≡ o
-  pub stored : (k : TableKind) → is_owned k ≡ true → HasRows k (rows_for k s) (owned_by o (db (tree_of k)))
-  pub valid : (k : TableKind) → AreValidIn k s
+  pub stored : (k : TableKind) → is_such k ≡ true → HasRows k (rows_for k s) (owned_by o (db (tree_of k)))
+  pub valid : (k : TableKind) → is_such k ≡ true → AreValidIn k s
+
+-- so have all tables that owners part
+abbrev pub HoldsSlice : Trees → Bytes → Slice → Type 0
+HoldsSlice = HoldsPart is_owned
 
 -- the first cell is a name
 abbrev pub NamesOwner : Row → Type 0
@@ -38,9 +55,7 @@ NamesOwner cells = (o : Bytes) × IsTrue (is_name o) × (column cells 0 ≡ Text
 -- the tables have the rows of the content, and no others
 pub record Holds (db : Trees) (c : Content) : Type 0 where
   pub meta : HasRows Meta (meta_cells version ∷ []) (db (tree_of Meta))
-  pub owners : HasRows Owners (map owner_cells c.owners) (db (tree_of Owners))
-  pub are_owners : AllByRecursion IsOwner c.owners
-  pub units : HasRows Units (map unit_cells c.units) (db (tree_of Units))
-  pub are_units : AllByRecursion IsUnit c.units
+  pub owners : HoldsOwners db c.owners
+  pub units : HoldsUnits db c.units
   pub slices : (o : Bytes) → HoldsSlice db o (c.rows o)
   pub owned : (k : TableKind) → is_owned k ≡ true → AllByRecursion NamesOwner (all_cells (db (tree_of k)))

@@ -3,16 +3,30 @@ use Rattle.std.specs.Prelude.{◌≡◌, List, map}
 use Rattle.std.specs.List.{AllByRecursion}
 use Rattle.sqlite.specs.Order.{Row}
 use Rattle.sqlite.specs.State.{State}
+use Rattle.toll_base.specs.declared.rows.OwnerRow.{OwnerRow}
+use Rattle.toll_base.specs.declared.rows.UnitRow.{UnitRow}
 use Rattle.toll_sql.specs.Asking.{OverOurs}
-use Rattle.toll_sql.specs.Holds.{HasRows}
+use Rattle.toll_sql.specs.Encode.{owner_cells, unit_cells}
+use Rattle.toll_sql.specs.Holds.{HoldsAll}
 use Rattle.toll_sql.specs.StoredLaws.{StandAlone}
-use Rattle.toll_sql.specs.Tables.{tree_of}
+use Rattle.toll_sql.specs.Valid.{IsOwner, IsUnit}
 use Rattle.toll_sql.specs.declared.table_kind.TableKind.{TableKind}
+use Rattle.toll_sql.specs.declared.table_kind.TableKind.TheVariants.{Owners, Units}
 
--- this is so of the rows of the office that a table of this kind has
+-- this is so of the rows that the table held, whatever other tables had
+abbrev pub ForAll : {X : Type 0} → TableKind → (X → Row) → (X → Type 0) → State → State → (List X → Type 0) → Type 0
+ForAll {X} k cells is_valid old new P = OverOurs old new (λ db. (l : List X) → HoldsAll k cells is_valid db l → P l)
+
+-- of the owners, and of the units
+abbrev pub ForOwners : State → State → (List OwnerRow → Type 0) → Type 0
+ForOwners = ForAll Owners owner_cells IsOwner
+
+abbrev pub ForUnits : State → State → (List UnitRow → Type 0) → Type 0
+ForUnits = ForAll Units unit_cells IsUnit
+
+-- of rows of a kind that stands in this table
 abbrev pub ForRows : {X : Type 0} → TableKind → (X → Row) → (X → Type 0) → State → State → (List X → Type 0) → Type 0
-ForRows {X} k cells is_valid old new P =
-    StandAlone k cells is_valid → OverOurs old new (λ db. (l : List X) → HasRows k (map cells l) (db (tree_of k)) → AllByRecursion is_valid l → P l)
+ForRows k cells is_valid old new P = StandAlone k cells is_valid → ForAll k cells is_valid old new P
 
 -- this is so of the rows of the office that have these cells
 abbrev pub ForCells : {X : Type 0} → TableKind → (X → Row) → (X → Type 0) → List Row → (List X → Type 0) → Type 0

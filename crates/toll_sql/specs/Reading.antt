@@ -1,26 +1,36 @@
 -- An owner's rows, read table by table.
-use Rattle.std.specs.Prelude.{◌≡◌, ◌≢◌, List, [], ◌∷◌, Result, Err, OnOk}
+use Rattle.std.specs.Prelude.{◌≡◌, ◌≢◌, ◌↔◌, Option, None, List, [], ◌∷◌, Result, Err, OnOk, IfOk, IfSome}
 use Rattle.sqlite.specs.Order.{Row}
 use Rattle.sqlite.specs.State.{State}
 use Rattle.toll_base.specs.Bytes.{Bytes}
 use Rattle.toll_base.specs.Slice.{Slice}
+use Rattle.toll_base.specs.SliceRules.{KeepsRules}
 use Rattle.toll_base.specs.declared.rows.Row.{Row as OfficeRow}
-use Rattle.toll_keep.specs.Content.{ContentKeepsRules}
 use Rattle.toll_keep.specs.declared.fault.KeepFault.{KeepFault}
 use Rattle.toll_keep.specs.declared.fault.KeepFault.TheVariants.{Damaged}
-use Rattle.toll_sql.specs.Asking.{ForHeld, IsLooking}
+use Rattle.toll_sql.specs.Asking.{ForSlice, IsLooking}
 use Rattle.toll_sql.specs.Fronts.{IsStoredAs, front, past}
-use Rattle.toll_sql.specs.Shown.{Shows}
+use Rattle.toll_sql.specs.PlantRows.{ForOwners}
+use Rattle.toll_sql.specs.Shown.{IsUnknown, Shows}
 use Rattle.toll_sql.specs.StoredLaws.{StandIn}
 use Rattle.toll_sql.specs.declared.table_kind.TableKind.{TableKind}
 use Rattle.toll_sql.specs.declared.table_kind.TableKind.TheVariants.{Meta, Materials, Tests, Recipes, Requirements, Orders, Batches, Lots, Sublots, Moves, Results, Voids}
+
+-- what is told of one owner, whatever the tables have of others
+pub record TellsAlone (o : Bytes) (old new : State) (result : Result (Option Slice) KeepFault) : Type 0 where
+  -- a slice that is given has just the owner's rows
+  pub given : ForSlice o old new (λ s. IfOk result (λ told. IfSome told (λ slice. slice ≡ s)))
+  -- none is given just where the table of owners does not name the owner
+  pub known : ForOwners old new (λ owners. IfOk result (λ told. (told ≡ None) ↔ IsUnknown owners o))
+  -- where that table is whole and the owner's rows keep the rules, no damage is found
+  pub whole : ForOwners old new (λ _. ForSlice o old new (λ s. KeepsRules s → result ≢ Err Damaged))
 
 -- of the owner's slice, which was read this far, more is read, out of these tables; where it keeps the rules, no damage is found
 pub record ReadsOn (from to : Slice → Slice) (kinds : List TableKind) (o : Bytes) {X : Type 0} (old new : State) (before after : Slice) (result : Result X KeepFault) : Type 0 where
   pub looks : IsLooking old new result
   pub shows : Shows kinds o old new result
-  pub reads : ForHeld old new (λ c. before ≡ from (c.rows o) → OnOk result (after ≡ to (c.rows o)))
-  pub whole : ForHeld old new (λ c. ContentKeepsRules c → before ≡ from (c.rows o) → result ≢ Err Damaged)
+  pub reads : ForSlice o old new (λ s. before ≡ from s → OnOk result (after ≡ to s))
+  pub whole : ForSlice o old new (λ s. KeepsRules s → before ≡ from s → result ≢ Err Damaged)
 
 -- the table that is read behind this one; behind the last it is `Meta`, which has no row of a slice
 abbrev pub next_of : TableKind → TableKind

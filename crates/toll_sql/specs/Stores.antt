@@ -11,6 +11,8 @@ use Rattle.sqlite_schema.specs.Rules.{agree}
 use Rattle.sqlite_trees.specs.View.{IsShaped}
 use Rattle.sqlite_trees.specs.declared.store.Shape.TheVariants as shape
 use Rattle.sqlite_value.specs.Keys.{plain}
+use Rattle.toll_base.specs.Bytes.{Bytes}
+use Rattle.toll_base.specs.Slice.{Slice}
 use Rattle.toll_base.specs.Values.{is_name}
 use Rattle.toll_base.specs.declared.decision.Change.{Change}
 use Rattle.toll_base.specs.declared.decision.Change.TheVariants.{Owner, Unit as UnitAdded, Put}
@@ -19,7 +21,7 @@ use Rattle.toll_keep.specs.Goes.{IsAmong}
 use Rattle.toll_sql.specs.Causes.{IsCaused}
 use Rattle.toll_sql.specs.Cells.{fill}
 use Rattle.toll_sql.specs.Encode.{owner_cells, unit_cells, table_for, cells_for}
-use Rattle.toll_sql.specs.Holds.{Holds}
+use Rattle.toll_sql.specs.Holds.{Holds, HoldsPart}
 use Rattle.toll_sql.specs.Others.{HasOurs}
 use Rattle.toll_sql.specs.Put.{Puts}
 use Rattle.toll_sql.specs.Tables.{ours, tree_of, keys_of}
@@ -150,6 +152,12 @@ pub record HoldsIn (s : State) (c : Content) : Type 0 where
   pub ours : IsOurs s.now
   pub idle : s.now ≡ s.committed
   pub rows : Holds s.now.trees c
+
+-- the tables are ours, nothing is pending, and such of them have these rows of this owner, whatever they have of others
+pub record HoldsPartIn (is_such : TableKind → Bool) (s : State) (o : Bytes) (slice : Slice) : Type 0 where
+  pub ours : HasOurs s.now.schema
+  pub idle : s.now ≡ s.committed
+  pub rows : HoldsPart is_such s.now.trees o slice
 
 -- where the store lies open, its tables hold the content
 abbrev pub HoldsWhileOpen : State → Content → Type 0

@@ -8,7 +8,7 @@ ghost use Rattle.toll_sql.specs.Asked.{AreReadWith};
 ghost use Rattle.toll_sql.specs.AskedTexts.{all_text};
 ghost use Rattle.toll_sql.specs.Asking.{ForHeld, IsLooking, IsQuerying};
 ghost use Rattle.toll_sql.specs.Cells.{columns_from};
-ghost use Rattle.toll_sql.specs.EdgeRows.{AreEdgesOf, AreOwnersEdges, AreOwnersPairs, AreReadFrom, HasNoEdge, ShowEdges, edge_cells};
+ghost use Rattle.toll_sql.specs.EdgeRows.{AreEdgesOf, AreOwnersEdges, AreOwnersPairs, AreReadFrom, ForMoves, HasNoEdge, ShowEdges, edge_cells};
 
 use crate::edge_cells::edge_at;
 use crate::fault::fault_of;
@@ -22,16 +22,17 @@ use toll_trace::put_in_order;
 /// The genealogy of an owner's own batches, in order, each edge once: empty for an unknown owner.
 ///
 /// Memory and Disk are faults of the store; Damaged is a row that shows no two lots with names. The edges are
-/// those of all rows that the store gives, whatever its tables have.
+/// those of all rows that the store gives, whatever its tables have; and of the movements and voids of this
+/// owner, whatever rows they have of others.
 pub fn read_edges<S: Alter>(
     conn: &mut Connection<S>,
     alloc: Global,
     owner: &Name,
 ) -> Result<Vec<Edge>, KeepFault>
     ensures looks { IsLooking (state S.Store conn.old) (state S.Store conn.new) result }
-    ensures reads { ForHeld (state S.Store conn.old) (state S.Store conn.new) (λ c. IfOk result (λ edges. AreEdges (IsEdge (c.rows owner.now)) edges.items)) }
+    ensures reads { ForMoves owner.now (state S.Store conn.old) (state S.Store conn.new) (λ s. IfOk result (λ edges. AreEdges (IsEdge s) edges.items)) }
     ensures shown { HasCleanDisk (state S.Store conn.new) → IfOk result (λ edges. AreOwnersEdges (state S.Store conn.old).now owner.now edges.items) }
-    ensures whole { ForHeld (state S.Store conn.old) (state S.Store conn.new) (λ _. result ≢ Err KeepFault.Damaged) }
+    ensures whole { ForMoves owner.now (state S.Store conn.old) (state S.Store conn.new) (λ _. result ≢ Err KeepFault.Damaged) }
 {
     match owners_pairs(conn, owner) {
         Ok(rows) => edges_shown(alloc, &rows),
@@ -63,7 +64,7 @@ pub fn read_all_edges<S: Alter>(
 fn owners_pairs<S: Alter>(conn: &mut Connection<S>, owner: &Name) -> Result<Vec<Row>, Error>
     ensures asks { IsQuerying (state S.Store conn.old) (state S.Store conn.new) result }
     ensures read { HasCleanDisk (state S.Store conn.new) → IfOk result (λ rows. AreOwnersPairs (state S.Store conn.old).now owner.now rows.items) }
-    ensures rows { ForHeld (state S.Store conn.old) (state S.Store conn.new) (λ c. IfOk result (λ rows. ShowEdges (IsEdge (c.rows owner.now)) rows.items)) }
+    ensures rows { ForMoves owner.now (state S.Store conn.old) (state S.Store conn.new) (λ s. IfOk result (λ rows. ShowEdges (IsEdge s) rows.items)) }
 {
     conn.query_all(
         "SELECT c.lot_owner, c.lot, p.lot_owner, p.lot FROM moves AS c JOIN moves AS p ON p.owner = c.owner AND p.ord = c.ord AND p.number = c.number LEFT JOIN voids AS v ON v.owner = c.owner AND v.mkey = c.mkey LEFT JOIN voids AS w ON w.owner = p.owner AND w.mkey = p.mkey WHERE c.owner = ?1 AND c.kind = 4 AND p.kind = 5 AND c.segment <= p.segment AND v.mkey IS NULL AND w.mkey IS NULL",

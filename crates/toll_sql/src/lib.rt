@@ -32,6 +32,7 @@ mod writing;
 
 pub use adopting::adopt_tables;
 pub use creating::create_tables;
+pub use edges::read_edges;
 pub use ghosts::{
     a_keep_over_sqlite_has_the_content_of_its_tables, a_keep_over_sqlite_is_as_honest_as_its_disk,
 };

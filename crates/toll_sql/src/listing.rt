@@ -3,10 +3,10 @@ ghost use Rattle.std.specs.Prelude.{◌≡◌, ◌≢◌, Err, map, IfOk};
 ghost use Rattle.sqlite.specs.Held.{state};
 ghost use Rattle.sqlite.specs.State.{HasCleanDisk};
 ghost use Rattle.std.specs.List.{AllByRecursion};
-ghost use Rattle.toll_sql.specs.Asking.{ForHeld, IsLooking};
+ghost use Rattle.toll_sql.specs.Asking.{IsLooking};
 ghost use Rattle.toll_sql.specs.Cells.{columns_from};
 ghost use Rattle.toll_sql.specs.Encode.{owner_cells, unit_cells};
-ghost use Rattle.toll_sql.specs.PlantRows.{ForCells, ForRows};
+ghost use Rattle.toll_sql.specs.PlantRows.{ForCells, ForOwners, ForRows, ForUnits};
 ghost use Rattle.toll_sql.specs.Shown.{AreTold};
 ghost use Rattle.toll_sql.specs.StoredLaws.{StandAlone};
 ghost use Rattle.toll_sql.specs.Tables.{width_of};
@@ -28,9 +28,9 @@ pub fn read_owners<S: Alter>(
     alloc: Global,
 ) -> Result<Vec<OwnerRow>, KeepFault>
     ensures looks { IsLooking (state S.Store conn.old) (state S.Store conn.new) result }
-    ensures reads { ForHeld (state S.Store conn.old) (state S.Store conn.new) (λ c. IfOk result (λ rows. rows.items ≡ c.owners)) }
+    ensures reads { ForOwners (state S.Store conn.old) (state S.Store conn.new) (λ owners. IfOk result (λ rows. rows.items ≡ owners)) }
     ensures shown { HasCleanDisk (state S.Store conn.new) → IfOk result (λ rows. AreTold Owners owner_cells IsOwner (state S.Store conn.old).now rows.items) }
-    ensures whole { ForHeld (state S.Store conn.old) (state S.Store conn.new) (λ _. result ≢ Err KeepFault.Damaged) }
+    ensures whole { ForOwners (state S.Store conn.old) (state S.Store conn.new) (λ _. result ≢ Err KeepFault.Damaged) }
 {
     read_all::<S, OwnerRow>(conn, alloc)
 }
@@ -42,9 +42,9 @@ pub fn read_units<S: Alter>(
     alloc: Global,
 ) -> Result<Vec<UnitRow>, KeepFault>
     ensures looks { IsLooking (state S.Store conn.old) (state S.Store conn.new) result }
-    ensures reads { ForHeld (state S.Store conn.old) (state S.Store conn.new) (λ c. IfOk result (λ rows. rows.items ≡ c.units)) }
+    ensures reads { ForUnits (state S.Store conn.old) (state S.Store conn.new) (λ units. IfOk result (λ rows. rows.items ≡ units)) }
     ensures shown { HasCleanDisk (state S.Store conn.new) → IfOk result (λ rows. AreTold Units unit_cells IsUnit (state S.Store conn.old).now rows.items) }
-    ensures whole { ForHeld (state S.Store conn.old) (state S.Store conn.new) (λ _. result ≢ Err KeepFault.Damaged) }
+    ensures whole { ForUnits (state S.Store conn.old) (state S.Store conn.new) (λ _. result ≢ Err KeepFault.Damaged) }
 {
     read_all::<S, UnitRow>(conn, alloc)
 }

@@ -4,12 +4,13 @@ ghost use Rattle.sqlite.specs.Held.{state};
 ghost use Rattle.sqlite.specs.State.{HasCleanDisk};
 ghost use Rattle.std.specs.List.{list_any};
 ghost use Rattle.toll_base.specs.Bytes.{bytes_cmp, same_bytes};
+ghost use Rattle.toll_base.specs.SliceRules.{KeepsRules};
 ghost use Rattle.toll_base.specs.Table.{row_at};
 ghost use Rattle.toll_base.specs.Values.{house_name};
 ghost use Rattle.toll_keep.specs.Content.{ContentKeepsRules, slice_of};
-ghost use Rattle.toll_sql.specs.Asking.{ForHeld, IsLooking};
+ghost use Rattle.toll_sql.specs.Asking.{ForHeld, ForSlice, IsLooking};
 ghost use Rattle.toll_sql.specs.Fronts.{front};
-ghost use Rattle.toll_sql.specs.Reading.{ReadsNext, ReadsOn};
+ghost use Rattle.toll_sql.specs.Reading.{ReadsNext, ReadsOn, TellsAlone};
 ghost use Rattle.toll_sql.specs.Shown.{IsToldUnknown, Shows, ShowsSlice, tables_of_owners};
 ghost use Rattle.toll_sql.specs.Tables.{is_owned};
 ghost use Rattle.toll_sql.specs.declared.table_kind.TableKind.TheVariants.{Materials};
@@ -28,6 +29,7 @@ use toll_keep::KeepFault;
 /// All rows of an owner: `None` for an unknown one. HOUSE is always known. Where rows are given, each that
 /// the tables have of the owner is a row of the office, its values values of their kinds: one that is none
 /// is Damaged. And an owner is told to be unknown only where no row that the store gives of owners names it.
+/// What is told of one owner stands whatever rows the tables have of others.
 pub fn read_slice<S: Alter>(
     conn: &mut Connection<S>,
     alloc: Global,
@@ -38,6 +40,7 @@ pub fn read_slice<S: Alter>(
     ensures shown { ShowsSlice owner.now (state S.Store conn.old) (state S.Store conn.new) result }
     ensures known { HasCleanDisk (state S.Store conn.new) → IfOk result (λ slice. slice ≡ None → IsToldUnknown (state S.Store conn.old).now owner.now) }
     ensures whole { ForHeld (state S.Store conn.old) (state S.Store conn.new) (λ c. ContentKeepsRules c → result ≢ Err KeepFault.Damaged) }
+    ensures alone { TellsAlone owner.now (state S.Store conn.old) (state S.Store conn.new) result }
 {
     let owners = read_owners(conn, alloc)?;
     if !is_known(&owners, owner) {
@@ -68,9 +71,9 @@ fn read_rows_of<S: Alter>(
 ) -> Result<Slice, KeepFault>
     requires { HasCleanDisk (state S.Store conn.old) → IsTrue (state S.Store conn.old).is_open }
     ensures looks { IsLooking (state S.Store conn.old) (state S.Store conn.new) result }
-    ensures reads { ForHeld (state S.Store conn.old) (state S.Store conn.new) (λ c. IfOk result (λ slice. slice ≡ c.rows owner.now)) }
+    ensures reads { ForSlice owner.now (state S.Store conn.old) (state S.Store conn.new) (λ s. IfOk result (λ slice. slice ≡ s)) }
     ensures shown { Shows tables_of_owners owner.now (state S.Store conn.old) (state S.Store conn.new) result }
-    ensures whole { ForHeld (state S.Store conn.old) (state S.Store conn.new) (λ c. ContentKeepsRules c → result ≢ Err KeepFault.Damaged) }
+    ensures whole { ForSlice owner.now (state S.Store conn.old) (state S.Store conn.new) (λ s. KeepsRules s → result ≢ Err KeepFault.Damaged) }
 {
     let mut slice = Slice::new(alloc, *owner);
     read_tables(conn, &mut slice, owner)?;

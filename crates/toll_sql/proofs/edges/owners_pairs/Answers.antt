@@ -16,12 +16,12 @@ returns-clause-asks g c =
     querying owners_text (Text c.as_bytes.result.now ∷ []) (state g.S.Store c.args.conn.now) (state g.S.Store c.query_all.new.self) owners_plain (λ rows. rows.items) c.query_all.result called.mode called.ok called.err called.survives
 
 pub returns-clause-rows : goal.returns-clause-rows
-returns-clause-rows g c clean content held =
+returns-clause-rows g c clean s held =
     let o = c.args.owner.now in
     let old = state g.S.Store c.args.conn.now in
     let new = state g.S.Store c.query_all.new.self in
     let shown = subst (λ o. IfOk c.query_all.result (λ rows. Shown owners_text (Text o ∷ []) old new rows.items)) c.as_bytes.ensures.bytes (c.query_all.ensures.ok clean) in
-    IfOk-weaker c.query_all.result _ _ (λ rows h. owners_shown old.now.trees content held.rows o rows.items (owners_answered old new held.ours.schema (Text o ∷ []) rows.items h)) shown
+    IfOk-weaker c.query_all.result _ _ (λ rows h. owners_shown old.now.trees o s held.rows rows.items (owners_answered old new held.ours (Text o ∷ []) rows.items h)) shown
 
 pub returns-clause-read : goal.returns-clause-read
 returns-clause-read g c clean =

@@ -1,4 +1,4 @@
-use Rattle.std.proofs.Common.{IfOk, subst}
+use Rattle.std.proofs.Common.{IfOk, refl, subst}
 use Rattle.std.proofs.lemmas.Result.{IfOk-weaker}
 use Rattle.sqlite.specs.Held.{state}
 use Rattle.toll_keep.specs.Holding.{IsEdgeOfSome}
@@ -18,7 +18,7 @@ returns-in-Ok-clause-reads g c clean content held =
 
 pub returns-in-Ok-clause-whole : goal.returns-in-Ok-clause-whole
 returns-in-Ok-clause-whole g c clean content held is =
-    each_named (IsEdgeOfSome content) c.in-Ok.rows.items (c.in-Ok.ensures.rows clean content held) (λ e d. edge_named (content.rows d.owner) ((held.rows.slices d.owner).valid Moves) e d.edge) (subst HasNoEdge c.deref.ensures.value (c.edges_shown.ensures.damaged is))
+    each_named (IsEdgeOfSome content) c.in-Ok.rows.items (c.in-Ok.ensures.rows clean content held) (λ e d. edge_named (content.rows d.owner) ((held.rows.slices d.owner).valid Moves refl) e d.edge) (subst HasNoEdge c.deref.ensures.value (c.edges_shown.ensures.damaged is))
 
 pub returns-in-Ok-clause-shown : goal.returns-in-Ok-clause-shown
 returns-in-Ok-clause-shown g c clean =

@@ -1,4 +1,4 @@
-use Rattle.std.proofs.Common.{IfOk, subst}
+use Rattle.std.proofs.Common.{IfOk, refl, subst}
 use Rattle.std.proofs.lemmas.Result.{IfOk-weaker}
 use Rattle.sqlite.specs.Held.{state}
 use Rattle.toll_sql.specs.EdgeRows.{AreReadFrom, HasNoEdge}
@@ -12,14 +12,13 @@ pub returns-in-Ok-clause-looks : goal.returns-in-Ok-clause-looks
 returns-in-Ok-clause-looks g c = looking (state g.S.Store c.args.conn.now) (state g.S.Store c.owners_pairs.new.conn) c.in-Ok.rows c.edges_shown.result c.in-Ok.ensures.asks.asks c.edges_shown.ensures.disk c.edges_shown.ensures.closed
 
 pub returns-in-Ok-clause-reads : goal.returns-in-Ok-clause-reads
-returns-in-Ok-clause-reads g c clean content held =
+returns-in-Ok-clause-reads g c clean s held =
     let r = c.edges_shown.result in
-    read_from (IsEdge (content.rows c.args.owner.now)) c.in-Ok.rows.items (c.in-Ok.ensures.rows clean content held) (λ edges. edges.items) r (subst (λ rows. IfOk r (λ edges. AreReadFrom rows edges.items)) c.deref.ensures.value c.edges_shown.ensures.read)
+    read_from (IsEdge s) c.in-Ok.rows.items (c.in-Ok.ensures.rows clean s held) (λ edges. edges.items) r (subst (λ rows. IfOk r (λ edges. AreReadFrom rows edges.items)) c.deref.ensures.value c.edges_shown.ensures.read)
 
 pub returns-in-Ok-clause-whole : goal.returns-in-Ok-clause-whole
-returns-in-Ok-clause-whole g c clean content held is =
-    let s = content.rows c.args.owner.now in
-    each_named (IsEdge s) c.in-Ok.rows.items (c.in-Ok.ensures.rows clean content held) (edge_named s ((held.rows.slices c.args.owner.now).valid Moves)) (subst HasNoEdge c.deref.ensures.value (c.edges_shown.ensures.damaged is))
+returns-in-Ok-clause-whole g c clean s held is =
+    each_named (IsEdge s) c.in-Ok.rows.items (c.in-Ok.ensures.rows clean s held) (edge_named s (held.rows.valid Moves refl)) (subst HasNoEdge c.deref.ensures.value (c.edges_shown.ensures.damaged is))
 
 pub returns-in-Ok-clause-shown : goal.returns-in-Ok-clause-shown
 returns-in-Ok-clause-shown g c clean =

@@ -15,22 +15,22 @@ returns-in-Ok-clause-looks g c alone =
     looking (state g.S.Store c.args.conn.now) (state g.S.Store c.all_rows.new.conn) c.in-Ok.rows c.list_rows.result (c.in-Ok.ensures.asks own).asks c.list_rows.ensures.disk c.list_rows.ensures.closed
 
 pub returns-in-Ok-clause-reads : goal.returns-in-Ok-clause-reads
-returns-in-Ok-clause-reads g c alone clean has l held valid =
+returns-in-Ok-clause-reads g c alone clean has l held =
     let X = g.X.PlantRow in
     let old = state g.S.Store c.args.conn.now in
     let own : is_owned c.table.result ≡ false = subst (λ k. is_owned k ≡ false) (sym c.table.ensures) alone.unowned in
     let read = subst (λ k. AreAll k old.now.trees c.in-Ok.rows.items) c.table.ensures (c.in-Ok.ensures.rows own clean has) in
-    let are = rows_read X.kind (old.now.trees (tree_of X.kind)) c.in-Ok.rows.items (map X.cells l) read held (all_map X.kind X.cells alone.fills l) in
-    c.list_rows.ensures.reads alone l (c.deref.ensures.value ∙ are) valid
+    let are = rows_read X.kind (old.now.trees (tree_of X.kind)) c.in-Ok.rows.items (map X.cells l) read held.stored (all_map X.kind X.cells alone.fills l) in
+    c.list_rows.ensures.reads alone l (c.deref.ensures.value ∙ are) held.valid
 
 pub returns-in-Ok-clause-whole : goal.returns-in-Ok-clause-whole
-returns-in-Ok-clause-whole g c alone clean has l held valid =
+returns-in-Ok-clause-whole g c alone clean has l held =
     let X = g.X.PlantRow in
     let old = state g.S.Store c.args.conn.now in
     let own : is_owned c.table.result ≡ false = subst (λ k. is_owned k ≡ false) (sym c.table.ensures) alone.unowned in
     let read = subst (λ k. AreAll k old.now.trees c.in-Ok.rows.items) c.table.ensures (c.in-Ok.ensures.rows own clean has) in
-    let are = rows_read X.kind (old.now.trees (tree_of X.kind)) c.in-Ok.rows.items (map X.cells l) read held (all_map X.kind X.cells alone.fills l) in
-    c.list_rows.ensures.whole alone l (c.deref.ensures.value ∙ are) valid
+    let are = rows_read X.kind (old.now.trees (tree_of X.kind)) c.in-Ok.rows.items (map X.cells l) read held.stored (all_map X.kind X.cells alone.fills l) in
+    c.list_rows.ensures.whole alone l (c.deref.ensures.value ∙ are) held.valid
 
 pub returns-in-Ok-clause-shown : goal.returns-in-Ok-clause-shown
 returns-in-Ok-clause-shown g c clean =

@@ -5,7 +5,7 @@ pub returns-clause-looks : goal.returns-clause-looks
 returns-clause-looks g c = c.read_all.ensures.looks owners_alone
 
 pub returns-clause-reads : goal.returns-clause-reads
-returns-clause-reads g c clean content held = c.read_all.ensures.reads owners_alone clean held.ours.schema content.owners held.rows.owners held.rows.are_owners
+returns-clause-reads g c = c.read_all.ensures.reads owners_alone
 
 pub returns-clause-whole : goal.returns-clause-whole
-returns-clause-whole g c clean content held = c.read_all.ensures.whole owners_alone clean held.ours.schema content.owners held.rows.owners held.rows.are_owners
+returns-clause-whole g c = c.read_all.ensures.whole owners_alone

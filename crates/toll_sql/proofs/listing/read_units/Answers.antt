@@ -5,7 +5,7 @@ pub returns-clause-looks : goal.returns-clause-looks
 returns-clause-looks g c = c.read_all.ensures.looks units_alone
 
 pub returns-clause-reads : goal.returns-clause-reads
-returns-clause-reads g c clean content held = c.read_all.ensures.reads units_alone clean held.ours.schema content.units held.rows.units held.rows.are_units
+returns-clause-reads g c = c.read_all.ensures.reads units_alone
 
 pub returns-clause-whole : goal.returns-clause-whole
-returns-clause-whole g c clean content held = c.read_all.ensures.whole units_alone clean held.ours.schema content.units held.rows.units held.rows.are_units
+returns-clause-whole g c = c.read_all.ensures.whole units_alone

@@ -1,11 +1,11 @@
-use Rattle.std.proofs.Common.{◌≡◌, ◌+◌, true, Ok, Err, get_or, rules, subst}
+use Rattle.std.proofs.Common.{◌≡◌, ◌+◌, true, Ok, Err, get_or, rules, subst, arith}
 use Rattle.sqlite.specs.Held.{state}
 use Rattle.toll_sql.specs.Fronts.{front}
 use Rattle.toll_sql.specs.Reading.{ReadsNext, ReadsOn}
 use Rattle.toll_sql.specs.Shown.{tables_of_owners}
 use Rattle.toll_sql.specs.Tables.{is_owned}
 use Rattle.toll_sql.specs.declared.table_kind.TableKind.TheVariants.{Materials, Meta}
-use Rattle.toll_sql.proofs.ReadOn.{kind_at, one_more_read, read_well, reads_not}
+use Rattle.toll_sql.proofs.ReadOn.{HasRead, kind_at, one_more_read, read_well, reads_not}
 use Rattle.toll_sql.proofs.slice_reading.read_tables.Goals as goal
 
 pub loop-table-preserved : goal.loop-table-preserved
@@ -31,3 +31,8 @@ returns-in_err-read_kind g c =
     reads_not (front Materials 0) (front (kind_at (n + 1)) 0) (λ s. s) o first next c.args.slice.now c.read_kind.new.slice c.in_err-read_kind.field-0.0 p in
     let f = c.from_residual.ensures in
     search rules
+
+pub returns : goal.returns
+returns g c =
+    let all : c.loop-table.table-index ≡ 11 = omega (arith, c.loop-table-test.false, c.loop-table.auto.table-index-end) in
+    subst (λ n. HasRead n c.args.owner.now (state g.S.Store c.args.conn.now) (state g.S.Store c.loop-table.conn) c.args.slice.now c.loop-table.slice) all c.loop-table.invariant.reads

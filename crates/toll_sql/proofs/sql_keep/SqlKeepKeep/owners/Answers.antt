@@ -12,11 +12,11 @@ returns-in-Ok-clause-reading g c =
     let read = c.read_owners-read.ensures in
     reading (λ k. state g.S.Store k.conn) (λ k. k.closed) c.args.self.now mid c.told.new.self c.in-Ok.ensures.reading
     c.read_owners-read.result c.told.result (state g.S.Store c.read_owners-read.new.conn) (ap (state g.S.Store) c.told.ensures.conn) c.told.ensures.same c.told.ensures.closed
-    (λ live db may. g.met.S.Store.settled mid.conn.store db live.is_open may) read.looks (λ clean content held keeps. read.whole clean content held)
+    (λ live db may. g.met.S.Store.settled mid.conn.store db live.is_open may) read.looks (λ clean content held keeps. read.whole clean held.ours.schema content.owners held.rows.owners)
 
 pub returns-in-Ok-clause-reads : goal.returns-in-Ok-clause-reads
 returns-in-Ok-clause-reads g c clean content held =
     let read = c.read_owners-read.ensures in
     so_read (λ k. state g.S.Store k.conn) (λ k. k.closed) c.args.self.now c.begin.new.self c.told.new.self c.in-Ok.ensures.reading
     c.read_owners-read.result c.told.result (state g.S.Store c.read_owners-read.new.conn) (ap (state g.S.Store) c.told.ensures.conn) c.told.ensures.same read.looks content _
-    (λ clean was. read.reads clean content was) clean held
+    (λ clean was. read.reads clean was.ours.schema content.owners was.rows.owners) clean held
