@@ -1,8 +1,8 @@
 -- What is found on a unit are just the batches that hold it.
-use Rattle.std.proofs.Common.{◌≡◌, ℕ, pos, Bool, true, false, not, Option, Some, None, List, [], ◌∷◌, map, codes, Result, IfOk, refl, sym, ap, subst, ◌∙◌}
+use Rattle.std.proofs.Common.{◌≡◌, ℕ, pos, Bool, true, false, not, Option, Some, None, List, [], ◌∷◌, map, codes, Result, IfOk, refl, sym, ap, ap₂, subst, ◌∙◌, ◌&&◌}
 use mathlib.Core.Bool.{false≢true}
 use Rattle.std.specs.List.{list_all}
-use Rattle.std.specs.Ordering.{ordering_reverse}
+use Rattle.std.specs.Ordering.{is_eq, ordering_reverse}
 use Rattle.std.specs.Prelude.{Contains, IsPermutation, filter}
 use Rattle.std.proofs.lemmas.Bool.{and_parts}
 use Rattle.std.proofs.lemmas.Cmp.{tied_itself}
@@ -13,7 +13,7 @@ use Rattle.sqlite.specs.Collation.TheVariants.{Binary}
 use Rattle.sqlite.specs.Command.{Command}
 use Rattle.sqlite.specs.Command.TheVariants.{Select}
 use Rattle.sqlite.specs.Listing.{understood, reads_listing}
-use Rattle.sqlite.specs.Order.{Row, column, bytes}
+use Rattle.sqlite.specs.Order.{Row, column, bytes, value_cmp}
 use Rattle.sqlite.specs.Program.{overlay}
 use Rattle.sqlite.specs.Query.{Query, IsAnswer}
 use Rattle.sqlite.specs.State.{State, Shown}
@@ -36,7 +36,7 @@ use Rattle.toll_keep.specs.Holding.{IsHolder, is_on}
 use Rattle.toll_keep.specs.declared.holder.Holder.{Holder}
 use Rattle.toll_sql.specs.Cells.{columns_from}
 use Rattle.toll_sql.specs.Encode.{flag, batch_cells}
-use Rattle.toll_sql.specs.HolderRows.{HasNoHolder, IsNamedHolder, IsShownIn, ShowHolders, holder_cells}
+use Rattle.toll_sql.specs.HolderRows.{HasNoHolder, IsNamedHolder, IsShownIn, ShowHolders, holder_cells, open_on}
 use Rattle.toll_sql.specs.Holds.{Holds, HoldsSlice}
 use Rattle.toll_sql.specs.Select.{plain_query}
 use Rattle.toll_sql.specs.Others.{HasOurs}
@@ -49,7 +49,10 @@ use Rattle.toll_sql.proofs.JoinTests.{equals, texts_same, text_itself, numbers_s
 use Rattle.toll_sql.proofs.MemberRows.{AreRows, rows_kept, seen, under, named_owner}
 use Rattle.toll_sql.proofs.Orders.{batches_order}
 use Rattle.toll_sql.proofs.Placing.{in_key_order}
+use Rattle.toll_sql.proofs.PutCommon.{equals_text}
 use Rattle.toll_sql.proofs.SelectLemmas.{shown_by}
+use Rattle.toll_sql.proofs.Unvoided.{no_member}
+use Rattle.toll_sql.proofs.UpsertLemmas.{equals_int}
 use Rattle.toll_trace.proofs.Drawn.{row_of_member, member_of_row}
 use Rattle.toll_trace.proofs.Members.{Contains-none, Contains-map, Contains-from_map, Contains-filter, Contains-from_filter, member_of_all}
 
@@ -99,6 +102,18 @@ module _ (unit : Bytes) (db : Trees) (rows : List Row) (a : IsAnswer unit_query 
 
   pub row_told : (r : Row) → Contains (db (tree_of Batches)) r → passes unit r ≡ true → Contains rows (told unit r)
   row_told r i h = Contains-permutation (map (told unit) (filter (passes unit) (db (tree_of Batches)))) rows (told unit r) same (Contains-map (told unit) (filter (passes unit) (db (tree_of Batches))) r (Contains-filter (passes unit) (db (tree_of Batches)) r i h))
+
+-- the tests are those of the definition
+both_true : (a b : Bool) → (a && (b && true)) ≡ (a && b)
+both_true true true = refl
+both_true true false = refl
+both_true false b = refl
+
+passes_is : (unit : Bytes) (r : Row) → passes unit r ≡ (is_eq (value_cmp (column r 4) (Text unit)) && is_eq (value_cmp (column r 6) (Int (pos 0))))
+passes_is unit r = both_true _ _ ∙ ap₂ (λ a b. a && b) (equals_text (column r 4) unit) (equals_int (column r 6) (pos 0))
+
+pub found_on : (db : Trees) (unit : Bytes) (rows : List Row) → IsAnswer unit_query (seen db) (Text unit ∷ []) rows → IsPermutation (open_on unit db) rows
+found_on db unit rows a = subst (λ (p : Row → Bool). IsPermutation (map (columns_from 1 3) (filter p (db (tree_of Batches)))) rows) (λ i. λ r. passes_is unit r i) (same unit (seen db) rows a)
 
 -- ---- batches on the unit
 
@@ -171,6 +186,22 @@ module _ (db : Trees) (c : Content) (has : Holds db c) (unit : Bytes) (rows : Li
 
   pub holders_shown : ShowHolders c unit rows
   holders_shown = record { only = shown_one; none = none_there }
+
+-- ---- what rows show, those in another order show too
+
+module _ (listed rows : List Row) (same : IsPermutation listed rows) where
+  listed_too : (row : Row) → Contains rows row → Contains listed row
+  listed_too row i = Contains-permutation rows listed row (IsPermutation-sym listed rows same) i
+
+  shown_too : (found : Option Holder) → IsShownIn rows found → IsShownIn listed found
+  shown_too None empty = no_member listed (λ row i. Contains-none row (subst (λ xs. Contains xs row) empty (Contains-permutation listed rows row same i)))
+  shown_too (Some h) (row, i, e) = (row, listed_too row i, e)
+
+  pub told_too : {E : Type 0} (r : Result (Option Holder) E) → IfOk r (IsShownIn rows) → IfOk r (IsShownIn listed)
+  told_too r h = IfOk-weaker r _ _ (λ found is. shown_too found is) h
+
+  pub unnamed_too : HasNoHolder rows → HasNoHolder listed
+  unnamed_too (row, i, none) = (row, listed_too row i, none)
 
 -- ---- the batch that is read
 

@@ -40,7 +40,7 @@ void_found (r ∷ rows) row i = go (is_eq (bytes_cmp row.key r.key)) refl (Conta
     go false e (inl same) ih = absurd (false≢true (sym e ∙ ap (λ (v : VoidRow). is_eq (bytes_cmp row.key v.key)) same ∙ ap is_eq (tied_itself nat_list_cmp_total row.key)))
     go false e (inr i) ih = ih i
 
-no_member : {X : Type 0} (xs : List X) → ((x : X) → Contains xs x → ⊥) → xs ≡ []
+pub no_member : {X : Type 0} (xs : List X) → ((x : X) → Contains xs x → ⊥) → xs ≡ []
 no_member [] none = refl
 no_member (x ∷ xs) none = absurd (none x (Contains-here x xs))
 

@@ -1,16 +1,22 @@
 -- Rows that show the batch that holds a unit.
-use Rattle.std.specs.Prelude.{◌≡◌, ◌≢◌, ℕ, pos, Option, Some, None, IsTrue, List, [], ◌∷◌, Contains}
+use Rattle.std.specs.Prelude.{◌≡◌, ◌≢◌, ◌&&◌, ℕ, pos, Option, Some, None, IsTrue, List, [], ◌∷◌, map, filter, Contains, Result, Err, IfOk}
+use Rattle.std.specs.Ordering.{is_eq}
 use Rattle.sqlite.specs.Effect.{Database}
-use Rattle.sqlite.specs.Order.{Row}
+use Rattle.sqlite.specs.Order.{Row, column, value_cmp}
+use Rattle.sqlite.specs.Tree.{Trees}
 use Rattle.sqlite.specs.declared.types.Value.TheVariants.{Int, Text}
 use Rattle.toll_base.specs.Bytes.{Bytes}
 use Rattle.toll_base.specs.Values.{is_name, IsBatchNo}
 use Rattle.toll_keep.specs.Content.{Content}
+use Rattle.toll_keep.specs.declared.fault.KeepFault.{KeepFault}
+use Rattle.toll_keep.specs.declared.fault.KeepFault.TheVariants.{Damaged}
 use Rattle.toll_keep.specs.Holding.{IsHolder}
 use Rattle.toll_keep.specs.declared.holder.Holder.{Holder}
 use Rattle.toll_sql.specs.Asked.{AreReadWith}
 use Rattle.toll_sql.specs.AskedTexts.{unit_text}
 use Rattle.toll_sql.specs.Cells.{columns_from}
+use Rattle.toll_sql.specs.Tables.{tree_of}
+use Rattle.toll_sql.specs.declared.table_kind.TableKind.TheVariants.{Batches}
 
 -- the batch's owner, its order and its number
 abbrev pub holder_cells : Holder → Row
@@ -47,3 +53,12 @@ IsHolderOf db text params holder = (rows : List Row) × AreReadWith db text para
 -- the rows are those that the text for the batches on this unit reads
 abbrev pub AreBatchesOn : Database → Bytes → List Row → Type 0
 AreBatchesOn db unit rows = AreReadWith db unit_text (Text unit ∷ []) rows
+
+-- the cells that name each batch on the unit that is not closed
+abbrev pub open_on : Bytes → Trees → List Row
+open_on unit db = map (columns_from 1 3) (filter (λ row. is_eq (value_cmp (column row 4) (Text unit)) && is_eq (value_cmp (column row 6) (Int (pos 0)))) (db (tree_of Batches)))
+
+-- what is told of the unit is so by these alone, whatever other rows the tables have: the batch is one of them, and damage is in one
+pub record TellsHolder (unit : Bytes) (db : Trees) (result : Result (Option Holder) KeepFault) : Type 0 where
+  pub told : IfOk result (IsShownIn (open_on unit db))
+  pub damaged : result ≡ Err Damaged → HasNoHolder (open_on unit db)

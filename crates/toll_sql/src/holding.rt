@@ -1,13 +1,13 @@
 //! The batch that holds a unit, asked of the tables.
-ghost use Rattle.std.specs.Prelude.{◌≡◌, ◌≢◌, [], ◌∷◌, Err, None, IfOk, IfSome};
+ghost use Rattle.std.specs.Prelude.{◌≡◌, ◌≢◌, [], ◌∷◌, Err, None, IfOk, IfSome, IsPermutation};
 ghost use Rattle.sqlite.specs.Held.{state};
 ghost use Rattle.sqlite.specs.declared.types.Value.TheVariants.{Text};
 ghost use Rattle.sqlite.specs.State.{HasCleanDisk};
 ghost use Rattle.toll_keep.specs.Holding.{IsHolder};
 ghost use Rattle.toll_sql.specs.AskedTexts.{unit_text};
-ghost use Rattle.toll_sql.specs.Asking.{ForHeld, IsLooking, IsQuerying};
+ghost use Rattle.toll_sql.specs.Asking.{ForHeld, IsLooking, IsQuerying, OverOurs};
 ghost use Rattle.toll_sql.specs.Cells.{columns_from};
-ghost use Rattle.toll_sql.specs.HolderRows.{AreBatchesOn, HasNoHolder, IsHolderOf, IsShownIn, ShowHolders, ShowsNoHolder, holder_cells};
+ghost use Rattle.toll_sql.specs.HolderRows.{AreBatchesOn, HasNoHolder, IsHolderOf, IsShownIn, ShowHolders, ShowsNoHolder, TellsHolder, holder_cells, open_on};
 
 use crate::cells::{bounded_at, name_at};
 use crate::fault::fault_of;
@@ -19,7 +19,8 @@ use toll_keep::{Holder, KeepFault};
 /// The batch that holds the unit, of any owner: `None` where none does.
 ///
 /// Memory and Disk are faults of the store; Damaged is a row that names no batch. The batch is that of a row
-/// that the store gives, and where none is told it gives none, whatever its tables have.
+/// that the store gives, and where none is told it gives none, whatever its tables have: no row but those of
+/// open batches on this unit matters.
 pub fn read_holder<S: Alter>(
     conn: &mut Connection<S>,
     unit: &Name,
@@ -28,6 +29,7 @@ pub fn read_holder<S: Alter>(
     ensures reads { ForHeld (state S.Store conn.old) (state S.Store conn.new) (λ c. IfOk result (IsHolder c unit.now)) }
     ensures shown { HasCleanDisk (state S.Store conn.new) → IfOk result (IsHolderOf (state S.Store conn.old).now unit_text (Text unit.now ∷ [])) }
     ensures whole { ForHeld (state S.Store conn.old) (state S.Store conn.new) (λ _. result ≢ Err KeepFault.Damaged) }
+    ensures alone { OverOurs (state S.Store conn.old) (state S.Store conn.new) (λ db. TellsHolder unit.now db result) }
 {
     match open_batches(conn, unit) {
         Ok(rows) => first_holder(&rows),
@@ -40,6 +42,7 @@ fn open_batches<S: Alter>(conn: &mut Connection<S>, unit: &Name) -> Result<Vec<R
     ensures asks { IsQuerying (state S.Store conn.old) (state S.Store conn.new) result }
     ensures read { HasCleanDisk (state S.Store conn.new) → IfOk result (λ rows. AreBatchesOn (state S.Store conn.old).now unit.now rows.items) }
     ensures rows { ForHeld (state S.Store conn.old) (state S.Store conn.new) (λ c. IfOk result (λ rows. ShowHolders c unit.now rows.items)) }
+    ensures found { OverOurs (state S.Store conn.old) (state S.Store conn.new) (λ db. IfOk result (λ rows. IsPermutation (open_on unit.now db) rows.items)) }
 {
     conn.query_all(
         "SELECT owner, ord, number FROM batches WHERE unit = ?1 AND closed = 0",

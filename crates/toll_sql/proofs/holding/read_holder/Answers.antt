@@ -1,8 +1,8 @@
 use Rattle.std.proofs.Common.{IfOk, subst}
 use Rattle.std.proofs.lemmas.Result.{IfOk-weaker}
 use Rattle.sqlite.specs.Held.{state}
-use Rattle.toll_sql.specs.HolderRows.{HasNoHolder, IsShownIn}
-use Rattle.toll_sql.proofs.HolderShown.{each_named, read_from}
+use Rattle.toll_sql.specs.HolderRows.{HasNoHolder, IsShownIn, open_on}
+use Rattle.toll_sql.proofs.HolderShown.{each_named, read_from, told_too, unnamed_too}
 use Rattle.toll_sql.proofs.LookLemmas.{looking}
 use Rattle.toll_sql.proofs.holding.read_holder.Goals as goal
 
@@ -22,3 +22,13 @@ pub returns-in-Ok-clause-shown : goal.returns-in-Ok-clause-shown
 returns-in-Ok-clause-shown g c clean =
     let r = c.first_holder.result in
     IfOk-weaker r _ _ (λ holder it. (c.in-Ok.rows.items, c.in-Ok.ensures.read clean, it)) (subst (λ rows. IfOk r (IsShownIn rows)) c.deref.ensures.value c.first_holder.ensures.read)
+
+pub returns-in-Ok-clause-alone : goal.returns-in-Ok-clause-alone
+returns-in-Ok-clause-alone g c clean has =
+    let r = c.first_holder.result in
+    let listed = open_on c.args.unit.now (state g.S.Store c.args.conn.now).now.trees in
+    let same = c.in-Ok.ensures.found clean has in
+    record {
+      told = told_too listed c.in-Ok.rows.items same r (subst (λ rows. IfOk r (IsShownIn rows)) c.deref.ensures.value c.first_holder.ensures.read);
+      damaged = λ is. unnamed_too listed c.in-Ok.rows.items same (subst HasNoHolder c.deref.ensures.value (c.first_holder.ensures.damaged is));
+    }
