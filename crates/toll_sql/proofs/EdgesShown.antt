@@ -7,6 +7,7 @@ use Rattle.std.specs.Prelude.{Contains}
 use Rattle.std.proofs.lemmas.Cmp.{tied_itself, nat_list_cmp_total}
 use Rattle.sqlite.specs.Order.{Row, column}
 use Rattle.sqlite.specs.Query.{IsAnswer}
+use Rattle.sqlite.specs.State.{State}
 use Rattle.sqlite.specs.Term.{Term, eval_all, holds}
 use Rattle.sqlite.specs.Tree.{Trees}
 use Rattle.sqlite.specs.declared.types.Value.{Value}
@@ -21,14 +22,15 @@ use Rattle.toll_keep.specs.Content.{Content}
 use Rattle.toll_keep.specs.Holding.{IsEdgeOfSome}
 use Rattle.toll_sql.specs.EdgeRows.{ShowEdges, draws_edges, edge_cells}
 use Rattle.toll_sql.specs.Encode.{kind_number, lot_of, order_of, number_of, segment_of, move_cells, void_cells}
-use Rattle.toll_sql.specs.Holds.{Holds, HoldsPart}
+use Rattle.toll_sql.specs.Holds.{HoldsEach, HoldsPart}
+use Rattle.toll_sql.specs.Stores.{HoldsIn, HoldsPartIn}
 use Rattle.toll_sql.specs.Tables.{is_owned, tree_of}
 use Rattle.toll_sql.specs.declared.table_kind.TableKind.{TableKind}
 use Rattle.toll_sql.specs.declared.table_kind.TableKind.TheVariants.{Moves, Voids}
 use Rattle.toll_sql.proofs.JoinQuery.{pairs_that, owners_tests, all_tests, lots}
 use Rattle.toll_sql.proofs.JoinRows.{IsMatch, match_of, match_shown}
 use Rattle.toll_sql.proofs.JoinTests.{Passes, IsPairOf, equals, is_text, null_is_none, owners_pass, pass_owners, all_pass, pass_all, pair_of, pair_passes, actual_of_kind}
-use Rattle.toll_sql.proofs.LookLemmas.{within}
+use Rattle.toll_sql.proofs.LookLemmas.{part_of, within}
 use Rattle.toll_sql.proofs.MemberRows.{AreRows, rows_kept, seen, under, under_name, named_owner}
 use Rattle.toll_sql.proofs.Orders.{moves_order}
 use Rattle.toll_sql.proofs.Placing.{in_key_order}
@@ -146,26 +148,31 @@ module _ (db : Trees) (s : Slice) (has : HoldsPart draws_edges db s.owner s) whe
 pub owners_shown : (db : Trees) (o : Bytes) (s : Slice) → HoldsPart draws_edges db o s → (rows : List Row) → IsAnswer (pairs_that owners_tests) (seen db) (Text o ∷ []) rows → ShowEdges (IsEdge s) rows
 owners_shown db o s has rows a = owners_edges db s (under_name draws_edges db o s has) rows (subst (λ n. IsAnswer (pairs_that owners_tests) (seen db) (Text n ∷ []) rows) (sym has.named) a)
 
--- ---- over tables that hold a content
+-- ---- over tables that hold all owners' movements and voids
 
-pub draws_owned : (k : TableKind) → draws_edges k ≡ true → is_owned k ≡ true
-draws_owned Moves draws = refl
-draws_owned Voids draws = refl
-draws_owned _ draws = absurd (false≢true draws)
-
-module _ (db : Trees) (c : Content) (has : Holds db c) where
-  drawn : (o : Bytes) → HoldsPart draws_edges db (c.rows o).owner (c.rows o)
-  drawn o = within draws_edges is_owned draws_owned db (c.rows o).owner (c.rows o) (under db c has o)
-
+module _ (db : Trees) (c : Content) (has : HoldsEach draws_edges db c.rows) where
   pub all_shown : (rows : List Row) → IsAnswer (pairs_that all_tests) (seen db) [] rows → ShowEdges (IsEdgeOfSome c) rows
   all_shown rows a = record {
     only = λ row i.
         let m = match_of all_tests (seen db) [] rows a row i in
-        let o = named_owner db c has Moves refl m.0 m.4.consumption in
-        let e = draws db (c.rows o.0) (drawn o.0) all_tests [] m.0 m.1 m.2 m.3 row m.4 (all_pass m.0 m.1 m.2 m.3 (c.rows o.0).owner o.2 m.4.passes) m.5 in
+        let o = named_owner draws_edges db c.rows has Moves refl m.0 m.4.consumption in
+        let e = draws db (c.rows o.0) (under draws_edges db c.rows has o.0) all_tests [] m.0 m.1 m.2 m.3 row m.4 (all_pass m.0 m.1 m.2 m.3 (c.rows o.0).owner o.2 m.4.passes) m.5 in
         (e.0, record { owner = o.0; edge = e.1 }, e.2);
     every = λ e d.
         let s = c.rows d.owner in
-        let m = matched db s (drawn d.owner) all_tests [] (λ c p t. pass_all c p [] [] s.owner t) e d.edge in
+        let m = matched db s (under draws_edges db c.rows has d.owner) all_tests [] (λ c p t. pass_all c p [] [] s.owner t) e d.edge in
         subst (Contains rows) (sym m.3) (match_shown all_tests (seen db) [] rows a m.0 m.1 [] [] m.2);
   }
+
+-- ---- tables that hold all rows hold movements and voids
+
+draws_owned : (k : TableKind) → draws_edges k ≡ true → is_owned k ≡ true
+draws_owned Moves draws = refl
+draws_owned Voids draws = refl
+draws_owned _ draws = absurd (false≢true draws)
+
+pub moves_of_all : (db : Trees) (rows : Bytes → Slice) → HoldsEach is_owned db rows → HoldsEach draws_edges db rows
+moves_of_all db rows has = record { slices = λ o. within draws_edges is_owned draws_owned db o (rows o) (has.slices o); owned = λ k draws. has.owned k (draws_owned k draws) }
+
+pub moves_part : (s : State) (c : Content) → HoldsIn s c → (o : Bytes) → HoldsPartIn draws_edges s o (c.rows o)
+moves_part = part_of draws_edges draws_owned

@@ -20,7 +20,7 @@ use Rattle.toll_sql.specs.Tables.{made_all, tree_of, is_owned}
 use Rattle.toll_sql.specs.Valid.{AreValidIn, IsOwner, IsUnit}
 use Rattle.toll_sql.specs.declared.table_kind.TableKind.{TableKind}
 use Rattle.toll_sql.specs.declared.table_kind.TableKind.TheVariants.{Meta, Owners, Units, Materials, Tests, Recipes, Requirements, Orders, Batches, Lots, Sublots, Moves, Results, Voids}
-use Rattle.toll_sql.proofs.HoldsAfter.{other_tree, rows_after, same_all, same_slice, unowned_apart}
+use Rattle.toll_sql.proofs.HoldsAfter.{other_tree, rows_after, same_all, same_each, unowned_apart}
 use Rattle.toll_sql.proofs.PutTexts.{number_of}
 use Rattle.toll_sql.proofs.WriteLemmas.{at_table}
 
@@ -36,8 +36,7 @@ holds_same c old new same meta h =
       meta = meta;
       owners = same_all Owners owner_cells IsOwner old new c.owners (same Owners (λ e. absurd (omega (arith, e)))) h.owners;
       units = same_all Units unit_cells IsUnit old new c.units (same Units (λ e. absurd (omega (arith, e)))) h.units;
-      slices = λ o. same_slice old new o (c.rows o) tables (h.slices o);
-      owned = λ k owned. subst (λ tree. AllByRecursion NamesOwner (all_cells tree)) (sym (tables k owned)) (h.owned k owned);
+      each = same_each old new c.rows tables h.each;
     }
 
 pub finished_holds : (c : Content) (db : Trees) (rows : List Row) (old new : State) → Finishes old new → HasRows Meta rows (old.now.trees (tree_of Meta)) → place (key_order Meta) (meta_cells version) rows ≡ meta_cells version ∷ []
@@ -117,8 +116,7 @@ holds_nothing = record {
   meta = record { same = λ f. refl; rising = (tt, tt) };
   owners = record { stored = record { same = λ f. refl; rising = tt }; valid = tt };
   units = record { stored = record { same = λ f. refl; rising = tt }; valid = tt };
-  slices = no_slice;
-  owned = λ k owned. subst (λ tree. AllByRecursion NamesOwner (all_cells tree)) (none_there k (other_is k owned)) tt;
+  each = record { slices = no_slice; owned = λ k owned. subst (λ tree. AllByRecursion NamesOwner (all_cells tree)) (none_there k (other_is k owned)) tt };
 }
 
 pub made_new : (old mid new : State) → MakesAllTables old mid → Finishes mid new → IsNew new.now

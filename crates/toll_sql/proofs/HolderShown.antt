@@ -41,7 +41,7 @@ use Rattle.toll_sql.specs.Holds.{Holds, HoldsSlice}
 use Rattle.toll_sql.specs.Select.{plain_query}
 use Rattle.toll_sql.specs.Others.{HasOurs}
 use Rattle.toll_sql.proofs.Beside.{Others, is_ours, others_of, ours_and}
-use Rattle.toll_sql.specs.Tables.{tree_of}
+use Rattle.toll_sql.specs.Tables.{is_owned, tree_of}
 use Rattle.toll_sql.specs.Valid.{IsBatch}
 use Rattle.toll_sql.specs.declared.table_kind.TableKind.TheVariants.{Batches}
 use Rattle.toll_sql.specs.AskedTexts.{unit_text}
@@ -157,16 +157,16 @@ module _ (db : Trees) (c : Content) (has : Holds db c) (unit : Bytes) (rows : Li
   shown_one : (row : Row) → Contains rows row → (h : Holder) × IsHolder c unit (Some h) × IsNamedHolder h × (row ≡ holder_cells h)
   shown_one row i =
       let r = stored_row unit (seen db) rows a row i in
-      let o = named_owner db c has Batches refl r.0 r.1 in
+      let o = named_owner is_owned db c.rows has.each Batches refl r.0 r.1 in
       let s = c.rows o.0 in
-      let x = (batches_kept db s (under db c has o.0)).only r.0 r.1 o.2 in
-      let valid = member_of_all IsBatch s.batches x.1 ((has.slices o.0).valid Batches refl) x.2 in
+      let x = (batches_kept db s (under is_owned db c.rows has.each o.0)).only r.0 r.1 o.2 in
+      let valid = member_of_all IsBatch s.batches x.1 ((has.each.slices o.0).valid Batches refl) x.2 in
       let on = passes_on unit s.owner x.0 x.1 (subst (λ r. passes unit r ≡ true) x.3 r.2) in
       let h : Holder = record { owner = o.0; order = x.1.order; number = x.1.number } in (
         h,
-        ap (is_some_where (is_on unit)) (batch_there db s (under db c has o.0) x.1 x.2) ∙ on,
+        ap (is_some_where (is_on unit)) (batch_there db s (under is_owned db c.rows has.each o.0) x.1 x.2) ∙ on,
         record { owner = o.1; order = valid.order; number = valid.number },
-        sym r.3 ∙ ap (told unit) x.3 ∙ ap (λ n. holder_cells (record { owner = n; order = x.1.order; number = x.1.number })) (has.slices o.0).named,
+        sym r.3 ∙ ap (told unit) x.3 ∙ ap (λ n. holder_cells (record { owner = n; order = x.1.order; number = x.1.number })) (has.each.slices o.0).named,
       )
 
   none_there : rows ≡ [] → (o : Bytes) (k : Bytes × ℕ) → none_or (λ row. not (is_on unit row)) (batch_at (c.rows o) k) ≡ true
@@ -176,7 +176,7 @@ module _ (db : Trees) (c : Content) (has : Holds db c) (unit : Bytes) (rows : Li
       off x i false e = refl
       off x i true e =
           let s = c.rows o in
-          let r = (batches_kept db s (under db c has o)).every x i in
+          let r = (batches_kept db s (under is_owned db c.rows has.each o)).every x i in
           let there = row_told unit (seen db) rows a (r.0 ∷ batch_cells s.owner x) r.1 (on_passes unit s.owner r.0 x e) in
           absurd (Contains-none _ (subst (λ xs. Contains xs (told unit (r.0 ∷ batch_cells s.owner x))) empty there))
 

@@ -24,7 +24,7 @@ use Rattle.toll_keep.specs.Content.{Content, after}
 use Rattle.toll_sql.specs.Bag.{place, all_cells, owned_by}
 use Rattle.toll_sql.specs.Cells.{cells_of, fill, key_order}
 use Rattle.toll_sql.specs.Encode.{meta_cells, owner_cells, unit_cells, table_for, cells_for, rows_for}
-use Rattle.toll_sql.specs.Holds.{HasRows, Holds, HoldsAll, HoldsSlice, NamesOwner, version}
+use Rattle.toll_sql.specs.Holds.{HasRows, Holds, HoldsAll, HoldsEach, HoldsSlice, NamesOwner, version}
 use Rattle.toll_sql.specs.Put.{IsReplaced, IsAdded}
 use Rattle.toll_sql.specs.Stores.{PutsAll, PutsChange, PutsRow, has_key}
 use Rattle.toll_sql.specs.Tables.{tree_of, keys_of, table_of, width_of, is_owned}
@@ -212,8 +212,15 @@ pub same_all : {X : Type 0} (k : TableKind) (cells : X → Row) (is_valid : X �
 same_all k cells is_valid old new l same h = record { stored = subst (HasRows k (map cells l)) (sym same) h.stored; valid = h.valid }
 
 -- a slice whose owner's tables are as they were
-pub same_slice : (old new : Trees) (q : Bytes) (s : Slice) → ((j : TableKind) → is_owned j ≡ true → new (tree_of j) ≡ old (tree_of j)) → HoldsSlice old q s → HoldsSlice new q s
+same_slice : (old new : Trees) (q : Bytes) (s : Slice) → ((j : TableKind) → is_owned j ≡ true → new (tree_of j) ≡ old (tree_of j)) → HoldsSlice old q s → HoldsSlice new q s
 same_slice old new q s same h = record { named = h.named; stored = λ j owned. subst (λ tree. HasRows j (rows_for j s) (owned_by q tree)) (sym (same j owned)) (h.stored j owned); valid = h.valid }
+
+-- so with those of all owners
+pub same_each : (old new : Trees) (rows : Bytes → Slice) → ((j : TableKind) → is_owned j ≡ true → new (tree_of j) ≡ old (tree_of j)) → HoldsEach is_owned old rows → HoldsEach is_owned new rows
+same_each old new rows same h = record {
+  slices = λ o. same_slice old new o (rows o) same (h.slices o);
+  owned = λ j owned. subst (λ tree. AllByRecursion NamesOwner (all_cells tree)) (sym (same j owned)) (h.owned j owned);
+}
 
 holds_one : (change : Change) (c : Content) (old new : Trees) → Holds old c → PutsChange change old new → Holds new (after (change ∷ []) c)
 holds_one (Owner x) c old new h p =
@@ -228,8 +235,7 @@ holds_one (Owner x) c old new h p =
         valid = all_put (λ (row : OwnerRow). row.owner) _ x p.valid bytes_cmp c.owners h.owners.valid;
       };
       units = same_all Units unit_cells IsUnit old new c.units (other Units (λ e. absurd (omega (arith, e)))) h.units;
-      slices = λ o. same_slice old new o (c.rows o) tables (h.slices o);
-      owned = λ j owned. subst (λ tree. AllByRecursion NamesOwner (all_cells tree)) (sym (tables j owned)) (h.owned j owned);
+      each = same_each old new c.rows tables h.each;
     }
 holds_one (UnitAdded x) c old new h p =
     let other = λ (j : TableKind) (differ : number_of j ≡ number_of Units → ⊥). other_tree j Units (unit_cells x) old new differ p.put in
@@ -243,8 +249,7 @@ holds_one (UnitAdded x) c old new h p =
             (rows_after Units (unit_cells x) (fills (UnitAdded x)) (map unit_cells c.units) (old (tree_of Units)) (new (tree_of Units)) h.units.stored p.put.here);
         valid = all_put (λ (row : UnitRow). row.unit) _ x p.valid bytes_cmp c.units h.units.valid;
       };
-      slices = λ o. same_slice old new o (c.rows o) tables (h.slices o);
-      owned = λ j owned. subst (λ tree. AllByRecursion NamesOwner (all_cells tree)) (sym (tables j owned)) (h.owned j owned);
+      each = same_each old new c.rows tables h.each;
     }
 holds_one (Put o row) c old new h p =
     let k = table_for row in
@@ -253,14 +258,17 @@ holds_one (Put o row) c old new h p =
       meta = subst (λ tree. HasRows Meta (meta_cells version ∷ []) tree) (sym (other Meta refl)) h.meta;
       owners = same_all Owners owner_cells IsOwner old new c.owners (other Owners refl) h.owners;
       units = same_all Units unit_cells IsUnit old new c.units (other Units refl) h.units;
-      slices = λ q.
-          let s = c.rows q in
-          subst (λ p. HoldsSlice new q (if same_bytes o p then with_row s row else s)) (sym (h.slices q).named) (slice_after o q row s old new p.put p.valid.1 (h.slices q) (same_bytes o q) refl);
-      owned = λ j owned. elim (same_table j k) [
-        | inl same ↦ subst (λ j. AllByRecursion NamesOwner (all_cells (new (tree_of j)))) (sym same)
-            (owned_after k (cells_for o row) (fills (Put o row)) (old (tree_of k)) (new (tree_of k)) (o, p.valid.0, owner_first o row) p.put.here (h.owned k (is_owned_for row)))
-        | inr differ ↦ subst (λ tree. AllByRecursion NamesOwner (all_cells tree)) (sym (other_tree j k (cells_for o row) old new differ p.put)) (h.owned j owned)
-      ];
+      each = record {
+        slices = λ q.
+            let s = c.rows q in
+            let was = h.each.slices q in
+            subst (λ p. HoldsSlice new q (if same_bytes o p then with_row s row else s)) (sym was.named) (slice_after o q row s old new p.put p.valid.1 was (same_bytes o q) refl);
+        owned = λ j owned. elim (same_table j k) [
+          | inl same ↦ subst (λ j. AllByRecursion NamesOwner (all_cells (new (tree_of j)))) (sym same)
+              (owned_after k (cells_for o row) (fills (Put o row)) (old (tree_of k)) (new (tree_of k)) (o, p.valid.0, owner_first o row) p.put.here (h.each.owned k (is_owned_for row)))
+          | inr differ ↦ subst (λ tree. AllByRecursion NamesOwner (all_cells tree)) (sym (other_tree j k (cells_for o row) old new differ p.put)) (h.each.owned j owned)
+        ];
+      };
     }
 
 pub holds_all : (changes : List Change) (c : Content) (old new : Trees) → Holds old c → PutsAll changes old new → Holds new (after changes c)

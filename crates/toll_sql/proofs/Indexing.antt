@@ -1,7 +1,6 @@
 -- What the index leaves as it was.
 use Rattle.std.proofs.Common.{◌≡◌, inl, inr, Bool, false, List, if◌then◌else◌, refl, sym, ap, subst, ◌∙◌}
 use Rattle.std.proofs.lemmas.Bool.{cases_Bool}
-use Rattle.std.specs.List.{AllByRecursion}
 use Rattle.sqlite.specs.Effect.{Database}
 use Rattle.sqlite.specs.Schema.{Schema}
 use Rattle.sqlite.specs.State.{State}
@@ -14,14 +13,14 @@ use Rattle.toll_sql.specs.Bag.{all_cells}
 use Rattle.toll_sql.specs.Create.{IsUnindexed, MakesIndex}
 use Rattle.toll_sql.specs.Encode.{owner_cells, unit_cells}
 use Rattle.toll_sql.specs.First.{Tells, first_ours, meta_rows}
-use Rattle.toll_sql.specs.Holds.{HasRows, Holds, NamesOwner, version}
+use Rattle.toll_sql.specs.Holds.{HasRows, Holds, version}
 use Rattle.toll_sql.specs.Others.{HasOurs, Indexed, has_its_name, with_index}
 use Rattle.toll_sql.specs.Stores.{IsOurs}
 use Rattle.toll_sql.specs.Tables.{by_batch, made_all, table_of, tree_of}
 use Rattle.toll_sql.specs.Valid.{IsOwner, IsUnit}
 use Rattle.toll_sql.specs.declared.table_kind.TableKind.{TableKind}
 use Rattle.toll_sql.specs.declared.table_kind.TableKind.TheVariants.{Meta, Moves, Owners, Units}
-use Rattle.toll_sql.proofs.HoldsAfter.{same_all, same_slice}
+use Rattle.toll_sql.proofs.HoldsAfter.{same_all, same_each}
 use Rattle.toll_sql.proofs.MakeLemmas.{ours_indexed, shaped_still}
 use Rattle.toll_sql.proofs.OthersLemmas.{first_of}
 use Rattle.toll_sql.proofs.WriteLemmas.{at_table}
@@ -41,8 +40,7 @@ holds_kept c old new kept h =
       meta = subst (HasRows Meta _) (sym (same Meta)) h.meta;
       owners = same_all Owners owner_cells IsOwner old new c.owners (same Owners) h.owners;
       units = same_all Units unit_cells IsUnit old new c.units (same Units) h.units;
-      slices = λ o. same_slice old new o (c.rows o) (λ k owned. same k) (h.slices o);
-      owned = λ k owned. subst (λ stored. AllByRecursion NamesOwner (all_cells stored)) (sym (same k)) (h.owned k owned);
+      each = same_each old new c.rows (λ k owned. same k) h.each;
     }
 
 with_ours : {schema : Schema} → HasOurs schema → HasOurs (with_index schema)

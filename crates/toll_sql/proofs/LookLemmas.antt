@@ -82,7 +82,7 @@ within is_such is_more less db o s has = record { named = has.named; stored = λ
 
 -- a store that holds a content holds each owner's part
 pub part_of : (is_such : TableKind → Bool) → ((k : TableKind) → is_such k ≡ true → is_owned k ≡ true) → (s : State) (c : Content) → HoldsIn s c → (o : Bytes) → HoldsPartIn is_such s o (c.rows o)
-part_of is_such less s c held o = record { ours = held.ours.schema; idle = held.idle; rows = within is_such is_owned less s.now.trees o (c.rows o) (held.rows.slices o) }
+part_of is_such less s c held o = record { ours = held.ours.schema; idle = held.idle; rows = within is_such is_owned less s.now.trees o (c.rows o) (held.rows.each.slices o) }
 
 pub slice_part : (s : State) (c : Content) → HoldsIn s c → (o : Bytes) → HoldsPartIn is_owned s o (c.rows o)
 slice_part = part_of is_owned (λ k owned. owned)

@@ -15,11 +15,10 @@ use Rattle.sqlite_value.proofs.OrderLemmas.{value_cmp_total}
 use Rattle.toll_base.specs.Bytes.{Bytes}
 use Rattle.toll_base.specs.Slice.{Slice}
 use Rattle.toll_base.specs.Values.{is_name}
-use Rattle.toll_keep.specs.Content.{Content}
 use Rattle.toll_sql.specs.Bag.{SameBag, total, all_cells, owned_by}
 use Rattle.toll_sql.specs.Cells.{cells_of, fill}
-use Rattle.toll_sql.specs.Holds.{Holds, HoldsPart, HoldsSlice, NamesOwner}
-use Rattle.toll_sql.specs.Tables.{table_of, tree_of, is_owned}
+use Rattle.toll_sql.specs.Holds.{HoldsEach, HoldsPart, NamesOwner}
+use Rattle.toll_sql.specs.Tables.{table_of, tree_of}
 use Rattle.toll_sql.specs.declared.table_kind.TableKind.{TableKind}
 use Rattle.toll_sql.proofs.Keyed.{behind, cells_are}
 use Rattle.toll_sql.proofs.LookLemmas.{all_map}
@@ -125,13 +124,13 @@ seen db = overlay db []
 pub under_name : (is_such : TableKind → Bool) (db : Trees) (o : Bytes) (s : Slice) → HoldsPart is_such db o s → HoldsPart is_such db s.owner s
 under_name is_such db o s has = subst (λ n. HoldsPart is_such db n s) (sym has.named) has
 
-module _ (db : Trees) (c : Content) (has : Holds db c) where
+module _ (is_such : TableKind → Bool) (db : Trees) (rows : Bytes → Slice) (has : HoldsEach is_such db rows) where
   -- so is each owner's
-  pub under : (o : Bytes) → HoldsSlice db (c.rows o).owner (c.rows o)
-  under o = under_name is_owned db o (c.rows o) (has.slices o)
+  pub under : (o : Bytes) → HoldsPart is_such db (rows o).owner (rows o)
+  under o = under_name is_such db o (rows o) (has.slices o)
 
   -- a stored row names its owner
-  pub named_owner : (k : TableKind) → is_owned k ≡ true → (r : Row) → Contains (db (tree_of k)) r → (o : Bytes) × IsTrue (is_name o) × (column r 1 ≡ Text (c.rows o).owner)
-  named_owner k owned r i =
-      let it = member_of_all NamesOwner _ _ (has.owned k owned) (Contains-map _ (db (tree_of k)) r i) in
+  pub named_owner : (k : TableKind) → is_such k ≡ true → (r : Row) → Contains (db (tree_of k)) r → (o : Bytes) × IsTrue (is_name o) × (column r 1 ≡ Text (rows o).owner)
+  named_owner k such r i =
+      let it = member_of_all NamesOwner _ _ (has.owned k such) (Contains-map _ (db (tree_of k)) r i) in
       (it.0, it.1, behind r 0 ∙ it.2 ∙ ap Text (sym (has.slices it.0).named))

@@ -8,10 +8,12 @@ use Rattle.toll_base.specs.Bytes.{Bytes}
 use Rattle.toll_base.specs.Lots.{edge_cmp}
 use Rattle.toll_base.specs.Slice.{Slice}
 use Rattle.toll_base.specs.declared.lot.Edge.{Edge}
+use Rattle.toll_keep.specs.Content.{Content}
 use Rattle.toll_sql.specs.Asked.{AreReadWith}
-use Rattle.toll_sql.specs.Asking.{ForPart}
+use Rattle.toll_sql.specs.Asking.{ForPart, OverOurs}
 use Rattle.toll_sql.specs.AskedTexts.{owners_text}
 use Rattle.toll_sql.specs.Cells.{columns_from}
+use Rattle.toll_sql.specs.Holds.{HoldsEach}
 use Rattle.toll_sql.specs.Valid.{IsLotId}
 use Rattle.toll_sql.specs.declared.table_kind.TableKind.{TableKind}
 use Rattle.toll_sql.specs.declared.table_kind.TableKind.TheVariants.{Moves, Voids}
@@ -26,6 +28,10 @@ draws_edges _ = false
 -- this is so of the slice whose movements and voids the tables held as this owner's, whatever rows they had of others
 abbrev pub ForMoves : Bytes → State → State → (Slice → Type 0) → Type 0
 ForMoves = ForPart draws_edges
+
+-- this is so of a content of which the tables held all movements and voids, whatever other rows they had
+abbrev pub ForAllMoves : State → State → (Content → Type 0) → Type 0
+ForAllMoves old new P = OverOurs old new (λ db. (c : Content) → HoldsEach draws_edges db c.rows → P c)
 
 -- the lot that the edge leads from, and the one that it leads to
 abbrev pub edge_cells : Edge → Row

@@ -58,7 +58,7 @@ AreBatchesOn db unit rows = AreReadWith db unit_text (Text unit ∷ []) rows
 abbrev pub open_on : Bytes → Trees → List Row
 open_on unit db = map (columns_from 1 3) (filter (λ row. is_eq (value_cmp (column row 4) (Text unit)) && is_eq (value_cmp (column row 6) (Int (pos 0)))) (db (tree_of Batches)))
 
--- what is told of the unit is so by these alone, whatever other rows the tables have: the batch is one of them, and damage is in one
+-- what is told of the unit goes by these alone, whatever other rows the tables have: one of them shows the batch, or there are none; and damage is in one
 pub record TellsHolder (unit : Bytes) (db : Trees) (result : Result (Option Holder) KeepFault) : Type 0 where
   pub told : IfOk result (IsShownIn (open_on unit db))
   pub damaged : result ≡ Err Damaged → HasNoHolder (open_on unit db)

@@ -52,10 +52,14 @@ HoldsSlice = HoldsPart is_owned
 abbrev pub NamesOwner : Row → Type 0
 NamesOwner cells = (o : Bytes) × IsTrue (is_name o) × (column cells 0 ≡ Text o)
 
+-- such tables have the rows of each owner's slice, and no others
+pub record HoldsEach (is_such : TableKind → Bool) (db : Trees) (rows : Bytes → Slice) : Type 0 where
+  pub slices : (o : Bytes) → HoldsPart is_such db o (rows o)
+  pub owned : (k : TableKind) → is_such k ≡ true → AllByRecursion NamesOwner (all_cells (db (tree_of k)))
+
 -- the tables have the rows of the content, and no others
 pub record Holds (db : Trees) (c : Content) : Type 0 where
   pub meta : HasRows Meta (meta_cells version ∷ []) (db (tree_of Meta))
   pub owners : HoldsOwners db c.owners
   pub units : HoldsUnits db c.units
-  pub slices : (o : Bytes) → HoldsSlice db o (c.rows o)
-  pub owned : (k : TableKind) → is_owned k ≡ true → AllByRecursion NamesOwner (all_cells (db (tree_of k)))
+  pub each : HoldsEach is_owned db c.rows

@@ -6,9 +6,9 @@ ghost use Rattle.toll_trace.specs.Edges.{AreEdges, IsEdge};
 ghost use Rattle.toll_keep.specs.Holding.{IsEdgeOfSome};
 ghost use Rattle.toll_sql.specs.Asked.{AreReadWith};
 ghost use Rattle.toll_sql.specs.AskedTexts.{all_text};
-ghost use Rattle.toll_sql.specs.Asking.{ForHeld, IsLooking, IsQuerying};
+ghost use Rattle.toll_sql.specs.Asking.{IsLooking, IsQuerying};
 ghost use Rattle.toll_sql.specs.Cells.{columns_from};
-ghost use Rattle.toll_sql.specs.EdgeRows.{AreEdgesOf, AreOwnersEdges, AreOwnersPairs, AreReadFrom, ForMoves, HasNoEdge, ShowEdges, edge_cells};
+ghost use Rattle.toll_sql.specs.EdgeRows.{AreEdgesOf, AreOwnersEdges, AreOwnersPairs, AreReadFrom, ForAllMoves, ForMoves, HasNoEdge, ShowEdges, edge_cells};
 
 use crate::edge_cells::edge_at;
 use crate::fault::fault_of;
@@ -43,15 +43,16 @@ pub fn read_edges<S: Alter>(
 /// The genealogy of all batches, in order, each edge once.
 ///
 /// Memory and Disk are faults of the store; Damaged is a row that shows no two lots with names. The edges are
-/// those of all rows that the store gives, whatever its tables have.
+/// those of all rows that the store gives, whatever its tables have; and of all movements and voids, whatever
+/// other rows they have.
 pub fn read_all_edges<S: Alter>(
     conn: &mut Connection<S>,
     alloc: Global,
 ) -> Result<Vec<Edge>, KeepFault>
     ensures looks { IsLooking (state S.Store conn.old) (state S.Store conn.new) result }
-    ensures reads { ForHeld (state S.Store conn.old) (state S.Store conn.new) (λ c. IfOk result (λ edges. AreEdges (IsEdgeOfSome c) edges.items)) }
+    ensures reads { ForAllMoves (state S.Store conn.old) (state S.Store conn.new) (λ c. IfOk result (λ edges. AreEdges (IsEdgeOfSome c) edges.items)) }
     ensures shown { HasCleanDisk (state S.Store conn.new) → IfOk result (λ edges. AreEdgesOf (state S.Store conn.old).now all_text [] edges.items) }
-    ensures whole { ForHeld (state S.Store conn.old) (state S.Store conn.new) (λ _. result ≢ Err KeepFault.Damaged) }
+    ensures whole { ForAllMoves (state S.Store conn.old) (state S.Store conn.new) (λ _. result ≢ Err KeepFault.Damaged) }
 {
     match all_pairs(conn) {
         Ok(rows) => edges_shown(alloc, &rows),
@@ -76,7 +77,7 @@ fn owners_pairs<S: Alter>(conn: &mut Connection<S>, owner: &Name) -> Result<Vec<
 fn all_pairs<S: Alter>(conn: &mut Connection<S>) -> Result<Vec<Row>, Error>
     ensures asks { IsQuerying (state S.Store conn.old) (state S.Store conn.new) result }
     ensures read { HasCleanDisk (state S.Store conn.new) → IfOk result (λ rows. AreReadWith (state S.Store conn.old).now all_text [] rows.items) }
-    ensures rows { ForHeld (state S.Store conn.old) (state S.Store conn.new) (λ c. IfOk result (λ rows. ShowEdges (IsEdgeOfSome c) rows.items)) }
+    ensures rows { ForAllMoves (state S.Store conn.old) (state S.Store conn.new) (λ c. IfOk result (λ rows. ShowEdges (IsEdgeOfSome c) rows.items)) }
 {
     conn.query_all(
         "SELECT c.lot_owner, c.lot, p.lot_owner, p.lot FROM moves AS c JOIN moves AS p ON p.owner = c.owner AND p.ord = c.ord AND p.number = c.number LEFT JOIN voids AS v ON v.owner = c.owner AND v.mkey = c.mkey LEFT JOIN voids AS w ON w.owner = p.owner AND w.mkey = p.mkey WHERE c.kind = 4 AND p.kind = 5 AND c.segment <= p.segment AND v.mkey IS NULL AND w.mkey IS NULL",

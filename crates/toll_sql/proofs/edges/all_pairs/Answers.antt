@@ -14,10 +14,10 @@ returns-clause-asks g c =
     querying all_text [] (state g.S.Store c.args.conn.now) (state g.S.Store c.query_all.new.self) all_plain (λ rows. rows.items) c.query_all.result called.mode called.ok called.err called.survives
 
 pub returns-clause-rows : goal.returns-clause-rows
-returns-clause-rows g c clean content held =
+returns-clause-rows g c clean has content held =
     let old = state g.S.Store c.args.conn.now in
     let new = state g.S.Store c.query_all.new.self in
-    IfOk-weaker c.query_all.result _ _ (λ rows h. all_shown old.now.trees content held.rows rows.items (all_answered old new held.ours.schema [] rows.items h)) (c.query_all.ensures.ok clean)
+    IfOk-weaker c.query_all.result _ _ (λ rows h. all_shown old.now.trees content held rows.items (all_answered old new has [] rows.items h)) (c.query_all.ensures.ok clean)
 
 pub returns-clause-read : goal.returns-clause-read
 returns-clause-read g c clean =

@@ -1,5 +1,6 @@
 use Rattle.std.proofs.Common.{ap}
 use Rattle.sqlite.specs.Held.{state}
+use Rattle.toll_sql.proofs.EdgesShown.{moves_of_all}
 use Rattle.toll_sql.proofs.KeepLemmas.{reading, so_read, unbegun}
 use Rattle.toll_sql.proofs.sql_keep.SqlKeepKeep.all_edges.Goals as goal
 
@@ -12,11 +13,11 @@ returns-in-Ok-clause-reading g c =
     let read = c.read_all_edges-read.ensures in
     reading (λ k. state g.S.Store k.conn) (λ k. k.closed) c.args.self.now mid c.told.new.self c.in-Ok.ensures.reading
     c.read_all_edges-read.result c.told.result (state g.S.Store c.read_all_edges-read.new.conn) (ap (state g.S.Store) c.told.ensures.conn) c.told.ensures.same c.told.ensures.closed
-    (λ live db may. g.met.S.Store.settled mid.conn.store db live.is_open may) read.looks (λ clean content held keeps. read.whole clean content held)
+    (λ live db may. g.met.S.Store.settled mid.conn.store db live.is_open may) read.looks (λ clean content held keeps. read.whole clean held.ours.schema content (moves_of_all (state g.S.Store mid.conn).now.trees content.rows held.rows.each))
 
 pub returns-in-Ok-clause-reads : goal.returns-in-Ok-clause-reads
 returns-in-Ok-clause-reads g c clean content held =
     let read = c.read_all_edges-read.ensures in
     so_read (λ k. state g.S.Store k.conn) (λ k. k.closed) c.args.self.now c.begin.new.self c.told.new.self c.in-Ok.ensures.reading
     c.read_all_edges-read.result c.told.result (state g.S.Store c.read_all_edges-read.new.conn) (ap (state g.S.Store) c.told.ensures.conn) c.told.ensures.same read.looks content _
-    (λ clean was. read.reads clean content was) clean held
+    (λ clean was. read.reads clean was.ours.schema content (moves_of_all (state g.S.Store c.begin.new.self.conn).now.trees content.rows was.rows.each)) clean held
