@@ -1,3 +1,4 @@
+pub mod HallLemmas
 pub mod PlaceLemmas
 pub mod RunLemmas
 pub mod TallyLemmas

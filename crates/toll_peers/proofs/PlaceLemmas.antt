@@ -9,7 +9,7 @@ use Rattle.toll_peers.specs.declared.among.Among.{Among}
 use Rattle.toll_peers.specs.declared.peer.Peer.{Peer}
 use Rattle.toll_peers.specs.declared.places.First.{First}
 
-module _ {S : Type 0} (among : Among) (peers : Slab (Peer S)) where
+module _ {S T : Type 0} (among : Among) (peers : Slab (Peer S T)) where
   -- each of these peers with a key below the limit has time until then at least
   abbrev pub HaveTimeBelow : ℕ → ℕ → Type 0
   HaveTimeBelow limit until = (key : ℕ) → key < limit → IfSome (get peers key) (λ peer. IsAmong among peer → until ≤ peer.until)
@@ -18,7 +18,7 @@ module _ {S : Type 0} (among : Among) (peers : Slab (Peer S)) where
   NoneBelow limit = (key : ℕ) → key < limit → IfSome (get peers key) (λ peer. ¬ (IsAmong among peer))
 
   pub record IsFirstBelow (limit key until : ℕ) : Type 0 where
-    pub peer : Peer S
+    pub peer : Peer S T
     pub there : get peers key ≡ Some peer
     pub among_them : IsAmong among peer
     pub its : peer.until ≡ until
@@ -31,40 +31,40 @@ module _ {S : Type 0} (among : Among) (peers : Slab (Peer S)) where
   -- nobody has this key
   pub passed : (limit : ℕ) (first : Option First) → get peers limit ≡ None → Found limit first → Found (limit + 1) first
   passed limit None is p = below_more (λ k. IfSome (get peers k) (λ peer. ¬ (IsAmong among peer))) limit p
-      (subst (λ (o : Option (Peer S)). IfSome o (λ peer. ¬ (IsAmong among peer))) (sym is) tt)
+      (subst (λ (o : Option (Peer S T)). IfSome o (λ peer. ¬ (IsAmong among peer))) (sym is) tt)
   passed limit (Some f) is p = record {
     peer = p.peer;
     there = p.there;
     among_them = p.among_them;
     its = p.its;
     first = below_more (λ k. IfSome (get peers k) (λ peer. IsAmong among peer → f.until ≤ peer.until)) limit p.first
-        (subst (λ (o : Option (Peer S)). IfSome o (λ peer. IsAmong among peer → f.until ≤ peer.until)) (sym is) tt);
+        (subst (λ (o : Option (Peer S T)). IfSome o (λ peer. IsAmong among peer → f.until ≤ peer.until)) (sym is) tt);
   }
 
   -- who has this key isn't one of them, or has more time
-  pub left_out : (limit : ℕ) (peer : Peer S) (first : Option First) → get peers limit ≡ Some peer → ¬ (IsAmong among peer × IsBefore peer.until first)
+  pub left_out : (limit : ℕ) (peer : Peer S T) (first : Option First) → get peers limit ≡ Some peer → ¬ (IsAmong among peer × IsBefore peer.until first)
       → Found limit first → Found (limit + 1) first
   left_out limit peer None is not p = below_more (λ k. IfSome (get peers k) (λ peer. ¬ (IsAmong among peer))) limit p
-      (subst (λ (o : Option (Peer S)). IfSome o (λ peer. ¬ (IsAmong among peer))) (sym is) (λ a. not (a, tt)))
+      (subst (λ (o : Option (Peer S T)). IfSome o (λ peer. ¬ (IsAmong among peer))) (sym is) (λ a. not (a, tt)))
   left_out limit peer (Some f) is not p = record {
     peer = p.peer;
     there = p.there;
     among_them = p.among_them;
     its = p.its;
     first = below_more (λ k. IfSome (get peers k) (λ peer. IsAmong among peer → f.until ≤ peer.until)) limit p.first
-        (subst (λ (o : Option (Peer S)). IfSome o (λ peer. IsAmong among peer → f.until ≤ peer.until)) (sym is)
+        (subst (λ (o : Option (Peer S T)). IfSome o (λ peer. IsAmong among peer → f.until ≤ peer.until)) (sym is)
         (λ a. elim (cases_lt peer.until f.until) [ inl lt ↦ absurd (not (a, lt)) | inr le ↦ le ]));
   }
 
   more_time : (limit until now : ℕ) → until ≤ now → HaveTimeBelow limit now → HaveTimeBelow limit until
   more_time limit until now le p key lt = weaker (get peers key) (p key lt) where
-    weaker : (o : Option (Peer S)) → IfSome o (λ peer. IsAmong among peer → now ≤ peer.until) → IfSome o (λ peer. IsAmong among peer → until ≤ peer.until)
+    weaker : (o : Option (Peer S T)) → IfSome o (λ peer. IsAmong among peer → now ≤ peer.until) → IfSome o (λ peer. IsAmong among peer → until ≤ peer.until)
     weaker None q = tt
     weaker (Some peer) q = λ a. omega (arith, q a)
 
   none_time : (limit until : ℕ) → NoneBelow limit → HaveTimeBelow limit until
   none_time limit until p key lt = weaker (get peers key) (p key lt) where
-    weaker : (o : Option (Peer S)) → IfSome o (λ peer. ¬ (IsAmong among peer)) → IfSome o (λ peer. IsAmong among peer → until ≤ peer.until)
+    weaker : (o : Option (Peer S T)) → IfSome o (λ peer. ¬ (IsAmong among peer)) → IfSome o (λ peer. IsAmong among peer → until ≤ peer.until)
     weaker None q = tt
     weaker (Some peer) q = λ a. absurd (q a)
 
@@ -73,7 +73,7 @@ module _ {S : Type 0} (among : Among) (peers : Slab (Peer S)) where
   time_before limit until (Some f) before p = more_time limit until f.until (omega arith) p.first
 
   -- who has this key has the least time so far
-  pub taken : (limit : ℕ) (peer : Peer S) (first : Option First) → get peers limit ≡ Some peer → IsAmong among peer → IsBefore peer.until first
+  pub taken : (limit : ℕ) (peer : Peer S T) (first : Option First) → get peers limit ≡ Some peer → IsAmong among peer → IsBefore peer.until first
       → Found limit first → IsFirstBelow (limit + 1) limit peer.until
   taken limit peer first is a before p = record {
     peer = peer;
@@ -81,7 +81,7 @@ module _ {S : Type 0} (among : Among) (peers : Slab (Peer S)) where
     among_them = a;
     its = refl;
     first = below_more (λ k. IfSome (get peers k) (λ other. IsAmong among other → peer.until ≤ other.until)) limit (time_before limit peer.until first before p)
-        (subst (λ (o : Option (Peer S)). IfSome o (λ other. IsAmong among other → peer.until ≤ other.until)) (sym is) (λ _. omega arith));
+        (subst (λ (o : Option (Peer S T)). IfSome o (λ other. IsAmong among other → peer.until ≤ other.until)) (sym is) (λ _. omega arith));
   }
 
   none_past : (limit key : ℕ) → length peers.slots ≤ limit → limit ≤ key → get peers key ≡ None
@@ -95,18 +95,18 @@ module _ {S : Type 0} (among : Among) (peers : Slab (Peer S)) where
     its = p.its;
     first = λ other. elim (cases_lt other limit) [
       | inl lt ↦ p.first other lt
-      | inr past ↦ subst (λ (o : Option (Peer S)). IfSome o (λ peer. IsAmong among peer → until ≤ peer.until)) (sym (none_past limit other le past)) tt
+      | inr past ↦ subst (λ (o : Option (Peer S T)). IfSome o (λ peer. IsAmong among peer → until ≤ peer.until)) (sym (none_past limit other le past)) tt
     ];
   }
 
   pub none_all : (limit : ℕ) → length peers.slots ≤ limit → NoneBelow limit → NoneAmong among peers
   none_all limit le p key = elim (cases_lt key limit) [
     | inl lt ↦ p key lt
-    | inr past ↦ subst (λ (o : Option (Peer S)). IfSome o (λ peer. ¬ (IsAmong among peer))) (sym (none_past limit key le past)) tt
+    | inr past ↦ subst (λ (o : Option (Peer S T)). IfSome o (λ peer. ¬ (IsAmong among peer))) (sym (none_past limit key le past)) tt
   ]
 
-module _ {S : Type 0} (now : ℕ) (old : Slab (Peer S)) where
+module _ {S T : Type 0} (now : ℕ) (old : Slab (Peer S T)) where
   -- those with a key below the limit have been looked at
-  pub record TurnedOut (limit : ℕ) (new : Slab (Peer S)) : Type 0 where
+  pub record TurnedOut (limit : ℕ) (new : Slab (Peer S T)) : Type 0 where
     pub done : (key : ℕ) → key < limit → get new key ≡ left_at now (get old key)
     pub rest : (key : ℕ) → limit ≤ key → get new key ≡ get old key

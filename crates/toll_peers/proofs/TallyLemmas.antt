@@ -2,7 +2,8 @@
 use Rattle.std.proofs.Common.{◌≡◌, ◌≢◌, ℕ, Option, None, Some, sym, subst}
 use Rattle.std.specs.Prelude.{IfSome, option_map}
 use Rattle.slab.specs.Slab.{Slab, get}
-use Rattle.toll_peers.specs.Halls.{KeepsReplies}
+use Rattle.toll_peers.specs.Halls.{KeepsHeard}
+use Rattle.toll_peers.specs.Stages.{progress_of}
 use Rattle.toll_peers.specs.Worlds.{Tallies, Tally}
 use Rattle.toll_peers.specs.declared.peer.Peer.{Peer}
 
@@ -25,12 +26,12 @@ tallies_then P R Q (Some t) None c p r more = absurd p
 tallies_then P R Q (Some t) (Some u) None p r more = absurd r
 tallies_then P R Q (Some t) (Some u) (Some v) p r more = more t u v p r
 
-module _ {S : Type 0} where
-  keep_more : (key : ℕ) (old middle new : Option (Peer S)) → IfSome old (λ peer. peer.reply ≢ None → middle ≡ Some peer)
-      → IfSome middle (λ peer. peer.reply ≢ None → new ≡ Some peer) → IfSome old (λ peer. peer.reply ≢ None → new ≡ Some peer)
+module _ {S T : Type 0} where
+  keep_more : (key : ℕ) (old middle new : Option (Peer S T)) → IfSome old (λ peer. progress_of peer.stage ≢ None → middle ≡ Some peer)
+      → IfSome middle (λ peer. progress_of peer.stage ≢ None → new ≡ Some peer) → IfSome old (λ peer. progress_of peer.stage ≢ None → new ≡ Some peer)
   keep_more key None middle new p q = tt
   keep_more key (Some peer) middle new p q = λ some.
-      let stays = subst (λ (o : Option (Peer S)). IfSome o (λ peer. peer.reply ≢ None → new ≡ Some peer)) (p some) q in stays some
+      let stays = subst (λ (o : Option (Peer S T)). IfSome o (λ peer. progress_of peer.stage ≢ None → new ≡ Some peer)) (p some) q in stays some
 
-  pub keeps_more : (old middle new : Slab (Peer S)) → KeepsReplies old middle → KeepsReplies middle new → KeepsReplies old new
+  pub keeps_more : (old middle new : Slab (Peer S T)) → KeepsHeard old middle → KeepsHeard middle new → KeepsHeard old new
   keeps_more old middle new p q key = keep_more key (get old key) (get middle key) (get new key) (p key) (q key)

@@ -1,5 +1,6 @@
 pub mod Askings
-pub mod Steps
+pub mod Stages
 pub mod Runs
+pub mod Steps
 pub mod Worlds
 pub mod Halls

@@ -1,13 +1,19 @@
 -- One step of a peer.
-use Rattle.std.specs.Prelude.{◌≡◌, ◌≢◌, ◌⊎◌, ◌+◌, ◌-◌, ◌^◌, ℕ, min, Bool, List, [], ◌++◌, length, Option, Some, None, IsSome, option_map}
+use Rattle.std.specs.Prelude.{◌≡◌, ◌↔◌, ◌⊎◌, ◌+◌, ◌-◌, ◌^◌, ℕ, min, Bool, List, [], ◌++◌, length, Option, Some, None, IsSome, option_map}
 use Rattle.std.specs.Io.KnownBytes.{Appends, Consumes, IsAtEnd}
 use Rattle.toll_http.specs.Streams.{HasFailed, bytes_between}
 use Rattle.toll_http.specs.declared.outgoing.Outgoing.{Outgoing}
+use Rattle.toll_http.specs.declared.sink.Sink as sink
 use Rattle.toll_peers.specs.Askings.{IsWhole, came_of, door_of}
+use Rattle.toll_peers.specs.Stages.{progress_of, reply_of, task_of}
 use Rattle.toll_peers.specs.declared.asking.Asking.{Asking}
 use Rattle.toll_peers.specs.declared.door.Door.{Door}
 use Rattle.toll_peers.specs.declared.peer.Peer.{Peer}
 use Rattle.toll_peers.specs.declared.peer.TheConstants.{MOST_MILLISECONDS}
+use Rattle.toll_peers.specs.declared.progress.Progress.{Progress}
+use Rattle.toll_peers.specs.declared.progress.Progress.TheVariants.{Left}
+use Rattle.toll_peers.specs.declared.step.Step.{Step}
+use Rattle.toll_peers.specs.declared.step.Step.TheVariants.{Waits, Answered}
 
 -- the reply, all of it, once there is one
 abbrev pub text_of : Option Outgoing → Option (List ℕ)
@@ -32,33 +38,46 @@ abbrev pub IsGiven : Option Outgoing → Type 0
 IsGiven None = ⊥
 IsGiven (Some r) = r.written ≡ length r.bytes.items
 
-module _ {O : Type 0} (answers : O → Door → List ℕ → List ℕ → O → Type 0) where
-  -- a peer that has a reply keeps it, and one that has none gets the office's answer to all that came from it, or none yet
-  abbrev pub Hands : Option (List ℕ) → Option (List ℕ) → Asking → O → O → Type 0
-  Hands None None asking old new = new ≡ old
-  Hands None (Some told) asking old new = answers old (door_of asking) (came_of asking) told new
-  Hands (Some was) (Some told) asking old new = (told ≡ was) × (new ≡ old)
-  Hands (Some was) None asking old new = ⊥
+module _ {O T : Type 0} where
+  -- the office answers all that came from a peer, once that is whole; who has a task or a reply keeps it, and the office does nothing
+  abbrev pub Hands : (O → Door → List ℕ → Progress T → O → Type 0) → Option (Progress T) → Option (Progress T) → Asking → O → O → Type 0
+  Hands answers None None asking old new = new ≡ old
+  Hands answers None (Some progress) asking old new = answers old (door_of asking) (came_of asking) progress new
+  Hands answers (Some was) now asking old new = (now ≡ Some was) × (new ≡ old)
 
--- what has come of a request is what the socket gave behind what had come; and where there is a reply now, it was all that it takes, or the stream's end
-pub record Came (unread now_unread : Option (List ℕ)) (was now : Asking) (reply : Option (List ℕ)) : Type 0 where
+  -- the office goes on with a peer's task, once; where it has none, nothing comes of it, and the office does nothing
+  abbrev pub HandsOn : (O → T → Progress T → O → Type 0) → Option (Progress T) → Option (Progress T) → O → O → Type 0
+  HandsOn goes_on (Some (Left task)) None old new = ⊥
+  HandsOn goes_on (Some (Left task)) (Some progress) old new = goes_on old task progress new
+  HandsOn goes_on was now old new = (now ≡ was) × (new ≡ old)
+
+-- what has come of a request is what the socket gave behind what had come; and once it was handed to the office, it was all that it takes, or the stream's end
+pub record Came (unread now_unread : Option (List ℕ)) (was now : Asking) (IsHanded : Type 0) : Type 0 where
   pub given : List ℕ
   pub rest : Option (List ℕ)
   pub consumed : Consumes unread rest given
   pub behind : came_of now ≡ came_of was ++ given
   pub same_door : door_of now ≡ door_of was
-  pub early : reply ≡ None → (now_unread ≡ rest) × ¬ (IsWhole now)
-  pub whole : IsSome reply → IsWhole now ⊎ IsAtEnd rest
+  pub early : ¬ IsHanded → (now_unread ≡ rest) × ¬ (IsWhole now)
+  pub whole : IsHanded → IsWhole now ⊎ IsAtEnd rest
 
-module _ {S : Type 0} where
-  -- who had no reply was heard
-  abbrev pub Hears : (S → Option (List ℕ)) → Peer S → Peer S → Type 0
-  Hears unread old new = old.reply ≡ None → Came (unread old.socket) (unread new.socket) old.request new.request (text_of new.reply)
+module _ {S T : Type 0} where
+  -- who was not handed to the office was heard
+  abbrev pub Hears : (S → Option (List ℕ)) → Peer S T → Peer S T → Type 0
+  Hears unread old new =
+      progress_of old.stage ≡ None → Came (unread old.socket) (unread new.socket) old.request new.request (IsSome (progress_of new.stage))
 
-  -- who has no reply yet has met a read that failed, and who has one a write, as the one or the other does that would wait
-  abbrev pub IsStuck : (S → Option Bool) → (S → Option Bool) → Peer S → Peer S → Type 0
-  IsStuck reads writes old new =
-      (new.reply ≡ None → HasFailed (reads old.socket) (reads new.socket)) × (new.reply ≢ None → HasFailed (writes old.socket) (writes new.socket))
+  -- whose request isn't whole has met a read that failed, as one does that would wait
+  abbrev pub IsUnread : (S → Option Bool) → Peer S T → Peer S T → Type 0
+  IsUnread reads old new = progress_of new.stage ≡ None → HasFailed (reads old.socket) (reads new.socket)
+
+  -- the socket was given the next bytes of the reply; the step is the last where it has all of them, and where it waits for the socket, a write
+  -- has failed, as one does that would wait; who has a task waits
+  pub record Writes (to : sink.Ghosts S) (old new : Peer S T) (step : Step) : Type 0 where
+    pub gave : Gave (to.held old.socket) (to.held new.socket) (reply_of old.stage) (reply_of new.stage)
+    pub given : step ≡ Answered ↔ IsGiven (reply_of new.stage)
+    pub stuck : step ≡ Waits → IsSome (reply_of new.stage) → HasFailed (to.has_failed old.socket) (to.has_failed new.socket)
+    pub pending : IsSome (task_of new.stage) → step ≡ Waits
 
 -- when the time is over that a peer has from this moment on
 abbrev pub until_from : ℕ → ℕ

@@ -7,19 +7,23 @@ use crate::peer::Peer;
 /// Which of the peers that are there.
 #[derive(Clone, Copy, Debug, PartialEq, Eq)]
 pub enum Among {
-    All,
     /// Those whose requests are not whole.
     Reading,
+    /// Those for whom the office has something left to do.
+    Pending,
+    /// Those whose time may be over: all others.
+    Timed,
 }
 
 impl Among {
     /// Whether this peer is one of them.
-    pub fn has<S>(self, peer: &Peer<S>) -> bool
+    pub fn has<S, T>(self, peer: &Peer<S, T>) -> bool
         ensures { IsTrue result ↔ IsAmong self peer.now }
     {
         match self {
-            Among::All => true,
-            Among::Reading => peer.reply.is_none(),
+            Among::Reading => peer.stage.is_reading(),
+            Among::Pending => peer.stage.is_pending(),
+            Among::Timed => !peer.stage.is_pending(),
         }
     }
 }

@@ -1,9 +1,8 @@
 //! The peers that are there.
-ghost use Rattle.std.specs.Prelude.{◌≡◌, ◌↔◌, ◌≤◌, ◌<◌, ◌+◌, ◌⊎◌, IfSome, IsTrue};
-ghost use Rattle.slab.specs.Slab.{get, slab_len};
-ghost use Rattle.toll_peers.specs.Halls.{IfStays, IsDueAt, IsDueTo, IsInTime, IsOldOrNew, KeepsReplies, OnlyAt, ShedsFirst, TurnsOut};
+ghost use Rattle.std.specs.Prelude.{◌≡◌, ◌↔◌, ◌≤◌, ◌<◌, ◌+◌, ◌⊎◌, ℕ, None, IfSome, IsTrue};
+ghost use Rattle.slab.specs.Slab.{HasRoomFor, Updates, get, slab_len};
+ghost use Rattle.toll_peers.specs.Halls.{GoesOnFirst, IfStays, IsDueAt, IsDueTo, IsInTime, IsOldOrNew, IsStuck, KeepsHeard, KeepsTasks, KeepsTime, OnlyAt, TurnsOut, stays_after, tasks_in};
 ghost use Rattle.toll_peers.specs.Runs.{IsRun};
-ghost use Rattle.toll_peers.specs.Steps.{IsStuck, until_after};
 ghost use Rattle.toll_peers.specs.Worlds.{IsShut, IsShutAt, LetsIn, Tallies, owners_at};
 ghost use Rattle.toll_peers.specs.declared.door.Door.{Door};
 
@@ -39,13 +38,13 @@ pub enum Entrance {
 
 /// The peers that are there, and how many owners are still to come.
 #[derive(Drop)]
-pub struct Hall<S> {
-    pub peers: Slab<Peer<S>>,
+pub struct Hall<S, T> {
+    pub peers: Slab<Peer<S, T>>,
     pub to_come: u64,
     pub entrance: Entrance,
 }
 
-impl<S: Socket> Hall<S> {
+impl<S: Socket, T: Drop> Hall<S, T> {
     /// Nobody is there yet, and so many owners are to come.
     pub fn new(alloc: Global, to_come: u64) -> Self
         ensures empty { slab_len result.peers ≡ 0 }
@@ -65,12 +64,16 @@ impl<S: Socket> Hall<S> {
         self.to_come == 0 && self.peers.is_empty()
     }
 
-    /// How many milliseconds to wait at most, so that nobody stays longer than its time.
+    /// How many milliseconds to wait at most, so that nobody stays longer than its time: none while somebody
+    /// has a task.
     pub fn patience(&self, now: u64) -> Option<u64>
         ensures in_time { IsInTime result now self.now.peers }
         ensures cause { IfSome result (λ most. IsDueAt self.now.entrance now most ⊎ IsDueTo self.now.peers now most) }
     {
-        match (self.entrance, first_of(&self.peers, Among::All)) {
+        if first_of(&self.peers, Among::Pending).is_some() {
+            return Some(0);
+        }
+        match (self.entrance, first_of(&self.peers, Among::Timed)) {
             (Entrance::Crowded, _) => Some(0),
             (Entrance::Open, None) => None,
             (Entrance::Open, Some(first)) => Some(first.until.saturating_sub(now)),
@@ -89,7 +92,8 @@ impl<S: Socket> Hall<S> {
         world: &mut W,
     ) -> Result<(), WorldFault>
         ensures tally { Tallies (LetsIn result self.old.entrance self.old.to_come self.new.to_come) (W.tally world.old) (W.tally world.new) }
-        ensures replies { KeepsReplies self.old.peers self.new.peers }
+        ensures heard { KeepsHeard self.old.peers self.new.peers }
+        ensures tasks { KeepsTasks self.old.peers self.new.peers }
         ensures full { slab_len self.old.peers ≤ MOST_PEERS → slab_len self.new.peers ≤ MOST_PEERS }
     {
         let now = world.now();
@@ -132,7 +136,8 @@ impl<S: Socket> Hall<S> {
         ensures to_come { self.new.to_come + owners_at door ≡ self.old.to_come }
         ensures kept { slab_len self.old.peers < MOST_PEERS → OnlyAt self.old.peers.vacant_key self.old.peers self.new.peers }
         ensures came { let key = self.old.peers.vacant_key in IsOldOrNew door socket now (get self.old.peers key) (get self.new.peers key) }
-        ensures replies { KeepsReplies self.old.peers self.new.peers }
+        ensures heard { KeepsHeard self.old.peers self.new.peers }
+        ensures tasks { KeepsTasks self.old.peers self.new.peers }
         ensures full { slab_len self.old.peers ≤ MOST_PEERS → slab_len self.new.peers ≤ MOST_PEERS }
     {
         if door == Door::Owners {
@@ -150,20 +155,57 @@ impl<S: Socket> Hall<S> {
     }
 
     /// Takes the peer with this key as far as its socket goes. It goes once it has its reply, or where a
-    /// read or a write failed; where one would wait, it stays.
-    pub fn advance<O: Office>(&mut self, alloc: Global, key: usize, office: &mut O, now: u64)
-        ensures run { IsRun O.answers office.old office.new }
+    /// read or a write failed; where one would wait, or the office has something left to do for it, it
+    /// stays.
+    pub fn advance<O: Office<Task = T>>(
+        &mut self,
+        alloc: Global,
+        key: usize,
+        office: &mut O,
+        now: u64,
+    )
+        ensures run { IsRun O.answers O.goes_on office.old office.new (tasks_in self.old.peers) (tasks_in self.new.peers) }
         ensures others { OnlyAt key self.old.peers self.new.peers }
         ensures stuck { IfStays key self.old.peers self.new.peers (IsStuck S.Source.has_failed S.Sink.has_failed) }
-        ensures until { IfStays key self.old.peers self.new.peers (λ peer later.
-            later.until ≡ until_after peer.reply later.reply peer.until now) }
+        ensures until { IfStays key self.old.peers self.new.peers (KeepsTime now) }
         ensures fewer { slab_len self.new.peers ≤ slab_len self.old.peers }
         ensures to_come { self.new.to_come ≡ self.old.to_come }
     {
         let Some(mut peer) = self.peers.try_remove(key) else {
             return;
         };
-        if peer.advance(alloc, office, now) == Step::Waits {
+        let step = peer.advance(alloc, office, now);
+        self.keep(peer, step);
+    }
+
+    /// Has the office go on with the task of the peer that came first of those that have one, if there is
+    /// one. It goes once it has its reply, or where a write of that failed.
+    pub fn go_on<O: Office<Task = T>>(&mut self, alloc: Global, office: &mut O, now: u64)
+        ensures run { IsRun O.answers O.goes_on office.old office.new (tasks_in self.old.peers) (tasks_in self.new.peers) }
+        ensures first { GoesOnFirst O.goes_on self.old.peers self.new.peers office.old office.new }
+        ensures until { (key : ℕ) → IfStays key self.old.peers self.new.peers (KeepsTime now) }
+        ensures fewer { slab_len self.new.peers ≤ slab_len self.old.peers }
+        ensures to_come { self.new.to_come ≡ self.old.to_come }
+    {
+        let Some(first) = first_of(&self.peers, Among::Pending) else {
+            return;
+        };
+        let Some(mut peer) = self.peers.try_remove(first.key) else {
+            return;
+        };
+        let step = peer.go_on(alloc, office, now);
+        self.keep(peer, step);
+    }
+
+    // The peer, who was taken out, stays where it waits, and goes else.
+    fn keep(&mut self, peer: Peer<S, T>, step: Step)
+        requires room { HasRoomFor self.old.peers 1 }
+        requires out { get self.old.peers self.old.peers.vacant_key ≡ None }
+        ensures kept { Updates self.old.peers self.new.peers self.old.peers.vacant_key (stays_after step peer) }
+        ensures more { slab_len self.new.peers ≤ slab_len self.old.peers + 1 }
+        ensures to_come { self.new.to_come ≡ self.old.to_come }
+    {
+        if step == Step::Waits {
             let _ = self.peers.insert_reserved(peer);
             return;
         }

@@ -16,7 +16,7 @@ pub struct First {
 }
 
 /// That of these peers whose time is over first.
-pub fn first_of<S: Socket>(peers: &Slab<Peer<S>>, among: Among) -> Option<First>
+pub fn first_of<S: Socket, T: Drop>(peers: &Slab<Peer<S, T>>, among: Among) -> Option<First>
     ensures found { IfSome result (λ first. IsFirst among peers.now first.key first.until) }
     ensures none { IfNone result (NoneAmong among peers.now) }
 {
@@ -49,8 +49,8 @@ fn is_before(until: u64, first: Option<First>) -> bool
     }
 }
 
-/// Those go whose time is over.
-pub fn turn_out<S: Socket>(peers: &mut Slab<Peer<S>>, now: u64)
+/// Those go whose time is over, which that of one with a task is not.
+pub fn turn_out<S: Socket, T: Drop>(peers: &mut Slab<Peer<S, T>>, now: u64)
     ensures { TurnsOut now peers.old peers.new }
 {
     for key in 0..peers.capacity() {
@@ -61,17 +61,17 @@ pub fn turn_out<S: Socket>(peers: &mut Slab<Peer<S>>, now: u64)
 }
 
 // Whether there is a peer with this key, and its time is over.
-fn is_late<S: Socket>(peers: &Slab<Peer<S>>, key: usize, now: u64) -> bool
+fn is_late<S: Socket, T: Drop>(peers: &Slab<Peer<S, T>>, key: usize, now: u64) -> bool
     ensures { IsTrue result ↔ IsLate now (get peers.now key) }
 {
     match peers.get(key) {
-        Some(peer) => peer.until <= now,
+        Some(peer) => Among::Timed.has(peer) && peer.until <= now,
         None => false,
     }
 }
 
 /// The one goes that has been reading longest, if one is reading.
-pub fn shed<S: Socket>(peers: &mut Slab<Peer<S>>)
+pub fn shed<S: Socket, T: Drop>(peers: &mut Slab<Peer<S, T>>)
     ensures { ShedsFirst peers.old peers.new }
 {
     if let Some(first) = first_of(peers, Among::Reading) {

@@ -1,7 +1,7 @@
 //! Serving peers side by side.
-ghost use Rattle.std.specs.Prelude.{◌≡◌, ◌≤◌};
-ghost use Rattle.slab.specs.Slab.{slab_len};
-ghost use Rattle.toll_peers.specs.Runs.{IsRun};
+ghost use Rattle.std.specs.Prelude.{◌≡◌};
+ghost use Rattle.toll_peers.specs.Halls.{tasks_in};
+ghost use Rattle.toll_peers.specs.Runs.{IsRun, IsWholeRun};
 ghost use Rattle.toll_peers.specs.Worlds.{EndsSo, Tallies};
 
 use crate::hall::Hall;
@@ -24,14 +24,16 @@ pub enum Served {
 const MOST_READY: usize = 4096;
 
 /// Serves so many owners side by side, and those of the plant that come meanwhile. Each request is handed to
-/// the office as soon as it is complete, and the office changes by nothing else.
+/// the office as soon as it is complete. Where that leaves something to do, the office goes on with it turn
+/// by turn, between which requests are handed to it that became complete meanwhile. It changes by nothing
+/// else.
 pub fn serve<W: World, O: Office>(
     alloc: Global,
     world: &mut W,
     office: &mut O,
     count: u64,
 ) -> Served
-    ensures run { IsRun O.answers office.old office.new }
+    ensures run { IsWholeRun O.answers O.goes_on office.old office.new (result ≡ Served.All) }
     ensures end { Tallies (EndsSo result count) (W.tally world.old) (W.tally world.new) }
 {
     let mut hall = Hall::new(alloc, count);
@@ -49,6 +51,7 @@ pub fn serve<W: World, O: Office>(
         // what an answer takes is nobody's time but the office's
         let now = world.now();
         advance_all(alloc, world, &mut hall, office);
+        hall.go_on(alloc, office, now);
         hall.turn_out(now);
     }
     Served::Spent
@@ -58,10 +61,10 @@ pub fn serve<W: World, O: Office>(
 fn advance_all<W: World, O: Office>(
     alloc: Global,
     world: &mut W,
-    hall: &mut Hall<W::Socket>,
+    hall: &mut Hall<W::Socket, O::Task>,
     office: &mut O,
 )
-    ensures run { IsRun O.answers office.old office.new }
+    ensures run { IsRun O.answers O.goes_on office.old office.new (tasks_in hall.old.peers) (tasks_in hall.new.peers) }
     ensures tally { W.tally world.new ≡ W.tally world.old }
     ensures to_come { hall.new.to_come ≡ hall.old.to_come }
 {

@@ -3,7 +3,7 @@ mod script;
 mod wire;
 
 use crate::tests::script::{Scribe, Script};
-use crate::tests::wire::{Ends, Log, Plan, Takes};
+use crate::tests::wire::{Ends, Log, Pace, Plan, Takes};
 use crate::{Door, Served, serve};
 use std::alloc::Global;
 
@@ -34,6 +34,23 @@ const SECOND_OWNER: Plan = Plan {
     ends: Ends::Silent,
     takes: Takes::All,
     mark: b'2',
+};
+
+/// Two requests of the plant, each at once.
+const SEVENTH: Plan = Plan {
+    door: Door::Plant,
+    pieces: &[b"\0\0\0\x017"],
+    ends: Ends::Silent,
+    takes: Takes::All,
+    mark: b'7',
+};
+
+const EIGHTH: Plan = Plan {
+    door: Door::Plant,
+    pieces: &[b"\0\0\0\x018"],
+    ends: Ends::Silent,
+    takes: Takes::All,
+    mark: b'8',
 };
 
 /// All of a request at once.
@@ -87,7 +104,7 @@ fn outcome_of(
         served,
         answered: office.answered,
         told: log.told.get(),
-        late: world.late,
+        late: log.clock.get(),
     }
 }
 
@@ -230,4 +247,74 @@ fn nobody_is_let_in_where_there_is_no_room_until_one_has_left(rt: HostRuntime) {
 fn a_world_that_fails_ends_serving(rt: HostRuntime) {
     let outcome = outcome_of(rt.alloc(), 1, &[], &[], &Log::new());
     assert_eq!(rt; outcome.served, Served::Fault);
+}
+
+#[test]
+fn others_are_answered_between_the_turns_of_one(rt: HostRuntime) {
+    let log = Log::at(Pace {
+        turns: 4,
+        milliseconds: 0,
+    });
+    let coming = [Some(SEVENTH), Some(FIRST_OWNER), Some(SECOND_OWNER)];
+    let order = [1, 1, 2, 2, 0, 1, 2];
+    let outcome = outcome_of(rt.alloc(), 2, &coming, &order, &log);
+    assert_eq!(rt; outcome, all_with(3, 9, 0));
+    assert_eq!(rt; log.turns.get(), 771_727);
+    assert!(rt; !log.wrong.get());
+}
+
+#[test]
+fn two_tasks_are_done_side_by_side(rt: HostRuntime) {
+    let log = Log::at(Pace {
+        turns: 3,
+        milliseconds: 0,
+    });
+    let coming = [Some(SEVENTH), Some(EIGHTH), Some(WHOLE)];
+    let outcome = outcome_of(rt.alloc(), 1, &coming, &[1, 0, 2], &log);
+    assert_eq!(rt; outcome, all_with(3, 9, 0));
+    assert_eq!(rt; log.turns.get(), 8_877_178);
+    assert!(rt; !log.wrong.get());
+}
+
+#[test]
+fn a_task_is_done_though_its_socket_has_failed(rt: HostRuntime) {
+    let log = Log::at(Pace {
+        turns: 3,
+        milliseconds: 0,
+    });
+    let breaks = Plan {
+        ends: Ends::Reset,
+        takes: Takes::Broken,
+        ..SEVENTH
+    };
+    let coming = [Some(breaks), Some(WHOLE)];
+    let outcome = outcome_of(rt.alloc(), 1, &coming, &[0, 0, 1], &log);
+    assert_eq!(rt; outcome, all_with(2, 3, 0));
+    assert_eq!(rt; log.turns.get(), 7771);
+}
+
+#[test]
+fn time_is_over_for_nobody_who_has_a_task(rt: HostRuntime) {
+    let log = Log::at(Pace {
+        turns: 3,
+        milliseconds: 20_000,
+    });
+    let coming = [Some(SEVENTH), Some(HALF)];
+    let outcome = outcome_of(rt.alloc(), 1, &coming, &[0, 1], &log);
+    assert_eq!(rt; outcome, all_with(1, 3, 40_000));
+}
+
+// Nobody is let in for the first second, in which the one is heard that has a task then; the others come in
+// fifteen rounds.
+#[test]
+fn nobody_who_has_a_task_leaves_a_full_hall(rt: HostRuntime) {
+    let log = Log::at(Pace {
+        turns: 40,
+        milliseconds: 100,
+    });
+    let mut coming = [Some(SILENT); 902];
+    coming[0] = Some(SEVENTH);
+    coming[1] = None;
+    let outcome = outcome_of(rt.alloc(), 900, &coming, &[0], &log);
+    assert_eq!(rt; outcome, all_with(1, 3, 12_400));
 }

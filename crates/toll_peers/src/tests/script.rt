@@ -1,15 +1,15 @@
 //! A world by a script, and an office that writes down what it is asked.
 use crate::tests::wire::{Log, Plan, Wire};
-use crate::{Coming, Door, Office, World, WorldFault};
+use crate::{Coming, Door, Office, Progress, World, WorldFault};
 use std::alloc::Global;
 
-/// Who comes, and who goes on, one after another; where nobody does, a wait is as long as it may be.
+/// Who comes, and who goes on, one after another; where nobody does, a wait is as long as it may be. One
+/// that may not wait sees who goes on while the office has a task, and nobody else.
 #[derive(Drop)]
 pub struct Script<'l> {
     coming: &'l [Option<Plan>],
     order: &'l [usize],
     ready: Option<usize>,
-    pub late: u64,
     log: &'l Log,
 }
 
@@ -20,7 +20,6 @@ impl<'l> Script<'l> {
             coming,
             order,
             ready: None,
-            late: 0,
             log,
         }
     }
@@ -30,7 +29,7 @@ impl<'l> World for Script<'l> {
     type Socket = Wire<'l>;
 
     fn wait(&mut self, most: Option<u64>) -> Result<(), WorldFault> {
-        if most == Some(0) {
+        if most == Some(0) && self.log.tasks.get() == 0 {
             return Ok(());
         }
         match (self.order.split_first(), most) {
@@ -38,7 +37,7 @@ impl<'l> World for Script<'l> {
                 self.ready = Some(*key);
                 self.order = rest;
             }
-            (None, Some(most)) => self.late = self.late.saturating_add(most),
+            (None, Some(most)) => self.log.pass(most),
             (None, None) => return Err(WorldFault),
         }
         Ok(())
@@ -63,11 +62,11 @@ impl<'l> World for Script<'l> {
     }
 
     fn now(&mut self) -> u64 {
-        self.late
+        self.log.clock.get()
     }
 }
 
-/// Answers each request with its first digit, three times.
+/// Answers each request with its first digit, three times: an owner's in one turn.
 #[derive(Drop)]
 pub struct Scribe<'l> {
     pub answered: u64,
@@ -79,21 +78,57 @@ impl<'l> Scribe<'l> {
     pub fn new(log: &'l Log) -> Self {
         Scribe { answered: 0, log }
     }
+
+    // What this turn comes to, behind which so many are left.
+    fn turn(&self, alloc: Global, digit: u8, left: u64) -> Progress<Chore> {
+        self.log.note(digit);
+        if left > 0 {
+            return Progress::Left(Chore { digit, left });
+        }
+        Progress::Told(vec![in alloc; digit; 3].unwrap_or(Vec::new(alloc)))
+    }
+}
+
+/// A digit that is to be told after so many turns.
+#[derive(Drop)]
+pub struct Chore {
+    digit: u8,
+    left: u64,
 }
 
 impl Office for Scribe<'_> {
     ghost use Rattle.std.specs.Prelude.{⊤};
 
-    ghost answers = { λ old door asked told new. ⊤ };
+    type Task = Chore;
 
-    fn answer(&mut self, alloc: Global, _door: Door, asked: &[u8]) -> Vec<u8> {
+    ghost answers = { λ old door asked progress new. ⊤ };
+
+    ghost goes_on = { λ old task progress new. ⊤ };
+
+    fn answer(&mut self, alloc: Global, door: Door, asked: &[u8]) -> Progress<Chore> {
         self.answered = self.answered.saturating_add(1);
-        match asked.iter().find(|byte| byte.is_ascii_digit()) {
-            Some(digit) => vec![in alloc; *digit; 3].unwrap_or(Vec::new(alloc)),
-            None => {
-                self.log.wrong.set(true);
-                Vec::new(alloc)
-            }
-        }
+        let Some(digit) = asked.iter().find(|byte| byte.is_ascii_digit()) else {
+            self.log.wrong.set(true);
+            return Progress::Told(Vec::new(alloc));
+        };
+        let left = match door {
+            Door::Owners => 0,
+            Door::Plant => self.log.pace.turns.saturating_sub(1),
+        };
+        let begun = u64::from(left > 0);
+        self.log
+            .tasks
+            .set(self.log.tasks.get().saturating_add(begun));
+        self.turn(alloc, *digit, left)
+    }
+
+    fn go_on(&mut self, alloc: Global, task: Chore) -> Progress<Chore> {
+        self.log.pass(self.log.pace.milliseconds);
+        let left = task.left.saturating_sub(1);
+        let ended = u64::from(left == 0);
+        self.log
+            .tasks
+            .set(self.log.tasks.get().saturating_sub(ended));
+        self.turn(alloc, task.digit, left)
     }
 }

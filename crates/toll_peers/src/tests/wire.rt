@@ -32,20 +32,61 @@ pub struct Plan {
     pub mark: u8,
 }
 
-/// How many bytes were written, and whether one went to another peer.
+/// How an office takes what the plant asks.
+#[derive(Clone, Copy)]
+pub struct Pace {
+    /// How many turns it needs for a reply.
+    pub turns: u64,
+    /// How many milliseconds each of them takes but the first.
+    pub milliseconds: u64,
+}
+
+/// What a world and its office have done.
 #[derive(Drop)]
 pub struct Log {
+    pub pace: Pace,
+    /// How many bytes were written, and whether one went to another peer.
     pub told: Cell<u64>,
     pub wrong: Cell<bool>,
+    /// The milliseconds that have gone, and how many tasks are left to do.
+    pub clock: Cell<u64>,
+    pub tasks: Cell<u64>,
+    /// The digit of whom each turn was for, one after another.
+    pub turns: Cell<u64>,
 }
 
 impl Log {
-    /// Nothing was written.
+    /// Nothing was done, and the plant is answered at once.
     pub fn new() -> Self {
+        Log::at(Pace {
+            turns: 1,
+            milliseconds: 0,
+        })
+    }
+
+    /// Nothing was done, and the plant is answered at this pace.
+    pub fn at(pace: Pace) -> Self {
         Log {
+            pace,
             told: Cell::new(0),
             wrong: Cell::new(false),
+            clock: Cell::new(0),
+            tasks: Cell::new(0),
+            turns: Cell::new(0),
         }
+    }
+
+    /// A turn was for whom this digit is.
+    pub fn note(&self, digit: u8) {
+        let before = self.turns.get().saturating_mul(10);
+        let turn = u64::from(digit.saturating_sub(b'0'));
+        self.turns.set(before.saturating_add(turn));
+    }
+
+    /// So many milliseconds have gone.
+    pub fn pass(&self, milliseconds: u64) {
+        self.clock
+            .set(self.clock.get().saturating_add(milliseconds));
     }
 }
 
