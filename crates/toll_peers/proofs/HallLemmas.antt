@@ -1,16 +1,14 @@
 -- One peer of a hall takes a step, and all others stay as they were.
-use Rattle.std.proofs.Common.{◌≡◌, ◌+◌, ◌≢◌, ◌∙◌, ◌||◌, ℕ, zero, suc, arith, List, [], ◌∷◌, Bool, true, false, Option, None, Some, ap, refl, subst, sym, inl, inr}
+use Rattle.std.proofs.Common.{◌≡◌, ◌+◌, ◌∙◌, ◌||◌, ℕ, zero, suc, arith, List, [], ◌∷◌, Bool, true, false, Option, None, Some, ap, refl, subst, sym}
 use Rattle.std.specs.Prelude.{IfSome, IsSome, cond, count_by, is_some, option_and_then, slice_index_or, if◌then◌else◌}
-use Rattle.std.proofs.lemmas.Bool.Decides.{eqb_tells}
 use Rattle.std.proofs.lemmas.List.Sums.{sum_by_from}
 use Rattle.std.proofs.lemmas.Option.{same_Some}
 use Rattle.slab.specs.Slab.{Slab, Updates, get, slab_len}
-use Rattle.toll_http.specs.declared.outgoing.Outgoing.{Outgoing}
 use Rattle.toll_peers.proofs.RunLemmas.{all_but, gone_on, run_hands, run_one}
-use Rattle.toll_peers.specs.Halls.{GoesOnAt, IfStays, IsFirst, KeepsTasks, KeepsTime, OnlyAt, TurnsOut, left_at, stays_after, tasks_in}
+use Rattle.toll_peers.specs.Halls.{GoesOnAt, IsFirst, KeepsTasks, OnlyAt, TurnsOut, left_at, stays_after, tasks_in}
 use Rattle.toll_peers.specs.Runs.{IsRun, Task}
-use Rattle.toll_peers.specs.Stages.{left_by, progress_of, reply_of, task_of}
-use Rattle.toll_peers.specs.Steps.{Hands, HandsOn, until_after}
+use Rattle.toll_peers.specs.Stages.{left_by, progress_of, task_of}
+use Rattle.toll_peers.specs.Steps.{Hands, HandsOn}
 use Rattle.toll_peers.specs.declared.among.Among.TheVariants.{Pending}
 use Rattle.toll_peers.specs.declared.asking.Asking.{Asking}
 use Rattle.toll_peers.specs.declared.door.Door.{Door}

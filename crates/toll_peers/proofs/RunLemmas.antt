@@ -1,9 +1,9 @@
 -- Runs, one after another.
-use Rattle.std.proofs.Common.{◌≡◌, ◌≢◌, ◌==◌, ◌∙◌, ℕ, List, [], ◌∷◌, ◌++◌, Bool, true, false, ap, refl, subst, sym, Option, None, Some, inl, inr}
+use Rattle.std.proofs.Common.{◌≡◌, ◌≢◌, ◌==◌, ◌∙◌, ℕ, List, [], ◌∷◌, ◌++◌, ap, refl, subst, sym, Option, None, Some, inl, inr}
 use Rattle.std.proofs.lemmas.Bool.Decides.{eqb_tells}
 use Rattle.std.specs.Prelude.{option_and_then, if◌then◌else◌}
 use Rattle.toll_peers.specs.Askings.{came_of, door_of}
-use Rattle.toll_peers.specs.Runs.{AreOwn, ComesTo, Handed, Request, Task, IsOwn, IsRun, Runs, Tasks, Turn, after_turn, after_turns}
+use Rattle.toll_peers.specs.Runs.{AreOwn, ComesTo, Handed, Request, IsOwn, IsRun, Runs, Tasks, Turn, after_turn, after_turns}
 use Rattle.toll_peers.specs.Stages.{left_by}
 use Rattle.toll_peers.specs.Steps.{Hands, HandsOn}
 use Rattle.toll_peers.specs.declared.asking.Asking.{Asking}

@@ -1,5 +1,5 @@
 -- How far a peer has come.
-use Rattle.std.specs.Prelude.{ℕ, List, length, ◌≡◌, Option, None, Some, option_and_then, option_map}
+use Rattle.std.specs.Prelude.{Option, None, Some, option_and_then}
 use Rattle.toll_http.specs.declared.outgoing.Outgoing.{Outgoing}
 use Rattle.toll_peers.specs.declared.progress.Progress.{Progress}
 use Rattle.toll_peers.specs.declared.progress.Progress.TheVariants.{Told, Left}

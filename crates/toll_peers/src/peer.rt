@@ -1,7 +1,7 @@
 //! One peer, from its first byte to the last of its reply.
-ghost use Rattle.std.specs.Prelude.{◌≡◌, [], None, Some, IfOk};
+ghost use Rattle.std.specs.Prelude.{◌≡◌, [], None, Some, IfOk, IsSome};
 ghost use Rattle.toll_peers.specs.Askings.{came_of, door_of};
-ghost use Rattle.toll_peers.specs.Stages.{progress_of, reply_of};
+ghost use Rattle.toll_peers.specs.Stages.{progress_of, reply_of, task_of};
 ghost use Rattle.toll_peers.specs.Steps.{Hands, HandsOn, Hears, IsUnread, Writes, until_after, until_from};
 
 use crate::asking::Asking;
@@ -54,6 +54,7 @@ impl<S: Socket, T: Drop> Peer<S, T> {
         ensures came { Hears S.Source.unread self.old self.new }
         ensures writes { Writes S.Sink self.old self.new result }
         ensures waits { result ≡ Step.Waits → IsUnread S.Source.has_failed self.old self.new }
+        ensures idle { IsSome (task_of self.old.stage) → self.new ≡ self.old }
         ensures until { self.new.until ≡ until_after (reply_of self.old.stage) (reply_of self.new.stage) self.old.until now }
     {
         if !self.stage.is_reading() {
@@ -113,6 +114,7 @@ impl<S: Socket, T: Drop> Peer<S, T> {
 
     // Writes on, if there is a reply.
     fn give(&mut self) -> Step
+        ensures idle { reply_of self.old.stage ≡ None → self.new ≡ self.old }
         ensures same { progress_of self.new.stage ≡ progress_of self.old.stage }
         ensures request { self.new.request ≡ self.old.request }
         ensures until { self.new.until ≡ self.old.until }

@@ -1,4 +1,4 @@
-use Rattle.std.proofs.Common.{◌≡◌, ◌∙◌, ◌+◌, ℕ, arith, refl, sym}
+use Rattle.std.proofs.Common.{◌≡◌, ◌∙◌, ◌+◌, ℕ, arith, refl}
 use Rattle.toll_peers.proofs.HallLemmas.{empty_none, turned_out}
 use Rattle.toll_peers.proofs.RunLemmas.{run_kept, run_more, run_none}
 use Rattle.toll_peers.proofs.TallyLemmas.{tallies_begin, tallies_more, tallies_same, tallies_then}
