@@ -15,15 +15,10 @@ use Rattle.toll_plant.specs.Table.{actual_line}
 use Rattle.toll_plant.specs.Words.{command_read, command_with, values_read}
 use Rattle.toll_plant.specs.declared.argument.Given.{Given}
 use Rattle.toll_desk.specs.PlantHeld.{looks_at_two}
-use Rattle.toll_plant.specs.Imports.{CanBeHeld}
+use Rattle.toll_plant.specs.Imports.{CanBeHeld, HasValidValues}
 use Rattle.toll_plant.proofs.ImportRuns.{IsDeed, IsDeedOrNone}
 use Rattle.toll_plant.proofs.OfficeLemmas.{same_number}
 use Rattle.toll_plant.proofs.TableLemmas.{actual_makes, made, values_have}
-
--- the values of a command are within their bounds
-abbrev pub IsValidOrNone : Option PlantCmd → Type 0
-IsValidOrNone None = Unit {0}
-IsValidOrNone (Some c) = IsValidDeed (asked_by c)
 
 -- as many fields as an actual has values give a command
 pub asks_actual : (fields : Fields) → length fields ≡ length actual_line.values → IsSome (command_with actual_line fields)
@@ -71,11 +66,11 @@ pub all_held : (records : List Fields) → AllByRecursion CanBeHeld (commands_in
 all_held [] = tt
 all_held (fields ∷ records) = (held_or_none (command_in fields) (λ command is. (in_record fields (length fields == length actual_line.values) refl command is).1), all_held records)
 
-valid_or_none : (command : Option PlantCmd) → ((c : PlantCmd) → command ≡ Some c → IsValidDeed (asked_by c)) → IsValidOrNone command
+valid_or_none : (command : Option PlantCmd) → ((c : PlantCmd) → command ≡ Some c → IsValidDeed (asked_by c)) → HasValidValues command
 valid_or_none None valid = tt
 valid_or_none (Some c) valid = valid c refl
 
 -- and their values are within their bounds
-pub all_valid : (records : List Fields) → AllByRecursion IsValidOrNone (commands_in records)
+pub all_valid : (records : List Fields) → AllByRecursion HasValidValues (commands_in records)
 all_valid [] = tt
 all_valid (fields ∷ records) = (valid_or_none (command_in fields) (λ command is. (in_record fields (length fields == length actual_line.values) refl command is).2), all_valid records)

@@ -1,5 +1,6 @@
 -- Groups of records, one after another, are a run.
-use Rattle.std.proofs.Common.{◌≡◌, ◌++◌, Bool, true, false, ◌||◌, Option, List, [], ◌∷◌, Result, Ok, Err, refl, sym, subst, ap, ◌∙◌, inl, inr}
+use Rattle.std.proofs.Common.{◌≡◌, ◌++◌, ℕ, drop, take-append-drop, Bool, true, false, ◌||◌, Option, List, [], ◌∷◌, Result, Ok, Err, refl, sym, subst, ap, ◌∙◌, inl, inr}
+use Rattle.std.specs.Prelude.{take}
 use Rattle.std.specs.List.{AllByRecursion, list_any}
 use Rattle.std.proofs.lemmas.List.{append-nil}
 use Rattle.std.proofs.lemmas.List.Folds.{list_any-append}
@@ -33,11 +34,11 @@ either_true : (a b : Bool) → b ≡ true → (a || b) ≡ true
 either_true true b some = refl
 either_true false b some = some
 
-calm_group : (end : End) (told : List Outcome) → EndWith end told → end ≡ Ok tt → list_any is_fault told ≡ false
+pub calm_group : (end : End) (told : List Outcome) → EndWith end told → end ≡ Ok tt → list_any is_fault told ≡ false
 calm_group (Ok done) told ends is = ap (list_any is_fault) (ends.said ∙ append-nil ends.calm) ∙ ends.calmly
 calm_group (Err fault) told ends is = absurd (cc is)
 
-faulty_group : (fault : KeepFault) (told : List Outcome) → EndWith (Err fault) told → list_any is_fault told ≡ true
+pub faulty_group : (fault : KeepFault) (told : List Outcome) → EndWith (Err fault) told → list_any is_fault told ≡ true
 faulty_group fault told ends = ap (list_any is_fault) ends.said ∙ list_any-append is_fault ends.calm (came.Fault fault ∷ []) ∙ either_true (list_any is_fault ends.calm) true refl
 
 module _ (P : Outcome → Type 0) (each : (o : Outcome) → is_fault o ≡ false → P o) where
@@ -60,6 +61,22 @@ module _ (P : Outcome → Type 0) (each : (o : Outcome) → is_fault o ≡ false
   all_ended : (end : End) (told : List Outcome) → EndWith end told → ((fault : KeepFault) → end ≡ Err fault → P (came.Fault fault)) → AllByRecursion P told
   all_ended end told ends last = subst (AllByRecursion P) (sym ends.said) (all_both ends.calm (last_outcome end) (all_calm ends.calm ends.calmly) (all_last end last))
 
+-- what is so of all is so of those in front, and of those behind
+module _ {X : Type 0} (P : X → Type 0) where
+  all_first : (xs ys : List X) → AllByRecursion P (xs ++ ys) → AllByRecursion P xs
+  all_first [] ys all = tt
+  all_first (x ∷ xs) ys all = (all.0, all_first xs ys all.1)
+
+  all_more : (xs ys : List X) → AllByRecursion P (xs ++ ys) → AllByRecursion P ys
+  all_more [] ys all = all
+  all_more (x ∷ xs) ys all = all_more xs ys all.1
+
+  pub all_take : (n : ℕ) (xs : List X) → AllByRecursion P xs → AllByRecursion P (take n xs)
+  all_take n xs all = all_first (take n xs) (drop n xs) (subst (AllByRecursion P) (sym (take-append-drop n xs)) all)
+
+  pub all_drop : (n : ℕ) (xs : List X) → AllByRecursion P xs → AllByRecursion P (drop n xs)
+  all_drop n xs all = all_more (take n xs) (drop n xs) (subst (AllByRecursion P) (sym (take-append-drop n xs)) all)
+
 -- what met no fault is no damage, and no fault but want of memory
 calm_whole : (o : Outcome) → is_fault o ≡ false → IsWholeOutcome o
 calm_whole o calm is = false≢true (sym calm ∙ ap is_fault is)
@@ -75,7 +92,7 @@ module _ {K : Type 0} (meaning : Meaning K) where
   GroupServed old new g = IsGroupServed meaning old new g.commands g.told g.end
 
   -- a keep that is honest now has always been so
-  group_honest : (old new : K) (g : Group) → GroupServed old new g → meaning.is_honest new → meaning.is_honest old
+  pub group_honest : (old new : K) (g : Group) → GroupServed old new g → meaning.is_honest new → meaning.is_honest old
   group_honest old new g served now = elim served.goes [ inl none ↦ subst meaning.is_honest none.0 now | inr goes ↦ goes.honest now ]
 
   pub all_honest : (old new : K) (groups : List Group) → Served old groups new → meaning.is_honest new → meaning.is_honest old

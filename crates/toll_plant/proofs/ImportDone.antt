@@ -1,12 +1,14 @@
 -- The groups of an import, one after another.
-use Rattle.std.proofs.Common.{◌≡◌, ℕ, ◌≤◌, ◌++◌, true, false, drop, Option, List, [], ◌∷◌, length, Result, Ok, Err, refl, sym, ap, ◌∙◌, append_assoc, take-append-drop}
-use Rattle.std.specs.Prelude.{is_err, take}
+use Rattle.std.proofs.Common.{◌≡◌, ℕ, ◌+◌, ◌-◌, ◌<◌, ◌≤◌, ◌++◌, drop, Bool, true, false, Option, List, [], ◌∷◌, length, Result, Ok, Err, refl, sym, subst, ap, ◌∙◌, append_assoc, take-append-drop, inl, inr, arith}
+use Rattle.std.specs.Prelude.{◌⊎◌, ◌==◌, min, take}
 use Rattle.std.specs.List.{AllByRecursion}
-use mathlib.Core.Bool.{false≢true}
+use Rattle.std.proofs.Math.Seq.{drop-append-add}
+use Rattle.std.proofs.lemmas.List.{drop_all, drop_min, length-drop, length-take, length-take-le, take_min, take_rest}
 use Rattle.toll_keep.specs.Meaning.{Meaning}
 use Rattle.toll_keep.specs.declared.fault.KeepFault.{KeepFault}
 use Rattle.toll_desk.specs.declared.plant_cmd.PlantCmd.{PlantCmd}
-use Rattle.toll_plant.specs.Imports.{AreGroupsServed, AreRecordsServed, CanBeHeld, Group, IsGroupServed, NoneEnded, all_commands, all_told}
+use Rattle.toll_plant.specs.Imports.{AreGroupsServed, AreRecordsServed, Group, HasValidValues, IsGroupServed, NoneEnded, all_commands, all_told, outcomes_in}
+use Rattle.toll_plant.specs.UnderWay.{GoesOn, UnderWay, left_behind}
 use Rattle.toll_plant.specs.declared.grouping.TheConstants.{GROUP_RECORDS}
 use Rattle.toll_plant.specs.declared.outcome.Outcome.{Outcome}
 
@@ -16,57 +18,128 @@ Commands = List (Option PlantCmd)
 abbrev End : Type 0
 End = Result (Unit {0}) KeepFault
 
--- what is so of all is so of both parts
-pub can_first : (first more : Commands) → AllByRecursion CanBeHeld (first ++ more) → AllByRecursion CanBeHeld first
-can_first [] more all = tt
-can_first (command ∷ first) more all = (all.0, can_first first more all.1)
+-- a group is as many of the records that are left as a group may have, and the others are left behind it
+counted : (k n : ℕ) (left : Commands) → k ≡ min (length left) n → k ≡ min n (length left)
+counted k n left is = omega (arith, is)
 
-pub can_more : (first more : Commands) → AllByRecursion CanBeHeld (first ++ more) → AllByRecursion CanBeHeld more
-can_more [] more all = all
-can_more (command ∷ first) more all = can_more first more all.1
+pub behind_is : (n k at next : ℕ) (commands piece : Commands) → next ≤ length commands → piece ≡ drop next commands → k ≡ min (length piece) n → at ≡ next + k
+    → drop at commands ≡ drop n (drop next commands)
+behind_is n k at next commands piece within is count place =
+    ap (λ m. drop m commands) place ∙ ap (drop (next + k)) (sym (take-append-drop next commands))
+    ∙ ap (λ m. drop (m + k) (take next commands ++ drop next commands)) (sym (length-take-le next commands within))
+    ∙ drop-append-add (take next commands) (drop next commands) k
+    ∙ ap (λ m. drop m (drop next commands)) (counted k n (drop next commands) (count ∙ ap (λ left. min (length left) n) is)) ∙ drop_min n (drop next commands)
 
-ended_not : (end : End) → is_err end ≡ true → end ≡ Ok tt → ⊥
-ended_not end ended is = false≢true (ap is_err (sym is) ∙ ended)
+-- the records from a place on
+pub rest_is : (next : ℕ) (slice commands : Commands) → slice ≡ commands → take (length slice - next) (drop next slice) ≡ drop next commands
+rest_is next slice commands same = take_rest slice next ∙ ap (drop next) same
 
-pub ended_well : (end : End) → is_err end ≡ false → end ≡ Ok tt
-ended_well (Ok done) well = refl
-ended_well (Err fault) well = absurd (cc well)
+some_left : (empty : Bool) (piece left : Commands) → piece ≡ left → empty ≡ (length piece == 0) → empty ≡ false → left ≡ [] → ⊥
+some_left empty piece left is result not none =
+    let never : true ≡ false = sym (result ∙ ap (λ commands. length commands == 0) (is ∙ none)) ∙ not in cc never
 
--- a group and the records behind it
-pub parts_of : (n : ℕ) (rest group behind : Commands) → group ≡ take n rest → behind ≡ drop n rest → group ++ behind ≡ rest
-parts_of n rest group behind front back = (λ i. front i ++ back i) ∙ take-append-drop n rest
+module _ {K : Type 0} (meaning : Meaning K) (old new : K) (was now : UnderWay) (commands piece group : Commands) (next k : ℕ) (empty : Bool) (told : List Outcome) (end : End) where
+  -- a group has acted
+  pub group_acted : piece ≡ drop next commands → drop next commands ≡ was.left → AllByRecursion HasValidValues (drop next commands) → empty ≡ (length piece == 0) → empty ≡ false
+      → k ≡ min (length piece) GROUP_RECORDS → group ≡ take k piece → IsGroupServed meaning old new group told end → outcomes_in now.lines ≡ outcomes_in was.lines ++ told
+      → now.left ≡ left_behind end (drop GROUP_RECORDS (drop next commands)) → GoesOn meaning old new was now
+  group_acted is before valid tests not count front served said left =
+      let all : piece ≡ was.left = is ∙ before in
+      let group_is : group ≡ take GROUP_RECORDS was.left =
+      front ∙ ap (λ m. take m piece) (counted k GROUP_RECORDS piece count) ∙ take_min GROUP_RECORDS piece ∙ ap (take GROUP_RECORDS) all in
+      inl (record {
+        some = some_left empty piece was.left all tests not;
+        valid = subst (AllByRecursion HasValidValues) before valid;
+        told = told;
+        end = end;
+        served = subst (λ acting. IsGroupServed meaning old new acting told end) group_is served;
+        said = said;
+        left = left ∙ ap (λ rest. left_behind end (drop GROUP_RECORDS rest)) before;
+      })
+
+-- none is left from the end on, and some from each place before it
+pub over_from : (next : ℕ) (commands : Commands) → next ≡ length commands → drop next commands ≡ []
+over_from next commands is = drop_all next commands (omega (arith, is))
+
+pub over_at : (next : ℕ) (commands : Commands) → next ≤ length commands → drop next commands ≡ [] → next ≡ length commands
+over_at next commands within none =
+    let rest : length (drop next commands) ≡ length commands - next = length-drop next commands in
+    let empty : length (drop next commands) ≡ 0 = ap length none in
+    omega (arith, rest, empty, within)
+
+-- a group has some of the records that are left
+fewer_behind : (n : ℕ) (left : Commands) (end : End) → 0 < n → (left ≡ [] → ⊥) → length (left_behind end (drop n left)) < length left
+fewer_behind n [] end some have = absurd (have refl)
+fewer_behind n (command ∷ left) (Ok done) some have = omega (arith, some, length-drop n (command ∷ left))
+fewer_behind n (command ∷ left) (Err fault) some have = omega arith
 
 module _ {K : Type 0} (meaning : Meaning K) (first : K) (commands : Commands) where
   -- the groups so far met no fault, and the records that are left come behind them
-  pub record DoneSo (keep : K) (rest : Commands) (told : List Outcome) : Type 0 where
+  pub record DoneSo (keep : K) (left : Commands) (told : List Outcome) : Type 0 where
     pub groups : List Group
     pub served : AreGroupsServed meaning first groups keep
     pub calm : NoneEnded groups
-    pub asked : all_commands groups ++ rest ≡ commands
+    pub asked : all_commands groups ++ left ≡ commands
     pub said : all_told groups ≡ told
     pub bounded : AllByRecursion (λ g. length g.commands ≤ GROUP_RECORDS) groups
 
-  pub done_none : DoneSo first commands []
-  done_none = record { groups = []; served = refl; calm = tt; asked = refl; said = refl; bounded = tt }
+  -- or one met a fault, and none is left
+  abbrev pub SoFar : K → UnderWay → Type 0
+  SoFar keep import =
+      DoneSo keep import.left (outcomes_in import.lines) ⊎ ((import.left ≡ []) × AreRecordsServed meaning first commands (outcomes_in import.lines) keep)
 
-  module _ (keep next : K) (group behind rest : Commands) (told now said : List Outcome) (end : End) (so : DoneSo keep rest told) (parts : group ++ behind ≡ rest) (more : said ≡ told ++ now) (bounded : length group ≤ GROUP_RECORDS) (served : IsGroupServed meaning keep next group now end) where
-    abbrev one : Group
-    one = record { commands = group; told = now; end = end }
+  pub so_begun : (import : UnderWay) → import.left ≡ commands → import.lines ≡ [] → SoFar first import
+  so_begun import all none = inl (record { groups = []; served = refl; calm = tt; asked = all; said = ap outcomes_in (sym none); bounded = tt })
 
-    all_asked : all_commands (one ∷ so.groups) ++ behind ≡ commands
-    all_asked = append_assoc (all_commands so.groups) group behind ∙ ap (λ left. all_commands so.groups ++ left) parts ∙ so.asked
+  module _ (keep next : K) (was now : UnderWay) (so : DoneSo keep was.left (outcomes_in was.lines)) (told : List Outcome) (said : outcomes_in now.lines ≡ outcomes_in was.lines ++ told) where
+    abbrev group : Commands
+    group = take GROUP_RECORDS was.left
 
-    all_said : all_told (one ∷ so.groups) ≡ said
-    all_said = ap (λ earlier. earlier ++ now) so.said ∙ sym more
+    abbrev one : End → Group
+    one end = record { commands = group; told = told; end = end }
 
-    -- one more without a fault
-    pub done_more : end ≡ Ok tt → DoneSo next behind said
-    done_more calm = record { groups = one ∷ so.groups; served = (keep, so.served, so.calm, served); calm = (calm, so.calm); asked = all_asked; said = all_said; bounded = (bounded, so.bounded) }
+    all_asked : (end : End) → all_commands (one end ∷ so.groups) ++ drop GROUP_RECORDS was.left ≡ commands
+    all_asked end =
+        append_assoc (all_commands so.groups) group (drop GROUP_RECORDS was.left)
+        ∙ ap (λ left. all_commands so.groups ++ left) (take-append-drop GROUP_RECORDS was.left) ∙ so.asked
 
-    -- one with a fault is the last
-    pub done_last : is_err end ≡ true → AreRecordsServed meaning first commands said next
-    done_last ended = (one ∷ so.groups, record { rest = behind; asked = all_asked; said = all_said; all = λ none. absurd (ended_not end ended none.0); bounded = (bounded, so.bounded) }, (keep, so.served, so.calm, served))
+    all_said : (end : End) → all_told (one end ∷ so.groups) ≡ outcomes_in now.lines
+    all_said end = ap (λ earlier. earlier ++ told) so.said ∙ sym said
 
-  -- all of them were done
-  pub done_all : (keep : K) (rest : Commands) (told : List Outcome) → rest ≡ [] → DoneSo keep rest told → AreRecordsServed meaning first commands told keep
-  done_all keep rest told none so = (so.groups, record { rest = rest; asked = so.asked; said = so.said; all = λ calm. none; bounded = so.bounded }, so.served)
+    within : length group ≤ GROUP_RECORDS
+    within = let short : length (take GROUP_RECORDS was.left) ≡ min GROUP_RECORDS (length was.left) = length-take GROUP_RECORDS was.left in omega (arith, short)
+
+    -- a group more: the import goes on, or it was the last
+    one_more : (end : End) → IsGroupServed meaning keep next group told end → now.left ≡ left_behind end (drop GROUP_RECORDS was.left) → SoFar next now
+    one_more (Ok done) served left = inl (record {
+      groups = one (Ok tt) ∷ so.groups;
+      served = (keep, so.served, so.calm, served);
+      calm = (refl, so.calm);
+      asked = ap (λ behind. all_commands (one (Ok tt) ∷ so.groups) ++ behind) left ∙ all_asked (Ok tt);
+      said = all_said (Ok tt);
+      bounded = (within, so.bounded);
+    })
+    one_more (Err fault) served left = inr (
+      left,
+      (
+        one (Err fault) ∷ so.groups,
+        record { rest = drop GROUP_RECORDS was.left; asked = all_asked (Err fault); said = all_said (Err fault); all = λ none. absurd (cc none.0); bounded = (within, so.bounded) },
+        (keep, so.served, so.calm, served),
+      ),
+    )
+
+  pub so_on : (keep next : K) (was now : UnderWay) → (was.left ≡ [] → ⊥) → SoFar keep was → GoesOn meaning keep next was now → SoFar next now
+  so_on keep next was now have (inl so) (inl acted) = one_more keep next was now so acted.told acted.said acted.end acted.served acted.left
+  so_on keep next was now have so (inr over) = absurd (have over.0)
+  so_on keep next was now have (inr done) went = absurd (have done.0)
+
+  -- all records were served, or those up to a fault
+  pub so_over : (keep : K) (import : UnderWay) → import.left ≡ [] → SoFar keep import → AreRecordsServed meaning first commands (outcomes_in import.lines) keep
+  so_over keep import none (inl so) = (so.groups, record { rest = import.left; asked = so.asked; said = so.said; all = λ calm. none; bounded = so.bounded }, so.served)
+  so_over keep import none (inr done) = done.1
+
+-- fewer records are left
+pub fewer : {K : Type 0} (meaning : Meaning K) (keep next : K) (was now : UnderWay) → (was.left ≡ [] → ⊥) → GoesOn meaning keep next was now → length now.left < length was.left
+fewer meaning keep next was now have (inl acted) =
+    subst (λ left. length left < length was.left) (sym acted.left) (fewer_behind GROUP_RECORDS was.left acted.end (omega arith) have)
+fewer meaning keep next was now have (inr over) = absurd (have over.0)

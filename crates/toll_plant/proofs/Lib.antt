@@ -13,6 +13,7 @@ mod Holding
 mod GroupMade
 pub mod GroupChains
 mod ImportDone
+mod FileFaults
 pub mod ActualLemmas
 pub mod FileLemmas
 pub mod ReaderLemmas

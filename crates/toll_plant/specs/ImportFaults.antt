@@ -1,17 +1,24 @@
 -- Why a file of actuals is not imported.
-use Rattle.std.specs.Prelude.{⊤}
+use Rattle.std.specs.Prelude.{⊤, ◌<◌, ◌≤◌, length}
 use Rattle.csv.specs.declared.error.ErrorKind.{ErrorKind}
 use Rattle.csv.specs.declared.error.ErrorKind.TheVariants as csv
 use Rattle.toll_base.specs.Bytes.{Bytes}
 use Rattle.toll_plant.specs.Files.{HasHeader}
 use Rattle.toll_plant.specs.declared.import_fault.ImportFault.{ImportFault}
 use Rattle.toll_plant.specs.declared.import_fault.ImportFault.TheVariants.{Memory, TooLong, BadHeader}
+use Rattle.toll_plant.specs.declared.importing.TheConstants.{MOST_FILE_BYTES}
 
 -- there was no memory to read the file, or it hasn't the header
 abbrev pub IsNoActualsOf : Bytes → ImportFault → Type 0
 IsNoActualsOf file Memory = Unit {0}
 IsNoActualsOf file TooLong = ⊥
 IsNoActualsOf file BadHeader = ¬ (HasHeader file)
+
+-- the file is too long; or it is not, and there was no memory, or it hasn't the header
+abbrev pub IsRefusedFor : Bytes → ImportFault → Type 0
+IsRefusedFor file TooLong = MOST_FILE_BYTES < length file
+IsRefusedFor file Memory = length file ≤ MOST_FILE_BYTES
+IsRefusedFor file BadHeader = (length file ≤ MOST_FILE_BYTES) × ¬ (HasHeader file)
 
 -- there was no memory, or the reader underneath failed: `csv` refused no record for a reason of its own
 abbrev pub IsOfReader : ErrorKind → Type 0

@@ -13,7 +13,7 @@ use Rattle.toll_keep.specs.declared.fault.KeepFault.TheVariants.{Memory, Damaged
 use Rattle.toll_answers.specs.PlantAnswers.{Judged, IsPlantAnswer, after_plant}
 use Rattle.toll_standing.specs.Standing.{StandsFor}
 use Rattle.toll_desk.specs.PlantHeld.{looks_at_two}
-use Rattle.toll_desk.specs.Asking.{asked_by}
+use Rattle.toll_desk.specs.Asking.{IsValidDeed, asked_by}
 use Rattle.toll_desk.specs.Outcome.{HoldsFor, LeavesOr}
 use Rattle.toll_desk.specs.Reads.{Over}
 use Rattle.toll_desk.specs.declared.plant_cmd.PlantCmd.{PlantCmd}
@@ -76,6 +76,11 @@ pub record IsImportOf (holds : Content → Type 0) (H : History) (commands : Lis
 abbrev pub CanBeHeld : Option PlantCmd → Type 0
 CanBeHeld None = Unit {0}
 CanBeHeld (Some command) = looks_at_two (asked_by command) ≡ true
+
+-- the values of the record's command, where it gives one, are within their bounds
+abbrev pub HasValidValues : Option PlantCmd → Type 0
+HasValidValues None = Unit {0}
+HasValidValues (Some command) = IsValidDeed (asked_by command)
 
 -- the outcome of the last record, where it met a fault
 abbrev pub last_outcome : Result (Unit {0}) KeepFault → List Outcome

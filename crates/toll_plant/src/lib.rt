@@ -9,6 +9,7 @@ mod clap_words;
 mod command;
 mod fault;
 mod grouping;
+mod import;
 mod import_fault;
 mod importing;
 mod laws;
@@ -27,6 +28,7 @@ mod words;
 
 pub use fault::WordsFault;
 pub use grouping::{GROUP_RECORDS, import_group};
+pub use import::Import;
 pub use import_fault::ImportFault;
 pub use importing::{MOST_FILE_BYTES, import_actuals};
 pub use laws::{

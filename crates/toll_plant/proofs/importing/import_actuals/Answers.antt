@@ -1,48 +1,64 @@
-use Rattle.std.proofs.Common.{sym, subst, ◌∙◌}
+use Rattle.std.proofs.Common.{◌≡◌, Bool, true, false, sym, subst, ap, ◌∙◌}
 use Rattle.std.specs.List.{AllByRecursion}
-use Rattle.toll_plant.specs.Imports.{AreRecordsServed, CanBeHeld, IsOpenOutcome, IsWholeOutcome, commands_in, outcomes_in}
-use Rattle.toll_plant.proofs.ActualLemmas.{all_held}
+use mathlib.Core.Bool.{false≢true}
+use Rattle.toll_plant.specs.Imports.{AreRecordsServed, IsOpenOutcome, IsWholeOutcome, commands_in, outcomes_in}
 use Rattle.toll_plant.proofs.GroupChains.{all_honest, all_open, all_whole, run_of, steps_of}
+use Rattle.toll_plant.proofs.ImportDone.{fewer, so_on, so_over}
 use Rattle.toll_plant.proofs.importing.import_actuals.Goals as goal
 
-pub run-requires : goal.run-requires
-run-requires g c =
-    let read = c.in_ok-commands.ensures.commands in
-    subst (AllByRecursion CanBeHeld) (sym (c.deref.ensures.value ∙ read.2)) (all_held read.0)
+-- where it is not over, not all is done
+not_over : {X : Type 0} (over : Bool) → (X → over ≡ true) → over ≡ false → X → ⊥
+not_over over is not done = false≢true (sym not ∙ is done)
+
+pub loop-alloc-smaller : goal.loop-alloc-smaller
+loop-alloc-smaller g c =
+    fewer g.K.Keep.meaning c.loop-alloc.keep c.go_on.new.keep c.loop-alloc.import c.go_on.new.self (not_over c.is_over.result c.is_over.ensures.1 c.loop-alloc-test.true) c.go_on.ensures
+
+pub loop-alloc-preserved : goal.loop-alloc-preserved
+loop-alloc-preserved g c =
+    let (records, read, so) = c.loop-alloc.invariant in (
+      records,
+      read,
+      so_on g.K.Keep.meaning c.args.keep.now (commands_in records) c.loop-alloc.keep c.go_on.new.keep c.loop-alloc.import c.go_on.new.self
+          (not_over c.is_over.result c.is_over.ensures.1 c.loop-alloc-test.true) so c.go_on.ensures,
+    )
+
+-- all records of the file were served, or those up to a fault, and the report tells it
+served : goal.returns-clause-served
+served g c =
+    let K = g.K.Keep in
+    let (records, read, so) = c.loop-alloc.invariant in
+    let told = ap outcomes_in (sym c.into_report.ensures.lines) in (
+      records,
+      read,
+      subst (λ outcomes. AreRecordsServed K.meaning c.args.keep.now (commands_in records) outcomes c.loop-alloc.keep) told
+          (so_over K.meaning c.args.keep.now (commands_in records) c.loop-alloc.keep c.loop-alloc.import (c.is_over.ensures.0 c.loop-alloc-test.false) so),
+    )
 
 pub returns-clause-honest : goal.returns-clause-honest
 returns-clause-honest g c now =
-    let served = c.in_ok-lines.ensures.served in
-    all_honest g.K.Keep.meaning c.args.keep.now c.run.new.keep served.0 served.2 now
+    let all = served g c in
+    all_honest g.K.Keep.meaning c.args.keep.now c.loop-alloc.keep all.2.0 all.2.2 now
 
 pub returns-clause-served : goal.returns-clause-served
-returns-clause-served g c =
-    let K = g.K.Keep in
-    let read = c.in_ok-commands.ensures.commands in
-    (read.0, read.1, subst (λ commands. AreRecordsServed K.meaning c.args.keep.now commands (outcomes_in c.in_ok-lines.lines.items) c.run.new.keep) (c.deref.ensures.value ∙ read.2) c.in_ok-lines.ensures.served)
-
-pub returns-clause-steps : goal.returns-clause-steps
-returns-clause-steps g c now content H held stands lawful =
-    let K = g.K.Keep in
-    let read = c.in_ok-commands.ensures.commands in
-    let served = subst (λ commands. AreRecordsServed K.meaning c.args.keep.now commands (outcomes_in c.in_ok-lines.lines.items) c.run.new.keep) (c.deref.ensures.value ∙ read.2) c.in_ok-lines.ensures.served in
-    (read.0, read.1, steps_of K.meaning c.args.keep.now c.run.new.keep (commands_in read.0) (outcomes_in c.in_ok-lines.lines.items) served.0 served.1 served.2 now content H held stands lawful)
+returns-clause-served = served
 
 pub returns-clause-run : goal.returns-clause-run
 returns-clause-run g c now content H held stands lawful =
-    let K = g.K.Keep in
-    let read = c.in_ok-commands.ensures.commands in
-    let served = subst (λ commands. AreRecordsServed K.meaning c.args.keep.now commands (outcomes_in c.in_ok-lines.lines.items) c.run.new.keep) (c.deref.ensures.value ∙ read.2) c.in_ok-lines.ensures.served in
-    (read.0, read.1, run_of K.meaning c.args.keep.now c.run.new.keep (commands_in read.0) (outcomes_in c.in_ok-lines.lines.items) served.0 served.1 served.2 now content H held stands lawful)
+    let all = served g c in
+    (all.0, all.1, run_of g.K.Keep.meaning c.args.keep.now c.loop-alloc.keep (commands_in all.0) (outcomes_in c.into_report.result.lines.items) all.2.0 all.2.1 all.2.2 now content H held stands lawful)
+
+pub returns-clause-steps : goal.returns-clause-steps
+returns-clause-steps g c now content H held stands lawful =
+    let all = served g c in
+    (all.0, all.1, steps_of g.K.Keep.meaning c.args.keep.now c.loop-alloc.keep (commands_in all.0) (outcomes_in c.into_report.result.lines.items) all.2.0 all.2.1 all.2.2 now content H held stands lawful)
 
 pub returns-clause-whole : goal.returns-clause-whole
 returns-clause-whole g c now content H held stands lawful =
-    let K = g.K.Keep in
-    let served = c.in_ok-lines.ensures.served in
-    subst (AllByRecursion IsWholeOutcome) served.1.said (all_whole K.meaning c.args.keep.now c.run.new.keep served.0 served.2 now content H held stands lawful)
+    let all = served g c in
+    subst (AllByRecursion IsWholeOutcome) all.2.1.said (all_whole g.K.Keep.meaning c.args.keep.now c.loop-alloc.keep all.2.0 all.2.2 now content H held stands lawful)
 
 pub returns-clause-open : goal.returns-clause-open
 returns-clause-open g c never_closes now content H held stands lawful =
-    let K = g.K.Keep in
-    let served = c.in_ok-lines.ensures.served in
-    subst (AllByRecursion IsOpenOutcome) served.1.said (all_open K.meaning never_closes c.args.keep.now c.run.new.keep served.0 served.2 now content H held stands lawful)
+    let all = served g c in
+    subst (AllByRecursion IsOpenOutcome) all.2.1.said (all_open g.K.Keep.meaning never_closes c.args.keep.now c.loop-alloc.keep all.2.0 all.2.2 now content H held stands lawful)

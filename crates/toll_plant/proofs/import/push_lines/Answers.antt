@@ -2,7 +2,7 @@ use Rattle.std.proofs.Common.{◌∙◌, List, sym, subst, arith}
 use Rattle.toll_plant.specs.Imports.{AreNumbered}
 use Rattle.toll_plant.specs.declared.report.ImportLine.{ImportLine}
 use Rattle.toll_plant.proofs.LineLemmas.{numbered_more, outcomes_more}
-use Rattle.toll_plant.proofs.importing.push_lines.Goals as goal
+use Rattle.toll_plant.proofs.import.push_lines.Goals as goal
 
 pub loop-outcome-preserved : goal.loop-outcome-preserved
 loop-outcome-preserved c =

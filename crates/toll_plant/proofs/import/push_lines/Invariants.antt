@@ -1,7 +1,7 @@
 use Rattle.std.proofs.Common.{◌≡◌, ◌+◌, ◌++◌, vec_len, vec_capacity}
 use Rattle.std.specs.Prelude.{take}
 use Rattle.toll_plant.specs.Imports.{AreNumbered, outcomes_in}
-use Rattle.toll_plant.proofs.importing.push_lines.Given as goal
+use Rattle.toll_plant.proofs.import.push_lines.Given as goal
 
 -- the lines have the outcomes so far behind those from before
 abbrev pub invariant-loop-outcome : goal.invariant-loop-outcome
