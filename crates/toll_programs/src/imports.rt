@@ -28,11 +28,12 @@ pub fn plant_import<K: Keep, W: Sink, E: Sink>(
     ensures { IsImportDone K.meaning keep.old keep.new file.now (streams_of W.Sink E.Sink output.old output.new error.old error.new) result }
 {
     let imported = import_actuals(alloc, keep, file);
-    show(alloc, imported, output, error)
+    show_import(alloc, imported, output, error)
 }
 
-// Writes what came of an import to `output`, or why there was none to `error`.
-fn show<W: Sink, E: Sink>(
+/// Writes what came of an import to `output`, or why there was none to `error`, as [`plant_import`] does,
+/// and gives the exit status.
+pub fn show_import<W: Sink, E: Sink>(
     alloc: Global,
     imported: Result<ImportReport, ImportFault>,
     output: &mut W,

@@ -18,7 +18,7 @@ mod telling;
 
 pub use commands::plant_line;
 pub use ending::tell_end;
-pub use imports::plant_import;
+pub use imports::{plant_import, show_import};
 pub use input::{FrontFault, read_front};
 pub use laws::limits_are_those_defined;
 pub use request_line::RequestLine;
