@@ -1,24 +1,31 @@
 -- What came in at the doors is a run of events.
-use Rattle.std.proofs.Common.{◌≡◌, ℕ, List, [], ◌∷◌, ◌++◌, Result, Ok, Err, refl, sym, subst, ap, inl, inr}
+use Rattle.std.proofs.Common.{◌≡◌, ℕ, Bool, List, [], ◌∷◌, ◌++◌, Option, drop, Result, Ok, Err, refl, sym, subst, ap, ◌∙◌, inl, inr}
+use Rattle.std.specs.Prelude.{if◌then◌else◌, take}
+use Rattle.std.specs.List.{list_any}
+use Rattle.std.proofs.lemmas.List.{append-nil}
 use Rattle.toll_base.specs.Bytes.{Bytes}
 use Rattle.toll_desk.specs.Reads.{Over}
+use Rattle.toll_desk.specs.declared.plant_cmd.PlantCmd.{PlantCmd}
 use Rattle.toll_keep.specs.Content.{Content}
 use Rattle.toll_keep.specs.Meaning.{Meaning}
-use Rattle.toll_peers.specs.Runs.{Event as Asking, IsRun, Runs}
+use Rattle.toll_keep.specs.declared.fault.KeepFault.{KeepFault}
+use Rattle.toll_peers.specs.Runs.{ComesTo as TurnComesTo, Handed, IsWholeRun, Request, Runs, Task, Turn}
 use Rattle.toll_peers.specs.declared.door.Door.{Door}
 use Rattle.toll_peers.specs.declared.door.Door.TheVariants.{Owners, Plant}
-use Rattle.toll_plant.proofs.ActualLemmas.{all_valid}
-use Rattle.toll_plant.proofs.GroupChains.{all_honest as all_groups_honest, run_of as import_of}
-use Rattle.toll_plant.specs.Imports.{commands_in, outcomes_in}
-use Rattle.toll_plant.specs.declared.import_fault.ImportFault.{ImportFault}
-use Rattle.toll_plant.specs.declared.report.ImportReport.{ImportReport}
-use Rattle.toll_programs.specs.Imported.{IsImported}
+use Rattle.toll_peers.specs.declared.progress.Progress.{Progress}
+use Rattle.toll_peers.specs.declared.progress.Progress.TheVariants.{Told, Left}
+use Rattle.toll_plant.proofs.GroupChains.{all_take, calm_group, faulty_group, group_honest}
+use Rattle.toll_plant.specs.Imports.{EndWith, HasValidValues, outcomes_in}
+use Rattle.toll_plant.specs.Outcomes.{is_fault}
+use Rattle.toll_plant.specs.UnderWay.{HasActed, UnderWay, left_behind}
+use Rattle.toll_plant.specs.declared.grouping.TheConstants.{GROUP_RECORDS}
+use Rattle.toll_plant.specs.declared.outcome.Outcome.{Outcome}
 use Rattle.toll_programs.specs.Told.{Streams}
 use Rattle.toll_served.proofs.ImportRuns.{records_run}
 use Rattle.toll_served.proofs.Pieces.{run_behind, run_from, run_none}
-use Rattle.toll_served.specs.Doors.{IsDone, IsServedIfRoom, lists_of}
-use Rattle.toll_served.specs.Events.{AreAllEventsOf, AreEventsOf, AreImportEvents, IsPrintedOf}
-use Rattle.toll_served.specs.Serving.{AnswersOver, HasServed, IsRunAs, IsRunWhereAnswered}
+use Rattle.toll_served.specs.Doors.{ComesTo, IsDone, IsServedIfRoom, WentOn, lists_of}
+use Rattle.toll_served.specs.Events.{AreAllEventsOf, AreEventsOf, AreGroupEvents, AreRecordEvents, AreTurnEvents, IsPrintedOf}
+use Rattle.toll_served.specs.Serving.{AnswersOver, GoesOnOver, HasServed, IsRunAs, IsRunWhereAnswered, RunsOver}
 use Rattle.toll_served.specs.Wanted.{Wanted, Does, Imports, Unknown, wanted_of}
 use Rattle.toll_wire.proofs.Serving.{all_honest, run_of, steps_of}
 use Rattle.toll_wire.specs.OfficeRuns.{AreServed}
@@ -62,42 +69,23 @@ module _ {K : Type 0} (meaning : Meaning K) (settled : (k : K) (c : Content) →
     };
   }
 
-  imported_ran : (old new : K) (file : Bytes) (imported : Result ImportReport ImportFault) → IsImported meaning old new file imported → Ran old new (AreImportEvents file imported)
-  imported_ran old new file (Err fault) is = nothing old new (AreImportEvents file (Err fault)) is.err (refl, refl)
-  imported_ran old new file (Ok report) is =
-      let records = is.served.0 in
-      let groups = is.served.2.0 in
-      let served = is.served.2.2 in
-      let commands = commands_in records in
-      let outcomes = outcomes_in report.lines.items in
-      record {
-        honest = all_groups_honest meaning old new groups served;
-        run = λ now c H held stands lawful.
-            let done = import_of meaning old new commands outcomes groups is.served.2.1 served now c H held stands lawful in
-            let r = records_run H commands outcomes done.last (all_valid records) done.imported in
-            record {
-              events = r.events;
-              answers = r.answers;
-              are = (records, is.served.1, r.are);
-              run = run_from (meaning.holds new) H done.last r.events r.answers r.happenings r.told lawful r.shown r.valid r.run done.lawful done.left;
-            };
-      }
-
-  -- ---- one peer
+  -- ---- a request
 
   done_ran : (old new : K) (wanted : Wanted) (s : Streams) (status : ℕ) → IsDone meaning old new wanted s status → Ran old new (λ events answers. IsPrintedOf wanted events answers s status)
   done_ran old new (Does command) s status (reply, served, told) =
       one_ran old new (Command command) (CommandReply reply) (λ events answers. IsPrintedOf (Does command) events answers s status) (new, served, refl) (refl, told)
-  done_ran old new (Imports file) s status (imported, is, told) =
-      so_are old new (AreImportEvents file imported) (λ events answers. IsPrintedOf (Imports file) events answers s status) (λ events answers are. (imported, are, told)) (imported_ran old new file imported is)
+  done_ran old new (Imports file) s status (same, (fault, why, told)) =
+      nothing old new (λ events answers. IsPrintedOf (Imports file) events answers s status) same (Err fault, (refl, refl), told)
   done_ran old new Unknown s status (same, usage) = nothing old new (λ events answers. IsPrintedOf Unknown events answers s status) same usage
 
-  peer_ran : (old new : K) (door : Door) (asked told : Bytes) → IsServedIfRoom meaning old new door asked told → Ran old new (AreEventsOf door asked told)
-  peer_ran old new Owners asked told (inl (goes_on, s)) =
-      one_ran old new (Owner s.request) (Reply s.out) (AreEventsOf Owners asked told) (new, subst (λ bytes. IsAnswered meaning old new bytes s.out) (sym s.same) s.answered, refl) (s.same, s.tells)
-  peer_ran old new Owners asked told (inr (same, none)) = nothing old new (AreEventsOf Owners asked told) same none
-  peer_ran old new Plant asked told (inl (goes_on, inl s)) =
-      so_are old new (λ events answers. IsPrintedOf (wanted_of s.words s.file) events answers (lists_of s.output s.error) s.status) (AreEventsOf Plant asked told)
+  asked_ran : (old new : K) (door : Door) (asked : Bytes) (progress : Progress UnderWay) → IsServedIfRoom meaning old new door asked progress → Ran old new (AreTurnEvents (Request door asked) progress)
+  asked_ran old new Owners asked (Told told) (inl (goes_on, s)) =
+      one_ran old new (Owner s.request) (Reply s.out) (AreEventsOf Owners asked told.items) (new, subst (λ bytes. IsAnswered meaning old new bytes s.out) (sym s.same) s.answered, refl) (s.same, s.tells)
+  asked_ran old new Owners asked (Told told) (inr (same, none)) = nothing old new (AreEventsOf Owners asked told.items) same none
+  asked_ran old new Owners asked (Left import) (inl (goes_on, never)) = absurd never
+  asked_ran old new Owners asked (Left import) (inr (same, never)) = absurd never
+  asked_ran old new Plant asked (Told told) (inl (goes_on, inl s)) =
+      so_are old new (λ events answers. IsPrintedOf (wanted_of s.words s.file) events answers (lists_of s.output s.error) s.status) (AreEventsOf Plant asked told.items)
       (λ events answers printed. inl (record {
         words = s.words;
         file = s.file;
@@ -109,16 +97,82 @@ module _ {K : Type 0} (meaning : Meaning K) (settled : (k : K) (c : Content) →
         tells = s.telling.0;
       }))
       (done_ran old new (wanted_of s.words s.file) (lists_of s.output s.error) s.status s.done)
-  peer_ran old new Plant asked told (inl (goes_on, inr (asks, same, none, on))) = nothing old new (AreEventsOf Plant asked told) same (inr (none, refl, refl))
-  peer_ran old new Plant asked told (inr (same, none)) = nothing old new (AreEventsOf Plant asked told) same (inr (none, refl, refl))
+  asked_ran old new Plant asked (Told told) (inl (goes_on, inr (asks, same, none, on))) = nothing old new (AreEventsOf Plant asked told.items) same (inr (none, refl, refl))
+  asked_ran old new Plant asked (Told told) (inr (same, none)) = nothing old new (AreEventsOf Plant asked told.items) same (inr (none, refl, refl))
+  asked_ran old new Plant asked (Left import) (inl (goes_on, (begins, same, on))) = nothing old new (AreTurnEvents (Request Plant asked) (Left import)) same (begins, refl, refl)
+  asked_ran old new Plant asked (Left import) (inr (same, never)) = absurd never
 
-  -- ---- all of them
+  -- ---- an import that goes on
 
-  peers_ran : {O : Type 0} (keep : O → K) (old new : O) (asked : List Asking) → Runs (AnswersOver meaning keep) old asked new → Ran (keep old) (keep new) (AreAllEventsOf asked)
-  peers_ran keep old new [] same = nothing (keep old) (keep new) (AreAllEventsOf []) (ap keep same) (refl, refl)
-  peers_ran keep old new (a ∷ asked) (middle, one, rest) =
-      let first = peer_ran (keep old) (keep middle) a.door a.asked a.told one in
-      let others = peers_ran keep middle new asked rest in
+  -- what is left behind a group, by what was told of it
+  left_of : (end : Result (Unit {0}) KeepFault) (told : List Outcome) (commands : List (Option PlantCmd)) → EndWith end told
+      → left_behind end commands ≡ (if list_any is_fault told then [] else commands)
+  left_of (Ok done) told commands ends = let calm = calm_group (Ok done) told ends refl in rw calm refl
+  left_of (Err fault) told commands ends = let faulty = faulty_group fault told ends in rw faulty refl
+
+  acted_ran : (old new : K) (was now : UnderWay) (progress : Progress UnderWay) (goes_on : Bool) → ComesTo now progress goes_on → HasActed meaning old new was now → Ran old new (AreGroupEvents was progress)
+  acted_ran old new was now progress goes_on comes acted =
+      let group = take GROUP_RECORDS was.left in
+      record {
+        honest = group_honest meaning old new (record { commands = group; told = acted.told; end = acted.end }) acted.served;
+        run = λ honest c H held stands lawful.
+            let done = (acted.served.done honest c H held stands lawful).run in
+            let r = records_run H group acted.told done.last (all_take HasValidValues GROUP_RECORDS was.left acted.valid) done.imported in
+            record {
+              events = r.events;
+              answers = r.answers;
+              are = record {
+                now = now;
+                told = acted.told;
+                are = r.are;
+                said = acted.said;
+                left = acted.left ∙ left_of acted.end acted.told (drop GROUP_RECORDS was.left) acted.served.ends;
+                goes_on = goes_on;
+                comes = comes;
+              };
+              run = run_from (meaning.holds new) H done.last r.events r.answers r.happenings r.told lawful r.shown r.valid r.run done.lawful done.left;
+            };
+      }
+
+  none_left : (was : UnderWay) (progress : Progress UnderWay) (goes_on : Bool) → was.left ≡ [] → ComesTo was progress goes_on → AreGroupEvents was progress [] []
+  none_left was progress goes_on none comes = record {
+    now = was;
+    told = [];
+    are = subst (λ left. AreRecordEvents [] (take GROUP_RECORDS left) [] []) (sym none) tt;
+    said = sym (append-nil (outcomes_in was.lines));
+    left = subst (λ left. left ≡ drop GROUP_RECORDS left) (sym none) refl;
+    goes_on = goes_on;
+    comes = comes;
+  }
+
+  went_ran : (old new : K) (was : UnderWay) (progress : Progress UnderWay) (goes_on : Bool) → WentOn meaning old new was progress goes_on → Ran old new (AreGroupEvents was progress)
+  went_ran old new was progress goes_on w = elim w.went [
+    | inl acted ↦ acted_ran old new was w.now progress goes_on w.comes acted
+    | inr over ↦ nothing old new (AreGroupEvents was progress) over.1 (none_left was progress goes_on over.0 (subst (λ now. ComesTo now progress goes_on) over.2 w.comes))
+  ]
+
+  -- ---- all turns
+
+  turn_ran : {O : Type 0} (keep : O → K) (old new : O) (handed : Handed UnderWay) (progress : Progress UnderWay)
+      → TurnComesTo (AnswersOver meaning keep) (GoesOnOver meaning keep) old handed progress new → Ran (keep old) (keep new) (AreTurnEvents handed progress)
+  turn_ran keep old new (Request door asked) progress one = asked_ran (keep old) (keep new) door asked progress one
+  turn_ran keep old new (Task import) progress (goes_on, went) = went_ran (keep old) (keep new) import progress goes_on went
+
+  one_part : (turn : Turn UnderWay) (turns : List (Turn UnderWay)) (events later : List Event) (answers behind : List Answer) → AreTurnEvents turn.handed turn.progress events answers
+      → AreAllEventsOf turns later behind → AreAllEventsOf (turn ∷ turns) (events ++ later) (answers ++ behind)
+  one_part turn turns events later answers behind one all = record {
+    parts = record { turn = turn; events = events; answers = answers } ∷ all.parts;
+    are = (one, all.are);
+    turns_are = ap (λ others. turn ∷ others) all.turns_are;
+    events_are = ap (λ others. events ++ others) all.events_are;
+    answers_are = ap (λ others. answers ++ others) all.answers_are;
+  }
+
+  turns_ran : {O : Type 0} (keep : O → K) (old new : O) (turns : List (Turn UnderWay)) → RunsOver meaning keep old turns new → Ran (keep old) (keep new) (AreAllEventsOf turns)
+  turns_ran keep old new [] same = nothing (keep old) (keep new) (AreAllEventsOf []) (ap keep same) (record { parts = []; are = tt; turns_are = refl; events_are = refl; answers_are = refl })
+  turns_ran keep old new (turn ∷ turns) (middle, one, rest) =
+      let first = turn_ran keep old middle turn.handed turn.progress one in
+      let others = turns_ran keep middle new turns rest in
       record {
         honest = λ now. first.honest (others.honest now);
         run = λ now c H held stands lawful.
@@ -127,23 +181,29 @@ module _ {K : Type 0} (meaning : Meaning K) (settled : (k : K) (c : Content) →
             record {
               events = f.events ++ o.events;
               answers = f.answers ++ o.answers;
-              are = (f.events, o.events, f.answers, o.answers, refl, refl, f.are, o.are);
+              are = one_part turn turns f.events o.events f.answers o.answers f.are o.are;
               run = run_behind (meaning.holds (keep middle)) (meaning.holds (keep new)) H f.events o.events f.answers o.answers lawful f.run o.run;
             };
       }
 
   -- an office that has a keep is asked as the keep is
-  runs_over : {O : Type 0} (keep : O → K) (old new : O) (asked : List Asking) → Runs (AnswersOver meaning keep) old asked new
-      → Runs (AnswersOver meaning (λ k. k)) (keep old) asked (keep new)
+  turn_over : {O : Type 0} (keep : O → K) (old new : O) (handed : Handed UnderWay) (progress : Progress UnderWay) → TurnComesTo (AnswersOver meaning keep) (GoesOnOver meaning keep) old handed progress new
+      → TurnComesTo (AnswersOver meaning (λ k. k)) (GoesOnOver meaning (λ k. k)) (keep old) handed progress (keep new)
+  turn_over keep old new (Request door asked) progress one = one
+  turn_over keep old new (Task import) progress one = one
+
+  runs_over : {O : Type 0} (keep : O → K) (old new : O) (turns : List (Turn UnderWay)) → RunsOver meaning keep old turns new → RunsOver meaning (λ k. k) (keep old) turns (keep new)
   runs_over keep old new [] same = ap keep same
-  runs_over keep old new (a ∷ asked) (middle, one, rest) = (keep middle, one, runs_over keep middle new asked rest)
+  runs_over keep old new (turn ∷ turns) (middle, one, rest) = (keep middle, turn_over keep old middle turn.handed turn.progress one, runs_over keep middle new turns rest)
 
-  pub were_served : {O : Type 0} (keep : O → K) (old new : O) (asked : List Asking) → IsRunWhereAnswered meaning keep old new asked
-  were_served keep old new asked runs = (peers_ran keep old new asked runs).run
+  pub were_served : {O : Type 0} (keep : O → K) (old new : O) (turns : List (Turn UnderWay)) → IsRunWhereAnswered meaning keep old new turns
+  were_served keep old new turns runs = (turns_ran keep old new turns runs).run
 
-  pub has_served : {O : Type 0} (keep : O → K) (old new : O) → IsRun (AnswersOver meaning keep) old new → HasServed meaning (keep old) (keep new)
-  has_served keep old new run = record {
-    asked = run.events;
-    runs = runs_over keep old new run.events run.runs;
-    were = were_served keep old new run.events run.runs;
+  pub has_served : {O : Type 0} (keep : O → K) (old new : O) (IsOver : Type 0) → IsWholeRun (AnswersOver meaning keep) (GoesOnOver meaning keep) old new IsOver → HasServed meaning (keep old) (keep new) IsOver
+  has_served keep old new IsOver (left, run, over) = record {
+    turns = run.turns;
+    runs = runs_over keep old new run.turns run.runs;
+    own = run.own;
+    over = λ is whose. run.rest whose ∙ over is whose;
+    were = were_served keep old new run.turns run.runs;
   }

@@ -9,12 +9,11 @@ use Rattle.toll_desk.specs.declared.plant_cmd.PlantReply.{PlantReply}
 use Rattle.toll_desk.specs.declared.plant_cmd.PlantReply.TheVariants as plant
 use Rattle.toll_history.specs.History.{History}
 use Rattle.toll_history.specs.Verdict.{Verdict, Accepted, Repeated, Refused}
-use Rattle.toll_plant.proofs.ActualLemmas.{IsValidOrNone}
-use Rattle.toll_plant.specs.Imports.{Comes, IsImport}
+use Rattle.toll_plant.specs.Imports.{Comes, HasValidValues, IsImport}
 use Rattle.toll_plant.specs.Outcomes.{is_fault, judged, outcome_of}
 use Rattle.toll_plant.specs.declared.outcome.Outcome.{Outcome}
 use Rattle.toll_plant.specs.declared.outcome.Outcome.TheVariants as came
-use Rattle.toll_served.specs.Events.{AreRecordEvents}
+use Rattle.toll_served.specs.Events.{AreNone, AreRecordEvents}
 use Rattle.toll_wire.specs.OfficeRuns.{AllShow, PlantShows}
 use Rattle.toll_wire.specs.Runs.{Answered, AreValid, Happening, IsRun, IsStep, Plant, PlantFault, PlantTells}
 use Rattle.toll_wire.specs.Steps.{http}
@@ -62,33 +61,35 @@ one_of old command came.Repeated new comes = one_judged old command came.Repeate
 one_of old command (came.Refused why) new comes = one_judged old command (came.Refused why) new comes
 one_of old command came.BadRecord new comes = one_judged old command came.BadRecord new comes
 
--- records as events of a run
-pub record RecordsRun (H : History) (commands : Commands) (outcomes : List Outcome) (last : History) : Type 0 where
+-- such events of records as a run
+pub record RecordsRun (H last : History) (Are : List Event → List Answer → Type 0) : Type 0 where
   pub events : List Event
   pub answers : List Answer
-  pub are : AreRecordEvents outcomes commands events answers
+  pub are : Are events answers
   pub happenings : List Happening
   pub told : List Answered
   pub shown : AllShow events answers happenings told
   pub valid : AreValid http happenings
   pub run : IsRun http H happenings told last
 
-no_records : (H : History) (commands : Commands) (outcomes : List Outcome) (last : History) → outcomes ≡ [] → last ≡ H → RecordsRun H commands outcomes last
-no_records H commands outcomes last none same =
-    record { events = []; answers = []; are = subst (λ os. AreRecordEvents os commands [] []) (sym none) tt; happenings = []; told = []; shown = tt; valid = tt; run = same }
+no_records : (H last : History) (Are : List Event → List Answer → Type 0) → last ≡ H → Are [] [] → RecordsRun H last Are
+no_records H last Are same are = record { events = []; answers = []; are = are; happenings = []; told = []; shown = tt; valid = tt; run = same }
 
 -- the records behind one that was come to: none where it met a fault
 records_behind : (b : Bool) (middle last : History) (commands : Commands) (outcomes : List Outcome) (X : Type 0)
-    → (X → RecordsRun middle commands outcomes last) → MatchBool b ((outcomes ≡ []) × (last ≡ middle)) X → RecordsRun middle commands outcomes last
-records_behind true middle last commands outcomes X rest (none, same) = no_records middle commands outcomes last none same
+    → (X → RecordsRun middle last (AreRecordEvents outcomes commands)) → MatchBool b ((outcomes ≡ []) × (last ≡ middle)) X
+    → RecordsRun middle last (λ events answers. MatchBool b (AreNone outcomes events answers) (AreRecordEvents outcomes commands events answers))
+records_behind true middle last commands outcomes X rest (none, same) =
+    no_records middle last (λ events answers. AreNone outcomes events answers) same (none, refl, refl)
 records_behind false middle last commands outcomes X rest behind = rest behind
 
--- the records of an import are a run
-pub records_run : (H : History) (commands : Commands) (outcomes : List Outcome) (last : History) → AllByRecursion IsValidOrNone commands → IsImport H commands outcomes last
-    → RecordsRun H commands outcomes last
-records_run H [] [] last valid same = no_records H [] [] last refl same
+-- the records of a group are a run
+pub records_run : (H : History) (commands : Commands) (outcomes : List Outcome) (last : History) → AllByRecursion HasValidValues commands → IsImport H commands outcomes last
+    → RecordsRun H last (AreRecordEvents outcomes commands)
+records_run H [] [] last valid same = no_records H last (AreRecordEvents [] []) same tt
 records_run H (None ∷ commands) (o ∷ outcomes) last valid (middle, (bad, same), behind) =
-    let rest = records_behind (is_fault o) middle last commands outcomes (IsImport middle commands outcomes last) (records_run middle commands outcomes last valid.1) behind in
+    let calm : is_fault o ≡ false = ap is_fault bad in
+    let rest = records_run middle commands outcomes last valid.1 (subst (λ b. MatchBool b ((outcomes ≡ []) × (last ≡ middle)) (IsImport middle commands outcomes last)) calm behind) in
     record {
       events = rest.events;
       answers = rest.answers;

@@ -1,14 +1,23 @@
 -- What is answered at the two doors of a server, over a keep.
-use Rattle.std.specs.Prelude.{◌≡◌, ◌⊎◌, ◌<◌, ◌==◌, ℕ, Bool, true, false, not, List, [], length, Option, Some, None}
+use Rattle.std.specs.Prelude.{◌≡◌, ◌≢◌, ◌⊎◌, ◌<◌, ◌==◌, ℕ, Bool, true, false, not, List, [], length, Option, Some, None, Ok, Err}
 use Rattle.std.specs.Global.{Vec}
 use Rattle.toll_base.specs.Bytes.{Bytes}
 use Rattle.toll_keep.specs.Meaning.{Meaning}
 use Rattle.toll_parcels.specs.Messages.{IsAskedBy, IsToldBy}
 use Rattle.toll_peers.specs.declared.door.Door.{Door}
 use Rattle.toll_peers.specs.declared.door.Door.TheVariants.{Owners, Plant}
-use Rattle.toll_programs.specs.Done.{IsCommandDone, IsImportDone}
+use Rattle.toll_peers.specs.declared.progress.Progress.{Progress}
+use Rattle.toll_peers.specs.declared.progress.Progress.TheVariants.{Told, Left}
+use Rattle.toll_plant.specs.ImportFaults.{IsRefusedFor}
+use Rattle.toll_plant.specs.ImportTexts.{import_text}
+use Rattle.toll_plant.specs.Imports.{AreNumbered}
+use Rattle.toll_plant.specs.UnderWay.{GoesOn, IsBegun, UnderWay}
+use Rattle.toll_plant.specs.declared.import_fault.ImportFault.{ImportFault}
+use Rattle.toll_plant.specs.declared.report.ImportLine.{ImportLine}
+use Rattle.toll_plant.specs.declared.report.ImportReport.{ImportReport}
+use Rattle.toll_programs.specs.Done.{IsCommandDone}
 use Rattle.toll_programs.specs.Statuses.{code_of}
-use Rattle.toll_programs.specs.Told.{IsFailing, Stream, Streams}
+use Rattle.toll_programs.specs.Told.{IsFailing, IsImportTold, Stream, Streams}
 use Rattle.toll_programs.specs.declared.status.Status.TheVariants.{Failed, Unread}
 use Rattle.toll_served.specs.Unwritten.{unwritten}
 use Rattle.toll_served.specs.Wanted.{Wanted, Does, Imports, Unknown, wanted_of}
@@ -40,6 +49,61 @@ abbrev pub IsTellingIfRoom : (told : Bytes) (goes_on : Bool) (status : ℕ) (out
 IsTellingIfRoom told goes_on status output error =
     IsTelling told goes_on status output error ⊎ IsTelling told goes_on (unwritten output status) [] []
 
+-- this is so of what is told, and no import is left
+abbrev pub IsToldSo : Progress UnderWay → (Bytes → Type 0) → Type 0
+IsToldSo (Told told) IsSo = IsSo told.items
+IsToldSo (Left import) IsSo = ⊥
+
+-- ---- an import
+
+-- the import of a file begins; or why there is none is printed, and told if there is room
+pub record IsFileRefused (file told : Bytes) (goes_on : Bool) : Type 0 where
+  pub fault : ImportFault
+  pub why : IsRefusedFor file fault
+  pub output : Bytes
+  pub error : Bytes
+  pub status : ℕ
+  pub printed : IsImportTold (lists_of output error) (Err fault) status
+  pub telling : IsTellingIfRoom told goes_on status output error
+
+abbrev pub BeginsOrTells : (file : Bytes) → Progress UnderWay → (goes_on : Bool) → Type 0
+BeginsOrTells file (Left import) goes_on = IsBegun file import × (goes_on ≡ true)
+BeginsOrTells file (Told told) goes_on = IsFileRefused file told.items goes_on
+
+-- the parcel asks for the import of a file, of which all records are left
+pub record BeginsImport (asked : Bytes) (import : UnderWay) : Type 0 where
+  pub words : List Bytes
+  pub sent : Option Bytes
+  pub asks : IsAskedBy asked words sent
+  pub file : Bytes
+  pub wants : wanted_of words sent ≡ Imports file
+  pub begun : IsBegun file import
+
+-- all that was printed of an import with these lines is told, with its exit status; the keep goes on but after a failure
+pub record IsReportTelling (lines : List ImportLine) (told : Bytes) (goes_on : Bool) : Type 0 where
+  pub report : ImportReport
+  pub its : report.lines.items ≡ lines
+  pub numbered : AreNumbered 1 lines
+  pub output : Bytes
+  pub error : Bytes
+  pub status : ℕ
+  pub printed : IsImportTold (lists_of output error) (Ok report) status
+  pub telling : IsTelling told goes_on status output error
+
+-- the text, or nothing where there is no memory for it
+abbrev pub IsTextIfRoom : (text held : Bytes) → Type 0
+IsTextIfRoom text held = (held ≡ text) ⊎ (held ≡ [])
+
+-- what came of the records so far is told, and why no more act, with the exit status of a failure
+abbrev pub IsBrokenOff : List ImportLine → (why told : Bytes) → (goes_on : Bool) → Type 0
+IsBrokenOff lines why told goes_on =
+    (output : Bytes) × (error : Bytes) × IsTextIfRoom (import_text lines) output × IsTextIfRoom why error × IsTelling told goes_on (code_of Failed) output error
+
+-- where records are left so is the import, and else its report is told
+abbrev pub ComesTo : UnderWay → Progress UnderWay → (goes_on : Bool) → Type 0
+ComesTo import (Left task) goes_on = (import.left ≢ []) × (task ≡ import) × (goes_on ≡ true)
+ComesTo import (Told told) goes_on = (import.left ≡ []) × IsReportTelling import.lines told.items goes_on
+
 -- ---- the two doors
 
 -- a reply there is but 503
@@ -62,10 +126,10 @@ module _ {K : Type 0} (meaning : Meaning K) (old new : K) where
     pub tells : told ≡ out_bytes out
     pub goes : goes_on ≡ has_text out
 
-  -- what is wanted was done, once and nothing else, and so it is printed
+  -- what is wanted was done, once and nothing else, and so it is printed; of an import only why there is none
   abbrev pub IsDone : Wanted → Streams → ℕ → Type 0
   IsDone (Does command) s status = IsCommandDone meaning old new command s status
-  IsDone (Imports file) s status = IsImportDone meaning old new file s status
+  IsDone (Imports file) s status = (new ≡ old) × ((fault : ImportFault) × IsRefusedFor file fault × IsImportTold s (Err fault) status)
   IsDone Unknown s status = (new ≡ old) × IsUsageTold s status
 
   -- what the parcel asks for was done, and what the program would have printed of it is told, with its exit status
@@ -79,12 +143,20 @@ module _ {K : Type 0} (meaning : Meaning K) (old new : K) where
     pub done : IsDone (wanted_of words file) (lists_of output error) status
     pub telling : IsTelling told goes_on status output error
 
-  -- what came in at the door was answered over the keep; bytes that ask nothing of the plant's door do nothing, and are told nothing
-  abbrev pub IsServed : Door → (asked told : Bytes) → (goes_on : Bool) → Type 0
-  IsServed Owners asked told goes_on = IsOwnerServed asked told goes_on
-  IsServed Plant asked told goes_on =
-      IsPlantServed asked told goes_on ⊎ (AsksNothing asked × (new ≡ old) × (told ≡ []) × (goes_on ≡ true))
+  -- what came in at the door was answered over the keep, or an import begins; bytes that ask nothing of the plant's door do nothing, and are told nothing
+  abbrev pub IsServed : Door → (asked : Bytes) → Progress UnderWay → (goes_on : Bool) → Type 0
+  IsServed Owners asked (Told told) goes_on = IsOwnerServed asked told.items goes_on
+  IsServed Owners asked (Left import) goes_on = ⊥
+  IsServed Plant asked (Told told) goes_on =
+      IsPlantServed asked told.items goes_on ⊎ (AsksNothing asked × (new ≡ old) × (told.items ≡ []) × (goes_on ≡ true))
+  IsServed Plant asked (Left import) goes_on = BeginsImport asked import × (new ≡ old) × (goes_on ≡ true)
 
-  -- it was answered, or there was no memory, and nothing was done or told
-  abbrev pub IsServedIfRoom : Door → (asked told : Bytes) → Type 0
-  IsServedIfRoom door asked told = ((goes_on : Bool) × IsServed door asked told goes_on) ⊎ ((new ≡ old) × (told ≡ []))
+  -- so it was, or there was no memory, and nothing was done or told
+  abbrev pub IsServedIfRoom : Door → (asked : Bytes) → Progress UnderWay → Type 0
+  IsServedIfRoom door asked progress = ((goes_on : Bool) × IsServed door asked progress goes_on) ⊎ ((new ≡ old) × IsToldSo progress (λ told. told ≡ []))
+
+  -- the import went on over the keep, and this is what it came to
+  pub record WentOn (was : UnderWay) (progress : Progress UnderWay) (goes_on : Bool) : Type 0 where
+    pub now : UnderWay
+    pub went : GoesOn meaning old new was now
+    pub comes : ComesTo now progress goes_on

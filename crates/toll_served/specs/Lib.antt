@@ -3,3 +3,4 @@ pub mod Unwritten
 pub mod Doors
 pub mod Events
 pub mod Serving
+pub mod Whole

@@ -1,13 +1,15 @@
 -- What a server does to a keep.
-use Rattle.std.specs.Prelude.{List}
+use Rattle.std.specs.Prelude.{◌≡◌, ℕ, Bool, List, None}
 use Rattle.toll_base.specs.Bytes.{Bytes}
 use Rattle.toll_desk.specs.Reads.{Over}
 use Rattle.toll_history.specs.History.{History}
 use Rattle.toll_keep.specs.Content.{Content}
 use Rattle.toll_keep.specs.Meaning.{Meaning}
-use Rattle.toll_peers.specs.Runs.{Event as Asking, Runs}
+use Rattle.toll_peers.specs.Runs.{AreOwn, Runs, Turn, after_turns, no_tasks}
 use Rattle.toll_peers.specs.declared.door.Door.{Door}
-use Rattle.toll_served.specs.Doors.{IsServedIfRoom}
+use Rattle.toll_peers.specs.declared.progress.Progress.{Progress}
+use Rattle.toll_plant.specs.UnderWay.{UnderWay}
+use Rattle.toll_served.specs.Doors.{IsServedIfRoom, WentOn}
 use Rattle.toll_served.specs.Events.{AreAllEventsOf}
 use Rattle.toll_wire.specs.OfficeRuns.{IsRunOf}
 use Rattle.toll_wire.specs.declared.event.Answer.{Answer}
@@ -22,19 +24,29 @@ pub record IsRunAs (holds : Content → Type 0) (H : History) (Are : List Event 
 
 module _ {K : Type 0} (meaning : Meaning K) where
   -- an office that has a keep answers what comes in over that keep
-  abbrev pub AnswersOver : {O : Type 0} → (O → K) → O → Door → Bytes → Bytes → O → Type 0
-  AnswersOver keep old door asked told new = IsServedIfRoom meaning (keep old) (keep new) door asked told
+  abbrev pub AnswersOver : {O : Type 0} → (O → K) → O → Door → Bytes → Progress UnderWay → O → Type 0
+  AnswersOver keep old door asked progress new = IsServedIfRoom meaning (keep old) (keep new) door asked progress
 
-  -- from each lawful history that the keep stood for, what came in is events with their answers, which are a run and leave what is held
-  abbrev pub WereServed : K → K → List Asking → Type 0
-  WereServed old new asked = Over meaning old new (λ c H. IsRunAs (meaning.holds new) H (AreAllEventsOf asked))
+  -- and goes on with an import over it
+  abbrev pub GoesOnOver : {O : Type 0} → (O → K) → O → UnderWay → Progress UnderWay → O → Type 0
+  GoesOnOver keep old import progress new = (goes_on : Bool) × WentOn meaning (keep old) (keep new) import progress goes_on
 
-  -- where an office became the other by answering this over its keep, that was a run
-  abbrev pub IsRunWhereAnswered : {O : Type 0} → (O → K) → O → O → List Asking → Type 0
-  IsRunWhereAnswered keep old new asked = Runs (AnswersOver keep) old asked new → WereServed (keep old) (keep new) asked
+  -- such an office became the other by these turns
+  abbrev pub RunsOver : {O : Type 0} → (O → K) → O → List (Turn UnderWay) → O → Type 0
+  RunsOver keep = Runs (AnswersOver keep) (GoesOnOver keep)
 
-  -- the keep became the other by answering what came in, and by nothing else
-  pub record HasServed (old new : K) : Type 0 where
-    pub asked : List Asking
-    pub runs : Runs (AnswersOver (λ keep. keep)) old asked new
-    pub were : WereServed old new asked
+  -- from each lawful history that the keep stood for, the turns are events with their answers, which are a run and leave what is held
+  abbrev pub WereServed : K → K → List (Turn UnderWay) → Type 0
+  WereServed old new turns = Over meaning old new (λ c H. IsRunAs (meaning.holds new) H (AreAllEventsOf turns))
+
+  -- where an office became the other by these turns over its keep, that was a run
+  abbrev pub IsRunWhereAnswered : {O : Type 0} → (O → K) → O → O → List (Turn UnderWay) → Type 0
+  IsRunWhereAnswered keep old new turns = RunsOver keep old turns new → WereServed (keep old) (keep new) turns
+
+  -- the keep became the other by turns, and by nothing else; each import was gone on with for whom it was left, and where all has ended, none is left
+  pub record HasServed (old new : K) (IsOver : Type 0) : Type 0 where
+    pub turns : List (Turn UnderWay)
+    pub runs : RunsOver (λ keep. keep) old turns new
+    pub own : AreOwn no_tasks turns
+    pub over : IsOver → (whose : ℕ) → after_turns no_tasks turns whose ≡ None
+    pub were : WereServed old new turns

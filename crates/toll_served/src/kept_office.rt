@@ -1,10 +1,11 @@
 //! An office over a keep.
-ghost use Rattle.toll_served.specs.Serving.{AnswersOver};
+ghost use Rattle.toll_served.specs.Serving.{AnswersOver, GoesOnOver};
 
 use crate::answering::answer_at;
+use crate::importing::Importing;
 use std::alloc::{AllocError, Global};
 use toll_keep::Keep;
-use toll_peers::{Door, Office};
+use toll_peers::{Door, Office, Progress};
 
 /// A keep, which peers ask at both doors.
 #[derive(Drop)]
@@ -13,13 +14,21 @@ pub struct KeptOffice<K> {
 }
 
 impl<K: Keep> Office for KeptOffice<K> {
+    type Task = Importing;
+
     ghost answers = { AnswersOver K.meaning (λ office. office.keep) };
 
-    /// The reply, or no bytes where there was no memory, and nothing was done.
-    fn answer(&mut self, alloc: Global, door: Door, asked: &[u8]) -> Vec<u8> {
+    ghost goes_on = { GoesOnOver K.meaning (λ office. office.keep) };
+
+    /// The reply, or the import that is left; no bytes where there was no memory, and nothing was done.
+    fn answer(&mut self, alloc: Global, door: Door, asked: &[u8]) -> Progress<Importing> {
         match answer_at(alloc, &mut self.keep, door, asked) {
-            Ok(reply) => reply.bytes,
-            Err(AllocError) => Vec::new(alloc),
+            Ok(reply) => reply.progress,
+            Err(AllocError) => Progress::Told(Vec::new(alloc)),
         }
+    }
+
+    fn go_on(&mut self, alloc: Global, task: Importing) -> Progress<Importing> {
+        task.go_on(alloc, &mut self.keep).progress
     }
 }

@@ -1,13 +1,23 @@
 //! Laws of what peers ask over a keep.
 ghost use Rattle.std.specs.Prelude.{List};
-ghost use Rattle.toll_peers.specs.Runs.{Event};
+ghost use Rattle.toll_peers.specs.Runs.{Tasks, Turn};
+ghost use Rattle.toll_plant.specs.UnderWay.{UnderWay};
+ghost use Rattle.toll_served.specs.Events.{Part};
 ghost use Rattle.toll_served.specs.Serving.{IsRunWhereAnswered};
+ghost use Rattle.toll_served.specs.Whole.{IsAllAsked};
 
 use toll_keep::Keep;
 
-/// Whatever peers ask of an office that answers each of them over its keep, one after another, is a run of
-/// events: of each request its own event, of each parcel of the plant the events that it asks for. So what
-/// holds of runs holds of all that they are told.
+/// Whatever peers ask of an office that answers each of them over its keep, one turn after another, is a run
+/// of events: of each request its own event, of each parcel of the plant the events that it asks for, and of
+/// each turn of an import the events of its records. So what holds of runs holds of all that they are told.
 pub fn what_peers_ask_over_a_keep_is_a_run<K: Keep, O>()
-    ensures { (keep : O → K) (old new : O) (asked : List Event) → IsRunWhereAnswered K.meaning keep old new asked }
+    ensures { (keep : O → K) (old new : O) (turns : List (Turn UnderWay)) → IsRunWhereAnswered K.meaning keep old new turns }
+{}
+
+/// What somebody asks may take several turns, with others in between. All of them together are the events that
+/// it asks for, and what it is told in the end are their answers: of an import all records of the file up to a
+/// fault, in order, and the report of what came of them.
+pub fn what_one_asks_is_all_of_its_turns()
+    ensures { (tasks : Tasks UnderWay) (parts : List Part) → IsAllAsked tasks parts }
 {}

@@ -3,6 +3,7 @@
 #![tactic(auto)]
 
 mod answering;
+mod importing;
 mod kept_office;
 mod laws;
 mod plant;
@@ -14,7 +15,8 @@ mod serving;
 mod tests;
 
 pub use answering::answer_at;
+pub use importing::Importing;
 pub use kept_office::KeptOffice;
-pub use laws::what_peers_ask_over_a_keep_is_a_run;
+pub use laws::{what_one_asks_is_all_of_its_turns, what_peers_ask_over_a_keep_is_a_run};
 pub use reply::Reply;
 pub use serving::serve_keep;

@@ -1,45 +1,77 @@
 //! What the plant asks of a server.
-ghost use Rattle.std.specs.Prelude.{◌≡◌, map, IfOk, OnErr};
+ghost use Rattle.std.specs.Prelude.{◌≡◌, [], map, IfNone, IfOk, IfSome, OnErr};
+ghost use Rattle.toll_parcels.specs.Messages.{IsToldBy};
 ghost use Rattle.toll_peers.specs.declared.door.Door.{Door};
-ghost use Rattle.toll_served.specs.Doors.{IsDone, IsServed, lists_of};
-ghost use Rattle.toll_served.specs.Wanted.{is_import, wanted_by};
+ghost use Rattle.toll_plant.specs.Words.{command_of_words};
+ghost use Rattle.toll_served.specs.Doors.{BeginsOrTells, IsDone, IsServed, lists_of};
+ghost use Rattle.toll_served.specs.Wanted.{Imports, is_import, wanted_by, wanted_in};
 
+use crate::importing::Importing;
 use crate::printout::Printout;
 use crate::reply::Reply;
 use crate::room::room;
 use std::alloc::{AllocError, Global};
 use toll_keep::Keep;
 use toll_parcels::Asked;
-use toll_plant::{WordsFault, command_of};
+use toll_peers::Progress;
+use toll_plant::{Import, WordsFault, command_of};
 
-/// Answers a parcel. There is memory for an exit status before the keep is asked.
+/// Answers a parcel, or begins the import that it asks for. There is memory for an exit status before
+/// anything is done.
 pub fn answer_plant<K: Keep>(alloc: Global, keep: &mut K, asked: &[u8]) -> Result<Reply, AllocError>
     ensures err { OnErr result (keep.new ≡ keep.old) }
-    ensures served { IfOk result (λ reply. IsServed K.meaning keep.old keep.new Door.Plant asked.now reply.bytes.items reply.goes_on) }
+    ensures served { IfOk result (λ reply. IsServed K.meaning keep.old keep.new Door.Plant asked.now reply.progress reply.goes_on) }
 {
     let Some(asked) = Asked::read(alloc, asked)? else {
         return Ok(Reply {
-            bytes: Vec::new(alloc),
+            progress: Progress::Told(Vec::new(alloc)),
             goes_on: true,
         });
     };
     let room = room(alloc)?;
-    let printout = print(alloc, keep, &asked)?;
-    Ok(printout.told(alloc, room))
+    match import_in(&asked) {
+        Some(file) => Ok(begin(alloc, file, room)),
+        None => {
+            let printout = print(alloc, keep, &asked.words)?;
+            Ok(printout.told(alloc, room))
+        }
+    }
 }
 
-// Does what is asked, once its words are read.
-fn print<K: Keep>(alloc: Global, keep: &mut K, asked: &Asked<'_>) -> Result<Printout, AllocError>
-    ensures err { OnErr result (keep.new ≡ keep.old) }
-    ensures done { IfOk result (λ p. IsDone K.meaning keep.old keep.new (wanted_by asked.now) (lists_of p.output.items p.error.items) p.status) }
+// The file whose import is asked for.
+fn import_in<'a>(asked: &Asked<'a>) -> Option<&'a [u8]>
+    ensures some { IfSome result (λ file. wanted_by asked.now ≡ Imports file.now) }
+    ensures none { IfNone result (wanted_by asked.now ≡ wanted_in (command_of_words (map (λ w. w.now) asked.now.words.items))) }
 {
     match asked.file {
-        Some(file) if is_import(&asked.words) => Ok(Printout::of_import(alloc, keep, file)),
-        _ => match command_of(alloc, &asked.words) {
-            Ok(command) => Ok(Printout::of_command(alloc, keep, &command)),
-            Err(WordsFault::Usage(usage)) => Ok(Printout::of_usage(alloc, &usage)),
-            Err(WordsFault::Memory) => Err(AllocError),
+        Some(file) if is_import(&asked.words) => Some(file),
+        _ => None,
+    }
+}
+
+// Begins an import, or tells why there is none.
+fn begin(alloc: Global, file: &[u8], room: Vec<u8>) -> Reply
+    requires { IsToldBy room.items 0 [] [] }
+    ensures { BeginsOrTells file.now result.progress result.goes_on }
+{
+    match Import::of(alloc, file) {
+        Ok(import) => Reply {
+            progress: Progress::Left(Importing::new(import, room)),
+            goes_on: true,
         },
+        Err(fault) => Printout::of_import(alloc, Err(fault)).told(alloc, room),
+    }
+}
+
+// Does what words ask for but an import, once they are read.
+fn print<K: Keep>(alloc: Global, keep: &mut K, words: &[&str]) -> Result<Printout, AllocError>
+    ensures err { OnErr result (keep.new ≡ keep.old) }
+    ensures done { IfOk result (λ p. IsDone K.meaning keep.old keep.new (wanted_in (command_of_words (map (λ w. w.now) words.now))) (lists_of p.output.items p.error.items) p.status) }
+{
+    match command_of(alloc, words) {
+        Ok(command) => Ok(Printout::of_command(alloc, keep, &command)),
+        Err(WordsFault::Usage(usage)) => Ok(Printout::of_usage(alloc, &usage)),
+        Err(WordsFault::Memory) => Err(AllocError),
     }
 }
 

@@ -1,17 +1,23 @@
 //! What the program would print of what the plant asks.
 ghost use Rattle.std.specs.Prelude.{◌≡◌, ◌<◌, [], length};
 ghost use Rattle.toll_parcels.specs.Messages.{IsToldBy};
-ghost use Rattle.toll_programs.specs.Done.{IsCommandDone, IsImportDone};
-ghost use Rattle.toll_served.specs.Doors.{IsTellingIfRoom, IsUsageTold, lists_of};
+ghost use Rattle.toll_plant.specs.ImportTexts.{import_text};
+ghost use Rattle.toll_programs.specs.Done.{IsCommandDone};
+ghost use Rattle.toll_programs.specs.Statuses.{code_of};
+ghost use Rattle.toll_programs.specs.Told.{IsImportTold};
+ghost use Rattle.toll_programs.specs.declared.status.Status.{Status};
+ghost use Rattle.toll_served.specs.Doors.{IsTellingIfRoom, IsTextIfRoom, IsToldSo, IsUsageTold, lists_of};
 ghost use Rattle.toll_served.specs.Unwritten.{unwritten};
 
 use crate::reply::Reply;
 use crate::room::status_alone;
-use std::alloc::Global;
+use std::alloc::{AllocError, Global};
 use toll_desk::PlantCmd;
 use toll_keep::Keep;
 use toll_parcels::Told;
-use toll_programs::{Status, plant_import, plant_line, warn};
+use toll_peers::Progress;
+use toll_plant::{ImportFault, ImportReport, import_text};
+use toll_programs::{Status, plant_line, show_import, warn};
 
 /// What goes to standard output and to standard error, and the exit status.
 #[derive(Drop)]
@@ -36,17 +42,38 @@ impl Printout {
         }
     }
 
-    /// The import of a file into a keep, as [`plant_import`] does it.
-    pub fn of_import<K: Keep>(alloc: Global, keep: &mut K, file: &[u8]) -> Self
-        ensures { IsImportDone K.meaning keep.old keep.new file.now (lists_of result.output.items result.error.items) result.status }
+    /// What came of an import, or why there was none, as [`plant_import`](toll_programs::plant_import) tells it.
+    pub fn of_import(alloc: Global, imported: Result<ImportReport, ImportFault>) -> Self
+        ensures { IsImportTold (lists_of result.output.items result.error.items) imported result.status }
     {
         let mut output = Vec::new(alloc);
         let mut error = Vec::new(alloc);
-        let status = plant_import(alloc, keep, file, &mut output, &mut error);
+        let status = show_import(alloc, imported, &mut output, &mut error);
         Printout {
             output,
             error,
             status: status as u8,
+        }
+    }
+
+    /// What came of the records of an import that can't go on, and why it can't.
+    pub fn of_broken(alloc: Global, report: &ImportReport, why: &[u8]) -> Self
+        ensures output { IsTextIfRoom (import_text report.now.lines.items) result.output.items }
+        ensures error { IsTextIfRoom why.now result.error.items }
+        ensures status { result.status ≡ code_of Status.Failed }
+    {
+        let output = match import_text(alloc, report) {
+            Ok(text) => text,
+            Err(AllocError) => Vec::new(alloc),
+        };
+        let error = match Vec::from_slice(alloc, why) {
+            Ok(text) => text,
+            Err(AllocError) => Vec::new(alloc),
+        };
+        Printout {
+            output,
+            error,
+            status: Status::Failed.code(),
         }
     }
 
@@ -68,7 +95,7 @@ impl Printout {
     /// nothing printed, as where the program can write nothing.
     pub fn told(&self, alloc: Global, room: Vec<u8>) -> Reply
         requires { IsToldBy room.items 0 [] [] }
-        ensures { let p = self.now in IsTellingIfRoom result.bytes.items result.goes_on p.status p.output.items p.error.items }
+        ensures { let p = self.now in IsToldSo result.progress (λ told. IsTellingIfRoom told result.goes_on p.status p.output.items p.error.items) }
     {
         let told = Told {
             status: self.status,
@@ -77,7 +104,7 @@ impl Printout {
         };
         match told.packed(alloc) {
             Ok(bytes) => Reply {
-                bytes,
+                progress: Progress::Told(bytes),
                 goes_on: self.status != Status::Failed.code(),
             },
             Err(_) => status_alone(room, self.unwritten()),

@@ -1,11 +1,12 @@
 //! Memory that is taken before anything is done.
 ghost use Rattle.std.specs.Prelude.{[], IfOk};
 ghost use Rattle.toll_parcels.specs.Messages.{IsToldBy};
-ghost use Rattle.toll_served.specs.Doors.{IsTelling};
+ghost use Rattle.toll_served.specs.Doors.{IsTelling, IsToldSo};
 
 use crate::reply::Reply;
 use std::alloc::{AllocError, Global};
 use toll_parcels::Told;
+use toll_peers::Progress;
 use toll_programs::Status;
 
 /// Where the exit status stands in a parcel: behind its length.
@@ -29,11 +30,11 @@ pub fn room(alloc: Global) -> Result<Vec<u8>, AllocError>
 /// What the plant is told where this exit status is all. It takes no memory.
 pub fn status_alone(mut room: Vec<u8>, status: u8) -> Reply
     requires { IsToldBy room.items 0 [] [] }
-    ensures { IsTelling result.bytes.items result.goes_on status [] [] }
+    ensures { IsToldSo result.progress (λ told. IsTelling told result.goes_on status [] []) }
 {
     room[STATUS_PLACE] = status;
     Reply {
-        bytes: room,
+        progress: Progress::Told(room),
         goes_on: status != Status::Failed.code(),
     }
 }

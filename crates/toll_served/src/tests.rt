@@ -1,58 +1,59 @@
 //! A keep that is asked at both doors, and peers that ask it side by side.
+mod imports;
 mod street;
 
 use crate::tests::street::{Log, Street};
-use crate::{KeptOffice, answer_at, serve_keep};
+use crate::{KeptOffice, Reply, answer_at, serve_keep};
 use std::alloc::{AllocError, Global};
 use toll_keep::{Keep, MemKeep, Refused, Refusing};
 use toll_parcels::Told;
-use toll_peers::{Door, Served};
+use toll_peers::{Door, Progress, Served};
 
 /// Who comes to a door, what it asks, and what it is told.
 #[derive(Clone, Copy)]
-struct Visit {
+struct Visit<'a> {
     door: Door,
-    asked: &'static [u8],
-    told: &'static [u8],
+    asked: &'a [u8],
+    told: &'a [u8],
 }
 
-const ADD_OWNER: Visit = Visit {
+const ADD_OWNER: Visit<'static> = Visit {
     door: Door::Plant,
     asked: b"\0\0\0\x1c\0\0\0\x18owner-add\0ACME\0ACMEKEY1\0",
     told: b"\0\0\0\x0e\0\0\0\0\x09accepted\n",
 };
 
-const ADD_RECIPE: Visit = Visit {
+const ADD_RECIPE: Visit<'static> = Visit {
     door: Door::Plant,
     asked: b"\0\0\0\x1a\0\0\0\x16recipe-add\0ACME\0R-1\02\0",
     told: b"\0\0\0\x0e\0\0\0\0\x09accepted\n",
 };
 
-const ADD_AGAIN: Visit = Visit {
+const ADD_AGAIN: Visit<'static> = Visit {
     door: Door::Plant,
     asked: b"\0\0\0\x1c\0\0\0\x18owner-add\0ACME\0ACMEKEY1\0",
     told: b"\0\0\0\x1b\x01\0\0\0\x16refused 4 OwnerExists\n",
 };
 
-const PLACE: Visit = Visit {
+const PLACE: Visit<'static> = Visit {
     door: Door::Owners,
     asked: b"POST /orders HTTP/1.1\r\nhost: a\r\ntoll-owner: ACME\r\ntoll-key: ACMEKEY1\r\ncontent-length: 42\r\n\r\n{\"order\":\"O-1\",\"recipe\":\"R-1\",\"batches\":2}",
     told: b"HTTP/1.1 200 OK\r\ncontent-type: application/json\r\ncontent-length: 58\r\nconnection: close\r\n\r\n{\"batches\":2,\"order\":\"O-1\",\"recipe\":\"R-1\",\"status\":\"open\"}",
 };
 
-const IMPORT: Visit = Visit {
+const IMPORT: Visit<'static> = Visit {
     door: Door::Plant,
     asked: b"\0\0\0\x82\0\0\0\x07import\0\x01key,owner,order,batch,segment,use,material,lot_owner,lot,sublot,amount,day\nK2,NOBODY,O,1,1,consumed,M,ACME,A,S1,40,11\n",
     told: b"\0\0\0Q\x01\0\0\0L     1 refused 3 UnknownOwner\naccepted 0 repeated 0 refused 1 bad 0 fault 0\n",
 };
 
-const BAD_IMPORT: Visit = Visit {
+const BAD_IMPORT: Visit<'static> = Visit {
     door: Door::Plant,
     asked: b"\0\0\0\x1b\0\0\0\rimport\0a.csv\0\x01no header",
     told: b"\0\0\0\x10\x02\0\0\0\0bad header\n",
 };
 
-const LIST: Visit = Visit {
+const LIST: Visit<'static> = Visit {
     door: Door::Owners,
     asked: b"GET /orders HTTP/1.1\r\nhost: a\r\ntoll-owner: ACME\r\ntoll-key: ACMEKEY1\r\ncontent-length: 0\r\n\r\n",
     told: b"HTTP/1.1 200 OK\r\ncontent-type: application/json\r\ncontent-length: 71\r\nconnection: close\r\n\r\n{\"orders\":[{\"batches\":2,\"order\":\"O-1\",\"recipe\":\"R-1\",\"status\":\"open\"}]}",
@@ -66,19 +67,63 @@ const CUT: &[u8] = b"\0\0\0\x1c\0\0\0\x18owner-add\0BOLT\0BOLT";
 /// What the plant is told where a change had no memory.
 const NO_MEMORY: &[u8] = b"\0\0\0\x12\x03\0\0\0\0fault Memory\n";
 
-const VISITS: &[Visit] = &[
+/// More turns than anything takes that is asked here.
+const MOST_TURNS: usize = 4;
+
+const VISITS: &[Visit<'static>] = &[
     ADD_OWNER, ADD_RECIPE, ADD_AGAIN, PLACE, IMPORT, BAD_IMPORT, LIST,
 ];
+
+// What one more turn comes to, where an import is left.
+fn go_on<K: Keep>(alloc: Global, keep: &mut K, reply: Reply) -> Reply {
+    match reply.progress {
+        Progress::Left(importing) => importing.go_on(alloc, keep),
+        Progress::Told(bytes) => Reply {
+            progress: Progress::Told(bytes),
+            goes_on: reply.goes_on,
+        },
+    }
+}
+
+// The answer to what comes so, with all turns that it takes.
+fn answer_whole<K: Keep>(
+    alloc: Global,
+    keep: &mut K,
+    door: Door,
+    asked: &[u8],
+) -> Result<Reply, AllocError> {
+    let mut reply = answer_at(alloc, keep, door, asked)?;
+    for _ in 0..MOST_TURNS {
+        reply = go_on(alloc, keep, reply);
+    }
+    Ok(reply)
+}
+
+// The exit status that is told.
+fn status_of(reply: &Reply) -> Option<u8> {
+    match &reply.progress {
+        Progress::Told(bytes) => Told::read(bytes).map(|told| told.status),
+        Progress::Left(_) => None,
+    }
+}
+
+// Whether this is told, and the keep goes on or not.
+fn tells(reply: &Reply, told: &[u8], goes_on: bool) -> bool {
+    match &reply.progress {
+        Progress::Told(bytes) => bytes.as_slice() == told && reply.goes_on == goes_on,
+        Progress::Left(_) => false,
+    }
+}
 
 // Whether a peer that comes so is told just this, and the keep goes on or not.
 fn is_told<K: Keep>(
     alloc: Global,
     keep: &mut K,
-    visit: &Visit,
+    visit: &Visit<'_>,
     goes_on: bool,
 ) -> Result<bool, AllocError> {
-    let reply = answer_at(alloc, keep, visit.door, visit.asked)?;
-    Ok(reply.bytes.as_slice() == visit.told && reply.goes_on == goes_on)
+    let reply = answer_whole(alloc, keep, visit.door, visit.asked)?;
+    Ok(tells(&reply, visit.told, goes_on))
 }
 
 #[test]
@@ -108,10 +153,9 @@ fn peers_side_by_side_are_told_what_each_asked(rt: HostRuntime) -> Result<(), Al
 fn a_parcel_that_was_cut_does_nothing(rt: HostRuntime) -> Result<(), AllocError> {
     let mut keep = MemKeep::new(rt.alloc());
     let reply = answer_at(rt.alloc(), &mut keep, Door::Plant, CUT)?;
-    assert!(rt; reply.bytes.is_empty());
+    assert!(rt; tells(&reply, b"", true));
     let reply = answer_at(rt.alloc(), &mut keep, Door::Plant, NO_COMMAND)?;
-    let status = Told::read(&reply.bytes).map(|told| told.status);
-    assert_eq!(rt; status, Some(2));
+    assert_eq!(rt; status_of(&reply), Some(2));
     Ok(())
 }
 

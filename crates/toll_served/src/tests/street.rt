@@ -3,25 +3,29 @@ use crate::tests::Visit;
 use std::cell::Cell;
 use std::io;
 use std::io::{ErrorKind, Read, Write};
-use toll_peers::{Coming, Socket, World, WorldFault};
+use toll_peers::{Coming, Door, Socket, World, WorldFault};
 
-/// How many peers were told just what they are to be told.
+/// How many peers were told just what they are to be told, and by which door the last of them came.
 #[derive(Drop)]
 pub struct Log {
     pub told: Cell<usize>,
+    pub last: Cell<Option<Door>>,
 }
 
 impl Log {
     /// Nobody was told anything.
     pub fn new() -> Self {
-        Log { told: Cell::new(0) }
+        Log {
+            told: Cell::new(0),
+            last: Cell::new(None),
+        }
     }
 }
 
 /// Who comes, one after another. All may go on after the one wait that there is.
 #[derive(Drop)]
 pub struct Street<'l> {
-    coming: &'l [Visit],
+    coming: &'l [Visit<'l>],
     came: usize,
     ready: usize,
     log: &'l Log,
@@ -29,7 +33,7 @@ pub struct Street<'l> {
 
 impl<'l> Street<'l> {
     /// Nobody has come yet.
-    pub fn new(coming: &'l [Visit], log: &'l Log) -> Self {
+    pub fn new(coming: &'l [Visit<'l>], log: &'l Log) -> Self {
         Street {
             coming,
             came: 0,
@@ -77,14 +81,16 @@ impl<'l> World for Street<'l> {
 /// One of them, with what it still asks, and what it is still to be told.
 #[derive(Drop)]
 pub struct Guest<'l> {
+    door: Door,
     asks: &'l [u8],
     wants: &'l [u8],
     log: &'l Log,
 }
 
 impl<'l> Guest<'l> {
-    fn new(visit: &Visit, log: &'l Log) -> Self {
+    fn new(visit: &Visit<'l>, log: &'l Log) -> Self {
         Guest {
+            door: visit.door,
             asks: visit.asked,
             wants: visit.told,
             log,
@@ -113,6 +119,7 @@ impl Write for Guest<'_> {
         self.wants = rest;
         if rest.is_empty() {
             self.log.told.set(self.log.told.get().saturating_add(1));
+            self.log.last.set(Some(self.door));
         }
         Ok(bytes.len())
     }

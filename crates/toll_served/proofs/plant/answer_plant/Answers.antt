@@ -1,12 +1,22 @@
-use Rattle.std.proofs.Common.{inl, map, option_map, rules}
+use Rattle.std.proofs.Common.{◌∙◌, ap, map, option_map, rules, subst, sym}
 use Rattle.toll_parcels.specs.Messages.{IsAskedBy}
-use Rattle.toll_served.proofs.UnwrittenLemmas.{plant_served}
+use Rattle.toll_plant.specs.Words.{command_of_words}
+use Rattle.toll_served.specs.Doors.{IsDone, lists_of}
+use Rattle.toll_served.specs.Wanted.{wanted_in}
+use Rattle.toll_served.proofs.UnwrittenLemmas.{import_turn, plant_turn}
 use Rattle.toll_served.proofs.plant.answer_plant.Goals as goal
+
+pub returns-in-Some-import_in-clause-served : goal.returns-in-Some-import_in-clause-served
+returns-in-Some-import_in-clause-served g c =
+    let read = c.in-Some.asked in
+    let asks : IsAskedBy c.args.asked.now (map (λ word. word.now) read.words.items) (option_map (λ file. file.now) read.file) = search rules in
+    import_turn g.K.Keep.meaning c.args.keep.now c.args.asked.now c.begin.result.progress c.begin.result.goes_on _ _ c.in-Some-import_in.file.now asks c.in-Some-import_in.ensures.some c.begin.ensures
 
 pub returns-clause-served : goal.returns-clause-served
 returns-clause-served g c =
     let read = c.in-Some.asked in
-    let p = c.in_ok-printout.printout in
+    let p = c.in_ok-printout-in-None.printout in
     let asks : IsAskedBy c.args.asked.now (map (λ word. word.now) read.words.items) (option_map (λ file. file.now) read.file) = search rules in
-    inl (plant_served g.K.Keep.meaning c.args.keep.now c.print.new.keep c.args.asked.now c.told.result.bytes.items c.told.result.goes_on _ _
-    p.output.items p.error.items p.status asks c.in_ok-printout.ensures.done c.told.ensures)
+    let wants = c.in-None.ensures.none ∙ ap (λ words. wanted_in (command_of_words (map (λ w. w.now) words))) (sym c.deref.ensures.value) in
+    plant_turn g.K.Keep.meaning c.args.keep.now c.print.new.keep c.args.asked.now c.told.result.progress c.told.result.goes_on _ _ p.output.items p.error.items p.status asks
+    (subst (λ wanted. IsDone g.K.Keep.meaning c.args.keep.now c.print.new.keep wanted (lists_of p.output.items p.error.items) p.status) (sym wants) c.in_ok-printout-in-None.ensures.done) c.told.ensures

@@ -1,0 +1,147 @@
+//! Imports in turns, with others in between.
+use crate::tests::street::{Log, Street};
+use crate::tests::{ADD_OWNER, ADD_RECIPE, LIST, PLACE, Visit, go_on, is_told, tells};
+use crate::{KeptOffice, answer_at, serve_keep};
+use std::alloc::{AllocError, Global};
+use std::test::Fail;
+use toll_keep::{Keep, MemKeep, Refused, Refusing};
+use toll_parcels::{Asked, PackFault, Told};
+use toll_peers::{Door, Served};
+use toll_plant::GROUP_RECORDS;
+
+const HEADER: &str =
+    "key,owner,order,batch,segment,use,material,lot_owner,lot,sublot,amount,day\n";
+
+const RECORD: &str = "K2,ACME,O-1,1,1,consumed,M,ACME,A,S1,40,11\n";
+
+/// Those of two groups, and one more.
+const RECORDS: usize = 2 * GROUP_RECORDS + 1;
+
+/// What is asked behind each of the first two groups, and changes what comes of the records behind it.
+const BETWEEN: [&[Visit<'static>]; 2] = [&[ADD_OWNER], &[ADD_RECIPE, PLACE]];
+
+// What asks for the import of the records.
+fn import_of_records(alloc: Global) -> Result<Vec<u8>, PackFault> {
+    let mut file = String::from_str(alloc, HEADER)?;
+    for _ in 0..RECORDS {
+        file.push_str(RECORD)?;
+    }
+    Asked::packed(alloc, &["import"], Some(file.as_bytes()))
+}
+
+// What is printed of this import, where so many records behind these come to that.
+fn push_lines(
+    alloc: Global,
+    text: &mut String,
+    first: usize,
+    count: usize,
+    outcome: &str,
+) -> Result<(), AllocError> {
+    for i in 0..count {
+        let number = first.saturating_add(i);
+        let line = format!(in alloc; "{number:>6} {outcome}\n")?;
+        text.push_str(line.as_str())?;
+    }
+    Ok(())
+}
+
+// What the plant is told where this was printed.
+fn told(alloc: Global, status: u8, text: &str) -> Result<Vec<u8>, PackFault> {
+    let told = Told {
+        status,
+        output: text.as_bytes(),
+        error: b"",
+    };
+    told.packed(alloc)
+}
+
+// What the plant is told where others asked in between.
+fn told_with_others(alloc: Global) -> Result<Vec<u8>, PackFault> {
+    let mut text = String::new(alloc);
+    push_lines(alloc, &mut text, 1, GROUP_RECORDS, "refused 3 UnknownOwner")?;
+    push_lines(alloc, &mut text, 501, GROUP_RECORDS, "refused 18 UnknownOrder")?;
+    push_lines(alloc, &mut text, 1001, 1, "refused 22 UnknownBatch")?;
+    text.push_str("accepted 0 repeated 0 refused 1001 bad 0 fault 0\n")?;
+    told(alloc, 1, text.as_str())
+}
+
+// What it is told where the second group met a fault.
+fn told_with_a_fault(alloc: Global) -> Result<Vec<u8>, PackFault> {
+    let mut text = String::new(alloc);
+    push_lines(alloc, &mut text, 1, GROUP_RECORDS, "refused 3 UnknownOwner")?;
+    push_lines(alloc, &mut text, 501, 1, "fault Memory")?;
+    text.push_str("accepted 0 repeated 0 refused 500 bad 0 fault 1\n")?;
+    told(alloc, 3, text.as_str())
+}
+
+// Whether all who come so are told what they are to be told.
+fn are_told<K: Keep>(
+    alloc: Global,
+    keep: &mut K,
+    visits: &[Visit<'static>],
+) -> Result<bool, AllocError> {
+    for visit in visits {
+        if !is_told(alloc, keep, visit, true)? {
+            return Ok(false);
+        }
+    }
+    Ok(true)
+}
+
+#[test]
+fn each_group_finds_what_was_done_before_it(rt: HostRuntime) -> Result<(), Fail> {
+    let mut keep = MemKeep::new(rt.alloc());
+    let asked = import_of_records(rt.alloc())?;
+    let mut reply = answer_at(rt.alloc(), &mut keep, Door::Plant, &asked)?;
+    for visits in BETWEEN {
+        reply = go_on(rt.alloc(), &mut keep, reply);
+        let are_told = are_told(rt.alloc(), &mut keep, visits)?;
+        assert!(rt; are_told);
+    }
+    let reply = go_on(rt.alloc(), &mut keep, reply);
+    let wanted = told_with_others(rt.alloc())?;
+    assert!(rt; tells(&reply, &wanted, true));
+    Ok(())
+}
+
+#[test]
+fn behind_a_fault_no_group_acts(rt: HostRuntime) -> Result<(), Fail> {
+    let mut keep = MemKeep::new(rt.alloc());
+    let asked = import_of_records(rt.alloc())?;
+    let reply = answer_at(rt.alloc(), &mut keep, Door::Plant, &asked)?;
+    let reply = go_on(rt.alloc(), &mut keep, reply);
+    let mut keep = Refusing::new(keep, Refused::Behind(0));
+    let reply = go_on(rt.alloc(), &mut keep, reply);
+    let wanted = told_with_a_fault(rt.alloc())?;
+    assert!(rt; tells(&reply, &wanted, false));
+    Ok(())
+}
+
+// What is told where a batch's order is known, and the batch is not.
+fn told_of_a_batch(alloc: Global) -> Result<Vec<u8>, PackFault> {
+    let mut text = String::new(alloc);
+    push_lines(alloc, &mut text, 1, RECORDS, "refused 22 UnknownBatch")?;
+    text.push_str("accepted 0 repeated 0 refused 1001 bad 0 fault 0\n")?;
+    told(alloc, 1, text.as_str())
+}
+
+#[test]
+fn owners_are_answered_before_an_import_is_over(rt: HostRuntime) -> Result<(), Fail> {
+    let asked = import_of_records(rt.alloc())?;
+    let told = told_of_a_batch(rt.alloc())?;
+    let import = Visit {
+        door: Door::Plant,
+        asked: &asked,
+        told: &told,
+    };
+    let visits = [ADD_OWNER, ADD_RECIPE, import, PLACE, LIST];
+    let mut office = KeptOffice {
+        keep: MemKeep::new(rt.alloc()),
+    };
+    let log = Log::new();
+    let served = serve_keep(rt.alloc(), &mut Street::new(&visits, &log), &mut office, 2);
+    assert_eq!(rt; served, Served::All);
+    assert_eq!(rt; log.told.get(), visits.len());
+    assert_eq!(rt; log.last.get(), Some(Door::Plant));
+    Ok(())
+}
