@@ -1,16 +1,18 @@
 -- What the plant's program and a server hand to one another.
-use Rattle.std.specs.Prelude.{◌≡◌, ◌⊎◌, ◌<◌, ℕ, Option, [], ⊤, codes, length, take}
-use Rattle.std.specs.Io.KnownBytes.{Appends, Consumes}
+use Rattle.std.specs.Prelude.{◌≡◌, ◌⊎◌, ◌<◌, ℕ, Option, [], IsNone, IsSomeAnd, codes, length, take}
+use Rattle.std.specs.Io.KnownBytes.{Appends, Consumes, IsAtEnd}
 use Rattle.toll_base.specs.Bytes.{Bytes}
+use Rattle.toll_http.specs.Streams.{HasFailed}
 use Rattle.toll_http.specs.declared.sink.Sink as sink
 use Rattle.toll_http.specs.declared.source.Source as source
-use Rattle.toll_office.specs.declared.asking.Reply.{Reply}
-use Rattle.toll_office.specs.declared.asking.Reply.TheVariants.{Nobody, Lost, Told as Answered}
+use Rattle.toll_office.specs.declared.handing.Reply.{Reply}
+use Rattle.toll_office.specs.declared.handing.Reply.TheVariants.{Nobody, Lost, Unread, Told as Answered}
 use Rattle.toll_parcels.specs.Messages.{IsToldBy, greeting_text}
-use Rattle.toll_parcels.specs.Parcels.{parcel}
+use Rattle.toll_parcels.specs.Parcels.{IsEnough, parcel}
 use Rattle.toll_parcels.specs.declared.told.Told.{Told}
+use Rattle.toll_parcels.specs.declared.told.TheConstants.{MOST_TOLD_BYTES}
 use Rattle.toll_programs.specs.Statuses.{code_of}
-use Rattle.toll_programs.specs.Told.{IsCut, IsFailing, IsWritten, Streams}
+use Rattle.toll_programs.specs.Told.{IsCut, IsFailing, IsUntouched, IsWritten, Streams}
 use Rattle.toll_programs.specs.declared.status.Status.TheVariants.{Failed}
 
 -- what a server will give before, and what it was given before and after
@@ -40,17 +42,41 @@ IsUnsent asked e = Appends e.held e.now_held [] ⊎ ((n : ℕ) × (n < length as
 abbrev pub IsAnswer : Bytes → Type 0
 IsAnswer text = (status : ℕ) × (output : Bytes) × (error : Bytes) × IsToldBy text status output error
 
--- what was told is what the server gave next
-abbrev pub CanBeTold : Option Bytes → Reply → Type 0
-CanBeTold unread Nobody = ⊥
-CanBeTold unread Lost = ⊤
-CanBeTold unread (Answered text) = IsAnswer text.items × ((rest : Option Bytes) × Consumes unread rest text.items)
+module _ {S : Type 0} (from : source.Ghosts S) (sent now : S) where
+  -- the server gave this behind all that was sent to it
+  abbrev pub Gave : Bytes → Type 0
+  Gave text = Consumes (from.unread sent) (from.unread now) text
 
--- nobody was asked, or not all of it was sent; or all of it was sent, and nothing or an answer came
-abbrev pub IsExchange : Bytes → Bytes → Exchange → Reply → Type 0
-IsExchange version asked e Nobody = IsUnsent asked e
-IsExchange version asked e Lost = IsSent version asked e
-IsExchange version asked e (Answered text) = IsSent version asked e × IsAnswer text.items
+  -- what it gave is no answer, and no more of one can come
+  abbrev pub IsNoAnswer : Bytes → Type 0
+  IsNoAnswer text = ¬ (IsAnswer text) × (IsEnough MOST_TOLD_BYTES text ⊎ IsAtEnd (from.unread now))
+
+  -- a read has failed since
+  abbrev pub HasBroken : Type 0
+  HasBroken = HasFailed (from.has_failed sent) (from.has_failed now)
+
+  -- an answer is what it gave; it is lost where it gave none, or a read failed; and where there was no memory, no whole one was read
+  abbrev pub CanBeTold : Reply → Type 0
+  CanBeTold Nobody = ⊥
+  CanBeTold Lost = HasBroken ⊎ ((text : Bytes) × Gave text × IsNoAnswer text)
+  CanBeTold Unread = (text : Bytes) × Gave text × ¬ (IsEnough MOST_TOLD_BYTES text)
+  CanBeTold (Answered text) = IsAnswer text.items × Gave text.items
+
+module _ {S : Type 0} (from : source.Ghosts S) (to : sink.Ghosts S) (version asked : Bytes) (old new : S) where
+  -- all that is asked was sent, once, and then this came of it
+  pub record IsHeard (reply : Reply) : Type 0 where
+    -- the connection, as it was once all was sent
+    pub sent : S
+    pub sends : IsSent version asked (exchange_of from to old sent)
+    pub told : CanBeTold from sent new reply
+    pub once : to.held new ≡ to.held sent
+
+  -- nobody was asked, or not all of it was sent; or all of it was sent, and this came of it
+  abbrev pub IsExchange : Reply → Type 0
+  IsExchange Nobody = IsUnsent asked (exchange_of from to old new)
+  IsExchange reply = IsHeard reply
+
+-- ---- what is printed
 
 -- what a server told goes to the two streams; the program ends as the server says, or has failed where the output was cut
 pub record IsPassedOn (s : Streams) (told : Told) (status : ℕ) : Type 0 where
@@ -61,6 +87,23 @@ pub record IsPassedOn (s : Streams) (told : Told) (status : ℕ) : Type 0 where
 abbrev pub lost_line : Bytes
 lost_line = codes "fault Lost\n"
 
--- what a server told was passed on, or that it told nothing
-abbrev pub IsReplyWritten : Streams → ℕ → Type 0
-IsReplyWritten s status = ((told : Told) × IsPassedOn s told status) ⊎ IsFailing s lost_line Failed status
+-- what this parcel tells was passed on
+abbrev pub IsWrittenOf : Streams → Bytes → ℕ → Type 0
+IsWrittenOf s text status = (told : Told) × IsToldBy text told.status told.output.now told.error.now × IsPassedOn s told status
+
+-- what came of asking a server is written; nothing, where it was not asked
+abbrev pub IsReplyWritten : Streams → Reply → Option ℕ → Type 0
+IsReplyWritten s Nobody status = IsNone status × IsUntouched s.output × IsUntouched s.error
+IsReplyWritten s Lost status = IsSomeAnd status (IsFailing s lost_line Failed)
+IsReplyWritten s Unread status = IsSomeAnd status (IsFailing s lost_line Failed)
+IsReplyWritten s (Answered text) status = IsSomeAnd status (IsWrittenOf s text.items)
+
+-- what is asked was handed to the server behind a connection, and what came of it is written
+pub record IsHandedOver {S : Type 0} (from : source.Ghosts S) (to : sink.Ghosts S) (version asked : Bytes) (old new : S) (s : Streams) (status : Option ℕ) : Type 0 where
+  pub reply : Reply
+  pub exchanged : IsExchange from to version asked old new reply
+  pub written : IsReplyWritten s reply status
+
+-- what some server told was passed on, or that it told nothing
+abbrev pub IsServerTold : Streams → ℕ → Type 0
+IsServerTold s status = ((told : Told) × IsPassedOn s told status) ⊎ IsFailing s lost_line Failed status

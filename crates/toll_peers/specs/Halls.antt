@@ -93,7 +93,7 @@ module _ {S T : Type 0} where
   abbrev pub IfStays : ℕ → Slab (Peer S T) → Slab (Peer S T) → (Peer S T → Peer S T → Type 0) → Type 0
   IfStays key old new P = IfSome (get old key) (λ peer. IfSome (get new key) (λ later. P peer later))
 
-  -- who stays has met a read that failed, or with a reply a write, as the one or the other does that would wait; or the office has something left to do for it
+  -- who stays has met a read that failed, or with a reply a write, as the one or the other does that would wait; or it has a task
   abbrev pub IsStuck : (S → Option Bool) → (S → Option Bool) → Peer S T → Peer S T → Type 0
   IsStuck reads writes old new =
       IsUnread reads old new × (IsSome (reply_of new.stage) → HasFailed (writes old.socket) (writes new.socket))

@@ -1,0 +1,112 @@
+//! Handing what is asked to a server.
+ghost use Rattle.std.specs.Prelude.{◌≡◌, IsNone, IsTrue, map, option_map};
+ghost use Rattle.toll_office.specs.Asking.{CanBeTold, IsAnswer, IsExchange, IsGreetedBy, IsHandedOver, IsServerTold, IsWrittenOf, lost_line};
+ghost use Rattle.toll_parcels.specs.Messages.{asked_text};
+ghost use Rattle.toll_parcels.specs.Parcels.{parcel};
+ghost use Rattle.toll_programs.specs.Told.{IsWarned, stream_of, streams_of};
+ghost use Rattle.toll_programs.specs.declared.status.Status.{Status};
+
+use crate::passing::pass_on;
+use crate::server_stream::Noting;
+use crate::version::VERSION;
+use std::alloc::Global;
+use toll_http::{Arriving, Sink, write_reply};
+use toll_parcels::{Asked, MOST_GREETING_BYTES, MOST_TOLD_BYTES, Parcel, Told, is_greeting};
+use toll_programs::{Status, warn};
+
+/// What came of asking a server.
+#[derive(Drop)]
+pub enum Reply {
+    /// No server of this build took all that was asked: nothing was done.
+    Nobody,
+    /// It took all of it, and told nothing: a read failed, or what came is no answer, and no more will. What
+    /// was asked is done whole or not at all.
+    Lost,
+    /// It took all of it, and there was no memory for what it told.
+    Unread,
+    /// It told this, a parcel that [`Told::read`] reads.
+    Told(Vec<u8>),
+}
+
+/// Hands words, and the file that they name, to the server behind a connection, if it greets as one of this
+/// build; writes what it told, and gives the exit status: that which it told, or 3 where its output can't be
+/// written. Where it told nothing, or there was no memory for what it told, `fault Lost` is written to
+/// `error`, and the status is 3. `None` where it did not take all of it: nothing was done or written.
+pub fn hand_over<S: Noting, W: Sink, E: Sink>(
+    alloc: Global,
+    stream: &mut S,
+    words: &[&str],
+    file: Option<&[u8]>,
+    output: &mut W,
+    error: &mut E,
+) -> Option<u64>
+    ensures handed { let asked = parcel (asked_text (map (λ w. w.now) words.now) (option_map (λ f. f.now) file.entry)) in
+        let streams = streams_of W.Sink E.Sink output.old output.new error.old error.new in
+        IsHandedOver S.Source S.Sink VERSION.now asked stream.old stream.new streams result }
+    ensures untold { IsNone result → (output.new ≡ output.old) × (error.new ≡ error.old) }
+{
+    let Ok(asked) = Asked::packed(alloc, words, file) else {
+        return None;
+    };
+    match exchange(alloc, stream, VERSION, &asked) {
+        Reply::Nobody => None,
+        Reply::Lost | Reply::Unread => Some(write_lost(error)),
+        Reply::Told(text) => Some(write_answer(&text, output, error)),
+    }
+}
+
+// Writes what a server told.
+fn write_answer<W: Sink, E: Sink>(text: &[u8], output: &mut W, error: &mut E) -> u64
+    requires { IsAnswer text.now }
+    ensures { IsWrittenOf (streams_of W.Sink E.Sink output.old output.new error.old error.new) text.now result }
+{
+    match Told::read(text) {
+        Some(told) => pass_on(&told, output, error),
+        None => write_lost(error),
+    }
+}
+
+// Writes that a server told nothing.
+fn write_lost<E: Sink>(error: &mut E) -> u64
+    ensures { IsWarned (stream_of E.Sink error.old error.new) lost_line Status.Failed result }
+{
+    warn(error, b"fault Lost\n", Status::Failed)
+}
+
+// Hands what is asked to a server that greets as one of this build, and takes its answer.
+fn exchange<S: Noting>(alloc: Global, stream: &mut S, version: &str, asked: &[u8]) -> Reply
+    ensures { IsExchange S.Source S.Sink version.now asked.now stream.old stream.new result }
+{
+    if !is_greeted(alloc, stream, version) {
+        return Reply::Nobody;
+    }
+    match write_reply(stream, asked) {
+        Ok(()) => answer_of(alloc, stream),
+        Err(_) => Reply::Nobody,
+    }
+}
+
+fn is_greeted<S: Noting>(alloc: Global, stream: &mut S, version: &str) -> bool
+    ensures greeted { IsTrue result → IsGreetedBy version.now (S.Source.unread stream.old) }
+    ensures unsent { S.Sink.held stream.new ≡ S.Sink.held stream.old }
+{
+    let mut parcel = Parcel::new(alloc, MOST_GREETING_BYTES);
+    match parcel.read_on(stream) {
+        Arriving::Complete => is_greeting(&parcel.bytes, version),
+        Arriving::Waiting | Arriving::Failed => false,
+    }
+}
+
+// What the server tells, to whom all was sent.
+fn answer_of<S: Noting>(alloc: Global, stream: &mut S) -> Reply
+    ensures told { CanBeTold S.Source stream.old stream.new result }
+    ensures unsent { S.Sink.held stream.new ≡ S.Sink.held stream.old }
+{
+    let mut parcel = Parcel::new(alloc, MOST_TOLD_BYTES);
+    match parcel.read_on(stream) {
+        Arriving::Complete if Told::read(&parcel.bytes).is_some() => Reply::Told(parcel.bytes),
+        Arriving::Complete => Reply::Lost,
+        Arriving::Waiting | Arriving::Failed if stream.has_failed() => Reply::Lost,
+        Arriving::Waiting | Arriving::Failed => Reply::Unread,
+    }
+}
