@@ -8,7 +8,3 @@ use Rattle.toll_http.specs.declared.reading.ReadFault.TheVariants.{Io, Memory}
 abbrev pub word_of_read_fault : ReadFault → Bytes
 word_of_read_fault Io = codes "Read"
 word_of_read_fault Memory = codes "Memory"
-
--- a reply that was not written whole
-abbrev pub word_of_write_fault : Bytes
-word_of_write_fault = codes "Write"

@@ -3,13 +3,12 @@ ghost use Rattle.std.specs.Prelude.{◌≡◌, ◌≢◌, ◌≤◌, ◌⊎◌, 
 ghost use Rattle.std.specs.Io.KnownBytes.{Consumes, IsAtEnd};
 ghost use Rattle.toll_http.specs.Arriving.{IsSettled};
 ghost use Rattle.toll_http.specs.Filled.{IsFilled};
-ghost use Rattle.toll_http.specs.Streams.{HasFailed, NoneFailed, ReadsWhile, TakesIn};
+ghost use Rattle.toll_streams.specs.Streams.{HasFailed, NoneFailed, ReadsWhile, TakesIn};
 
-use crate::arriving::Arriving;
 use crate::settled::{TEXT_LIMIT, unsettled};
-use crate::source::{Source, read_behind};
 use std::alloc::{AllocError, Global};
 use std::marker::Model;
+use toll_streams::{Arriving, Source, read_behind};
 
 /// What has come of a request.
 #[derive(Drop)]

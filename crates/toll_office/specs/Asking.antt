@@ -2,9 +2,9 @@
 use Rattle.std.specs.Prelude.{◌≡◌, ◌⊎◌, ◌<◌, ℕ, Option, [], IsNone, IsSomeAnd, codes, length, take}
 use Rattle.std.specs.Io.KnownBytes.{Appends, Consumes, IsAtEnd}
 use Rattle.toll_base.specs.Bytes.{Bytes}
-use Rattle.toll_http.specs.Streams.{HasFailed}
-use Rattle.toll_http.specs.declared.sink.Sink as sink
-use Rattle.toll_http.specs.declared.source.Source as source
+use Rattle.toll_streams.specs.Streams.{HasFailed}
+use Rattle.toll_streams.specs.declared.sink.Sink as sink
+use Rattle.toll_streams.specs.declared.source.Source as source
 use Rattle.toll_office.specs.declared.handing.Reply.{Reply}
 use Rattle.toll_office.specs.declared.handing.Reply.TheVariants.{Nobody, Lost, Unread, Told as Answered}
 use Rattle.toll_parcels.specs.Messages.{IsToldBy, greeting_text}

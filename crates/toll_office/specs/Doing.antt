@@ -2,8 +2,8 @@
 use Rattle.std.specs.Prelude.{◌≡◌, ◌⊎◌, ℕ}
 use Rattle.toll_base.specs.Bytes.{Bytes}
 use Rattle.toll_desk.specs.declared.plant_cmd.PlantCmd.{PlantCmd}
-use Rattle.toll_http.specs.declared.sink.Sink as sink
-use Rattle.toll_http.specs.declared.source.Source as source
+use Rattle.toll_streams.specs.declared.sink.Sink as sink
+use Rattle.toll_streams.specs.declared.source.Source as source
 use Rattle.toll_keep.specs.Content.{nothing}
 use Rattle.toll_keep.specs.declared.keep.Keep.{Ghosts}
 use Rattle.toll_programs.specs.Done.{IsCommandDone, IsImportDone}

@@ -8,7 +8,7 @@ use crate::plant_door::socket_path;
 use crate::server_stream::ServerStream;
 use std::fs;
 use std::os::unix::fs::{FileTypeExt, MetadataExt};
-use toll_http::Sink;
+use toll_streams::Sink;
 
 /// Asks the server of the office in this file, for whose answer it waits as long as it takes, writes what
 /// it told, and gives the exit status, as [`hand_over`] does. `None` where no server of this build took what

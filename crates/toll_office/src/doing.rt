@@ -11,7 +11,7 @@ use toll_desk::PlantCmd;
 use toll_keep::{Keep, Remembering};
 use toll_programs::{ScriptEnd, plant_import, plant_line, script};
 use toll_sql::SqlKeep;
-use toll_wire::{Sink, Source};
+use toll_streams::{Sink, Source};
 
 /// The keep of an office in memory.
 type MemoryKeep = Remembering<SqlKeep<MemStore>>;

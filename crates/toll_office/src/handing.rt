@@ -10,9 +10,9 @@ use crate::passing::pass_on;
 use crate::server_stream::Noting;
 use crate::version::VERSION;
 use std::alloc::Global;
-use toll_http::{Arriving, Sink, write_reply};
 use toll_parcels::{Asked, MOST_GREETING_BYTES, MOST_TOLD_BYTES, Parcel, Told, is_greeting};
 use toll_programs::{Status, warn};
+use toll_streams::{Arriving, Sink, write_whole};
 
 /// What came of asking a server.
 #[derive(Drop)]
@@ -80,7 +80,7 @@ fn exchange<S: Noting>(alloc: Global, stream: &mut S, version: &str, asked: &[u8
     if !is_greeted(alloc, stream, version) {
         return Reply::Nobody;
     }
-    match write_reply(stream, asked) {
+    match write_whole(stream, asked) {
         Ok(()) => answer_of(alloc, stream),
         Err(_) => Reply::Nobody,
     }

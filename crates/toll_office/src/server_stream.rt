@@ -2,8 +2,8 @@
 use std::io;
 use std::io::{Read, Write};
 use std::os::unix::net::UnixStream;
-use toll_http::{Sink, Source};
 use toll_peers::Socket;
+use toll_streams::{Sink, Source};
 
 /// A connection that tells whether a read of it has failed.
 pub trait Noting: Socket {

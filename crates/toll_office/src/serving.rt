@@ -5,7 +5,8 @@ use crate::sockets::Sockets;
 use crate::timed::Timed;
 use std::net::{TcpListener, TcpStream};
 use toll_peers::{Served as Ended, serve};
-use toll_wire::{Out, ReadFault, read_request, write_reply};
+use toll_streams::write_whole;
+use toll_wire::{Out, ReadFault, read_request};
 
 /// What came of one connection.
 #[derive(Clone, Copy)]
@@ -57,7 +58,7 @@ fn give(rt: &HostRuntime, socket: &TcpStream, reply: &Out) -> Served {
     let Ok(mut timed) = Timed::new(rt, socket) else {
         return Served::WriteFault;
     };
-    match write_reply(&mut timed, reply.bytes()) {
+    match write_whole(&mut timed, reply.bytes()) {
         Ok(()) => Served::Answered,
         Err(_) => Served::WriteFault,
     }

@@ -1,13 +1,13 @@
 //! Reading a parcel bit by bit, as it comes.
 ghost use Rattle.std.specs.Prelude.{◌≡◌, ◌≢◌, ◌⊎◌, []};
 ghost use Rattle.std.specs.Io.KnownBytes.{IsAtEnd};
-ghost use Rattle.toll_http.specs.declared.arriving.Arriving.{Arriving};
-ghost use Rattle.toll_http.specs.Streams.{HasFailed, NoneFailed, TakesIn};
+ghost use Rattle.toll_streams.specs.declared.arriving.Arriving.{Arriving};
+ghost use Rattle.toll_streams.specs.Streams.{HasFailed, NoneFailed, TakesIn};
 ghost use Rattle.toll_parcels.specs.Parcels.{IsEnough};
 
 use crate::packing::is_enough;
 use std::alloc::Global;
-use toll_http::{Arriving, Source};
+use toll_streams::{Arriving, Source};
 
 /// How many bytes one read takes at most.
 const PIECE_BYTES: usize = 4096;

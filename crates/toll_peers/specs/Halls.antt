@@ -1,7 +1,7 @@
 -- The peers that are there, by their keys.
 use Rattle.std.specs.Prelude.{◌≡◌, ◌≢◌, ◌≤◌, ◌<◌, ◌+◌, ◌-◌, ◌⊎◌, ◌||◌, ℕ, Bool, [], Option, None, Some, IfSome, IsSome, ⊤, is_some, nat_lt, option_and_then, if◌then◌else◌}
 use Rattle.slab.specs.Slab.{Slab, Updates, get, slab_len}
-use Rattle.toll_http.specs.Streams.{HasFailed}
+use Rattle.toll_streams.specs.Streams.{HasFailed}
 use Rattle.toll_peers.specs.Askings.{came_of, door_of}
 use Rattle.toll_peers.specs.Runs.{Tasks}
 use Rattle.toll_peers.specs.Stages.{left_by, progress_of, reply_of, task_of}

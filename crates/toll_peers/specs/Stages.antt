@@ -1,6 +1,6 @@
 -- How far a peer has come.
 use Rattle.std.specs.Prelude.{Option, None, Some, option_and_then}
-use Rattle.toll_http.specs.declared.outgoing.Outgoing.{Outgoing}
+use Rattle.toll_streams.specs.declared.outgoing.Outgoing.{Outgoing}
 use Rattle.toll_peers.specs.declared.progress.Progress.{Progress}
 use Rattle.toll_peers.specs.declared.progress.Progress.TheVariants.{Told, Left}
 use Rattle.toll_peers.specs.declared.stage.Stage.{Stage}

@@ -1,9 +1,9 @@
 -- One step of a peer.
 use Rattle.std.specs.Prelude.{◌≡◌, ◌↔◌, ◌⊎◌, ◌+◌, ◌-◌, ◌^◌, ℕ, min, Bool, List, [], ◌++◌, length, Option, Some, None, IsSome, option_map}
 use Rattle.std.specs.Io.KnownBytes.{Appends, Consumes, IsAtEnd}
-use Rattle.toll_http.specs.Streams.{HasFailed, bytes_between}
-use Rattle.toll_http.specs.declared.outgoing.Outgoing.{Outgoing}
-use Rattle.toll_http.specs.declared.sink.Sink as sink
+use Rattle.toll_streams.specs.Streams.{HasFailed, bytes_between}
+use Rattle.toll_streams.specs.declared.outgoing.Outgoing.{Outgoing}
+use Rattle.toll_streams.specs.declared.sink.Sink as sink
 use Rattle.toll_peers.specs.Askings.{IsWhole, came_of, door_of}
 use Rattle.toll_peers.specs.Stages.{progress_of, reply_of, task_of}
 use Rattle.toll_peers.specs.declared.asking.Asking.{Asking}

@@ -1,14 +1,15 @@
 //! What a peer asks, as its bytes come.
 ghost use Rattle.std.specs.Prelude.{◌≡◌, ◌≢◌, ◌⊎◌, [], IfOk};
 ghost use Rattle.std.specs.Io.KnownBytes.{IsAtEnd};
-ghost use Rattle.toll_http.specs.Streams.{HasFailed, TakesIn};
-ghost use Rattle.toll_http.specs.declared.arriving.Arriving.{Arriving};
+ghost use Rattle.toll_streams.specs.Streams.{HasFailed, TakesIn};
+ghost use Rattle.toll_streams.specs.declared.arriving.Arriving.{Arriving};
 ghost use Rattle.toll_peers.specs.Askings.{IsWhole, came_of, door_of};
 
 use crate::door::Door;
 use std::alloc::{AllocError, Global};
-use toll_http::{Arriving, Incoming, Source};
+use toll_http::Incoming;
 use toll_parcels::{MOST_ASKED_BYTES, Parcel};
+use toll_streams::{Arriving, Source};
 
 /// What has come of a request.
 #[derive(Drop)]

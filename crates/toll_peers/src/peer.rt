@@ -13,7 +13,7 @@ use crate::stage::Stage;
 use crate::step::Step;
 use std::alloc::{AllocError, Global};
 use std::mem;
-use toll_http::{Arriving, Outgoing};
+use toll_streams::{Arriving, Outgoing};
 
 /// How many milliseconds a peer may take for its request, and again for taking the reply.
 pub const MOST_MILLISECONDS: u64 = 10_000;

@@ -1,5 +1,5 @@
 //! Connections.
-use toll_http::{Sink, Source};
+use toll_streams::{Sink, Source};
 
 /// A connection. What it takes is apart from what it gives: no read changes the bytes that it holds, nor
 /// whether a write of it has failed.

@@ -2,7 +2,7 @@
 ghost use Rattle.std.specs.Prelude.{◌≡◌, ◌↔◌, None, IsSome, IsTrue};
 ghost use Rattle.toll_peers.specs.Stages.{progress_of, task_of};
 
-use toll_http::Outgoing;
+use toll_streams::Outgoing;
 
 /// How far a peer has come.
 #[derive(Drop)]

@@ -1,8 +1,8 @@
 //! What a step of a peer comes to.
 ghost use Rattle.std.specs.Prelude.{◌≡◌, ◌↔◌};
-ghost use Rattle.toll_http.specs.declared.leaving.Leaving.{Leaving};
+ghost use Rattle.toll_streams.specs.declared.leaving.Leaving.{Leaving};
 
-use toll_http::Leaving;
+use toll_streams::Leaving;
 
 /// Whether a peer stays.
 #[derive(Clone, Copy, Debug, PartialEq, Eq)]

@@ -4,9 +4,9 @@ use Rattle.std.specs.Io.KnownBytes.{Appends}
 use Rattle.toll_base.specs.Bytes.{Bytes}
 use Rattle.toll_keep.specs.Meaning.{Meaning}
 use Rattle.toll_desk.specs.Reads.{Over}
-use Rattle.toll_http.specs.Streams.{HasFailed, NoneFailed}
-use Rattle.toll_http.specs.declared.sink.Sink as sink
-use Rattle.toll_http.specs.declared.source.Source as source
+use Rattle.toll_streams.specs.Streams.{HasFailed, NoneFailed}
+use Rattle.toll_streams.specs.declared.sink.Sink as sink
+use Rattle.toll_streams.specs.declared.source.Source as source
 use Rattle.toll_wire.specs.OfficeRuns.{AreServed, IsRunOf}
 use Rattle.toll_wire.specs.declared.event.Answer.{Answer}
 use Rattle.toll_wire.specs.declared.event.Event.{Event}

@@ -4,8 +4,8 @@ use Rattle.std.specs.Io.KnownBytes.{Appends}
 use Rattle.toll_base.specs.Bytes.{Bytes}
 use Rattle.toll_desk.specs.declared.plant_cmd.PlantReply.{PlantReply}
 use Rattle.toll_desk.specs.declared.plant_cmd.PlantReply.TheVariants as plant
-use Rattle.toll_http.specs.Streams.{HasFailed}
-use Rattle.toll_http.specs.declared.sink.Sink as sink
+use Rattle.toll_streams.specs.Streams.{HasFailed}
+use Rattle.toll_streams.specs.declared.sink.Sink as sink
 use Rattle.toll_plant.specs.ImportTexts.{import_text}
 use Rattle.toll_plant.specs.declared.import_fault.ImportFault.{ImportFault}
 use Rattle.toll_plant.specs.declared.import_fault.ImportFault.TheVariants.{Memory, TooLong, BadHeader}

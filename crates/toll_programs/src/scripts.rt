@@ -6,7 +6,8 @@ use crate::input::{InputFault, read_input};
 use crate::printing::printed;
 use std::alloc::Global;
 use toll_keep::Keep;
-use toll_wire::{Sink, Source, run_events, write_reply};
+use toll_streams::{Sink, Source, write_whole};
+use toll_wire::run_events;
 
 /// How a script ended.
 #[derive(Clone, Copy, Debug, PartialEq, Eq)]
@@ -59,7 +60,7 @@ pub fn script<R: Source, W: Sink, K: Keep>(
     let Ok(output) = printed(alloc, &answers) else {
         return ScriptEnd::Memory;
     };
-    match write_reply(writer, &output) {
+    match write_whole(writer, &output) {
         Ok(()) => ScriptEnd::Done,
         Err(_) => ScriptEnd::WriteFault,
     }

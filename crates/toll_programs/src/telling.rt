@@ -5,7 +5,7 @@ ghost use Rattle.toll_programs.specs.Told.{IsTold, IsWarned, stream_of};
 use crate::status::Status;
 use arrayvec::ArrayString;
 use itoa::Buffer;
-use toll_wire::{Sink, write_reply};
+use toll_streams::{Sink, write_whole};
 
 /// How many bytes a line with a number may have.
 const LINE_BYTES: usize = 32;
@@ -14,7 +14,7 @@ const LINE_BYTES: usize = 32;
 pub fn tell<W: Sink>(writer: &mut W, text: &[u8], status: Status) -> u64
     ensures { IsTold (stream_of W.Sink writer.old writer.new) text.now status result }
 {
-    match write_reply(writer, text) {
+    match write_whole(writer, text) {
         Ok(()) => u64::from(status.code()),
         Err(_) => u64::from(Status::Failed.code()),
     }
@@ -24,7 +24,7 @@ pub fn tell<W: Sink>(writer: &mut W, text: &[u8], status: Status) -> u64
 pub fn warn<W: Sink>(writer: &mut W, text: &[u8], status: Status) -> u64
     ensures { IsWarned (stream_of W.Sink writer.old writer.new) text.now status result }
 {
-    let _ = write_reply(writer, text);
+    let _ = write_whole(writer, text);
     u64::from(status.code())
 }
 

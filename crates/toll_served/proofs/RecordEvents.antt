@@ -37,9 +37,12 @@ pub records_then : (told more : List Outcome) (commands others : Commands) (even
 records_then [] more [] others [] later [] behind calm first then = then
 records_then (o ∷ told) more (None ∷ commands) others events later answers behind calm (bad, rest) then =
     (bad, records_then told more commands others events later answers behind (more_false (is_fault o) (list_any is_fault told) calm) rest then)
-records_then (o ∷ told) more (Some c ∷ commands) others (Command d ∷ events) later (CommandReply reply ∷ answers) behind calm (same, is, rest) then =
-    (same, is, behind_calm (is_fault o) _ _ _ _ (first_false (is_fault o) (list_any is_fault told) calm) rest
-    (λ so. records_then told more commands others events later answers behind (more_false (is_fault o) (list_any is_fault told) calm) so then))
+records_then (o ∷ told) more (Some c ∷ commands) others (Command d ∷ events) later (CommandReply reply ∷ answers) behind calm (same, is, rest) then = (
+  same,
+  is,
+  behind_calm (is_fault o) _ _ _ _ (first_false (is_fault o) (list_any is_fault told) calm) rest
+      (λ so. records_then told more commands others events later answers behind (more_false (is_fault o) (list_any is_fault told) calm) so then),
+)
 records_then [] more [] others [] later (a ∷ answers) behind calm first then = absurd first
 records_then [] more [] others (e ∷ events) later answers behind calm first then = absurd first
 records_then [] more (c ∷ commands) others events later answers behind calm first then = absurd first

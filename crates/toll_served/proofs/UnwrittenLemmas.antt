@@ -122,16 +122,19 @@ pub report_turn : (now : UnderWay) (progress : Progress UnderWay) (goes_on : Boo
 report_turn now (Left import) goes_on report output error status none its numbered printed never = absurd never
 report_turn now (Told told) goes_on report output error status none its numbered printed (inl telling) =
     (none, record { report = report; its = its; numbered = subst (AreNumbered 1) its numbered; output = output; error = error; status = status; printed = printed; telling = telling })
-report_turn now (Told told) goes_on report output error status none its numbered printed (inr telling) = (none, record {
-  report = report;
-  its = its;
-  numbered = subst (AreNumbered 1) its numbered;
-  output = [];
-  error = [];
-  status = unwritten output status;
-  printed = import_told output error (Ok report) status printed;
-  telling = telling;
-})
+report_turn now (Told told) goes_on report output error status none its numbered printed (inr telling) = (
+  none,
+  record {
+    report = report;
+    its = its;
+    numbered = subst (AreNumbered 1) its numbered;
+    output = [];
+    error = [];
+    status = unwritten output status;
+    printed = import_told output error (Ok report) status printed;
+    telling = telling;
+  },
+)
 
 -- a failure stays one where nothing of it can be written
 still_failed : (output : Bytes) (status : ℕ) → status ≡ code_of Failed → unwritten output status ≡ code_of Failed

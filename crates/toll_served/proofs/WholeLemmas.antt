@@ -151,7 +151,7 @@ whole_import asked text import events answers begins ends =
           begins.begun.read,
           subst (AreNumbered 1) (sym report.its) report.numbered,
           subst (λ outcomes. AreRecordEvents outcomes (commands_in begins.begun.records) events answers) told
-          (subst (λ commands. AreRecordEvents ends.told commands events answers) begins.begun.left ends.are),
+              (subst (λ commands. AreRecordEvents ends.told commands events answers) begins.begun.left ends.are),
         ),
         report.printed,
       );

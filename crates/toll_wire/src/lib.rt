@@ -20,4 +20,5 @@ pub use laws::{
 };
 pub use outgoing::Out;
 pub use run::run_events;
-pub use toll_http::{ReadFault, Sink, Source, WriteFault, read_behind, read_request, write_reply};
+pub use toll_http::{ReadFault, read_request};
+pub use toll_streams::{WriteFault, write_whole as write_reply};

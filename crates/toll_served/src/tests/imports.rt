@@ -9,8 +9,7 @@ use toll_parcels::{Asked, PackFault, Told};
 use toll_peers::{Door, Served};
 use toll_plant::GROUP_RECORDS;
 
-const HEADER: &str =
-    "key,owner,order,batch,segment,use,material,lot_owner,lot,sublot,amount,day\n";
+const HEADER: &str = "key,owner,order,batch,segment,use,material,lot_owner,lot,sublot,amount,day\n";
 
 const RECORD: &str = "K2,ACME,O-1,1,1,consumed,M,ACME,A,S1,40,11\n";
 
@@ -59,7 +58,13 @@ fn told(alloc: Global, status: u8, text: &str) -> Result<Vec<u8>, PackFault> {
 fn told_with_others(alloc: Global) -> Result<Vec<u8>, PackFault> {
     let mut text = String::new(alloc);
     push_lines(alloc, &mut text, 1, GROUP_RECORDS, "refused 3 UnknownOwner")?;
-    push_lines(alloc, &mut text, 501, GROUP_RECORDS, "refused 18 UnknownOrder")?;
+    push_lines(
+        alloc,
+        &mut text,
+        501,
+        GROUP_RECORDS,
+        "refused 18 UnknownOrder",
+    )?;
     push_lines(alloc, &mut text, 1001, 1, "refused 22 UnknownBatch")?;
     text.push_str("accepted 0 repeated 0 refused 1001 bad 0 fault 0\n")?;
     told(alloc, 1, text.as_str())

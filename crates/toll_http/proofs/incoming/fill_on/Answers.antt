@@ -2,9 +2,9 @@ use Rattle.std.proofs.Common.{◌≡◌, ◌∙◌, ◌≤◌, ◌++◌, ℕ, Li
 use Rattle.std.proofs.lemmas.List.{length-take-le}
 use Rattle.toll_http.specs.Arriving.{IsSettled}
 use Rattle.toll_http.proofs.Fronts.{searched_more}
-use Rattle.toll_http.proofs.ReadLemmas.{reads_once_more}
-use Rattle.toll_http.proofs.StreamLemmas.{none_more_failed}
-use Rattle.toll_http.proofs.Onward.{front_onward, gave_onward, read_onward, whole_onward}
+use Rattle.toll_streams.proofs.ReadLemmas.{reads_once_more}
+use Rattle.toll_streams.proofs.StreamLemmas.{none_more_failed}
+use Rattle.toll_streams.proofs.Onward.{front_onward, gave_onward, read_onward, whole_onward}
 use Rattle.toll_http.proofs.incoming.fill_on.Goals as goal
 
 -- what was not settled yet, as the first bytes and what came behind them

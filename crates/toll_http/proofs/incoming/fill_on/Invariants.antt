@@ -4,8 +4,8 @@ use Rattle.std.proofs.Common.{◌≡◌, ◌≤◌, ◌-◌, ◌++◌, false, le
 use Rattle.std.specs.Io.KnownBytes.{Consumes}
 use Rattle.toll_http.specs.Arriving.{IsSettled}
 use Rattle.toll_http.specs.Filled.{IsFilled}
-use Rattle.toll_http.specs.Streams.{Notes}
-use Rattle.toll_http.proofs.ReadLemmas.{GaveWhile}
+use Rattle.toll_streams.specs.Streams.{Notes}
+use Rattle.toll_streams.proofs.ReadLemmas.{GaveWhile}
 use Rattle.toll_http.proofs.incoming.fill_on.Given as goal
 
 abbrev pub invariant-loop-next : goal.invariant-loop-next

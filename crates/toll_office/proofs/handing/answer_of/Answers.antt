@@ -23,6 +23,6 @@ returns-in-Complete-2-clause-told g c =
     let most : read.most ≡ MOST_TOLD_BYTES = c.read_on.ensures.most ∙ c.new-parcel.ensures.most in
     let never = no_answer c.deref.result.now c.read.result c.is_some.result c.is_some.ensures c.if-is_some.false c.read.ensures.none in
     let end : IsEnough MOST_TOLD_BYTES read.bytes.items ⊎ IsAtEnd (g.S.Source.unread c.read_on.new.reader) =
-        subst (λ m. IsEnough m read.bytes.items ⊎ IsAtEnd (g.S.Source.unread c.read_on.new.reader)) most (c.in-Complete.ensures.complete refl) in
+    subst (λ m. IsEnough m read.bytes.items ⊎ IsAtEnd (g.S.Source.unread c.read_on.new.reader)) most (c.in-Complete.ensures.complete refl) in
     let no_answer : IsNoAnswer g.S.Source c.args.stream.now c.read_on.new.reader read.bytes.items = (subst (λ t. ¬ (IsAnswer t)) c.deref.ensures.value never, end) in
     inr (text, gave, subst (λ t. IsNoAnswer g.S.Source c.args.stream.now c.read_on.new.reader t) is no_answer)

@@ -1,6 +1,6 @@
 -- What has come behind what had come before is what the reader gave, and no read failed.
 use Rattle.std.proofs.Common.{◌≡◌, ◌+◌, ◌-◌, false, length}
-use Rattle.toll_http.specs.Streams.{Notes, TakesIn}
+use Rattle.toll_streams.specs.Streams.{Notes, TakesIn}
 use Rattle.toll_parcels.specs.declared.packing.TheConstants.{HEAD_BYTES}
 use Rattle.toll_parcels.proofs.parcel.Parcel.read_on.Given as goal
 

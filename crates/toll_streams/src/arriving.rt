@@ -1,10 +1,10 @@
-//! How far a request has come.
+//! How far a message has come.
 ghost use Rattle.std.specs.Prelude.{◌≡◌, ◌≢◌, ◌↔◌};
 ghost use Rattle.std.specs.declared.io.ErrorKind.{ErrorKind};
 
 use std::io::ErrorKind;
 
-/// How far the reading of a request has come.
+/// How far the reading of a message has come.
 #[derive(Clone, Copy, Debug, PartialEq, Eq)]
 pub enum Arriving {
     /// Enough of it has come, or its stream ended: it is read no further.

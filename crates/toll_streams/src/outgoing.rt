@@ -1,12 +1,12 @@
-//! Writing a reply bit by bit, as its reader takes it.
+//! Writing a text bit by bit, as its reader takes it.
 ghost use Rattle.std.specs.Prelude.{◌≡◌, ◌≢◌, ◌≤◌, ◌<◌, length};
 ghost use Rattle.std.specs.Io.KnownBytes.{Appends};
-ghost use Rattle.toll_http.specs.Streams.{HasFailed, bytes_between};
+ghost use Rattle.toll_streams.specs.Streams.{HasFailed, bytes_between};
 
 use crate::leaving::Leaving;
 use crate::sink::Sink;
 
-/// A reply, of which a front was written.
+/// A text, of which a front was written.
 #[derive(Drop)]
 pub struct Outgoing {
     pub bytes: Vec<u8>,
@@ -39,7 +39,7 @@ impl Outgoing {
     }
 }
 
-/// How many bytes of a reply were written.
+/// How many bytes of a text were written.
 #[derive(Clone, Copy)]
 pub struct Sent {
     pub leaving: Leaving,

@@ -1,10 +1,10 @@
-//! How far a reply has gone.
+//! How far a text has gone.
 ghost use Rattle.std.specs.Prelude.{◌≡◌, ◌≢◌, ◌↔◌};
 ghost use Rattle.std.specs.declared.io.ErrorKind.{ErrorKind};
 
 use std::io::ErrorKind;
 
-/// How far the writing of a reply has come.
+/// How far the writing of a text has come.
 #[derive(Clone, Copy, Debug, PartialEq, Eq)]
 pub enum Leaving {
     /// All of it was written.

@@ -5,7 +5,7 @@ use Rattle.std.proofs.lemmas.List.{take-append-le}
 use Rattle.std.proofs.lemmas.List.Elements.{All-append, All-cons, All-nil}
 use Rattle.std.proofs.lemmas.List.Folds.{concat-append}
 use Rattle.std.proofs.Math.Seq.{take-append_seam}
-use Rattle.toll_http.specs.Streams.{AllGave, IsEachReadWhile, OneMoreRead, ReadsWhile}
+use Rattle.toll_streams.specs.Streams.{AllGave, IsEachReadWhile, OneMoreRead, ReadsWhile}
 
 -- it was read only while this was so of what it gave meanwhile, which is this, by reads that each gave something
 pub record GaveWhile (P : List ℕ → Type 0) (old new : Option (List (List ℕ))) (given : List ℕ) : Type 0 where

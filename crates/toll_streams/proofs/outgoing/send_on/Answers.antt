@@ -1,7 +1,7 @@
 use Rattle.std.proofs.Common.{rules, arith}
-use Rattle.toll_http.proofs.Onward.{wrote_onward}
-use Rattle.toll_http.proofs.StreamLemmas.{none_failed_by_some}
-use Rattle.toll_http.proofs.outgoing.send_on.Goals as goal
+use Rattle.toll_streams.proofs.Onward.{wrote_onward}
+use Rattle.toll_streams.proofs.StreamLemmas.{none_failed_by_some}
+use Rattle.toll_streams.proofs.outgoing.send_on.Goals as goal
 
 pub loop-written-preserved : goal.loop-written-preserved
 loop-written-preserved g c = record {

@@ -3,8 +3,8 @@ use Rattle.std.proofs.Common.{◌≡◌, ◌≢◌, ◌∙◌, ℕ, ◌+◌, ◌
 use Rattle.std.specs.Io.KnownBytes.{Appends, Consumes}
 use Rattle.std.proofs.KnownBytes.{Appends-trans, Consumes-trans}
 use Rattle.std.proofs.lemmas.List.{drop-append-le, drop-drop, take-take, take-append-drop, take_rest, length-drop, length-take-le}
-use Rattle.toll_http.specs.Streams.{OneMoreRead, ReadsWhile}
-use Rattle.toll_http.proofs.ReadLemmas.{GaveWhile, gave_more}
+use Rattle.toll_streams.specs.Streams.{OneMoreRead, ReadsWhile}
+use Rattle.toll_streams.proofs.ReadLemmas.{GaveWhile, gave_more}
 
 -- what was read behind the first bytes, and then more
 pub read_onward : (a b c : Option (List ℕ)) (old new : List ℕ) (begun m n : ℕ) → begun ≤ m → m ≤ length old → take m new ≡ take m old

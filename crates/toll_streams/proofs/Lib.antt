@@ -1,0 +1,3 @@
+pub mod StreamLemmas
+pub mod ReadLemmas
+pub mod Onward
