@@ -1,3 +1,4 @@
+pub mod Common
 pub mod SameRows
 pub mod OwnReplies
 pub mod OneReply

@@ -1,25 +1,11 @@
 -- Over a list of commands the plant has one answer to a command or a question.
 use Rattle.std.proofs.Common.{◌≡◌, Option, Some, None, List, [], ◌∷◌, map, refl, sym, ap, ◌∙◌}
-use Rattle.std.specs.Cmp.Lexicographic.{nat_list_cmp_total}
-use Rattle.toll_base.specs.Bytes.{Bytes, bytes_cmp}
-use Rattle.toll_base.specs.Keys.{RequirementKey, requirement_cmp, pair_cmp}
-use Rattle.toll_history.specs.History.{History, acts}
-use Rattle.toll_history.specs.Work.{order_of}
-use Rattle.toll_history.specs.Verdict.{Verdict, Accepted, Repeated, Refused, first_of}
-use Rattle.toll_base.specs.declared.lot.LotId.{LotId}
-use Rattle.toll_base.proofs.Texts.{pair_cmp_total, requirement_cmp_total}
-use Rattle.toll_trace.proofs.Unique.{trace_unique}
+use Rattle.toll_answers.proofs.Common.{nat_list_cmp_total, Bytes, bytes_cmp, RequirementKey, requirement_cmp, pair_cmp, History, acts, order_of, Verdict, Accepted, Repeated, Refused, first_of, LotId, pair_cmp_total, requirement_cmp_total, trace_unique, Forward, IsPlantJoined, line_key, RequirementLine, BatchRow, OrderRow}
 use Rattle.toll_trace.specs.declared.way.Way.{Way}
-use Rattle.toll_trace.specs.declared.way.Way.TheVariants.{Forward}
-use Rattle.toll_genealogy.specs.Edges.{IsPlantJoined}
 use Rattle.toll_answers.specs.PlantAnswers.{PlantAsked, Does, AsksOrders, AsksStock, AsksBatch, AsksTrace, AsksRecall, CannotRead, PlantTold, Shows, AreOrdersShown, IsStockShown, IsBatchShown, IsBatchShownOr, IsTraceShown, IsRecallShown, IsCheckedOr, owner_checks, lot_checks, IsPlantAnswer}
 use Rattle.toll_genealogy.specs.Recall.{recall_line, IsRecall}
 use Rattle.toll_genealogy.specs.declared.recall.RecallLine.{RecallLine}
 use Rattle.toll_print.specs.Texts.{orders_text, stock_text, shown_over, IsStockText, batch_text, trace_text, recall_text}
-use Rattle.toll_work.specs.BatchView.{line_key}
-use Rattle.toll_work.specs.declared.views.RequirementLine.{RequirementLine}
-use Rattle.toll_base.specs.declared.rows.BatchRow.{BatchRow}
-use Rattle.toll_base.specs.declared.rows.OrderRow.{OrderRow}
 use Rattle.toll_answers.proofs.OneReply.{one_list}
 
 -- a fact of what the plant is told that one answer at most meets

@@ -1,26 +1,10 @@
 -- Over a list of commands an owner has one reply to a request.
 use Rattle.std.proofs.Common.{◌≡◌, ℕ, Bool, true, false, Option, Some, None, List, MatchBool, sym, ap, ◌∙◌}
-use Rattle.std.specs.Cmp.{IsTotalOrder}
-use Rattle.std.specs.Cmp.Lexicographic.{nat_list_cmp_total}
-use Rattle.std.specs.declared.cmp.Ordering.{Ordering}
-use Rattle.toll_base.specs.Bytes.{Bytes, bytes_cmp}
-use Rattle.toll_base.specs.Keys.{RequirementKey, requirement_cmp, result_cmp, pair_cmp}
-use Rattle.toll_history.specs.Command.{Release, Reject, by}
-use Rattle.toll_history.specs.History.{History}
-use Rattle.toll_history.specs.Verdict.{Verdict, Accepted, Repeated, Refused, grow}
-use Rattle.toll_base.specs.declared.lot.LotId.{LotId}
-use Rattle.toll_base.specs.declared.rows.OrderRow.{OrderRow}
-use Rattle.toll_base.specs.declared.rows.LotRow.{LotRow}
-use Rattle.toll_base.specs.declared.rows.BatchRow.{BatchRow}
+use Rattle.toll_answers.proofs.Common.{IsTotalOrder, nat_list_cmp_total, Ordering, Bytes, bytes_cmp, RequirementKey, requirement_cmp, result_cmp, pair_cmp, Release, Reject, by, History, Verdict, Accepted, Repeated, Refused, grow, LotId, OrderRow, LotRow, BatchRow, pair_cmp_total, result_cmp_total, requirement_cmp_total, trace_unique, AreRowsGiven, line_key, RequirementLine}
 use Rattle.toll_base.specs.declared.rows.ResultRow.{ResultRow}
 use Rattle.toll_base.specs.declared.rows.SublotRow.{SublotRow}
-use Rattle.toll_base.proofs.Texts.{pair_cmp_total, result_cmp_total, requirement_cmp_total}
 use Rattle.toll_answers.proofs.SameRows.{same_rows}
-use Rattle.toll_trace.proofs.Unique.{trace_unique}
-use Rattle.toll_base.specs.Table.{AreRowsGiven}
 use Rattle.toll_views.specs.declared.stock.StockLine.{StockLine}
-use Rattle.toll_work.specs.BatchView.{line_key}
-use Rattle.toll_work.specs.declared.views.RequirementLine.{RequirementLine}
 use Rattle.toll_answers.specs.Told.{Asked, AskOrders, AskOrder, AskPlace, AskCancel, AskBatch, AskStock, AskLot, AskRelease, AskReject, AskBack, AskForward, AskHouseForward, Told, TellOrders, TellBatch, TellStock, TellLot, TellTrace}
 use Rattle.toll_answers.specs.Replies.{has_key, AreOrdersTold, IsStockTold, IsBatchTold, IsLotTold, IsTraceTold, IsOrderOr, IsLotOr, IsBatchOr, IsTraceOr, IsWritten, IsAnswer, IsReply}
 

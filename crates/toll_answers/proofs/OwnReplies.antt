@@ -1,28 +1,16 @@
 -- An owner's replies come from the owner's part of a history.
 use Rattle.std.proofs.Common.{◌≡◌, ℕ, Bool, true, false, not, ◌&&◌, ◌||◌, cond, Option, Some, None, is_some, ◌∷◌, MatchBool, ◌↔◌, refl, sym, ap, ◌∙◌}
-use Rattle.std.specs.List.{list_any}
+use Rattle.toll_answers.proofs.Common.{list_any, Bytes, same_bytes, Action, PlaceOrder, CancelOrder, Release, Reject, Command, by, History, part, acts, owner_known, owner_key, adds_owner, measure_of, order_of, batch_of, requirement_of, Verdict, Accepted, Repeated, Refused, Checks, first_of, checks, verdict, grow, grown, IsLawful, IsValid, order_checks, cancel_checks, release_checks, reject_checks, known_batch_checks, OrderRow, LotRow, BatchRow, same_bytes-refl, Back, Forward, IsOwnJoined, line_of}
 use Rattle.std.specs.Option.{option_map, option_and_then}
-use Rattle.toll_base.specs.Bytes.{Bytes, same_bytes}
 use Rattle.toll_base.specs.Values.{house_name}
 use Rattle.toll_base.specs.Words.{where_so, is_some_where}
-use Rattle.toll_history.specs.Command.{Action, PlaceOrder, CancelOrder, Release, Reject, Command, by}
-use Rattle.toll_history.specs.History.{History, part, acts, owner_known, owner_key, adds_owner}
-use Rattle.toll_history.specs.Work.{measure_of, order_of, batch_of, requirement_of}
 use Rattle.toll_base.specs.Lots.{lot_id}
 use Rattle.toll_history.specs.Tables.{Tables, tables_given, lot_row}
-use Rattle.toll_history.specs.Verdict.{Verdict, Accepted, Repeated, Refused, Checks, first_of, checks, verdict, grow, grown, IsLawful, IsValid, order_checks, cancel_checks, release_checks, reject_checks, known_batch_checks}
 use Rattle.toll_base.specs.declared.refusal.Refusal.TheVariants.{UnknownOwner}
-use Rattle.toll_base.specs.declared.rows.OrderRow.{OrderRow}
-use Rattle.toll_base.specs.declared.rows.LotRow.{LotRow}
-use Rattle.toll_base.specs.declared.rows.BatchRow.{BatchRow}
 use Rattle.toll_history.proofs.Own.{acts-part, part-own}
 use Rattle.toll_history.proofs.OwnTables.{lot_row-part, sublot_row-part, tables-part}
-use Rattle.toll_base.proofs.Texts.{same_bytes-refl}
-use Rattle.toll_trace.specs.declared.way.Way.TheVariants.{Back, Forward}
 use Rattle.toll_answers.specs.Told.{Asked, AskOrders, AskOrder, AskPlace, AskCancel, AskBatch, AskStock, AskLot, AskRelease, AskReject, AskBack, AskForward, AskHouseForward, Told, TellForbidden}
-use Rattle.toll_genealogy.specs.Edges.{IsOwnJoined}
 use Rattle.toll_views.specs.Views.{stock_line, results_of_lot, sublots_of_lot, has_consumed}
-use Rattle.toll_work.specs.BatchView.{line_of}
 use Rattle.toll_answers.specs.Replies.{has_key, AreOrdersTold, IsStockTold, IsBatchTold, IsLotTold, IsOrderOr, IsLotOr, IsBatchOr, IsTraceOr, IsWritten, IsOrderAfter, IsLotAfter, IsAnswer, IsReply, after_answer, after_reply}
 use Rattle.toll_history.proofs.OwnAmounts.{on_hand-part, actual_of-part}
 

@@ -1,13 +1,10 @@
 -- Two lists of rows in key order that have the same at each key are one.
 use Rattle.std.proofs.Common.{◌≡◌, Some, None, cond, List, [], ◌∷◌, map, refl, sym, ap, subst, ◌∙◌}
-use Rattle.std.specs.Cmp.{IsTotalOrder}
-use Rattle.std.specs.List.{AllByRecursion}
+use Rattle.toll_answers.proofs.Common.{IsTotalOrder, AllByRecursion, Ordering, IsInKeyOrder, row_at}
 use Rattle.std.specs.List.Sorted.{IsStrictlySortedBy}
 use Rattle.std.specs.Ordering.{is_eq, ordering_reverse}
-use Rattle.std.specs.declared.cmp.Ordering.{Ordering}
 use Rattle.std.specs.declared.cmp.Ordering.TheVariants.{Less, Equal, Greater}
 use Rattle.std.proofs.lemmas.Cmp.{tied_itself}
-use Rattle.toll_base.specs.Table.{IsInKeyOrder, row_at}
 
 none_is_not : {X : Type 0} {x : X} → None ≡ Some x → ⊥
 none_is_not h = (cc)

@@ -1,24 +1,7 @@
 -- What the plant is answered over a list of commands.
 use Rattle.std.specs.Prelude.{◌≡◌, ℕ, not, Option, Some, is_none, List, [], ◌∷◌, ◌++◌}
-use Rattle.toll_base.specs.Bytes.{Bytes, bytes_cmp}
-use Rattle.toll_base.specs.Keys.{RequirementKey, requirement_cmp}
-use Rattle.toll_base.specs.Table.{AreRowsGiven}
-use Rattle.toll_history.specs.Command.{Command}
-use Rattle.toll_history.specs.History.{History, acts, owner_known}
-use Rattle.toll_history.specs.Work.{order_of, batch_of}
-use Rattle.toll_history.specs.Tables.{tables_given, lot_row}
-use Rattle.toll_history.specs.Verdict.{Verdict, Refused, Checks, first_of, verdict, grow, known_batch_checks}
-use Rattle.toll_base.specs.declared.refusal.Refusal.{Refusal}
-use Rattle.toll_base.specs.declared.refusal.Refusal.TheVariants.{UnknownOwner, UnknownLot}
-use Rattle.toll_base.specs.declared.lot.LotId.{LotId}
-use Rattle.toll_base.specs.declared.rows.BatchRow.{BatchRow}
-use Rattle.toll_base.specs.declared.rows.OrderRow.{OrderRow}
+use Rattle.toll_answers.specs.Common.{Bytes, bytes_cmp, RequirementKey, requirement_cmp, AreRowsGiven, Command, History, acts, owner_known, order_of, batch_of, tables_given, lot_row, Verdict, Refused, Checks, first_of, verdict, grow, known_batch_checks, Refusal, UnknownOwner, UnknownLot, LotId, BatchRow, OrderRow, Step, IsTrace, line_of, line_key, RequirementLine, IsPlantJoined}
 use Rattle.toll_trace.specs.declared.way.Way.{Way}
-use Rattle.toll_trace.specs.declared.step.Step.{Step}
-use Rattle.toll_trace.specs.Trace.{IsTrace}
-use Rattle.toll_work.specs.BatchView.{line_of, line_key}
-use Rattle.toll_work.specs.declared.views.RequirementLine.{RequirementLine}
-use Rattle.toll_genealogy.specs.Edges.{IsPlantJoined}
 use Rattle.toll_genealogy.specs.Recall.{IsRecall}
 use Rattle.toll_genealogy.specs.declared.recall.RecallLine.{RecallLine}
 use Rattle.toll_print.specs.Texts.{orders_text, IsStockText, batch_text, trace_text, recall_text}

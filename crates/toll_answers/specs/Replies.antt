@@ -1,32 +1,12 @@
 -- What an owner is told over a list of commands.
 use Rattle.std.specs.Prelude.{◌≡◌, ◌↔◌, ℕ, Bool, not, ◌&&◌, if◌then◌else◌, Option, Some, None, is_some, List, MatchBool}
-use Rattle.toll_base.specs.Bytes.{Bytes, same_bytes, bytes_cmp}
+use Rattle.toll_answers.specs.Common.{Bytes, same_bytes, bytes_cmp, RequirementKey, requirement_cmp, result_cmp, pair_cmp, Action, PlaceOrder, CancelOrder, Release, Reject, by, History, acts, owner_key, part, measure_of, order_of, batch_of, tables_given, lot_row, Verdict, Refused, IsValid, first_of, verdict, grow, known_batch_checks, UnknownOrder, UnknownLot, LotId, OrderRow, BatchRow, LotRow, ResultRow, SublotRow, Step, IsTrace, AreRowsGiven, IsOwnJoined, StockLine, line_of, line_key, RequirementLine}
 use Rattle.toll_base.specs.Values.{house_name}
 use Rattle.toll_base.specs.Words.{is_some_where}
-use Rattle.toll_base.specs.Keys.{RequirementKey, requirement_cmp, result_cmp, pair_cmp}
-use Rattle.toll_history.specs.Command.{Action, PlaceOrder, CancelOrder, Release, Reject, by}
-use Rattle.toll_history.specs.History.{History, acts, owner_key, part}
-use Rattle.toll_history.specs.Work.{measure_of, order_of, batch_of}
 use Rattle.toll_base.specs.Lots.{lot_id}
-use Rattle.toll_history.specs.Tables.{tables_given, lot_row}
-use Rattle.toll_history.specs.Verdict.{Verdict, Refused, IsValid, first_of, verdict, grow, known_batch_checks}
-use Rattle.toll_base.specs.declared.refusal.Refusal.TheVariants.{UnknownOrder, UnknownLot}
-use Rattle.toll_base.specs.declared.lot.LotId.{LotId}
-use Rattle.toll_base.specs.declared.rows.OrderRow.{OrderRow}
-use Rattle.toll_base.specs.declared.rows.BatchRow.{BatchRow}
-use Rattle.toll_base.specs.declared.rows.LotRow.{LotRow}
-use Rattle.toll_base.specs.declared.rows.ResultRow.{ResultRow}
-use Rattle.toll_base.specs.declared.rows.SublotRow.{SublotRow}
 use Rattle.toll_trace.specs.declared.way.Way.TheVariants.{Back, Forward}
-use Rattle.toll_trace.specs.declared.step.Step.{Step}
-use Rattle.toll_trace.specs.Trace.{IsTrace}
-use Rattle.toll_base.specs.Table.{AreRowsGiven}
 use Rattle.toll_answers.specs.Told.{Asked, AskOrders, AskOrder, AskPlace, AskCancel, AskBatch, AskStock, AskLot, AskRelease, AskReject, AskBack, AskForward, AskHouseForward, Told, TellForbidden, TellOrders, TellOrder, TellBatch, TellStock, TellLot, TellTrace, TellRefused}
-use Rattle.toll_genealogy.specs.Edges.{IsOwnJoined}
 use Rattle.toll_views.specs.Views.{stock_line, results_of_lot, sublots_of_lot, has_consumed}
-use Rattle.toll_views.specs.declared.stock.StockLine.{StockLine}
-use Rattle.toll_work.specs.BatchView.{line_of, line_key}
-use Rattle.toll_work.specs.declared.views.RequirementLine.{RequirementLine}
 
 -- ---- admission
 

@@ -1,15 +1,6 @@
 -- What owners ask, and what they are told.
 use Rattle.std.specs.Prelude.{ℕ, List}
-use Rattle.toll_base.specs.Bytes.{Bytes}
-use Rattle.toll_base.specs.declared.refusal.Refusal.{Refusal}
-use Rattle.toll_base.specs.declared.rows.OrderRow.{OrderRow}
-use Rattle.toll_base.specs.declared.rows.BatchRow.{BatchRow}
-use Rattle.toll_base.specs.declared.rows.LotRow.{LotRow}
-use Rattle.toll_base.specs.declared.rows.ResultRow.{ResultRow}
-use Rattle.toll_base.specs.declared.rows.SublotRow.{SublotRow}
-use Rattle.toll_trace.specs.declared.step.Step.{Step}
-use Rattle.toll_views.specs.declared.stock.StockLine.{StockLine}
-use Rattle.toll_work.specs.declared.views.RequirementLine.{RequirementLine}
+use Rattle.toll_answers.specs.Common.{Bytes, Refusal, OrderRow, BatchRow, LotRow, ResultRow, SublotRow, Step, StockLine, RequirementLine}
 
 -- an owner's request
 pub data Asked : Type 0 where

@@ -1,7 +1,6 @@
 -- What a row put among the counts of actuals does to the counts.
 use Rattle.std.proofs.Common.{◌≡◌, ℕ, ◌+◌, ◌≤◌, ◌<◌, ◌^◌, length, Bool, true, false, ◌&&◌, ◌==◌, cond, List, Option, Some, None, is_some, refl, sym, ap, ◌∙◌, arith, eq-eqb}
-use Rattle.std.specs.Cmp.Lexicographic.{nat_list_cmp_total}
-use Rattle.std.specs.Option.{option_map_or}
+use Rattle.toll_base.proofs.Common.{nat_list_cmp_total, option_map_or}
 use Rattle.toll_base.specs.Bytes.{Bytes, same_bytes, bytes_cmp}
 use Rattle.toll_base.specs.Keys.{batch_cmp}
 use Rattle.toll_base.specs.Table.{row_at, put_row, remove_row}

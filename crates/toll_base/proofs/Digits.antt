@@ -1,9 +1,8 @@
 -- Texts of decimal digits.
 use Rattle.std.proofs.Common.{◌≡◌, ℕ, ◌≤◌, true, length, Result, Ok, nat_le, rules, arith}
-use Rattle.std.specs.List.{list_all}
+use Rattle.toll_base.proofs.Common.{list_all, nat_tests}
 use Rattle.std.specs.Str.{IsUtf8}
 use Rattle.std.specs.Str.Parse.{ParsesUnsigned, digits_value}
-use Rattle.std.proofs.lemmas.Bool.Decides.{nat_tests}
 use Rattle.std.proofs.lemmas.Str.{IsUtf8-from_ascii}
 use Rattle.std.proofs.lemmas.Str.Parse.{IsNumeralModel, IsDigitsTest, numerals_by_value, parse_gives, digits_value_short}
 use Rattle.std.proofs.lemmas.Fmt.{IsAscii-from_digits}

@@ -1,10 +1,6 @@
 -- What takes a put of a row back does.
 use Rattle.std.proofs.Common.{◌≡◌, Bool, true, false, Option, Some, None, is_some, List, refl, sym, ap, ◌∙◌, subst}
-use mathlib.Core.Bool.{false≢true}
-use Rattle.std.specs.Option.{option_map}
-use Rattle.std.specs.Cmp.{IsTotalOrder}
-use Rattle.std.specs.Cmp.Lexicographic.{nat_list_cmp_total}
-use Rattle.std.specs.declared.cmp.Ordering.{Ordering}
+use Rattle.toll_base.proofs.Common.{false≢true, option_map, IsTotalOrder, nat_list_cmp_total, Ordering}
 use Rattle.toll_base.specs.Bytes.{bytes_cmp}
 use Rattle.toll_base.specs.Keys.{pair_cmp, batch_cmp, result_cmp, requirement_cmp}
 use Rattle.toll_base.specs.Slice.{Slice, with_row, without_row, row_like}

@@ -1,14 +1,7 @@
 -- What a search among rows in key order finds, and what an edit there does.
 use Rattle.std.proofs.Common.{◌≡◌, ℕ, zero, suc, ◌+◌, ◌<◌, ◌≤◌, Bool, true, false, List, [], ◌∷◌, length, get_or, set, map, Option, Some, None, is_some, cond, refl, sym, ap, subst, ◌∙◌, arith}
 use Rattle.std.specs.Prelude.{if◌then◌else◌}
-use mathlib.Core.Bool.{false≢true}
-use Rattle.std.specs.Cmp.{IsTotalOrder, eq_by_cmp_equiv}
-use Rattle.std.specs.List.{AllByRecursion, HoldsAt, insert}
-use Rattle.std.specs.List.Sorted.{IsStrictlySortedBy, IsNonDecreasingBy, IsPartitionPoint}
-use Rattle.std.specs.Ordering.{is_eq, is_lt, ordering_index, ordering_reverse}
-use Rattle.std.specs.declared.cmp.Ordering.{Ordering}
-use Rattle.std.specs.declared.cmp.Ordering.TheVariants.{Less, Equal, Greater}
-use Rattle.std.proofs.lemmas.Cmp.{alike_right, tied_back}
+use Rattle.toll_base.proofs.Common.{false≢true, IsTotalOrder, eq_by_cmp_equiv, AllByRecursion, HoldsAt, insert, IsStrictlySortedBy, IsNonDecreasingBy, IsPartitionPoint, is_eq, is_lt, ordering_index, ordering_reverse, Ordering, Less, Equal, Greater, alike_right, tied_back}
 use Rattle.toll_base.specs.Table.{IsInKeyOrder, row_at, replace_row, insert_row, put_row}
 
 cond_twice : {X : Type 0} (b : Bool) (new old rest : X) → cond b new rest ≡ cond b new (cond b old rest)

@@ -1,3 +1,4 @@
+pub mod Common
 pub mod Bools
 pub mod Digits
 pub mod KeyOrder

@@ -1,12 +1,6 @@
 -- What a put does to a count of rows, to a test of each row, and to what is there.
 use Rattle.std.proofs.Common.{◌≡◌, ℕ, ◌+◌, ◌≤◌, Bool, true, false, ◌||◌, List, [], ◌∷◌, length, Option, Some, None, is_some, cond, nat_lt, refl, sym, ap, subst, ◌∙◌, arith}
-use mathlib.Core.Bool.{false≢true}
-use Rattle.std.specs.Cmp.{IsTotalOrder}
-use Rattle.std.specs.List.{count_by}
-use Rattle.std.specs.Ordering.{is_eq, is_lt}
-use Rattle.std.specs.declared.cmp.Ordering.{Ordering}
-use Rattle.std.proofs.lemmas.Cmp.{tied_itself}
-use Rattle.std.proofs.lemmas.Bool.Decides.{nat_tests}
+use Rattle.toll_base.proofs.Common.{false≢true, IsTotalOrder, count_by, is_eq, is_lt, Ordering, tied_itself, nat_tests}
 use Rattle.std.proofs.lemmas.List.Recursion.{is_count_by}
 use Rattle.toll_base.specs.Table.{row_at, replace_row, insert_row, put_row, has_room}
 use Rattle.toll_base.specs.Words.{count, is_some_where, none_or}

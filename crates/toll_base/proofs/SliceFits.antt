@@ -1,8 +1,6 @@
 -- The test of a row is exactly whether the rules hold after it is put.
 use Rattle.std.proofs.Common.{◌≡◌, ℕ, ◌+◌, ◌≤◌, Bool, true, false, ◌||◌, is_some, Some, cond, nat_le, nat_lt, refl, sym, ap, ◌∙◌, arith, IsTrue, ◌↔◌}
-use mathlib.Core.Bool.{false≢true}
-use Rattle.std.specs.Cmp.Lexicographic.{nat_list_cmp_total}
-use Rattle.std.proofs.lemmas.Bool.Decides.{nat_tests}
+use Rattle.toll_base.proofs.Common.{false≢true, nat_list_cmp_total, nat_tests}
 use Rattle.toll_base.specs.Bytes.{Bytes, bytes_cmp}
 use Rattle.toll_base.specs.Keys.{pair_cmp, result_cmp, requirement_cmp}
 use Rattle.toll_base.specs.Table.{row_at}

@@ -1,13 +1,6 @@
 -- What takes a row out again, and what puts the row before it back.
 use Rattle.std.proofs.Common.{◌≡◌, ℕ, zero, suc, ◌+◌, ◌<◌, Bool, true, false, List, [], ◌∷◌, length, map, Some, None, is_some, cond, refl, sym, ap, ◌∙◌, arith}
-use mathlib.Core.Bool.{false≢true}
-use Rattle.std.specs.Cmp.{IsTotalOrder, eq_by_cmp_equiv}
-use Rattle.std.specs.List.{AllByRecursion, HoldsAt, remove}
-use Rattle.std.specs.List.Sorted.{IsStrictlySortedBy}
-use Rattle.std.specs.Ordering.{is_eq, is_lt}
-use Rattle.std.specs.declared.cmp.Ordering.{Ordering}
-use Rattle.std.specs.declared.cmp.Ordering.TheVariants.{Less, Equal}
-use Rattle.std.proofs.lemmas.Cmp.{tied_itself, tied_back}
+use Rattle.toll_base.proofs.Common.{false≢true, IsTotalOrder, eq_by_cmp_equiv, AllByRecursion, HoldsAt, remove, IsStrictlySortedBy, is_eq, is_lt, Ordering, Less, Equal, tied_itself, tied_back}
 use Rattle.toll_base.specs.Table.{IsInKeyOrder, row_at, replace_row, insert_row, put_row, remove_row}
 use Rattle.toll_base.specs.Words.{count}
 use Rattle.toll_base.proofs.KeyOrder.{cond_none, turned, below, row_at-put_row}

@@ -1,15 +1,8 @@
 -- A plan that is carried out.
 use Rattle.std.proofs.Common.{◌≡◌, ◌==◌, Bool, true, false, List, [], ◌∷◌, length, Result, Ok, Err, OnOk, OnErr, IfOk, refl, sym, ap, subst, arith, ◌∙◌}
-use Rattle.toll_history.specs.History.{History}
-use Rattle.toll_base.specs.declared.decision.Change.{Change}
-use Rattle.toll_base.proofs.Texts.{nat_eq-exact}
-use Rattle.toll_keep.specs.Meaning.{Meaning}
-use Rattle.toll_keep.specs.Content.{Content, after, Fits}
-use Rattle.toll_keep.specs.Goes.{Goes}
-use Rattle.toll_keep.specs.declared.fault.KeepFault.{KeepFault}
+use Rattle.toll_desk.proofs.Common.{History, Change, nat_eq-exact, Meaning, Content, after, Fits, Goes, KeepFault, goes_then, goes_as, goes_fault}
 use Rattle.toll_desk.specs.Outcome.{finished, IsDone}
 use Rattle.toll_desk.specs.Plans.{LeadsTo}
-use Rattle.toll_keep.proofs.Calls.{goes_then, goes_as, goes_fault}
 
 pub no_changes : (changes : List Change) → (length changes == 0) ≡ true → changes ≡ []
 no_changes [] e = refl

@@ -1,39 +1,13 @@
 -- The plant's decisions over the content of a keep.
 use Rattle.std.specs.Prelude.{nat_le}
 use Rattle.std.proofs.Common.{◌≡◌, Bool, true, false, not, ◌&&◌, Option, Some, None, is_some, [], ◌∷◌, refl, sym, ap, subst, ◌∙◌}
-use Rattle.std.specs.List.{list_any}
-use Rattle.toll_base.specs.Bytes.{Bytes, bytes_cmp, same_bytes}
-use Rattle.toll_base.specs.Values.{house_name}
-use Rattle.toll_base.specs.Words.{where_so}
-use Rattle.toll_base.specs.Table.{row_at}
-use Rattle.toll_history.specs.Command.{Action, AddOwner, AddUnit, OpenBatch, Command, by}
-use Rattle.toll_history.specs.History.{History, acts, adds_owner, owner_known, unit_known, count_units}
-use Rattle.toll_base.specs.Slice.{Slice}
-use Rattle.toll_history.specs.Tables.{IsRowsOf}
-use Rattle.toll_history.specs.Verdict.{Verdict, Accepted, Repeated, Refused, first_of, checks, needs_owner, verdict, grown, IsLawful, IsValid}
-use Rattle.toll_base.specs.Changes.{changes_of, after_changes}
-use Rattle.toll_history.specs.Decision.{changes_if, ChangesKeepRules, IsDecided, Decides, DecidesWith, DecisionKeepsRules}
-use Rattle.toll_history.specs.OwnChanges.{PutsOnly}
-use Rattle.toll_base.specs.declared.rows.OwnerRow.{OwnerRow}
-use Rattle.toll_base.specs.declared.rows.UnitRow.{UnitRow}
-use Rattle.toll_base.specs.declared.decision.Change.TheVariants.{Owner, Unit as UnitAdded}
-use Rattle.toll_base.specs.declared.decision.Decision.{Decision}
-use Rattle.toll_base.specs.declared.decision.Decision.TheVariants.{Refuse}
-use Rattle.toll_base.specs.declared.refusal.Refusal.TheVariants.{UnknownOwner, OwnerExists, UnitExists, LimitReached}
-use Rattle.toll_base.proofs.Texts.{same_bytes-refl}
-use Rattle.toll_history.proofs.Passed.{accepted_passes}
-use Rattle.toll_answers.specs.PlantAnswers.{PlantAsked, Does, Judged}
-use Rattle.toll_keep.specs.Content.{Content}
-use Rattle.toll_standing.specs.Standing.{StandsFor}
-use Rattle.toll_standing.proofs.Knowing.{standing_knows}
+use Rattle.toll_desk.proofs.Common.{list_any, Bytes, bytes_cmp, same_bytes, house_name, where_so, row_at, Action, AddOwner, AddUnit, OpenBatch, Command, by, History, acts, adds_owner, owner_known, unit_known, count_units, Slice, IsRowsOf, Verdict, Accepted, Repeated, Refused, first_of, checks, needs_owner, verdict, grown, IsLawful, IsValid, changes_of, after_changes, changes_if, ChangesKeepRules, IsDecided, Decides, DecidesWith, DecisionKeepsRules, PutsOnly, OwnerRow, UnitRow, Owner, Unit as UnitAdded, Decision, Refuse, UnknownOwner, OwnerExists, UnitExists, LimitReached, same_bytes-refl, accepted_passes, PlantAsked, Does, Judged, Content, StandsFor, standing_knows, false≢true, option_map}
 use Rattle.toll_standing.proofs.UnitHolders.{same_holder}
 use Rattle.toll_keep.specs.Holding.{IsHolder}
 use Rattle.toll_standing.specs.Held.{on_unit}
 use Rattle.toll_keep.specs.declared.holder.Holder.{Holder}
 use Rattle.toll_history.specs.Holders.{holder}
 use Rattle.toll_work.specs.Opening.{IsToldOfUnit, DecidesOpening}
-use mathlib.Core.Bool.{false≢true}
-use Rattle.std.specs.Option.{option_map}
 use Rattle.toll_desk.specs.Admission.{owner_row_checks, unit_row_checks}
 use Rattle.toll_desk.specs.Plans.{LeadsTo, PutsShared, IsOwnDecision, IsPlantDecision}
 use Rattle.toll_desk.specs.Subjects.{IsDeed, IsOwn, concerned, is_shared}

@@ -1,13 +1,6 @@
 -- A search among rows.
 use Rattle.std.proofs.Common.{◌≡◌, ℕ, zero, suc, ◌<◌, ◌≤◌, true, false, not, ◌&&◌, is_some, cond, Option, Some, None, List, [], ◌∷◌, length, get_or, drop, refl, sym, ap, ◌∙◌, arith}
-use Rattle.std.proofs.lemmas.List.{drop_all}
-use mathlib.Core.Bool.{false≢true}
-use Rattle.toll_base.specs.Bytes.{Bytes, bytes_cmp, same_bytes}
-use Rattle.toll_base.specs.Values.{house_name}
-use Rattle.toll_base.specs.Words.{is_some_where, where_so}
-use Rattle.toll_base.specs.Table.{row_at}
-use Rattle.toll_base.specs.declared.rows.OwnerRow.{OwnerRow}
-use Rattle.toll_base.proofs.Texts.{same_bytes-exact}
+use Rattle.toll_desk.proofs.Common.{drop_all, false≢true, Bytes, bytes_cmp, same_bytes, house_name, is_some_where, where_so, row_at, OwnerRow, same_bytes-exact}
 use Rattle.toll_desk.specs.Admission.{is_admitted}
 
 module _ {R : Type 0} (key : R → Bytes) where

@@ -1,11 +1,8 @@
 -- How a recall goes: reading calls that were answered, and then one more, or damage that is told.
 use Rattle.std.proofs.Common.{◌≡◌, Result, Ok, Err, inl, inr}
-use Rattle.toll_keep.specs.Meaning.{Meaning}
-use Rattle.toll_keep.specs.Goes.{IsReading}
-use Rattle.toll_keep.specs.declared.fault.KeepFault.{KeepFault}
+use Rattle.toll_desk.proofs.Common.{Meaning, IsReading, KeepFault, reads_then, read_ok, read_fault}
 use Rattle.toll_keep.specs.declared.fault.KeepFault.TheVariants.{Damaged}
 use Rattle.toll_desk.specs.Questions.{IsGoing}
-use Rattle.toll_keep.proofs.Calls.{reads_then, read_ok, read_fault}
 
 module _ {K : Type 0} (meaning : Meaning K) (old new : K) where
   abbrev ReadsTo : {X : Type 0} → K → K → Result X KeepFault → Type 0

@@ -1,18 +1,8 @@
 -- Commands of which the changes are held back.
 use Rattle.std.proofs.Common.{◌≡◌, ◌++◌, false, Option, [], Result, Ok, Err, IfOk, inl, inr, refl, sym, ap, subst, ◌∙◌}
-use Rattle.std.proofs.lemmas.List.{append-nil}
-use Rattle.toll_base.specs.Changes.{changes_of}
-use Rattle.toll_base.specs.declared.decision.Decision.{Decision}
-use Rattle.toll_base.specs.declared.refusal.Refusal.{Refusal}
-use Rattle.toll_history.specs.Decision.{verdict_of}
-use Rattle.toll_history.specs.History.{History}
-use Rattle.toll_history.specs.Verdict.{Refused as RefusedFor}
-use Rattle.toll_keep.specs.Content.{Content, after}
-use Rattle.toll_keep.specs.Meaning.{Meaning, OverHeld}
+use Rattle.toll_desk.proofs.Common.{append-nil, changes_of, Decision, Refusal, verdict_of, History, Refused as RefusedFor, Content, after, Meaning, OverHeld, KeepFault, CannotRead, Judged, PlantAsked}
 use Rattle.toll_keep.specs.Overlays.{IsOver, ReadsThrough}
-use Rattle.toll_keep.specs.declared.fault.KeepFault.{KeepFault}
 use Rattle.toll_keep.specs.declared.overlay.Overlay.{Overlay}
-use Rattle.toll_answers.specs.PlantAnswers.{CannotRead, Judged, PlantAsked}
 use Rattle.toll_desk.specs.Asking.{is_accepted, plant_told}
 use Rattle.toll_desk.specs.Clauses.{IsPlantPlanned}
 use Rattle.toll_desk.specs.PlantHeld.{IsHeldAs, IsPlannedOn, IsPlantHeld, IsToldOver, IsVerdictOrMemory}

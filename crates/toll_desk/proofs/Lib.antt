@@ -1,3 +1,4 @@
+pub mod Common
 pub mod Lift
 pub mod Found
 pub mod OwnerAdded

@@ -1,35 +1,10 @@
 -- From what a decision owes to every slice to what a plan owes over the content of a keep.
 use Rattle.std.proofs.Common.{◌≡◌, ◌⊎◌, inl, inr, ℕ, ◌+◌, Bool, true, false, ◌&&◌, ◌||◌, cond, Option, None, is_some, List, [], ◌∷◌, refl, sym, ap, subst, ◌∙◌, arith}
-use mathlib.Core.Bool.{false≢true}
-use Rattle.std.specs.List.{list_any}
-use Rattle.std.specs.Option.{option_map}
-use Rattle.toll_base.specs.Bytes.{Bytes, bytes_cmp, same_bytes}
-use Rattle.toll_base.specs.Table.{row_at}
-use Rattle.toll_base.specs.Values.{house_name}
-use Rattle.toll_base.specs.Words.{or_else, where_so}
-use Rattle.toll_history.specs.Command.{Action, AddOwner, AddUnit, by}
-use Rattle.toll_history.specs.History.{History, acts, key_added, adds_owner, owner_key, owner_known, count_owners, unit_known, count_units}
-use Rattle.toll_base.specs.Slice.{Slice, empty_slice, with_row}
+use Rattle.toll_desk.proofs.Common.{false≢true, list_any, option_map, Bytes, bytes_cmp, same_bytes, row_at, house_name, or_else, where_so, Action, AddOwner, AddUnit, by, History, acts, key_added, adds_owner, owner_key, owner_known, count_owners, unit_known, count_units, Slice, empty_slice, with_row, IsRowsOf, Verdict, Accepted, Repeated, Refused, verdict, grown, grow, IsLawful, after_change, after_changes, ChangesKeepRules, EachChange, is_put_of, is_put_in_house, PutsOnly, PutsOnlyWith, OwnerRow, UnitRow, Change, Owner, Unit as UnitAdded, Put, first_acts, any_acts, same_bytes-exact, same_bytes-refl, Content, knows, after_owners, after_units, PutsToKnown, StandsFor, AreOwnersOf, AreUnitsOf, standing_keeps_rules, standing_knows, owner-with_row}
 use Rattle.toll_base.specs.SliceRules.{KeepsRules}
-use Rattle.toll_history.specs.Tables.{IsRowsOf}
-use Rattle.toll_history.specs.Verdict.{Verdict, Accepted, Repeated, Refused, verdict, grown, grow, IsLawful}
-use Rattle.toll_base.specs.Changes.{after_change, after_changes}
-use Rattle.toll_history.specs.Decision.{ChangesKeepRules}
-use Rattle.toll_history.specs.OwnChanges.{EachChange, is_put_of, is_put_in_house, PutsOnly, PutsOnlyWith}
 use Rattle.toll_base.specs.declared.rows.Row.{Row}
 use Rattle.toll_base.specs.declared.rows.Row.TheVariants.{Material, Test, Recipe, Requirement, Order, Batch, Lot, Sublot, Move, Result, Void}
-use Rattle.toll_base.specs.declared.rows.OwnerRow.{OwnerRow}
-use Rattle.toll_base.specs.declared.rows.UnitRow.{UnitRow}
-use Rattle.toll_base.specs.declared.decision.Change.{Change}
-use Rattle.toll_base.specs.declared.decision.Change.TheVariants.{Owner, Unit as UnitAdded, Put}
-use Rattle.toll_history.proofs.Acts.{first_acts, any_acts}
-use Rattle.toll_base.proofs.Texts.{same_bytes-exact, same_bytes-refl}
-use Rattle.toll_keep.specs.Content.{Content, knows, after_owners, after_units, PutsToKnown}
-use Rattle.toll_standing.specs.Standing.{StandsFor, AreOwnersOf, AreUnitsOf}
 use Rattle.toll_standing.proofs.Fitting.{kept_rules_fit}
-use Rattle.toll_standing.proofs.KeptRules.{standing_keeps_rules}
-use Rattle.toll_standing.proofs.Knowing.{standing_knows}
-use Rattle.toll_keep.proofs.Slicing.{owner-with_row}
 use Rattle.toll_desk.specs.Plans.{LeadsTo, is_shared_put, PutsShared}
 
 -- ---- owners and units

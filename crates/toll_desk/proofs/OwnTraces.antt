@@ -1,38 +1,11 @@
 -- Traces over the edges that a keep has.
 use Rattle.std.proofs.Common.{◌≡◌, ◌⊎◌, Bool, true, false, Some, not, ◌&&◌, ◌||◌, is_some, List, [], ◌∷◌, Contains, refl, sym, ap, subst, inl, inr, ◌∙◌}
-use mathlib.Core.Bool.{false≢true}
+use Rattle.toll_desk.proofs.Common.{false≢true, list_any, Bytes, same_bytes, Slice, lot_id, same_lot, house_name, is_some_where, Edge, LotId, UnknownLot, same_bytes-refl, Action, Record, History, acts, movement_recorded, voided_in, IsRowsOf, lot_row, IsLawful, edge_of, IsJoined, AreEdges, IsTrace, Step, Contains-none, Contains-cases, Contains-here, Contains-later, IsOwnEdge, IsOwnJoined, lots_owned, lots_known, consumes_lot, has_consumed, IsAnswer, TellTrace, TellRefused, Content, slice_of, StandsFor}
 use Rattle.std.proofs.lemmas.Bool.{or_left, or_right}
-use Rattle.std.specs.List.{list_any}
-use Rattle.toll_base.specs.Bytes.{Bytes, same_bytes}
-use Rattle.toll_base.specs.Slice.{Slice}
-use Rattle.toll_base.specs.Lots.{lot_id, same_lot}
-use Rattle.toll_base.specs.Values.{house_name}
-use Rattle.toll_base.specs.Words.{is_some_where}
-use Rattle.toll_base.specs.declared.lot.Edge.{Edge}
-use Rattle.toll_base.specs.declared.lot.LotId.{LotId}
 use Rattle.toll_base.specs.declared.movement.MoveRow.{MoveRow}
-use Rattle.toll_base.specs.declared.refusal.Refusal.TheVariants.{UnknownLot}
-use Rattle.toll_base.proofs.Texts.{same_bytes-refl}
-use Rattle.toll_history.specs.Command.{Action, Record}
-use Rattle.toll_history.specs.History.{History, acts}
-use Rattle.toll_history.specs.Movements.{movement_recorded, voided_in}
-use Rattle.toll_history.specs.Tables.{IsRowsOf, lot_row}
-use Rattle.toll_history.specs.Verdict.{IsLawful}
 use Rattle.toll_history.proofs.Moving.{same_lot-exact}
-use Rattle.toll_trace.specs.Chain.{edge_of, IsJoined}
-use Rattle.toll_trace.specs.Edges.{AreEdges}
-use Rattle.toll_trace.specs.Trace.{IsTrace}
-use Rattle.toll_trace.specs.declared.step.Step.{Step}
 use Rattle.toll_trace.specs.declared.way.Way.{Way}
-use Rattle.toll_trace.proofs.Members.{Contains-none, Contains-cases, Contains-here, Contains-later}
 use Rattle.toll_trace.proofs.Unique.{trace_same}
-use Rattle.toll_genealogy.specs.Edges.{IsOwnEdge, IsOwnJoined}
-use Rattle.toll_genealogy.proofs.KnownLots.{lots_owned, lots_known}
-use Rattle.toll_views.specs.Views.{consumes_lot, has_consumed}
-use Rattle.toll_answers.specs.Replies.{IsAnswer}
-use Rattle.toll_answers.specs.Told.{TellTrace, TellRefused}
-use Rattle.toll_keep.specs.Content.{Content, slice_of}
-use Rattle.toll_standing.specs.Standing.{StandsFor}
 use Rattle.toll_desk.specs.Forms.{asked_to_trace, traced_from, traced_way}
 use Rattle.toll_desk.specs.Questions.{may_trace}
 use Rattle.toll_desk.specs.declared.form.Tracing.{Tracing}

@@ -1,34 +1,8 @@
 -- An owner that is added: the content with it stands for the history with it.
 use Rattle.std.proofs.Common.{◌≡◌, Bool, true, false, cond, ◌||◌, ◌&&◌, Option, Some, None, is_some, [], ◌∷◌, refl, sym, ap, subst, ◌∙◌, arith}
-use mathlib.Core.Bool.{false≢true}
-use Rattle.std.specs.Cmp.Lexicographic.{nat_list_cmp_total}
-use Rattle.std.specs.List.{list_any}
-use Rattle.std.specs.Option.{option_map}
-use Rattle.std.specs.Ordering.{is_eq}
-use Rattle.toll_base.specs.Bytes.{Bytes, bytes_cmp, same_bytes}
-use Rattle.toll_base.specs.Values.{house_name}
-use Rattle.toll_base.specs.Words.{or_else}
-use Rattle.toll_base.specs.Table.{row_at, put_row}
-use Rattle.toll_history.specs.Command.{AddOwner, Command, by}
-use Rattle.toll_history.specs.History.{History, acts, key_added, adds_owner, owner_key, owner_known}
-use Rattle.toll_history.specs.Movements.{stock, sublot_known, lot_made, count_lots, count_sublots, material_used}
-use Rattle.toll_base.specs.Slice.{empty_slice}
-use Rattle.toll_history.specs.Tables.{IsRowsOf, tables_given}
-use Rattle.toll_history.specs.Verdict.{Accepted, verdict, IsLawful}
-use Rattle.toll_base.specs.declared.rows.OwnerRow.{OwnerRow}
-use Rattle.toll_base.specs.declared.decision.Change.TheVariants.{Owner}
-use Rattle.toll_history.proofs.Acts.{first_acts, any_acts}
-use Rattle.toll_history.proofs.Grown.{tables-own, tables-others}
-use Rattle.toll_base.proofs.KeyOrder.{row_at-put_row, put_row_ordered}
-use Rattle.toll_history.proofs.Own.{part-own}
+use Rattle.toll_desk.proofs.Common.{false≢true, nat_list_cmp_total, list_any, option_map, is_eq, Bytes, bytes_cmp, same_bytes, house_name, or_else, row_at, put_row, AddOwner, Command, by, History, acts, key_added, adds_owner, owner_key, owner_known, stock, sublot_known, lot_made, count_lots, count_sublots, material_used, empty_slice, IsRowsOf, tables_given, Accepted, verdict, IsLawful, OwnerRow, Owner, first_acts, any_acts, tables-own, tables-others, row_at-put_row, put_row_ordered, part-own, length-new, same_bytes-exact, same_bytes-refl, same_bytes-symm, Content, StandsFor, AreOwnersOf, standing_knows, neither, nothing_of_unknown}
 use Rattle.toll_history.proofs.OwnTables.{tables-part}
-use Rattle.toll_base.proofs.PutTables.{length-new}
-use Rattle.toll_base.proofs.Texts.{same_bytes-exact, same_bytes-refl, same_bytes-symm}
-use Rattle.toll_keep.specs.Content.{Content}
-use Rattle.toll_standing.specs.Standing.{StandsFor, AreOwnersOf}
-use Rattle.toll_standing.proofs.Knowing.{standing_knows}
 use Rattle.toll_desk.specs.Plans.{LeadsTo}
-use Rattle.toll_standing.proofs.Unknown.{neither, nothing_of_unknown}
 
 -- an owner whose only command added it has no rows yet
 rows_of_new : (o key : Bytes) → IsRowsOf (by o (AddOwner key) ∷ []) (empty_slice o)

@@ -1,12 +1,6 @@
 -- What is so of a request, by its form.
 use Rattle.std.proofs.Common.{◌≡◌, Bool, true, false, ◌&&◌, [], refl, sym, subst}
-use mathlib.Core.Bool.{false≢true}
-use Rattle.toll_base.specs.Bytes.{Bytes}
-use Rattle.toll_history.specs.History.{History}
-use Rattle.toll_answers.specs.Told.{Asked, Told}
-use Rattle.toll_answers.specs.Replies.{IsAnswer, after_answer}
-use Rattle.toll_keep.specs.Content.{Content}
-use Rattle.toll_standing.specs.Standing.{StandsFor}
+use Rattle.toll_desk.proofs.Common.{false≢true, Bytes, History, Asked, Told, IsAnswer, after_answer, Content, StandsFor}
 use Rattle.toll_desk.specs.Forms.{asked_to_read, asked_to_trace, asked_to_write}
 use Rattle.toll_desk.specs.Asking.{writes}
 use Rattle.toll_desk.specs.Plans.{LeadsTo, IsPlanFor}

@@ -1,26 +1,7 @@
 -- From a plan over a slice to a plan over the content of a keep.
 use Rattle.std.proofs.Common.{◌≡◌, Bool, true, false, not, ◌&&◌, ◌||◌, Option, Some, None, is_some, List, [], refl, sym, ap, subst, ◌∙◌}
 use Rattle.std.specs.Prelude.{if◌then◌else◌}
-use Rattle.std.specs.Option.{option_map}
-use Rattle.toll_base.specs.Bytes.{Bytes, bytes_cmp, same_bytes}
-use Rattle.toll_base.specs.Values.{house_name}
-use Rattle.toll_base.specs.Words.{is_some_where, where_so}
-use Rattle.toll_base.specs.Table.{row_at}
-use Rattle.toll_history.specs.Command.{PlaceOrder, CancelOrder, Release, Reject}
-use Rattle.toll_history.specs.History.{History, acts, owner_key, owner_known}
-use Rattle.toll_base.specs.Slice.{Slice}
-use Rattle.toll_history.specs.Tables.{IsRowsOf}
-use Rattle.toll_history.specs.Verdict.{IsLawful}
-use Rattle.toll_base.specs.Changes.{after_changes}
-use Rattle.toll_history.specs.Decision.{ChangesKeepRules}
-use Rattle.toll_base.specs.declared.decision.Change.{Change}
-use Rattle.toll_base.specs.declared.rows.OwnerRow.{OwnerRow}
-use Rattle.toll_keep.specs.Content.{Content, knows, slice_of}
-use Rattle.toll_standing.specs.Standing.{StandsFor}
-use Rattle.toll_standing.proofs.Knowing.{standing_knows}
-use Rattle.toll_history.specs.OwnChanges.{PutsOnly}
-use Rattle.toll_answers.specs.Told.{Asked, AskPlace, AskCancel, AskRelease, AskReject, Told, TellForbidden}
-use Rattle.toll_answers.specs.Replies.{has_key, IsAnswer, after_answer, IsReply, after_reply}
+use Rattle.toll_desk.proofs.Common.{option_map, Bytes, bytes_cmp, same_bytes, house_name, is_some_where, where_so, row_at, PlaceOrder, CancelOrder, Release, Reject, History, acts, owner_key, owner_known, Slice, IsRowsOf, IsLawful, after_changes, ChangesKeepRules, Change, OwnerRow, Content, knows, slice_of, StandsFor, standing_knows, PutsOnly, Asked, AskPlace, AskCancel, AskRelease, AskReject, Told, TellForbidden, has_key, IsAnswer, after_answer, IsReply, after_reply}
 use Rattle.toll_desk.specs.Admission.{is_admitted}
 use Rattle.toll_desk.specs.Plans.{IsPlanOver, IsPlanFor, IsPlan}
 use Rattle.toll_desk.proofs.Lift.{SamePlant, same_plant-refl, same_grown, leads_on, leads_nowhere}

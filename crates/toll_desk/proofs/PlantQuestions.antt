@@ -1,10 +1,6 @@
 -- What comes of a question of the plant.
 use Rattle.std.proofs.Common.{◌≡◌, [], Result, Ok, Err, IfOk, OnOk, OnErr, sym, subst}
-use Rattle.toll_history.specs.History.{History}
-use Rattle.toll_keep.specs.Meaning.{Meaning}
-use Rattle.toll_keep.specs.Content.{Content}
-use Rattle.toll_keep.specs.Goes.{Keeps}
-use Rattle.toll_standing.specs.Standing.{StandsFor}
+use Rattle.toll_desk.proofs.Common.{History, Meaning, Content, Keeps, StandsFor}
 use Rattle.toll_desk.specs.Outcome.{IsDone, HoldsFor}
 
 -- what leaves the history and the content is done where what is told is so

@@ -1,41 +1,13 @@
 -- What the plant is shown, over rows and edges that a keep has.
 use Rattle.std.specs.Prelude.{ℕ, is_none}
-use Rattle.std.specs.Option.{option_map}
+use Rattle.toll_desk.proofs.Common.{option_map, false≢true, list_any, Bytes, bytes_cmp, Slice, IsInKeyOrder, Edge, LotId, UnknownOwner, UnknownLot, UnknownOrder, UnknownBatch, BatchRow, OrderRow, Record, History, acts, owner_known, IsRowsOf, lot_row, tables_given, Checks, Refused, first_of, known_batch_checks, IsLawful, order_of, batch_of, unit_of, state_of, is_closed, AreEdges, Contains-none, IsOwnEdge, IsPlantEdge, WasDone, lots_owned, IsViewOver, BatchView, orders_text, batch_text, recall_text, IsRecall, RecallLine, PlantAsked, PlantTold, AsksOrders, AsksStock, AsksBatch, Judged, Shows, AreOrdersShown, IsBatchShownOr, IsCheckedOr, AsksRecall, IsPlantAnswer, owner_checks, lot_checks, acts_of_unknown, Content, slice_of, StandsFor}
 use Rattle.std.proofs.Common.{◌≡◌, ◌⊎◌, true, false, Option, Some, None, is_some, List, [], ◌∷◌, Result, Ok, Err, IfOk, IfErr, refl, sym, ap, subst, inl, inr, ◌∙◌, ◌&&◌, Bool}
-use mathlib.Core.Bool.{false≢true}
-use Rattle.std.specs.List.{list_any}
-use Rattle.toll_base.specs.Bytes.{Bytes, bytes_cmp}
-use Rattle.toll_base.specs.Slice.{Slice}
-use Rattle.toll_base.specs.Table.{IsInKeyOrder}
-use Rattle.toll_base.specs.declared.lot.Edge.{Edge}
-use Rattle.toll_base.specs.declared.lot.LotId.{LotId}
-use Rattle.toll_base.specs.declared.refusal.Refusal.TheVariants.{UnknownOwner, UnknownLot, UnknownOrder, UnknownBatch}
-use Rattle.toll_base.specs.declared.rows.BatchRow.{BatchRow}
-use Rattle.toll_base.specs.declared.rows.OrderRow.{OrderRow}
-use Rattle.toll_history.specs.Command.{Record}
-use Rattle.toll_history.specs.History.{History, acts, owner_known}
-use Rattle.toll_history.specs.Tables.{IsRowsOf, lot_row, tables_given}
-use Rattle.toll_history.specs.Verdict.{Checks, Refused, first_of, known_batch_checks, IsLawful}
-use Rattle.toll_history.specs.Work.{order_of, batch_of, unit_of, state_of, is_closed}
-use Rattle.toll_trace.specs.Edges.{AreEdges}
-use Rattle.toll_trace.proofs.Members.{Contains-none}
-use Rattle.toll_genealogy.specs.Edges.{IsOwnEdge, IsPlantEdge, WasDone}
-use Rattle.toll_genealogy.proofs.KnownLots.{lots_owned}
-use Rattle.toll_work.specs.BatchView.{IsViewOver}
-use Rattle.toll_work.specs.declared.views.BatchView.{BatchView}
-use Rattle.toll_print.specs.Texts.{orders_text, batch_text, recall_text}
-use Rattle.toll_genealogy.specs.Recall.{IsRecall}
-use Rattle.toll_genealogy.specs.declared.recall.RecallLine.{RecallLine}
 use Rattle.toll_desk.specs.Questions.{is_known_lot}
-use Rattle.toll_answers.specs.PlantAnswers.{PlantAsked, PlantTold, AsksOrders, AsksStock, AsksBatch, Judged, Shows, AreOrdersShown, IsBatchShownOr, IsCheckedOr, AsksRecall, IsPlantAnswer, owner_checks, lot_checks}
-use Rattle.toll_standing.proofs.Unknown.{acts_of_unknown}
 use Rattle.toll_desk.specs.Subjects.{AsksRows, asked_of_rows, concerned}
 use Rattle.toll_desk.proofs.DeedPlans.{house_known}
 use Rattle.toll_desk.proofs.OwnTraces.{touches, joined_edge, joined_known, rows_read}
 use Rattle.toll_desk.proofs.OwnerPlans.{some_read}
 use Rattle.toll_history.specs.OverRows.{OverOwnRows}
-use Rattle.toll_keep.specs.Content.{Content, slice_of}
-use Rattle.toll_standing.specs.Standing.{StandsFor}
 
 -- what is so of an answer, where it is this one
 pub told_ok : {X E : Type 0} (P : X → Type 0) (r : Result X E) (x : X) → r ≡ Ok x → IfOk r P → P x

@@ -1,26 +1,6 @@
 -- What an owner is told over its rows.
 use Rattle.std.proofs.Common.{◌≡◌, ℕ, Option, Some, None, Bool, true, false, not, is_some, is_none, List, [], ◌∷◌, refl, sym, ap, subst, ◌∙◌}
-use Rattle.std.specs.Option.{option_map}
-use mathlib.Core.Bool.{false≢true}
-use Rattle.toll_base.specs.Bytes.{Bytes, bytes_cmp}
-use Rattle.toll_base.specs.Keys.{requirement_cmp}
-use Rattle.toll_base.specs.Slice.{Slice, order_at}
-use Rattle.toll_base.specs.Table.{row_at, IsInKeyOrder, AreRowsGiven}
-use Rattle.toll_history.specs.History.{History, acts}
-use Rattle.toll_history.specs.Work.{order_of, batch_of, unit_of, state_of, is_closed}
-use Rattle.toll_history.specs.Tables.{Tables, IsRowsOf}
-use Rattle.toll_history.specs.Command.{Action}
-use Rattle.toll_history.specs.Verdict.{Verdict, first_of}
-use Rattle.toll_base.specs.declared.refusal.Refusal.TheVariants.{UnknownOrder, UnknownBatch, UnknownLot}
-use Rattle.toll_base.specs.declared.rows.BatchRow.{BatchRow}
-use Rattle.toll_base.specs.declared.rows.LotRow.{LotRow}
-use Rattle.toll_base.specs.declared.rows.OrderRow.{OrderRow}
-use Rattle.toll_views.specs.Views.{IsLotViewOf}
-use Rattle.toll_views.specs.declared.lot.LotView.{LotView}
-use Rattle.toll_work.specs.BatchView.{IsViewOver, line_of, line_key}
-use Rattle.toll_work.specs.declared.views.BatchView.{BatchView}
-use Rattle.toll_answers.specs.Told.{TellOrders, TellBatch, TellLot, TellRefused}
-use Rattle.toll_answers.specs.Replies.{AreOrdersTold, IsLotOr, IsBatchOr}
+use Rattle.toll_desk.proofs.Common.{option_map, false≢true, Bytes, bytes_cmp, requirement_cmp, Slice, order_at, row_at, IsInKeyOrder, AreRowsGiven, History, acts, order_of, batch_of, unit_of, state_of, is_closed, Tables, IsRowsOf, Action, Verdict, first_of, UnknownOrder, UnknownBatch, UnknownLot, BatchRow, LotRow, OrderRow, IsLotViewOf, LotView, IsViewOver, line_of, line_key, BatchView, TellOrders, TellBatch, TellLot, TellRefused, AreOrdersTold, IsLotOr, IsBatchOr}
 
 -- the orders that a slice has are those of the history
 pub given_orders : (H : History) (s : Slice) → IsRowsOf H s → (k : Bytes) → order_at s k ≡ order_of (acts s.owner H) k

@@ -1,40 +1,12 @@
 -- The lines of a recall, over the rows of the owners of its lots.
 use Rattle.std.specs.Prelude.{position, nat_lt}
-use Rattle.std.specs.List.{position_or_len}
-use Rattle.std.specs.Option.{option_map}
+use Rattle.toll_desk.proofs.Common.{position_or_len, option_map, false≢true, take_more, map-append, Contains-push_cases, Contains-get_or, Bytes, Slice, LotId, LotRow, Disposition, lot_id, where_so, disposition_of, Made, lot_made, totals_given, same_bytes-exact, History, acts, owner_known, IsRowsOf, lot_row, IsLawful, IsChain, IsTrace, Step, Forward, Contains-none, IsPlantJoined, recall_line, IsRecall, RecallLine, is_of, has_slice, has_found, has_more, has_new}
 use Rattle.std.proofs.Common.{Result, Ok, Err, IsErrAnd, ◌≡◌, ℕ, zero, suc, ◌<◌, ◌≤◌, ◌&&◌, Bool, true, false, cond, Option, Some, None, is_some, List, [], ◌∷◌, ◌++◌, length, map, get_or, take, ◌+◌, Contains, refl, sym, ap, subst, inl, inr, arith, ◌∙◌}
-use mathlib.Core.Bool.{false≢true}
-use Rattle.std.proofs.lemmas.List.{take_more, map-append}
 use Rattle.std.proofs.lemmas.Bool.Decides.{nat_tests}
-use Rattle.std.proofs.lemmas.List.Elements.{Contains-push_cases, Contains-get_or}
 use Rattle.std.proofs.lemmas.List.Quantifiers.{position-Some}
 use Rattle.std.proofs.lemmas.List.Sums.{fails_before_first}
-use Rattle.toll_base.specs.Bytes.{Bytes}
-use Rattle.toll_base.specs.Slice.{Slice}
-use Rattle.toll_base.specs.declared.lot.LotId.{LotId}
-use Rattle.toll_base.specs.declared.rows.LotRow.{LotRow}
-use Rattle.toll_base.specs.declared.lot.Disposition.{Disposition}
-use Rattle.toll_base.specs.Lots.{lot_id}
-use Rattle.toll_base.specs.Words.{where_so}
 use Rattle.toll_history.specs.Amounts.{on_hand, shipped}
-use Rattle.toll_history.specs.Dispositions.{disposition_of}
-use Rattle.toll_history.specs.Movements.{Made, lot_made}
-use Rattle.toll_stock.specs.LotTotals.{totals_given}
 use Rattle.toll_stock.specs.declared.stock.Totals.{Totals}
-use Rattle.toll_base.proofs.Texts.{same_bytes-exact}
-use Rattle.toll_history.specs.History.{History, acts, owner_known}
-use Rattle.toll_history.specs.Tables.{IsRowsOf, lot_row}
-use Rattle.toll_history.specs.Verdict.{IsLawful}
-use Rattle.toll_trace.specs.Chain.{IsChain}
-use Rattle.toll_trace.specs.Trace.{IsTrace}
-use Rattle.toll_trace.specs.declared.step.Step.{Step}
-use Rattle.toll_trace.specs.declared.way.Way.TheVariants.{Forward}
-use Rattle.toll_trace.proofs.Members.{Contains-none}
-use Rattle.toll_genealogy.specs.Edges.{IsPlantJoined}
-use Rattle.toll_genealogy.specs.Recall.{recall_line, IsRecall}
-use Rattle.toll_genealogy.specs.declared.recall.RecallLine.{RecallLine}
-use Rattle.toll_keep.specs.Slices.{is_of, has_slice}
-use Rattle.toll_keep.proofs.Slicing.{has_found, has_more, has_new}
 use Rattle.toll_desk.specs.Questions.{AreSlicesFor, IsLineOf, is_known_lot}
 use Rattle.toll_desk.proofs.OwnTraces.{any_member, joined_known}
 use Rattle.toll_desk.proofs.PlantShown.{end_owner}

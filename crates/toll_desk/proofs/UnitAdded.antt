@@ -1,26 +1,6 @@
 -- A unit that is added: the content with it stands for the history with it.
 use Rattle.std.proofs.Common.{◌≡◌, Bool, true, false, cond, ◌||◌, Option, Some, is_some, [], ◌∷◌, refl, sym, ap, subst, ◌∙◌, arith}
-use Rattle.std.specs.Cmp.Lexicographic.{nat_list_cmp_total}
-use Rattle.std.specs.List.{list_any}
-use Rattle.std.specs.Option.{option_map}
-use Rattle.std.specs.Ordering.{is_eq}
-use Rattle.toll_base.specs.Bytes.{Bytes, bytes_cmp, same_bytes}
-use Rattle.toll_base.specs.Values.{house_name}
-use Rattle.toll_base.specs.Words.{where_so}
-use Rattle.toll_base.specs.Table.{row_at, put_row}
-use Rattle.toll_history.specs.Command.{AddUnit, Command, by}
-use Rattle.toll_history.specs.History.{History, acts, key_added, adds_owner, owner_key, owner_known, unit_known}
-use Rattle.toll_history.specs.Tables.{tables_given}
-use Rattle.toll_base.specs.declared.rows.OwnerRow.{OwnerRow}
-use Rattle.toll_base.specs.declared.rows.UnitRow.{UnitRow}
-use Rattle.toll_base.specs.declared.decision.Change.TheVariants.{Unit as UnitAdded}
-use Rattle.toll_history.proofs.Acts.{first_acts, any_acts}
-use Rattle.toll_history.proofs.Grown.{tables-own, tables-others}
-use Rattle.toll_base.proofs.KeyOrder.{row_at-put_row, put_row_ordered}
-use Rattle.toll_base.proofs.PutTables.{length-new}
-use Rattle.toll_base.proofs.Texts.{same_bytes-exact, same_bytes-symm}
-use Rattle.toll_keep.specs.Content.{Content}
-use Rattle.toll_standing.specs.Standing.{StandsFor, AreOwnersOf, AreUnitsOf}
+use Rattle.toll_desk.proofs.Common.{nat_list_cmp_total, list_any, option_map, is_eq, Bytes, bytes_cmp, same_bytes, house_name, where_so, row_at, put_row, AddUnit, Command, by, History, acts, key_added, adds_owner, owner_key, owner_known, unit_known, tables_given, OwnerRow, UnitRow, Unit as UnitAdded, first_acts, any_acts, tables-own, tables-others, row_at-put_row, put_row_ordered, length-new, same_bytes-exact, same_bytes-symm, Content, StandsFor, AreOwnersOf, AreUnitsOf}
 use Rattle.toll_desk.specs.Plans.{LeadsTo}
 use Rattle.toll_desk.proofs.Lift.{none_else, idle, none_more}
 

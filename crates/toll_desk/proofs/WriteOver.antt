@@ -1,43 +1,13 @@
 -- What an owner is told of what is decided over its rows.
 use Rattle.std.proofs.Common.{◌≡◌, ℕ, Bool, true, false, not, ◌||◌, cond, Option, Some, None, is_some, is_none, List, [], ◌∷◌, refl, sym, ap, subst, ◌∙◌}
-use Rattle.std.specs.List.{list_any}
-use Rattle.std.specs.Option.{option_map}
-use mathlib.Core.Bool.{false≢true}
-use Rattle.toll_base.specs.Bytes.{Bytes, same_bytes}
-use Rattle.toll_base.specs.Keys.{result_cmp, pair_cmp}
-use Rattle.toll_base.specs.Lots.{lot_id}
-use Rattle.toll_base.specs.Table.{AreRowsGiven}
-use Rattle.toll_base.specs.Words.{or_else, where_so, is_some_where}
-use Rattle.toll_history.specs.Command.{Action, PlaceOrder, CancelOrder, Release, Reject, by}
-use Rattle.toll_history.specs.History.{History, acts, owner_known}
-use Rattle.toll_base.specs.Slice.{Slice, order_at}
-use Rattle.toll_history.specs.Dispositions.{result_of, disposition_of}
-use Rattle.toll_history.specs.Movements.{Made, lot_made}
-use Rattle.toll_history.specs.Work.{order_of, cancels, found, order_placed, measure_of}
-use Rattle.toll_history.specs.Tables.{IsRowsOf, lot_row, sublot_row}
-use Rattle.toll_history.specs.Verdict.{Verdict, Accepted, Repeated, Refused, verdict, grown, grow, is_quarantined, checks, IsLawful}
-use Rattle.toll_base.specs.Changes.{changes_of, after_changes}
-use Rattle.toll_history.specs.Decision.{verdict_of}
-use Rattle.toll_base.specs.declared.decision.Decision.{Decision}
-use Rattle.toll_base.specs.declared.lot.Disposition.{Disposition}
+use Rattle.toll_desk.proofs.Common.{list_any, option_map, false≢true, Bytes, same_bytes, result_cmp, pair_cmp, lot_id, AreRowsGiven, or_else, where_so, is_some_where, Action, PlaceOrder, CancelOrder, Release, Reject, by, History, acts, owner_known, Slice, order_at, result_of, disposition_of, Made, lot_made, order_of, cancels, found, order_placed, measure_of, IsRowsOf, lot_row, sublot_row, Verdict, Accepted, Repeated, Refused, verdict, grown, grow, is_quarantined, checks, IsLawful, changes_of, after_changes, verdict_of, Decision, Disposition, Refusal, UnknownOrder, LotRow, OrderRow, acts-own, accepted_passes, same_bytes-refl, IsLotViewOf, LotView, Asked, AskPlace, AskCancel, AskRelease, AskReject, Told, TellOrder, TellLot, TellRefused, IsOrderOr, IsLotOr, IsWritten, IsAnswer, after_answer}
 use Rattle.toll_base.specs.declared.lot.Disposition.TheVariants.{Released, Rejected}
-use Rattle.toll_base.specs.declared.refusal.Refusal.{Refusal}
-use Rattle.toll_base.specs.declared.refusal.Refusal.TheVariants.{UnknownOrder}
-use Rattle.toll_base.specs.declared.rows.LotRow.{LotRow}
-use Rattle.toll_base.specs.declared.rows.OrderRow.{OrderRow}
 use Rattle.toll_base.specs.declared.rows.ResultRow.{ResultRow}
 use Rattle.toll_base.specs.declared.rows.SublotRow.{SublotRow}
 use Rattle.toll_history.proofs.Options.{none_of}
-use Rattle.toll_history.proofs.Own.{acts-own}
-use Rattle.toll_history.proofs.Passed.{accepted_passes}
 use Rattle.toll_history.proofs.Uncancelled.{uncancelled}
 use Rattle.toll_history.proofs.Unmoved.{unmoved}
-use Rattle.toll_base.proofs.Texts.{same_bytes-refl}
 use Rattle.toll_stock.proofs.LotLaw.{released_now, rejected_now}
-use Rattle.toll_views.specs.Views.{IsLotViewOf}
-use Rattle.toll_views.specs.declared.lot.LotView.{LotView}
-use Rattle.toll_answers.specs.Told.{Asked, AskPlace, AskCancel, AskRelease, AskReject, Told, TellOrder, TellLot, TellRefused}
-use Rattle.toll_answers.specs.Replies.{IsOrderOr, IsLotOr, IsWritten, IsAnswer, after_answer}
 use Rattle.toll_desk.specs.Plans.{IsDisposed, Disposes, IsPlanOver, IsOwnDecision}
 use Rattle.toll_desk.proofs.ReadOver.{given_orders}
 

@@ -1,14 +1,11 @@
 -- Who is admitted, and what is checked of an owner and of a unit to be added.
 use Rattle.std.specs.Prelude.{Bool, not, ◌&&◌, ◌||◌, nat_le, Some, is_some, List, [], ◌∷◌, length}
-use Rattle.toll_base.specs.Bytes.{Bytes, bytes_cmp, same_bytes}
+use Rattle.toll_desk.specs.Common.{Bytes, bytes_cmp, same_bytes, house_name, is_some_where, Checks}
 use Rattle.toll_base.specs.Table.{row_at}
-use Rattle.toll_base.specs.Values.{house_name}
-use Rattle.toll_base.specs.Words.{is_some_where}
 use Rattle.toll_base.specs.declared.capacity.TheConstants.{MOST_OWNERS, MOST_UNITS}
 use Rattle.toll_base.specs.declared.refusal.Refusal.TheVariants.{OwnerExists, UnitExists, LimitReached}
 use Rattle.toll_base.specs.declared.rows.OwnerRow.{OwnerRow}
 use Rattle.toll_base.specs.declared.rows.UnitRow.{UnitRow}
-use Rattle.toll_history.specs.Verdict.{Checks}
 
 -- one of these owners besides HOUSE has the name and the key
 abbrev pub is_admitted : List OwnerRow → Bytes → Bytes → Bool

@@ -1,12 +1,7 @@
 -- What a request and a command of the plant ask, and what their replies tell.
 use Rattle.std.specs.Prelude.{Bool, true, false, ◌&&◌, Result, Ok, Err}
-use Rattle.toll_base.specs.Values.{house_name}
+use Rattle.toll_desk.specs.Common.{house_name, AddOwner, AddUnit, AddMaterial, AddTest, AddRecipe, Require, PlaceOrder, CancelOrder, OpenBatch, CommandBatch, CloseBatch, RecordResult, Release, Reject, Void, by, moves, Accepted, Repeated, Refused, IsValid, PlantAsked, Does, AsksOrders, AsksStock, AsksBatch, AsksTrace, AsksRecall, CannotRead, PlantTold, Judged, Shows, Asked, AskOrders, AskOrder, AskPlace, AskCancel, AskBatch, AskStock, AskLot, AskRelease, AskReject, AskBack, AskForward, AskHouseForward, Told, TellForbidden, TellOrders, TellOrder, TellBatch, TellStock, TellLot, TellTrace, TellRefused, KeepFault}
 use Rattle.toll_base.specs.declared.movement.Move.TheVariants as move
-use Rattle.toll_history.specs.Command.{AddOwner, AddUnit, AddMaterial, AddTest, AddRecipe, Require, PlaceOrder, CancelOrder, OpenBatch, CommandBatch, CloseBatch, RecordResult, Release, Reject, Void, by, moves}
-use Rattle.toll_history.specs.Verdict.{Accepted, Repeated, Refused, IsValid}
-use Rattle.toll_answers.specs.PlantAnswers.{PlantAsked, Does, AsksOrders, AsksStock, AsksBatch, AsksTrace, AsksRecall, CannotRead, PlantTold, Judged, Shows}
-use Rattle.toll_answers.specs.Told.{Asked, AskOrders, AskOrder, AskPlace, AskCancel, AskBatch, AskStock, AskLot, AskRelease, AskReject, AskBack, AskForward, AskHouseForward, Told, TellForbidden, TellOrders, TellOrder, TellBatch, TellStock, TellLot, TellTrace, TellRefused}
-use Rattle.toll_keep.specs.declared.fault.KeepFault.{KeepFault}
 use Rattle.toll_desk.specs.declared.plant_cmd.PlantCmd.{PlantCmd}
 use Rattle.toll_desk.specs.declared.plant_cmd.PlantCmd.TheVariants as cmd
 use Rattle.toll_desk.specs.declared.plant_cmd.PlantReply.{PlantReply}

@@ -1,35 +1,11 @@
 -- What the desk's functions say of what they answer, where several say the same.
 use Rattle.std.specs.Prelude.{◌≡◌, ◌≢◌, ◌++◌, [], ◌∷◌, List, OnOk, true, false, is_some, ℕ, Option, Result, IfOk, IfErr, Vec, Err}
-use Rattle.std.specs.Global.{Global}
+use Rattle.toll_desk.specs.Common.{Global, Bytes, same_bytes, Slice, order_at, house_name, where_so, Decision, LotId, IsRowsOf, Step, IsRecall, RecallLine, HaveRead, Damaged, Disposition, Refusal, Action, History, owner_known, Refused, IsPlantAnswer, Judged, PlantAsked, PlantTold, Shows, after_plant, IsAnswer, IsReply, after_reply, has_key, AskPlace, Asked, Told, Content, Meaning, KeepFault, StandsFor}
 use Rattle.std.specs.declared.alloc.AllocError.{AllocError}
-use Rattle.toll_base.specs.Bytes.{Bytes, same_bytes}
-use Rattle.toll_base.specs.Slice.{Slice, order_at}
-use Rattle.toll_base.specs.Values.{house_name}
-use Rattle.toll_base.specs.Words.{where_so}
-use Rattle.toll_base.specs.declared.decision.Decision.{Decision}
 use Rattle.toll_base.specs.declared.lot.Edge.{Edge}
-use Rattle.toll_base.specs.declared.lot.LotId.{LotId}
-use Rattle.toll_history.specs.Tables.{IsRowsOf}
-use Rattle.toll_trace.specs.declared.step.Step.{Step}
 use Rattle.toll_trace.specs.declared.way.Way.TheVariants.{Forward}
 use Rattle.toll_genealogy.specs.Agreement.{IsPlantTrace}
 use Rattle.toll_genealogy.specs.Edges.{AreOwnEdges}
-use Rattle.toll_genealogy.specs.Recall.{IsRecall}
-use Rattle.toll_genealogy.specs.declared.recall.RecallLine.{RecallLine}
-use Rattle.toll_keep.specs.Reads.{HaveRead}
-use Rattle.toll_keep.specs.declared.fault.KeepFault.TheVariants.{Damaged}
-use Rattle.toll_base.specs.declared.lot.Disposition.{Disposition}
-use Rattle.toll_base.specs.declared.refusal.Refusal.{Refusal}
-use Rattle.toll_history.specs.Command.{Action}
-use Rattle.toll_history.specs.History.{History, owner_known}
-use Rattle.toll_history.specs.Verdict.{Refused}
-use Rattle.toll_answers.specs.PlantAnswers.{IsPlantAnswer, Judged, PlantAsked, PlantTold, Shows, after_plant}
-use Rattle.toll_answers.specs.Replies.{IsAnswer, IsReply, after_reply, has_key}
-use Rattle.toll_answers.specs.Told.{AskPlace, Asked, Told}
-use Rattle.toll_keep.specs.Content.{Content}
-use Rattle.toll_keep.specs.Meaning.{Meaning}
-use Rattle.toll_keep.specs.declared.fault.KeepFault.{KeepFault}
-use Rattle.toll_standing.specs.Standing.{StandsFor}
 use Rattle.toll_desk.specs.Asking.{plant_told, told_of}
 use Rattle.toll_desk.specs.Outcome.{IsDone}
 use Rattle.toll_desk.specs.Plans.{Disposes, IsOwnDecision, IsPlan, IsPlanFor, IsPlanOver, LeadsTo}

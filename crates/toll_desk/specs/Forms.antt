@@ -1,11 +1,7 @@
 -- What a request's form asks.
-use Rattle.toll_base.specs.Bytes.{Bytes}
-use Rattle.toll_base.specs.Lots.{lot_id}
-use Rattle.toll_base.specs.Values.{house_name}
-use Rattle.toll_base.specs.declared.lot.LotId.{LotId}
+use Rattle.toll_desk.specs.Common.{Bytes, lot_id, house_name, LotId, Asked, AskOrders, AskOrder, AskPlace, AskCancel, AskBatch, AskStock, AskLot, AskRelease, AskReject, AskBack, AskForward, AskHouseForward}
 use Rattle.toll_trace.specs.declared.way.Way.{Way}
 use Rattle.toll_trace.specs.declared.way.Way.TheVariants as way
-use Rattle.toll_answers.specs.Told.{Asked, AskOrders, AskOrder, AskPlace, AskCancel, AskBatch, AskStock, AskLot, AskRelease, AskReject, AskBack, AskForward, AskHouseForward}
 use Rattle.toll_desk.specs.declared.form.Form.{Form}
 use Rattle.toll_desk.specs.declared.form.Form.TheVariants.{Read, Trace, Write}
 use Rattle.toll_desk.specs.declared.form.Reading.{Reading}

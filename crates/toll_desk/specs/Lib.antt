@@ -1,3 +1,4 @@
+pub mod Common
 pub mod Reads
 pub mod Asking
 pub mod Admission

@@ -1,13 +1,6 @@
 -- What came of what was asked, over a keep.
 use Rattle.std.specs.Prelude.{◌≡◌, ◌⊎◌, List, [], ◌∷◌, Result, Ok, Err, IfOk, OnOk, OnErr}
-use Rattle.toll_history.specs.History.{History}
-use Rattle.toll_answers.specs.PlantAnswers.{PlantAsked, AsksRecall, CannotRead, PlantTold}
-use Rattle.toll_keep.specs.Content.{Content}
-use Rattle.toll_keep.specs.Goes.{Goes}
-use Rattle.toll_keep.specs.Meaning.{Meaning}
-use Rattle.toll_keep.specs.declared.fault.KeepFault.{KeepFault}
-use Rattle.toll_keep.specs.declared.fault.KeepFault.TheVariants.{Damaged}
-use Rattle.toll_standing.specs.Standing.{StandsFor}
+use Rattle.toll_desk.specs.Common.{History, PlantAsked, AsksRecall, CannotRead, PlantTold, Content, Goes, Meaning, KeepFault, Damaged, StandsFor}
 
 -- the outcome of a plan once its changes were made, or not
 abbrev pub finished : {X : Type 0} → Result X KeepFault → Result (Unit {0}) KeepFault → Result X KeepFault

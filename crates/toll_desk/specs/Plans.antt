@@ -1,27 +1,13 @@
 -- What a plan owes, and what a decision.
 use Rattle.std.specs.Prelude.{◌≡◌, Bool, true, false, ◌||◌, is_none, List, ◌∷◌}
 use Rattle.std.specs.Option.{option_map}
-use Rattle.toll_base.specs.Bytes.{Bytes}
+use Rattle.toll_desk.specs.Common.{Bytes, Slice, house_name, Change, Decision, Disposition, Action, by, History, acts, owner_known, IsRowsOf, lot_row, sublot_row, Accepted, verdict, grow, PlantAsked, Judged, IsPlantAnswer, after_plant, IsLotOr, IsWritten, IsAnswer, after_answer, IsReply, after_reply, Asked, Told, Content, after, Fits, StandsFor}
 use Rattle.toll_base.specs.Changes.{changes_of, after_changes}
-use Rattle.toll_base.specs.Slice.{Slice}
-use Rattle.toll_base.specs.Values.{house_name}
-use Rattle.toll_base.specs.declared.decision.Change.{Change}
-use Rattle.toll_base.specs.declared.decision.Decision.{Decision}
-use Rattle.toll_base.specs.declared.lot.Disposition.{Disposition}
 use Rattle.toll_base.specs.declared.rows.LotRow.{LotRow}
-use Rattle.toll_history.specs.Command.{Action, by}
 use Rattle.toll_history.specs.Decision.{verdict_of, ChangesKeepRules, IsRightOver}
 use Rattle.toll_history.specs.Dispositions.{result_of}
-use Rattle.toll_history.specs.History.{History, acts, owner_known}
 use Rattle.toll_history.specs.OwnChanges.{EachChange, is_put_of, PutsOnly}
-use Rattle.toll_history.specs.Tables.{IsRowsOf, lot_row, sublot_row}
-use Rattle.toll_history.specs.Verdict.{Accepted, verdict, grow}
 use Rattle.toll_history.specs.Work.{measure_of}
-use Rattle.toll_answers.specs.PlantAnswers.{PlantAsked, Judged, IsPlantAnswer, after_plant}
-use Rattle.toll_answers.specs.Replies.{IsLotOr, IsWritten, IsAnswer, after_answer, IsReply, after_reply}
-use Rattle.toll_answers.specs.Told.{Asked, Told}
-use Rattle.toll_keep.specs.Content.{Content, after, Fits}
-use Rattle.toll_standing.specs.Standing.{StandsFor}
 
 -- the change puts a row of this owner or of HOUSE
 abbrev pub is_shared_put : Bytes → Change → Bool

@@ -1,16 +1,8 @@
 -- Commands of the plant of which the changes are held back.
 use Rattle.std.specs.Prelude.{◌≡◌, ◌++◌, ◌⊎◌, Bool, true, false, Option, List, [], Result, Ok, Err, IfOk, IsOk}
-use Rattle.toll_base.specs.declared.decision.Change.{Change}
-use Rattle.toll_history.specs.History.{History}
-use Rattle.toll_history.specs.Verdict.{IsLawful, Verdict}
-use Rattle.toll_keep.specs.Content.{Content, after}
-use Rattle.toll_keep.specs.Meaning.{Meaning, OverHeld}
+use Rattle.toll_desk.specs.Common.{Change, History, IsLawful, Verdict, Content, after, Meaning, OverHeld, KeepFault, Memory, StandsFor, CannotRead, Does, IsPlantAnswer, Judged, PlantAsked, PlantTold, after_plant}
 use Rattle.toll_keep.specs.Overlays.{IsOver, ReadsThrough}
-use Rattle.toll_keep.specs.declared.fault.KeepFault.{KeepFault}
-use Rattle.toll_keep.specs.declared.fault.KeepFault.TheVariants.{Memory}
 use Rattle.toll_keep.specs.declared.overlay.Overlay.{Overlay}
-use Rattle.toll_standing.specs.Standing.{StandsFor}
-use Rattle.toll_answers.specs.PlantAnswers.{CannotRead, Does, IsPlantAnswer, Judged, PlantAsked, PlantTold, after_plant}
 use Rattle.toll_desk.specs.Asking.{is_accepted, plant_told}
 use Rattle.toll_desk.specs.Clauses.{IsPlantPlanned}
 use Rattle.toll_desk.specs.Plans.{LeadsTo}

@@ -1,12 +1,6 @@
 -- What is so of a command or question of the plant that was answered over a keep.
 use Rattle.std.specs.Prelude.{◌≡◌, ◌≢◌, false, Ok, Err}
-use Rattle.toll_base.specs.declared.refusal.Refusal.{Refusal}
-use Rattle.toll_history.specs.Verdict.{Refused}
-use Rattle.toll_keep.specs.Meaning.{Meaning}
-use Rattle.toll_keep.specs.Content.{Content, ContentKeepsRules}
-use Rattle.toll_keep.specs.Goes.{Settles}
-use Rattle.toll_keep.specs.declared.fault.KeepFault.TheVariants.{Damaged}
-use Rattle.toll_answers.specs.PlantAnswers.{CannotRead, Judged}
+use Rattle.toll_desk.specs.Common.{Refusal, Refused, Meaning, Content, ContentKeepsRules, Settles, Damaged, CannotRead, Judged}
 use Rattle.toll_desk.specs.Asking.{asked_by, asks_recall, is_accepted, plant_told, IsValidDeed}
 use Rattle.toll_desk.specs.Outcome.{GoesFor}
 use Rattle.toll_desk.specs.Clauses.{IsPlantDone}

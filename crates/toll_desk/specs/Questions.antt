@@ -1,23 +1,8 @@
 -- What traces, recalls and questions of the plant look at.
 use Rattle.std.specs.Prelude.{◌≡◌, ◌⊎◌, Bool, ◌&&◌, true, false, Option, Some, None, is_some, List, map, Contains, Result, Err, Vec}
-use Rattle.std.specs.Global.{Global}
-use Rattle.toll_base.specs.Bytes.{Bytes}
-use Rattle.toll_base.specs.Lots.{lot_id}
-use Rattle.toll_base.specs.Slice.{Slice}
-use Rattle.toll_base.specs.Values.{house_name}
-use Rattle.toll_base.specs.declared.lot.LotId.{LotId}
-use Rattle.toll_history.specs.History.{History, acts, owner_known}
-use Rattle.toll_history.specs.Tables.{IsRowsOf, lot_row}
-use Rattle.toll_trace.specs.declared.step.Step.{Step}
-use Rattle.toll_genealogy.specs.Recall.{IsRecall, recall_line}
-use Rattle.toll_genealogy.specs.declared.recall.RecallLine.{RecallLine}
+use Rattle.toll_desk.specs.Common.{Global, Bytes, lot_id, Slice, house_name, LotId, History, acts, owner_known, IsRowsOf, lot_row, Step, IsRecall, recall_line, RecallLine, Meaning, IsReading, HaveRead, KeepFault, Damaged}
 use Rattle.toll_views.specs.Views.{has_consumed}
-use Rattle.toll_keep.specs.Meaning.{Meaning}
-use Rattle.toll_keep.specs.Goes.{IsReading}
-use Rattle.toll_keep.specs.Reads.{HaveRead}
 use Rattle.toll_keep.specs.Slices.{has_slice}
-use Rattle.toll_keep.specs.declared.fault.KeepFault.{KeepFault}
-use Rattle.toll_keep.specs.declared.fault.KeepFault.TheVariants.{Damaged}
 use Rattle.toll_desk.specs.declared.form.Tracing.{Tracing}
 use Rattle.toll_desk.specs.declared.form.Tracing.TheVariants.{Back, Forward, HouseForward}
 

@@ -1,12 +1,6 @@
 -- What is so of calls that read a keep, over the histories that its content stands for.
 use Rattle.std.specs.Prelude.{◌≡◌, Option, Some, None}
-use Rattle.toll_history.specs.History.{History}
-use Rattle.toll_history.specs.Verdict.{IsLawful}
-use Rattle.toll_base.specs.Bytes.{Bytes}
-use Rattle.toll_base.specs.Values.{house_name}
-use Rattle.toll_keep.specs.Meaning.{Meaning}
-use Rattle.toll_keep.specs.Content.{Content, slice_of}
-use Rattle.toll_standing.specs.Standing.{StandsFor}
+use Rattle.toll_desk.specs.Common.{History, IsLawful, Bytes, house_name, Meaning, Content, slice_of, StandsFor}
 use Rattle.toll_desk.specs.declared.deciding.Both.{Both}
 
 -- whatever lawful history the content that was held stands for, this is so of the two

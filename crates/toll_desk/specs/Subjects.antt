@@ -1,10 +1,6 @@
 -- What the plant's commands and questions are about, and so whose rows they look at.
 use Rattle.std.specs.Prelude.{◌≡◌, Bool, true, false}
-use Rattle.toll_base.specs.Bytes.{Bytes}
-use Rattle.toll_base.specs.Values.{house_name}
-use Rattle.toll_history.specs.Command.{Action, AddOwner, AddUnit, Require, OpenBatch, Record, Release, Reject, Void}
-use Rattle.toll_history.specs.Verdict.{is_actual}
-use Rattle.toll_answers.specs.PlantAnswers.{PlantAsked, Does, AsksOrders, AsksStock, AsksBatch, AsksTrace, AsksRecall, CannotRead}
+use Rattle.toll_desk.specs.Common.{Bytes, house_name, Action, AddOwner, AddUnit, Require, OpenBatch, Record, Release, Reject, Void, is_actual, PlantAsked, Does, AsksOrders, AsksStock, AsksBatch, AsksTrace, AsksRecall, CannotRead}
 
 -- whom it concerns: HOUSE, where it names nobody
 abbrev pub concerned : PlantAsked → Bytes

@@ -1,18 +1,9 @@
 -- Recalls of two histories that agree on an owner's commands and on HOUSE's.
 use Rattle.std.proofs.Common.{◌≡◌, false, Option, Some, List, [], ◌∷◌, map, sym, ap, subst, ◌∙◌, inl, inr}
 use Rattle.std.specs.Prelude.{Contains}
-use Rattle.std.specs.Option.{option_map}
-use Rattle.toll_base.specs.Bytes.{Bytes, same_bytes}
-use Rattle.toll_base.specs.Values.{house_name}
-use Rattle.toll_history.specs.History.{History, part, acts}
-use Rattle.toll_history.specs.Verdict.{IsLawful}
-use Rattle.toll_base.specs.declared.lot.LotId.{LotId}
-use Rattle.toll_history.proofs.Own.{acts-part}
+use Rattle.toll_genealogy.proofs.Common.{option_map, Bytes, same_bytes, house_name, History, part, acts, IsLawful, LotId, acts-part, Step, Forward, Contains-none, Contains-cases, Contains-map, Contains-from_map}
 use Rattle.toll_history.proofs.OwnAmounts.{on_hand-part, shipped-part}
 use Rattle.toll_history.proofs.OwnTables.{lot_row-part}
-use Rattle.toll_trace.specs.declared.step.Step.{Step}
-use Rattle.toll_trace.specs.declared.way.Way.TheVariants.{Forward}
-use Rattle.toll_trace.proofs.Members.{Contains-none, Contains-cases, Contains-map, Contains-from_map}
 use Rattle.toll_genealogy.specs.Edges.{IsPlantJoined}
 use Rattle.toll_genealogy.specs.Recall.{recall_line, IsRecall}
 use Rattle.toll_genealogy.specs.declared.recall.RecallLine.{RecallLine}

@@ -2,28 +2,15 @@
 use Rattle.std.proofs.Common.{◌≡◌, not, Some, List, [], ◌∷◌, map, refl, sym, ap, subst, inl, inr}
 use Rattle.std.specs.Prelude.{Contains, filter}
 use Rattle.std.specs.List.{filter_map}
-use Rattle.std.specs.List.Sorted.{IsStrictlySortedBy}
+use Rattle.toll_genealogy.proofs.Common.{IsStrictlySortedBy, not-true, Action, Record, movement_recorded, voided_in, LotId, Edge, MoveRow, Way, edge_of, IsJoined, AreEdges, lot_cmp, edge_cmp, IsTrace, Contains-none, Contains-here, Contains-later, Contains-cases, Contains-filter, Contains-from_filter, Contains-filter_map, Contains-from_filter_map, drawn_same, trace_same}
 use Rattle.std.specs.Ordering.{is_eq}
-use Rattle.std.proofs.lemmas.Bool.{not-true}
 use Rattle.std.proofs.lemmas.Cmp.{tied_itself}
-use Rattle.toll_history.specs.Command.{Action, Record}
-use Rattle.toll_history.specs.Movements.{movement_recorded, voided_in}
-use Rattle.toll_base.specs.declared.lot.LotId.{LotId}
-use Rattle.toll_base.specs.declared.lot.Edge.{Edge}
-use Rattle.toll_base.specs.declared.movement.MoveRow.{MoveRow}
-use Rattle.toll_trace.specs.declared.way.Way.{Way}
-use Rattle.toll_trace.specs.Chain.{edge_of, IsJoined}
-use Rattle.toll_trace.specs.Edges.{AreEdges}
 use Rattle.toll_trace.specs.InOrder.{IsInOrder}
-use Rattle.toll_base.specs.Lots.{lot_cmp, edge_cmp}
 use Rattle.toll_trace.specs.Search.{step_at}
-use Rattle.toll_trace.specs.Trace.{IsTrace}
-use Rattle.toll_trace.proofs.Members.{Contains-none, Contains-here, Contains-later, Contains-cases, Contains-filter, Contains-from_filter, Contains-filter_map, Contains-from_filter_map}
 use Rattle.toll_trace.proofs.Orders.{lots_total}
 use Rattle.toll_trace.proofs.DrawnRows.{drawn, listed_drawn, drawn_listed}
 use Rattle.toll_trace.proofs.Levels.{reached_start, reached_more, trace_done}
 use Rattle.toll_trace.proofs.Rounds.{led_to, level_by_edges}
-use Rattle.toll_trace.proofs.Unique.{drawn_same, trace_same}
 use Rattle.toll_genealogy.specs.Edges.{WasDone, IsOwnEdge, IsOwnJoined}
 
 -- ---- edges

@@ -1,21 +1,9 @@
 -- The lots that an edge joins are known, and whose they are.
 use Rattle.std.proofs.Common.{◌≡◌, ◌⊎◌, true, ◌&&◌, Option, Some, None, is_some, refl, sym, subst, ◌∙◌}
-use Rattle.std.specs.Option.{option_map}
-use Rattle.toll_base.specs.Bytes.{Bytes, same_bytes}
-use Rattle.toll_base.specs.Values.{house_name}
-use Rattle.toll_base.specs.Lots.{lot_id, same_lot}
-use Rattle.toll_history.specs.History.{History, acts}
-use Rattle.toll_history.specs.Laws.{BringsOwn, TakesKnown}
-use Rattle.toll_history.specs.Movements.{lot_made, brings_into, takes_from}
-use Rattle.toll_history.specs.Tables.{lot_row}
-use Rattle.toll_history.specs.Verdict.{IsLawful}
-use Rattle.toll_base.specs.declared.lot.Edge.{Edge}
-use Rattle.toll_base.specs.declared.lot.LotId.{LotId}
+use Rattle.toll_genealogy.proofs.Common.{option_map, Bytes, same_bytes, house_name, lot_id, same_lot, History, acts, BringsOwn, TakesKnown, lot_made, brings_into, takes_from, lot_row, IsLawful, Edge, LotId, same_bytes-refl, member_of_all}
 use Rattle.toll_base.proofs.Bools.{and_is}
-use Rattle.toll_base.proofs.Texts.{same_bytes-refl}
 use Rattle.toll_history.proofs.Lots.{sublot_lot}
 use Rattle.toll_history.proofs.Owned.{all_bring_own, all_take_known}
-use Rattle.toll_trace.proofs.Members.{member_of_all}
 use Rattle.toll_genealogy.specs.Edges.{IsOwnEdge}
 use Rattle.toll_genealogy.proofs.OwnEdges.{edge_end, edge_start}
 use Rattle.toll_genealogy.proofs.Standing.{recorded_moved}

@@ -1,3 +1,4 @@
+pub mod Common
 pub mod Standing
 pub mod OwnEdges
 pub mod SliceEdges

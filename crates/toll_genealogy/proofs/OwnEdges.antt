@@ -1,23 +1,10 @@
 -- Whose edges a chain goes over: an owner's lots, and HOUSE's at its start.
 use Rattle.std.proofs.Common.{◌≡◌, ◌⊎◌, ℕ, zero, suc, ◌+◌, true, false, not, ◌||◌, refl, sym, ap, subst, ◌∙◌, inl, inr, arith}
 use Rattle.std.specs.Prelude.{Contains}
-use Rattle.toll_base.specs.Bytes.{Bytes, same_bytes}
-use Rattle.toll_base.specs.Values.{house_name}
-use Rattle.toll_history.specs.Command.{Record}
-use Rattle.toll_history.specs.History.{History, acts}
-use Rattle.toll_history.specs.Movements.{movements}
-use Rattle.toll_history.specs.Verdict.{IsLawful, crosses}
-use Rattle.toll_base.specs.declared.lot.LotId.{LotId}
+use Rattle.toll_genealogy.proofs.Common.{Bytes, same_bytes, house_name, Record, History, acts, movements, IsLawful, crosses, LotId, MoveRow, same_bytes-exact, Way, Back, Forward, IsChain, IsActual, member_of_all}
 use Rattle.toll_base.specs.declared.role.Role.{Role}
 use Rattle.toll_base.specs.declared.role.Role.TheVariants.{Consumed, Produced}
-use Rattle.toll_base.specs.declared.movement.MoveRow.{MoveRow}
-use Rattle.toll_base.proofs.Texts.{same_bytes-exact}
 use Rattle.toll_history.proofs.Crossing.{crosses_by, movements_not_crossing, is_the_owner}
-use Rattle.toll_trace.specs.declared.way.Way.{Way}
-use Rattle.toll_trace.specs.declared.way.Way.TheVariants.{Back, Forward}
-use Rattle.toll_trace.specs.Chain.{IsChain}
-use Rattle.toll_trace.specs.Edges.{IsActual}
-use Rattle.toll_trace.proofs.Members.{member_of_all}
 use Rattle.toll_genealogy.specs.Edges.{WasDone, IsOwnJoined, IsPlantJoined}
 use Rattle.toll_genealogy.proofs.Standing.{recorded_moved}
 

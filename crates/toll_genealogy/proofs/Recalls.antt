@@ -1,17 +1,7 @@
 -- Traces and recalls, cut to one owner's lots.
 use Rattle.std.proofs.Common.{◌≡◌, ℕ, zero, suc, ◌+◌, List, refl, sym, ap₂, subst, inl, inr, arith}
 use Rattle.std.specs.Prelude.{Contains}
-use Rattle.toll_base.specs.Bytes.{Bytes}
-use Rattle.toll_base.specs.Values.{house_name}
-use Rattle.toll_history.specs.History.{History, acts}
-use Rattle.toll_history.specs.Verdict.{IsLawful}
-use Rattle.toll_base.specs.declared.lot.LotId.{LotId}
-use Rattle.toll_trace.specs.declared.way.Way.{Way}
-use Rattle.toll_trace.specs.declared.way.Way.TheVariants.{Forward}
-use Rattle.toll_trace.specs.declared.step.Step.{Step}
-use Rattle.toll_trace.specs.Chain.{IsChain}
-use Rattle.toll_trace.specs.Trace.{IsTrace}
-use Rattle.toll_trace.proofs.Members.{Contains-from_map}
+use Rattle.toll_genealogy.proofs.Common.{Bytes, house_name, History, acts, IsLawful, LotId, Way, Forward, Step, IsChain, IsTrace, Contains-from_map}
 use Rattle.toll_genealogy.specs.Edges.{IsOwnJoined, IsPlantJoined}
 use Rattle.toll_genealogy.specs.Joints.{IsJoint, AreJoints}
 use Rattle.toll_genealogy.proofs.OwnEdges.{edge_end, edge_start, chain_append, own_is_plants, chain_within}

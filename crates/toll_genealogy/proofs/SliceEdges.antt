@@ -1,22 +1,8 @@
 -- What stands in a slice is what its owner did and didn't void, over each history whose rows it has.
 use Rattle.std.proofs.Common.{◌≡◌, ℕ, ◌+◌, ◌≤◌, Bool, true, false, cond, Some, None, is_some, List, [], ◌∷◌, sym, ap, subst, ◌∙◌, inl, inr, arith}
 use Rattle.std.specs.Prelude.{Contains}
-use Rattle.toll_base.specs.Bytes.{Bytes, same_bytes}
-use Rattle.toll_base.specs.Words.{count, or_else}
-use Rattle.toll_history.specs.Command.{Action, Record}
-use Rattle.toll_history.specs.History.{History, acts}
-use Rattle.toll_history.specs.Movements.{movement_of}
+use Rattle.toll_genealogy.proofs.Common.{Bytes, same_bytes, count, or_else, Action, Record, History, acts, movement_of, Tables, IsRowsOf, IsLawful, has_this_key, Edge, MoveRow, same_bytes-refl, found_once, Stands, IsEdge, AreEdges, Contains-none, Contains-here, Contains-later, Contains-cases, drawn_same, edges_same}
 use Rattle.toll_base.specs.Slice.{Slice}
-use Rattle.toll_history.specs.Tables.{Tables, IsRowsOf}
-use Rattle.toll_history.specs.Verdict.{IsLawful}
-use Rattle.toll_history.specs.Laws.{has_this_key}
-use Rattle.toll_base.specs.declared.lot.Edge.{Edge}
-use Rattle.toll_base.specs.declared.movement.MoveRow.{MoveRow}
-use Rattle.toll_base.proofs.Texts.{same_bytes-refl}
-use Rattle.toll_history.proofs.KeysOnce.{found_once}
-use Rattle.toll_trace.specs.Edges.{Stands, IsEdge, AreEdges}
-use Rattle.toll_trace.proofs.Members.{Contains-none, Contains-here, Contains-later, Contains-cases}
-use Rattle.toll_trace.proofs.Unique.{drawn_same, edges_same}
 use Rattle.toll_genealogy.specs.Edges.{WasDone, IsOwnEdge}
 
 -- what a key finds was recorded

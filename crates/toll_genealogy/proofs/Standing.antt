@@ -2,20 +2,9 @@
 use Rattle.std.proofs.Common.{◌≡◌, Bool, true, false, not, ◌&&◌, ◌||◌, None, [], ◌∷◌, refl, sym, ap, subst, ◌∙◌, inl, inr}
 use mathlib.Core.Bool.{false≢true}
 use Rattle.std.specs.Prelude.{Contains}
-use Rattle.std.proofs.lemmas.Bool.{or_parts}
-use Rattle.toll_base.specs.Bytes.{Bytes, same_bytes}
-use Rattle.toll_base.specs.Words.{is_some_where}
-use Rattle.toll_history.specs.Command.{Action, Record, Void, by}
-use Rattle.toll_history.specs.History.{History, acts}
-use Rattle.toll_history.specs.Movements.{Movement, has_key, movements, standing, movement_of, voided_in, voids_key}
-use Rattle.toll_history.specs.Verdict.{Accepted, IsLawful, is_actual, verdict}
-use Rattle.toll_base.specs.declared.movement.MoveRow.{MoveRow}
-use Rattle.toll_base.proofs.Texts.{same_bytes-exact, same_bytes-refl}
+use Rattle.toll_genealogy.proofs.Common.{or_parts, Bytes, same_bytes, is_some_where, Action, Record, Void, by, History, acts, Movement, has_key, movements, standing, movement_of, voided_in, voids_key, Accepted, IsLawful, is_actual, verdict, MoveRow, same_bytes-exact, same_bytes-refl, void_of_actual, acts-own, acts-other, Contains-none, Contains-here, Contains-later, Contains-cases, Contains-filter, Contains-from_filter}
 use Rattle.toll_history.proofs.Acts.{any_acts}
 use Rattle.toll_history.proofs.Found.{key_is_new}
-use Rattle.toll_history.proofs.KeysOnce.{void_of_actual}
-use Rattle.toll_history.proofs.Own.{acts-own, acts-other}
-use Rattle.toll_trace.proofs.Members.{Contains-none, Contains-here, Contains-later, Contains-cases, Contains-filter, Contains-from_filter}
 use Rattle.toll_genealogy.specs.Edges.{WasDone}
 
 -- ---- what an owner did, after one command more

@@ -1,13 +1,8 @@
 -- The edges of the worked examples, computed.
 use Rattle.std.proofs.Common.{◌≡◌, List, [], ◌∷◌, refl, sym, subst}
 use Rattle.std.specs.Prelude.{Contains, codes}
-use Rattle.toll_base.specs.Values.{house_name}
-use Rattle.toll_history.specs.History.{part, acts}
-use Rattle.toll_history.specs.Movements.{stock, sublot_known, lot_made, count_lots, count_sublots, material_used}
+use Rattle.toll_genealogy.proofs.Common.{house_name, part, acts, stock, sublot_known, lot_made, count_lots, count_sublots, material_used, checks, verdicts, all_accepted, acme, one_product, Edge}
 use Rattle.toll_history.specs.Holders.{holder}
-use Rattle.toll_history.specs.Verdict.{checks}
-use Rattle.toll_history.specs.Worked.{verdicts, all_accepted, acme, one_product}
-use Rattle.toll_base.specs.declared.lot.Edge.{Edge}
 use Rattle.toll_genealogy.specs.Worked.{of_acme, of_house, circle, consumed_in_a_circle, house_material, made_of_house_material}
 use Rattle.toll_genealogy.proofs.DrawnHere.{drawn_here, turned}
 

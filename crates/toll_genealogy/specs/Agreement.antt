@@ -1,14 +1,6 @@
 -- What an owner's genealogy and the plant's have in common.
 use Rattle.std.specs.Prelude.{◌≡◌, ◌↔◌, ◌⊎◌, true, is_some, List, map, Contains}
-use Rattle.toll_base.specs.Bytes.{Bytes}
-use Rattle.toll_base.specs.Values.{house_name}
-use Rattle.toll_base.specs.declared.lot.Edge.{Edge}
-use Rattle.toll_base.specs.declared.lot.LotId.{LotId}
-use Rattle.toll_history.specs.History.{History, acts, part}
-use Rattle.toll_history.specs.Tables.{lot_row}
-use Rattle.toll_trace.specs.Trace.{IsTrace}
-use Rattle.toll_trace.specs.declared.step.Step.{Step}
-use Rattle.toll_trace.specs.declared.way.Way.{Way}
+use Rattle.toll_genealogy.specs.Common.{Bytes, house_name, Edge, LotId, History, acts, part, lot_row, IsTrace, Step, Way}
 use Rattle.toll_genealogy.specs.Edges.{IsOwnJoined, IsPlantJoined}
 use Rattle.toll_genealogy.specs.Joints.{AreJoints}
 use Rattle.toll_genealogy.specs.Recall.{IsRecall}

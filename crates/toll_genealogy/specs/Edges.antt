@@ -1,15 +1,9 @@
 -- Genealogy over a history.
 use Rattle.std.specs.Prelude.{◌≡◌, false, List, Contains}
-use Rattle.toll_base.specs.Bytes.{Bytes}
-use Rattle.toll_history.specs.History.{History, acts}
-use Rattle.toll_history.specs.Command.{Action, Record}
+use Rattle.toll_genealogy.specs.Common.{Bytes, History, acts, Action, Record, LotId, Edge, Way, edge_of}
 use Rattle.toll_history.specs.Movements.{voided_in}
-use Rattle.toll_base.specs.declared.lot.LotId.{LotId}
-use Rattle.toll_base.specs.declared.lot.Edge.{Edge}
 use Rattle.toll_base.specs.declared.movement.MoveRow.{MoveRow}
-use Rattle.toll_trace.specs.declared.way.Way.{Way}
 use Rattle.toll_trace.specs.Edges.{AreEdges, IsDrawn}
-use Rattle.toll_trace.specs.Chain.{edge_of}
 
 -- of an owner's own actions: the movement was recorded, and its key isn't voided
 pub record WasDone (own : List Action) (row : MoveRow) : Type 0 where

@@ -1,11 +1,6 @@
 -- What an owner sees of genealogy that begins at a lot of HOUSE.
 use Rattle.std.specs.Prelude.{◌≡◌, ℕ, ◌+◌, ◌≤◌, List, map, Contains}
-use Rattle.toll_base.specs.Bytes.{Bytes}
-use Rattle.toll_history.specs.Command.{Action}
-use Rattle.toll_base.specs.declared.lot.LotId.{LotId}
-use Rattle.toll_trace.specs.declared.way.Way.TheVariants.{Forward}
-use Rattle.toll_trace.specs.declared.step.Step.{Step}
-use Rattle.toll_trace.specs.Chain.{IsChain}
+use Rattle.toll_genealogy.specs.Common.{Bytes, Action, LotId, Forward, Step, IsChain}
 use Rattle.toll_genealogy.specs.Edges.{IsOwnJoined}
 
 -- a chain over the edges of HOUSE, and then one over the owner's

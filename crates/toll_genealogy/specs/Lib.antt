@@ -1,3 +1,4 @@
+pub mod Common
 pub mod Agreement
 pub mod Edges
 pub mod Joints

@@ -2,12 +2,7 @@
 use Rattle.std.specs.Prelude.{◌≡◌, Option, Some, List, map}
 use Rattle.std.specs.Option.{option_map}
 use Rattle.toll_history.specs.Amounts.{on_hand, shipped}
-use Rattle.toll_history.specs.History.{History}
-use Rattle.toll_history.specs.Tables.{lot_row}
-use Rattle.toll_base.specs.declared.lot.LotId.{LotId}
-use Rattle.toll_trace.specs.declared.step.Step.{Step}
-use Rattle.toll_trace.specs.declared.way.Way.TheVariants.{Forward}
-use Rattle.toll_trace.specs.Trace.{IsTrace}
+use Rattle.toll_genealogy.specs.Common.{History, lot_row, LotId, Step, Forward, IsTrace}
 use Rattle.toll_genealogy.specs.Edges.{IsPlantJoined}
 use Rattle.toll_genealogy.specs.declared.recall.RecallLine.{RecallLine}
 

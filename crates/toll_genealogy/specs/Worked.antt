@@ -1,13 +1,8 @@
 -- Histories that worked examples of genealogy begin with.
 use Rattle.std.specs.Prelude.{List, [], ◌∷◌, codes}
-use Rattle.toll_base.specs.Bytes.{Bytes}
-use Rattle.toll_base.specs.Values.{house_name}
-use Rattle.toll_history.specs.Command.{AddOwner, AddUnit, AddRecipe, PlaceOrder, OpenBatch, CommandBatch, Release, Command, by, moves}
-use Rattle.toll_history.specs.History.{History}
+use Rattle.toll_genealogy.specs.Common.{Bytes, house_name, AddOwner, AddUnit, AddRecipe, PlaceOrder, OpenBatch, CommandBatch, Release, Command, by, moves, History, Edge, LotId}
 use Rattle.toll_base.specs.Lots.{lot_id}
 use Rattle.toll_history.specs.Worked.{after, acme, material, require, receives}
-use Rattle.toll_base.specs.declared.lot.Edge.{Edge}
-use Rattle.toll_base.specs.declared.lot.LotId.{LotId}
 use Rattle.toll_base.specs.declared.role.Role.TheVariants.{Consumed, Produced}
 use Rattle.toll_base.specs.declared.movement.Move.TheVariants.{Actual}
 use Rattle.toll_base.specs.declared.state_command.StateCommand.TheVariants.{Start}

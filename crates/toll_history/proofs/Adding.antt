@@ -1,12 +1,6 @@
 -- What a command owes that adds one row, of a key that isn't known, to the tables of its owner.
 use Rattle.std.proofs.Common.{◌≡◌, Bool, true, false, [], ◌∷◌, refl, sym, ap, ◌∙◌}
-use Rattle.toll_base.specs.Bytes.{Bytes}
-use Rattle.toll_base.specs.Slice.{Slice, with_row}
-use Rattle.toll_base.specs.SliceRules.{KeepsRules, row_fits}
-use Rattle.toll_base.specs.Values.{house_name}
-use Rattle.toll_base.specs.declared.decision.Change.TheVariants.{Put}
-use Rattle.toll_base.specs.declared.decision.Decision.{Decision}
-use Rattle.toll_base.specs.declared.rows.Row.{Row}
+use Rattle.toll_history.proofs.Common.{Bytes, Slice, with_row, KeepsRules, row_fits, house_name, Put, Decision, Row}
 use Rattle.toll_history.specs.Command.{Action, by}
 use Rattle.toll_history.specs.Decision.{IsDecided, Decides, DecidesWith, DecisionKeepsRules}
 use Rattle.toll_history.specs.History.{History}

@@ -1,30 +1,13 @@
 -- What an accepted movement needs of its lot, and the rows that it leaves.
 use Rattle.std.proofs.Common.{◌≡◌, ℕ, ◌+◌, ◌-◌, Bool, true, false, not, ◌||◌, Option, Some, None, is_some, is_none, List, [], ◌∷◌, refl, sym, ap, subst, ◌∙◌}
-use mathlib.Core.Bool.{false≢true}
-use Rattle.std.specs.List.{list_any, AllByRecursion}
-use Rattle.std.specs.Option.{option_map}
-use Rattle.std.proofs.lemmas.Option.{cond_some}
-use Rattle.toll_base.specs.Bytes.{Bytes, same_bytes}
-use Rattle.toll_base.specs.Words.{where_so, is_some_where}
+use Rattle.toll_history.proofs.Common.{false≢true, list_any, AllByRecursion, option_map, cond_some, Bytes, same_bytes, where_so, is_some_where, lot_id, same_lot, LotId, Disposition, Quarantined, Released, Rejected, Receipts, Batch, Consumed, Produced, LotRow, MoveRow, Move, Receive, Ship, Actual, both, and_is, same_bytes-exact, same_bytes-refl}
 use Rattle.toll_history.specs.Command.{Action, Record, Void, by}
 use Rattle.toll_history.specs.History.{History, acts}
-use Rattle.toll_base.specs.Lots.{lot_id, same_lot}
 use Rattle.toll_history.specs.Movements.{Movement, movement_of, movements, brings_into, stock, sublot_known, voided_in, Made, made_by, lot_made, lot_brought, material_used}
 use Rattle.toll_history.specs.Dispositions.{disposition_of}
 use Rattle.toll_history.specs.Tables.{Tables, lot_row, sublot_row}
 use Rattle.toll_history.specs.Verdict.{Accepted, IsLawful, verdict, is_quarantined, is_released}
 use Rattle.toll_history.specs.Laws.{Agrees, IsCleared, gives_from, coming, going}
-use Rattle.toll_base.specs.declared.lot.LotId.{LotId}
-use Rattle.toll_base.specs.declared.lot.Disposition.{Disposition}
-use Rattle.toll_base.specs.declared.lot.Disposition.TheVariants.{Quarantined, Released, Rejected}
-use Rattle.toll_base.specs.declared.lot.Origin.TheVariants.{Receipts, Batch}
-use Rattle.toll_base.specs.declared.role.Role.TheVariants.{Consumed, Produced}
-use Rattle.toll_base.specs.declared.rows.LotRow.{LotRow}
-use Rattle.toll_base.specs.declared.movement.MoveRow.{MoveRow}
-use Rattle.toll_base.specs.declared.movement.Move.{Move}
-use Rattle.toll_base.specs.declared.movement.Move.TheVariants.{Receive, Ship, Actual}
-use Rattle.toll_base.proofs.Bools.{both, and_is}
-use Rattle.toll_base.proofs.Texts.{same_bytes-exact, same_bytes-refl}
 use Rattle.toll_history.proofs.Passed.{MoveFits, move_fits}
 use Rattle.toll_history.proofs.Own.{acts-own}
 use Rattle.toll_history.proofs.Moving.{same_lot-exact, crosses_not, tables_for_are, lot_row_none}

@@ -1,26 +1,13 @@
 -- In a lawful history nothing is brought into another owner's lot, and nothing is taken from one but from HOUSE's.
 use Rattle.std.proofs.Common.{◌≡◌, Bool, true, false, not, ◌&&◌, ◌||◌, cond, Some, None, List, [], ◌∷◌, ◌++◌, filter, refl, sym, ap, subst}
-use mathlib.Core.Bool.{false≢true}
-use Rattle.std.specs.List.{AllByRecursion}
-use Rattle.toll_base.specs.Bytes.{Bytes, same_bytes}
-use Rattle.toll_base.specs.Values.{house_name}
+use Rattle.toll_history.proofs.Common.{false≢true, AllByRecursion, Bytes, same_bytes, house_name, lot_id, same_lot, UnknownOwner, MoveRow, where_so, LotId, Receipts, Batch, Consumed, Produced, Move, Receive, Split, Ship, Scrap, Actual, same_bytes-exact}
 use Rattle.toll_history.specs.Command.{Action, Record, Void, Command}
 use Rattle.toll_history.specs.History.{History, owner_known}
-use Rattle.toll_base.specs.Lots.{lot_id, same_lot}
 use Rattle.toll_history.specs.Movements.{Movement, moved_by, movements, standing_after, standing, has_key, brings_into, takes_from, made_by}
 use Rattle.toll_history.specs.Tables.{Tables}
 use Rattle.toll_history.specs.Tables.{tables_given}
 use Rattle.toll_history.specs.Verdict.{Accepted, Plant, plant_given, first_of, checks, verdict, crosses, action_checks, movement_checks, key_checks, needs_owner, IsLawful}
-use Rattle.toll_base.specs.declared.refusal.Refusal.TheVariants.{UnknownOwner}
-use Rattle.toll_base.specs.declared.movement.MoveRow.{MoveRow}
-use Rattle.toll_base.specs.Words.{where_so}
-use Rattle.toll_base.specs.declared.lot.LotId.{LotId}
-use Rattle.toll_base.specs.declared.lot.Origin.TheVariants.{Receipts, Batch}
-use Rattle.toll_base.specs.declared.role.Role.TheVariants.{Consumed, Produced}
-use Rattle.toll_base.specs.declared.movement.Move.{Move}
-use Rattle.toll_base.specs.declared.movement.Move.TheVariants.{Receive, Split, Ship, Scrap, Actual}
 use Rattle.toll_history.proofs.Accepted.{none_applies, rest_accepts}
-use Rattle.toll_base.proofs.Texts.{same_bytes-exact}
 
 -- an actual of a lot that its owner may not touch so
 abbrev pub crosses_by : Bytes → Move → Bool

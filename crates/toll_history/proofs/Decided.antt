@@ -1,27 +1,14 @@
 -- From what a decision is, by its checks, to what it owes to every lawful history and to every slice.
 use Rattle.std.proofs.Common.{◌≡◌, ℕ, Bool, true, false, not, ◌&&◌, nat_le, nat_lt, cond, Some, List, [], ◌∷◌, ◌++◌, map, refl, sym, ap, subst, ◌∙◌, arith}
-use Rattle.std.proofs.lemmas.Bool.Decides.{nat_tests}
-use Rattle.toll_base.specs.Bytes.{Bytes, same_bytes}
-use Rattle.toll_base.specs.Values.{house_name}
+use Rattle.toll_history.proofs.Common.{nat_tests, Bytes, same_bytes, house_name, Slice, with_row, KeepsRules, row_fits, after_changes, changes_of, Change, Put, Decision, Refusal, UnknownOwner, Row, same_bytes-exact, same_bytes-refl, fits_exact}
 use Rattle.toll_history.specs.Command.{Action, Command, by}
 use Rattle.toll_history.specs.History.{History, owner_known}
-use Rattle.toll_base.specs.Slice.{Slice, with_row}
-use Rattle.toll_base.specs.SliceRules.{KeepsRules, row_fits}
 use Rattle.toll_history.specs.Tables.{Tables, tables_of, tables_given, IsRowsOf}
-use Rattle.toll_base.specs.Changes.{after_changes, changes_of}
 use Rattle.toll_history.specs.Decision.{verdict_of, changes_if, ChangesKeepRules, IsRightOver, IsDecided, Decides, DecidesWith, DecisionKeepsRules}
 use Rattle.toll_history.specs.Verdict.{Verdict, Accepted, Repeated, Refused, Checks, first_of, stopped, plant_given, action_checks, needs_owner, checks, verdict, grown, grow, IsLawful, IsValid}
-use Rattle.toll_base.specs.declared.decision.Change.{Change}
-use Rattle.toll_base.specs.declared.decision.Change.TheVariants.{Put}
-use Rattle.toll_base.specs.declared.decision.Decision.{Decision}
 use Rattle.toll_base.specs.declared.decision.Decision.TheVariants.{Refuse}
-use Rattle.toll_base.specs.declared.refusal.Refusal.{Refusal}
-use Rattle.toll_base.specs.declared.refusal.Refusal.TheVariants.{UnknownOwner}
-use Rattle.toll_base.specs.declared.rows.Row.{Row}
 use Rattle.toll_base.specs.declared.rows.Row.TheVariants.{Material, Test, Recipe, Requirement, Order, Batch, Lot, Sublot, Move, Result, Void}
 use Rattle.toll_history.proofs.Accepted.{refused_first}
-use Rattle.toll_base.proofs.Texts.{same_bytes-exact, same_bytes-refl}
-use Rattle.toll_base.proofs.SliceFits.{fits_exact}
 
 -- ---- the verdict
 

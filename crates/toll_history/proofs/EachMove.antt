@@ -1,14 +1,10 @@
 -- What holds of each movement of a lawful history: of a new one where it was accepted, and of an earlier one still.
 use Rattle.std.proofs.Common.{◌≡◌, true, false, cond, Some, List, [], ◌∷◌, refl, sym, subst, ◌∙◌}
-use Rattle.std.specs.List.{AllByRecursion}
-use Rattle.toll_base.specs.Bytes.{Bytes, same_bytes}
+use Rattle.toll_history.proofs.Common.{AllByRecursion, Bytes, same_bytes, MoveRow, both, same_bytes-exact}
 use Rattle.toll_history.specs.Command.{Action, Record, by}
 use Rattle.toll_history.specs.History.{History, acts}
 use Rattle.toll_history.specs.Movements.{Movement, has_key, movement_of, movements}
 use Rattle.toll_history.specs.Verdict.{Accepted, IsLawful, IsValid, verdict}
-use Rattle.toll_base.specs.declared.movement.MoveRow.{MoveRow}
-use Rattle.toll_base.proofs.Bools.{both}
-use Rattle.toll_base.proofs.Texts.{same_bytes-exact}
 use Rattle.toll_history.proofs.Found.{movement_of-recorded, movement_of-kept}
 
 weaker : {X : Type 0} (P R : X → Type 0) → ((x : X) → P x → R x) → (xs : List X) → AllByRecursion P xs → AllByRecursion R xs

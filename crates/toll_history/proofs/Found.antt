@@ -1,16 +1,13 @@
 -- Which movement an owner's key finds, and which keys are voided, after one command more.
 use Rattle.std.proofs.Common.{◌≡◌, true, false, cond, Option, Some, None, List, [], ◌∷◌, refl, sym, ap, ◌∙◌}
-use Rattle.toll_base.specs.Bytes.{Bytes, same_bytes}
-use Rattle.toll_base.specs.Words.{or_else, where_so}
+use Rattle.toll_history.proofs.Common.{Bytes, same_bytes, or_else, where_so, MoveRow, same_bytes-symm}
 use Rattle.toll_history.specs.Command.{Action, Record, by}
 use Rattle.toll_history.specs.History.{History, acts}
 use Rattle.toll_history.specs.Movements.{has_key, movement_of, movement_recorded}
 use Rattle.toll_history.specs.Verdict.{Accepted, verdict}
-use Rattle.toll_base.specs.declared.movement.MoveRow.{MoveRow}
 use Rattle.toll_history.proofs.Options.{none_of, or_none, or_else_where}
 use Rattle.toll_history.proofs.Passed.{accepted_passes}
 use Rattle.toll_history.proofs.Acts.{first_acts}
-use Rattle.toll_base.proofs.Texts.{same_bytes-symm}
 
 -- a movement more is found by its key
 pub movement_of-recorded : (H : History) (owner : Bytes) (row : MoveRow) (o key : Bytes) → movement_of (acts o (by owner (Record row) ∷ H)) key ≡ cond (has_key o key (owner, row)) (Some row) (movement_of (acts o H) key)

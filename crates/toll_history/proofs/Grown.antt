@@ -1,21 +1,14 @@
 -- The tables that a history gives after one action more.
 use Rattle.std.proofs.Common.{◌≡◌, ℕ, suc, ◌+◌, Bool, true, false, cond, Option, Some, is_some, List, ◌∷◌, refl, ap, ◌∙◌, arith}
-use Rattle.std.specs.List.{list_any}
-use Rattle.std.specs.Option.{option_map}
-use Rattle.toll_base.specs.Bytes.{Bytes, same_bytes}
-use Rattle.toll_base.specs.Words.{count, or_else, where_so, is_some_where}
-use Rattle.toll_base.specs.SliceRules.{is_actual_of}
+use Rattle.toll_history.proofs.Common.{list_any, option_map, Bytes, same_bytes, count, or_else, where_so, is_some_where, is_actual_of, lot_id, LotRow, same_bytes-refl}
 use Rattle.toll_history.specs.Command.{Action, by}
 use Rattle.toll_history.specs.History.{History, acts}
 use Rattle.toll_history.specs.Work.{material_added, material_of, count_materials, test_added, test_of, count_tests, recipe_added, recipe_of, count_recipes, recipe_used, required, requirement_of, count_requirements, order_placed, order_of, count_orders, batch_of, opens, count_opened}
-use Rattle.toll_base.specs.Lots.{lot_id}
 use Rattle.toll_history.specs.Movements.{lot_made, movement_recorded, movement_of, count_movements, voided_in, count_actuals_of, count_lots, count_sublots, material_used, Made}
 use Rattle.toll_history.specs.Dispositions.{disposition_of, value_recorded, is_result_of, result_of, latest_value, count_results, count_results_of}
 use Rattle.toll_history.specs.Tables.{Tables, tables_given, sublot_row}
 use Rattle.toll_history.specs.Laws.{records_or_voids, IsUnmoved}
-use Rattle.toll_base.specs.declared.rows.LotRow.{LotRow}
 use Rattle.toll_history.proofs.Own.{acts-own, acts-other}
-use Rattle.toll_base.proofs.Texts.{same_bytes-refl}
 use Rattle.toll_history.proofs.Unmoved.{unmoved}
 
 -- one more where it is so

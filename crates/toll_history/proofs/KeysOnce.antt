@@ -1,18 +1,11 @@
 -- A key has one movement, and a voided key an actual.
 use Rattle.std.proofs.Common.{◌≡◌, ◌+◌, Bool, true, false, ◌||◌, cond, Option, Some, None, is_some, List, ◌∷◌, refl, sym, ap, ◌∙◌, arith}
-use mathlib.Core.Bool.{false≢true}
-use Rattle.std.specs.List.{AllByRecursion}
-use Rattle.std.proofs.lemmas.Bool.{not-false}
-use Rattle.toll_base.specs.Bytes.{Bytes, same_bytes}
-use Rattle.toll_base.specs.Words.{count, or_else, is_some_where}
+use Rattle.toll_history.proofs.Common.{false≢true, AllByRecursion, not-false, Bytes, same_bytes, count, or_else, is_some_where, MoveRow, both, and_is, same_bytes-exact, same_bytes-refl}
 use Rattle.toll_history.specs.Command.{Action, Record, Void, by}
 use Rattle.toll_history.specs.History.{History, acts}
 use Rattle.toll_history.specs.Movements.{Movement, has_key, movement_of, movements, voided_in}
 use Rattle.toll_history.specs.Verdict.{Accepted, IsLawful, IsValid, verdict, is_actual}
 use Rattle.toll_history.specs.Laws.{has_this_key}
-use Rattle.toll_base.specs.declared.movement.MoveRow.{MoveRow}
-use Rattle.toll_base.proofs.Bools.{both, and_is}
-use Rattle.toll_base.proofs.Texts.{same_bytes-exact, same_bytes-refl}
 use Rattle.toll_history.proofs.Options.{not_both}
 use Rattle.toll_history.proofs.Passed.{accepted_passes}
 use Rattle.toll_history.proofs.Acts.{along_acts}

@@ -1,25 +1,14 @@
 -- Every lawful history is within the limits of each kind of rows.
 use Rattle.std.proofs.Common.{◌≡◌, ℕ, ◌+◌, ◌≤◌, Bool, true, false, ◌&&◌, ◌||◌, ◌==◌, cond, nat_le, is_some, is_none, [], ◌∷◌, refl, sym, ap, subst, ◌∙◌, arith}
-use mathlib.Core.Bool.{false≢true}
-use Rattle.std.proofs.lemmas.Bool.{not-false, or_parts}
-use Rattle.std.proofs.lemmas.Bool.Decides.{nat_tests}
-use Rattle.toll_base.specs.Bytes.{Bytes, same_bytes}
-use Rattle.toll_base.specs.Words.{count, is_some_where}
-use Rattle.toll_base.specs.SliceRules.{is_actual_of}
+use Rattle.toll_history.proofs.Common.{false≢true, not-false, or_parts, nat_tests, Bytes, same_bytes, count, is_some_where, is_actual_of, lot_id, Consumed, Produced, Move, Receive, Split, Ship, Scrap, Actual, both, same_bytes-exact, nat_eq-exact, same_bytes-symm}
 use Rattle.toll_history.specs.Command.{Action, AddOwner, AddUnit, AddMaterial, AddTest, AddRecipe, Require, PlaceOrder, Record, RecordResult, by}
 use Rattle.toll_history.specs.History.{History, acts, adds_owner, count_owners, adds_some_unit, count_units}
 use Rattle.toll_history.specs.Work.{material_added, test_added, recipe_added, required, order_placed}
-use Rattle.toll_base.specs.Lots.{lot_id}
 use Rattle.toll_history.specs.Movements.{movement_recorded, movements, count_movements, count_actuals_of, first_made, lot_made, makes_lot, makes_sublot, count_lots, count_sublots}
 use Rattle.toll_history.specs.Dispositions.{value_recorded}
 use Rattle.toll_history.specs.Tables.{lot_row}
 use Rattle.toll_history.specs.Verdict.{Accepted, IsLawful, verdict}
 use Rattle.toll_history.specs.Laws.{IsWithinLimits}
-use Rattle.toll_base.specs.declared.role.Role.TheVariants.{Consumed, Produced}
-use Rattle.toll_base.specs.declared.movement.Move.{Move}
-use Rattle.toll_base.specs.declared.movement.Move.TheVariants.{Receive, Split, Ship, Scrap, Actual}
-use Rattle.toll_base.proofs.Bools.{both}
-use Rattle.toll_base.proofs.Texts.{same_bytes-exact, nat_eq-exact, same_bytes-symm}
 use Rattle.toll_history.proofs.Passed.{accepted_passes, MoveFits, move_fits}
 use Rattle.toll_history.proofs.Acts.{along_acts, count_acts}
 use Rattle.toll_history.proofs.Moving.{crosses_not, lot_row_none}

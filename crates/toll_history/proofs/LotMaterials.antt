@@ -1,28 +1,12 @@
 -- A requirement names a material of its source, and a lot is of a material of its owner.
 use Rattle.std.proofs.Common.{◌≡◌, ℕ, Bool, true, false, not, ◌||◌, cond, Option, Some, None, is_some, is_none, [], ◌∷◌, refl, sym, ap, ◌∙◌}
-use mathlib.Core.Bool.{false≢true}
-use Rattle.std.specs.Ordering.{is_eq, ordering_then, nat_cmp}
-use Rattle.std.proofs.lemmas.Option.{cond_some}
-use Rattle.toll_base.specs.Bytes.{Bytes, same_bytes, bytes_cmp}
-use Rattle.toll_base.specs.Words.{or_else, where_so}
-use Rattle.toll_base.specs.Keys.{RequirementKey}
-use Rattle.toll_base.specs.Roles.{role_cmp}
+use Rattle.toll_history.proofs.Common.{false≢true, is_eq, ordering_then, nat_cmp, cond_some, Bytes, same_bytes, bytes_cmp, or_else, where_so, RequirementKey, role_cmp, lot_id, same_lot, LotId, Role, Consumed, Produced, RequirementRow, MoveRow, Move, Receive, Actual, both, same_bytes-exact, is_eq-then}
 use Rattle.toll_history.specs.Command.{Action, Require, Record, Command, by}
 use Rattle.toll_history.specs.History.{History, acts}
 use Rattle.toll_history.specs.Work.{material_of, requirement_of, required, same_requirement}
-use Rattle.toll_base.specs.Lots.{lot_id, same_lot}
 use Rattle.toll_history.specs.Movements.{Made, made_by, lot_made}
 use Rattle.toll_history.specs.Tables.{Tables, tables_given}
 use Rattle.toll_history.specs.Verdict.{Accepted, IsLawful, verdict, crosses, recipe_of_order, requirement_key}
-use Rattle.toll_base.specs.declared.lot.LotId.{LotId}
-use Rattle.toll_base.specs.declared.role.Role.{Role}
-use Rattle.toll_base.specs.declared.role.Role.TheVariants.{Consumed, Produced}
-use Rattle.toll_base.specs.declared.rows.RequirementRow.{RequirementRow}
-use Rattle.toll_base.specs.declared.movement.MoveRow.{MoveRow}
-use Rattle.toll_base.specs.declared.movement.Move.{Move}
-use Rattle.toll_base.specs.declared.movement.Move.TheVariants.{Receive, Actual}
-use Rattle.toll_base.proofs.Bools.{both}
-use Rattle.toll_base.proofs.Texts.{same_bytes-exact, is_eq-then}
 use Rattle.toll_history.proofs.Options.{some_of, some_second, or_none}
 use Rattle.toll_history.proofs.Passed.{accepted_passes, MoveFits, move_fits}
 use Rattle.toll_history.proofs.Acts.{first_acts}

@@ -1,20 +1,11 @@
 -- Which sublots and lots are known along a history, and of which materials.
 use Rattle.std.proofs.Common.{◌≡◌, ℕ, true, false, Option, Some, None, is_some, is_none, [], ◌∷◌, inl, inr, refl, sym, ap, ◌∙◌}
-use mathlib.Core.Bool.{false≢true}
-use Rattle.std.proofs.lemmas.Bool.{or_cases, or_right}
-use Rattle.toll_base.specs.Bytes.{Bytes}
-use Rattle.toll_base.specs.Words.{or_else}
+use Rattle.toll_history.proofs.Common.{false≢true, or_cases, or_right, Bytes, or_else, lot_id, same_lot, LotId, Consumed, Produced, Move, Receive, Split, Ship, Scrap, Actual, both}
 use Rattle.toll_history.specs.Command.{Action, Record, by}
 use Rattle.toll_history.specs.History.{History}
-use Rattle.toll_base.specs.Lots.{lot_id, same_lot}
 use Rattle.toll_history.specs.Movements.{movement_recorded, brings_into, sublot_known, Made, made_by, lot_made}
 use Rattle.toll_history.specs.Tables.{lot_row}
 use Rattle.toll_history.specs.Verdict.{Accepted, IsLawful, verdict}
-use Rattle.toll_base.specs.declared.lot.LotId.{LotId}
-use Rattle.toll_base.specs.declared.role.Role.TheVariants.{Consumed, Produced}
-use Rattle.toll_base.specs.declared.movement.Move.{Move}
-use Rattle.toll_base.specs.declared.movement.Move.TheVariants.{Receive, Split, Ship, Scrap, Actual}
-use Rattle.toll_base.proofs.Bools.{both}
 use Rattle.toll_history.proofs.Options.{some_of, some_first, some_second, some_where, or_else_none}
 use Rattle.toll_history.proofs.Passed.{MoveFits, move_fits}
 use Rattle.toll_history.proofs.Moving.{same_lot-exact, lot_row_none}

@@ -1,27 +1,11 @@
 -- What an accepted movement brings, and what it takes.
 use Rattle.std.proofs.Common.{◌≡◌, ℕ, ◌+◌, ◌≤◌, Bool, true, false, not, ◌&&◌, ◌||◌, cond, nat_lt, Option, Some, None, is_none, [], ◌∷◌, refl, sym, ap, subst, ◌∙◌, arith}
-use mathlib.Core.Bool.{false≢true}
-use Rattle.std.specs.Option.{option_map_or}
-use Rattle.std.proofs.lemmas.Bool.{not-false, or_left}
-use Rattle.std.proofs.lemmas.Bool.Decides.{nat_tests}
-use Rattle.toll_base.specs.Bytes.{Bytes, same_bytes}
-use Rattle.toll_base.specs.Values.{house_name}
-use Rattle.toll_base.specs.Words.{where_so, is_some_where}
+use Rattle.toll_history.proofs.Common.{false≢true, option_map_or, not-false, or_left, nat_tests, Bytes, same_bytes, house_name, where_so, is_some_where, lot_id, same_lot, LotId, Role, Consumed, Produced, MoveRow, SublotRow, Move, Receive, Split, Ship, Scrap, Actual, both, same_bytes-exact}
 use Rattle.toll_history.specs.Command.{Action, Record, Void, by}
 use Rattle.toll_history.specs.History.{History, acts}
-use Rattle.toll_base.specs.Lots.{lot_id, same_lot}
 use Rattle.toll_history.specs.Movements.{has_key, movement_of, standing, brings_into, takes_from, brought, stock, sublot_known, lot_made, voided_in}
 use Rattle.toll_history.specs.Tables.{Tables, tables_given, lot_row, sublot_row}
 use Rattle.toll_history.specs.Verdict.{Accepted, verdict, amount_in, crosses, tables_for, is_actual, takes_too_much}
-use Rattle.toll_base.specs.declared.lot.LotId.{LotId}
-use Rattle.toll_base.specs.declared.role.Role.{Role}
-use Rattle.toll_base.specs.declared.role.Role.TheVariants.{Consumed, Produced}
-use Rattle.toll_base.specs.declared.movement.MoveRow.{MoveRow}
-use Rattle.toll_base.specs.declared.rows.SublotRow.{SublotRow}
-use Rattle.toll_base.specs.declared.movement.Move.{Move}
-use Rattle.toll_base.specs.declared.movement.Move.TheVariants.{Receive, Split, Ship, Scrap, Actual}
-use Rattle.toll_base.proofs.Bools.{both}
-use Rattle.toll_base.proofs.Texts.{same_bytes-exact}
 use Rattle.toll_history.proofs.Options.{map_none, true_where}
 use Rattle.toll_history.proofs.Passed.{MoveFits, accepted_passes}
 use Rattle.toll_history.proofs.Sums.{total-filter_le}

@@ -1,24 +1,12 @@
 -- What a command owes that adds one row, known by its name, of which an owner has so many at most.
 use Rattle.std.proofs.Common.{◌≡◌, ℕ, suc, cond, Bool, true, false, nat_le, Option, Some, is_some, List, [], ◌∷◌, length, sym, ap, ◌∙◌}
-use Rattle.std.proofs.lemmas.Bool.{or_right}
-use Rattle.std.specs.Cmp.Lexicographic.{nat_list_cmp_total}
-use Rattle.toll_base.specs.Bytes.{Bytes, same_bytes, bytes_cmp}
-use Rattle.toll_base.specs.Slice.{Slice, with_row}
-use Rattle.toll_base.specs.SliceRules.{KeepsRules, row_fits}
-use Rattle.toll_base.specs.Table.{row_at, put_row}
-use Rattle.toll_base.specs.Values.{house_name}
-use Rattle.toll_base.specs.Words.{or_else, where_so}
-use Rattle.toll_base.specs.declared.decision.Change.TheVariants.{Put}
-use Rattle.toll_base.specs.declared.decision.Decision.{Decision}
-use Rattle.toll_base.specs.declared.rows.Row.{Row}
+use Rattle.toll_history.proofs.Common.{or_right, nat_list_cmp_total, Bytes, same_bytes, bytes_cmp, Slice, with_row, KeepsRules, row_fits, row_at, put_row, house_name, or_else, where_so, Put, Decision, Row, row_at-put_row, length-new}
 use Rattle.toll_history.specs.Command.{Action, by}
 use Rattle.toll_history.specs.Decision.{IsDecided, Decides, DecisionKeepsRules}
 use Rattle.toll_history.specs.History.{History}
 use Rattle.toll_history.specs.Laws.{records_or_voids}
 use Rattle.toll_history.specs.Tables.{Tables, tables_of, tables_given}
 use Rattle.toll_history.specs.Verdict.{Checks, Accepted, first_of, plant_given, action_checks, verdict}
-use Rattle.toll_base.proofs.KeyOrder.{row_at-put_row}
-use Rattle.toll_base.proofs.PutTables.{length-new}
 use Rattle.toll_history.proofs.Adding.{adding_decided, adding_keeps}
 use Rattle.toll_history.proofs.Grown.{put_first}
 

@@ -1,30 +1,13 @@
 -- Each movement into a lot makes it what its first movement made it.
 use Rattle.std.proofs.Common.{◌≡◌, ℕ, Bool, true, false, not, ◌==◌, Some, None, ◌∷◌, refl, sym, ap, ◌∙◌}
-use mathlib.Core.Bool.{false≢true}
-use Rattle.std.specs.List.{AllByRecursion}
-use Rattle.std.specs.Option.{option_map}
-use Rattle.std.proofs.lemmas.Bool.{not-false}
-use Rattle.std.proofs.lemmas.Option.{cond_some}
-use Rattle.toll_base.specs.Bytes.{Bytes, same_bytes}
-use Rattle.toll_base.specs.Words.{or_else, is_some_where}
+use Rattle.toll_history.proofs.Common.{false≢true, AllByRecursion, option_map, not-false, cond_some, Bytes, same_bytes, or_else, is_some_where, lot_id, same_lot, LotId, Origin, Receipts, Batch, Produced, LotRow, MoveRow, Move, Receive, Actual, both, same_bytes-exact, nat_eq-exact}
 use Rattle.toll_history.specs.Command.{Record, by}
 use Rattle.toll_history.specs.History.{History, acts}
-use Rattle.toll_base.specs.Lots.{lot_id, same_lot}
 use Rattle.toll_history.specs.Movements.{movements, Made, made_by, lot_made}
 use Rattle.toll_history.specs.Dispositions.{disposition_of}
 use Rattle.toll_history.specs.Tables.{lot_row}
 use Rattle.toll_history.specs.Verdict.{Accepted, IsLawful, verdict, is_receipts, is_made_by}
 use Rattle.toll_history.specs.Laws.{Agrees}
-use Rattle.toll_base.specs.declared.lot.LotId.{LotId}
-use Rattle.toll_base.specs.declared.lot.Origin.{Origin}
-use Rattle.toll_base.specs.declared.lot.Origin.TheVariants.{Receipts, Batch}
-use Rattle.toll_base.specs.declared.role.Role.TheVariants.{Produced}
-use Rattle.toll_base.specs.declared.rows.LotRow.{LotRow}
-use Rattle.toll_base.specs.declared.movement.MoveRow.{MoveRow}
-use Rattle.toll_base.specs.declared.movement.Move.{Move}
-use Rattle.toll_base.specs.declared.movement.Move.TheVariants.{Receive, Actual}
-use Rattle.toll_base.proofs.Bools.{both}
-use Rattle.toll_base.proofs.Texts.{same_bytes-exact, nat_eq-exact}
 use Rattle.toll_history.proofs.Passed.{MoveFits, move_fits}
 use Rattle.toll_history.proofs.EachMove.{each_move}
 use Rattle.toll_history.proofs.Moving.{same_lot-exact, crosses_not}

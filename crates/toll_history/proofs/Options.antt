@@ -1,9 +1,6 @@
 -- Facts of options.
 use Rattle.std.proofs.Common.{◌≡◌, Bool, true, false, not, ◌&&◌, cond, Option, Some, None, is_some, is_none, refl, sym, ap, ◌∙◌}
-use Rattle.std.proofs.lemmas.Bool.{not-false}
-use mathlib.Core.Bool.{false≢true}
-use Rattle.std.specs.Option.{option_map}
-use Rattle.toll_base.specs.Words.{or_else, where_so, is_some_where}
+use Rattle.toll_history.proofs.Common.{not-false, false≢true, option_map, or_else, where_so, is_some_where}
 
 pub some_of : {X : Type 0} (x : Option X) → is_none x ≡ false → is_some x ≡ true
 some_of None h = absurd (false≢true (sym h))

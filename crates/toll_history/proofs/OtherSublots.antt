@@ -1,19 +1,12 @@
 -- An accepted command leaves the sublots of other owners as they are, but for those from which it takes.
 use Rattle.std.proofs.Common.{◌≡◌, ℕ, ◌+◌, ◌-◌, Bool, true, false, ◌||◌, cond, ◌∷◌, refl, sym, ap, ◌∙◌, arith}
-use mathlib.Core.Bool.{false≢true}
-use Rattle.std.proofs.lemmas.Bool.{false_from_ne_true}
-use Rattle.toll_base.specs.Bytes.{Bytes, same_bytes}
-use Rattle.toll_base.specs.Words.{where_so, is_some_where}
+use Rattle.toll_history.proofs.Common.{false≢true, false_from_ne_true, Bytes, same_bytes, where_so, is_some_where, lot_id, MoveRow, Move, same_bytes-refl}
 use Rattle.toll_history.specs.Command.{Action, Record, Void, by}
 use Rattle.toll_history.specs.History.{History}
-use Rattle.toll_base.specs.Lots.{lot_id}
 use Rattle.toll_history.specs.Movements.{brings_into, takes_from, stock, sublot_known}
 use Rattle.toll_history.specs.Tables.{sublot_row}
 use Rattle.toll_history.specs.Verdict.{Accepted, IsLawful, verdict}
 use Rattle.toll_history.specs.Laws.{is_taken_in}
-use Rattle.toll_base.specs.declared.movement.MoveRow.{MoveRow}
-use Rattle.toll_base.specs.declared.movement.Move.{Move}
-use Rattle.toll_base.proofs.Texts.{same_bytes-refl}
 use Rattle.toll_history.proofs.Passed.{MoveFits, move_fits}
 use Rattle.toll_history.proofs.Moving.{brings_own, Voidable, void_passes}
 use Rattle.toll_history.proofs.Owned.{found_brings_own}

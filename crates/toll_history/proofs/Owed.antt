@@ -1,11 +1,7 @@
 -- What a call answers whose plan is decided over the rows of one owner.
 use Rattle.std.specs.Prelude.{List, Result, IfOk}
 use Rattle.std.proofs.lemmas.Result.{IfOk-weaker}
-use Rattle.toll_base.specs.Changes.{changes_of}
-use Rattle.toll_base.specs.Slice.{Slice}
-use Rattle.toll_base.specs.SliceRules.{KeepsRules}
-use Rattle.toll_base.specs.declared.decision.Change.{Change}
-use Rattle.toll_base.specs.declared.decision.Decision.{Decision}
+use Rattle.toll_history.proofs.Common.{changes_of, Slice, KeepsRules, Change, Decision}
 use Rattle.toll_history.specs.Command.{Command}
 use Rattle.toll_history.specs.Decision.{IsDecided, Decides, DecisionKeepsRules}
 use Rattle.toll_history.specs.OwnChanges.{PutsOnly}

@@ -1,11 +1,9 @@
 -- An owner's own commands and movements, among those of all.
 use Rattle.std.proofs.Common.{◌≡◌, Bool, true, false, not, ◌&&◌, cond, List, [], ◌∷◌, ◌++◌, map, filter, refl, sym, ap, subst, ◌∙◌}
-use mathlib.Core.Bool.{false≢true}
-use Rattle.toll_base.specs.Bytes.{Bytes, same_bytes}
+use Rattle.toll_history.proofs.Common.{false≢true, Bytes, same_bytes, same_bytes-exact}
 use Rattle.toll_history.specs.Command.{Action, Record, Void, Command}
 use Rattle.toll_history.specs.History.{History, part, acts}
 use Rattle.toll_history.specs.Movements.{Movement, moved_by, movements, standing_after, standing, has_key}
-use Rattle.toll_base.proofs.Texts.{same_bytes-exact}
 
 -- a filter that lets all pass that the other does leaves the other's
 filter_idle : {X : Type 0} (p q : X → Bool) → ((x : X) → p x ≡ true → q x ≡ true) → (xs : List X) → filter p (filter q xs) ≡ filter p xs

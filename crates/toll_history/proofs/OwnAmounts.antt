@@ -1,21 +1,12 @@
 -- What is on hand of an owner's lots, and what its batches did, comes from the owner's part of a history.
 use Rattle.std.proofs.Common.{◌≡◌, ℕ, ◌-◌, Bool, false, ◌&&◌, cond, refl, sym, ap, subst, ◌∙◌}
-use Rattle.toll_base.specs.Bytes.{Bytes, same_bytes}
-use Rattle.toll_base.specs.Values.{house_name}
-use Rattle.toll_base.specs.Words.{total}
+use Rattle.toll_history.proofs.Common.{Bytes, same_bytes, house_name, total, lot_id, Consumed, Produced, RequirementRow, Move, Receive, Split, Ship, Scrap, Actual, same_bytes-symm, is_actual_of}
 use Rattle.toll_history.specs.History.{History, part}
-use Rattle.toll_base.specs.Lots.{lot_id}
 use Rattle.toll_history.specs.Movements.{standing}
 use Rattle.toll_history.specs.Verdict.{IsLawful}
-use Rattle.toll_base.specs.declared.role.Role.TheVariants.{Consumed, Produced}
-use Rattle.toll_base.specs.declared.rows.RequirementRow.{RequirementRow}
-use Rattle.toll_base.specs.declared.movement.Move.{Move}
-use Rattle.toll_base.specs.declared.movement.Move.TheVariants.{Receive, Split, Ship, Scrap, Actual}
-use Rattle.toll_base.proofs.Texts.{same_bytes-symm}
 use Rattle.toll_history.proofs.Own.{standing-part}
 use Rattle.toll_history.proofs.Crossing.{crosses_by, standing_not_crossing, not_same_lot, and_false_two, is_the_owner, neither}
 use Rattle.toll_history.proofs.OwnTables.{total-own}
-use Rattle.toll_base.specs.SliceRules.{is_actual_of}
 use Rattle.toll_history.specs.Amounts.{adds_to, ships_from, uses_up, amounts, on_hand, shipped, meets, serves, actual_of}
 
 module _ (o : Bytes) where

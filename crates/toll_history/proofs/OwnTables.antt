@@ -1,28 +1,16 @@
 -- What belongs to an owner is the same over the whole history as over the owner's part of it.
 use Rattle.std.proofs.Common.{◌≡◌, ℕ, ◌+◌, ◌-◌, Bool, true, false, not, ◌&&◌, ◌||◌, cond, Option, Some, None, is_none, List, [], ◌∷◌, filter, refl, sym, ap, subst, ◌∙◌, zero-add}
-use Rattle.std.specs.List.{list_any}
-use Rattle.std.specs.Option.{option_map}
-use Rattle.toll_base.specs.Bytes.{Bytes, same_bytes}
-use Rattle.toll_base.specs.Values.{house_name}
+use Rattle.toll_history.proofs.Common.{list_any, option_map, Bytes, same_bytes, house_name, total, or_else, where_so, is_some_where, lot_id, SublotRow, same_role, LotId, Move, Receive, Split, Ship, Scrap, Actual, Consumed, Produced, same_bytes-symm, same_bytes-refl}
 use Rattle.toll_history.specs.Command.{Command}
-use Rattle.toll_base.specs.Words.{total, or_else, where_so, is_some_where}
 use Rattle.toll_history.specs.History.{History, part}
-use Rattle.toll_base.specs.Lots.{lot_id}
 use Rattle.toll_history.specs.Movements.{Movement, movements, standing, brings_into, takes_from, made_by, first_made, lot_made, sublot_known, stock, brought, taken, makes_lot, makes_sublot, sublot_in, count_making, count_lots, count_sublots, lot_brought, material_used}
 use Rattle.toll_history.specs.Movements.{movement_of, count_movements, voided_in, count_actuals_of}
 use Rattle.toll_history.specs.Work.{material_of, count_materials, test_added, test_of, count_tests, recipe_of, count_recipes, recipe_used, requirement_of, count_requirements, order_of, count_orders, batch_of, count_opened}
 use Rattle.toll_history.specs.Dispositions.{disposition_of, result_of, latest_value, count_results, count_results_of}
 use Rattle.toll_history.specs.Tables.{tables_given, lot_row, sublot_row, without_amount, without_amounts}
-use Rattle.toll_base.specs.declared.rows.SublotRow.{SublotRow}
-use Rattle.toll_base.specs.Roles.{same_role}
 use Rattle.toll_history.specs.Verdict.{IsLawful}
-use Rattle.toll_base.specs.declared.lot.LotId.{LotId}
-use Rattle.toll_base.specs.declared.movement.Move.{Move}
-use Rattle.toll_base.specs.declared.movement.Move.TheVariants.{Receive, Split, Ship, Scrap, Actual}
-use Rattle.toll_base.specs.declared.role.Role.TheVariants.{Consumed, Produced}
 use Rattle.toll_history.proofs.Own.{is_own, other_than, acts-part, part-other, movements-part, standing-part}
 use Rattle.toll_history.proofs.Crossing.{crosses_by, NoneCrosses, movements_not_crossing, standing_not_crossing, brings_not, takes_not, makes_not, produced_by, is_the_owner}
-use Rattle.toll_base.proofs.Texts.{same_bytes-symm, same_bytes-refl}
 
 -- ---- sums and tests over movements, of which those of others count nothing
 

@@ -1,14 +1,10 @@
 -- Whose sublots a movement of a lawful history brings into and takes from, and that they are known.
 use Rattle.std.proofs.Common.{◌≡◌, true, Some, ◌∷◌}
-use Rattle.std.specs.List.{AllByRecursion}
-use Rattle.std.proofs.lemmas.Bool.{or_left}
-use Rattle.toll_base.specs.Bytes.{Bytes}
+use Rattle.toll_history.proofs.Common.{AllByRecursion, or_left, Bytes, LotId, MoveRow}
 use Rattle.toll_history.specs.Command.{Action, Record, by}
 use Rattle.toll_history.specs.History.{History, acts}
 use Rattle.toll_history.specs.Movements.{Movement, movement_of, movements, brings_into, sublot_known}
 use Rattle.toll_history.specs.Verdict.{Accepted, IsLawful, verdict}
-use Rattle.toll_base.specs.declared.lot.LotId.{LotId}
-use Rattle.toll_base.specs.declared.movement.MoveRow.{MoveRow}
 use Rattle.toll_history.proofs.Passed.{move_fits}
 use Rattle.toll_history.proofs.EachMove.{each_move, of_found}
 use Rattle.toll_history.proofs.Moving.{brings_own, takes_known, takes_own}

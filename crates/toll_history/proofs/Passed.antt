@@ -1,14 +1,10 @@
 -- What is known where an owner's action was accepted: none of its checks applies.
 use Rattle.std.proofs.Common.{◌≡◌, ℕ, suc, false, not, ◌&&◌, Some, ◌∷◌}
-use Rattle.toll_base.specs.Bytes.{Bytes}
-use Rattle.toll_base.specs.Values.{house_name}
+use Rattle.toll_history.proofs.Common.{Bytes, house_name, UnknownOwner, MoveRow, Move}
 use Rattle.toll_history.specs.Command.{Action, Record, by}
 use Rattle.toll_history.specs.History.{History, owner_known}
 use Rattle.toll_history.specs.Tables.{tables_given}
 use Rattle.toll_history.specs.Verdict.{Accepted, first_of, verdict, checks, plant_given, action_checks, key_checks, movement_checks, needs_owner}
-use Rattle.toll_base.specs.declared.refusal.Refusal.TheVariants.{UnknownOwner}
-use Rattle.toll_base.specs.declared.movement.MoveRow.{MoveRow}
-use Rattle.toll_base.specs.declared.movement.Move.{Move}
 use Rattle.toll_history.proofs.Accepted.{applies, none_applies, rest_accept}
 
 -- none of an accepted action's checks applies

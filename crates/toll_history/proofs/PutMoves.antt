@@ -1,27 +1,13 @@
 -- The tables of a slice after a movement, a lot, a sublot or a void was put.
 use Rattle.std.proofs.Common.{◌≡◌, ℕ, suc, ◌+◌, Bool, true, false, ◌&&◌, ◌||◌, cond, Option, Some, None, is_some, is_none, List, [], ◌∷◌, length, refl, ap, ◌∙◌, arith}
-use Rattle.std.specs.Cmp.Lexicographic.{nat_list_cmp_total}
+use Rattle.toll_history.proofs.Common.{nat_list_cmp_total, list_any, is_eq, or_left, or_right, Bytes, same_bytes, bytes_cmp, pair_cmp, row_at, put_row, Slice, with_row, lot_at, move_at, is_actual_of, LotRow, MoveRow, SublotRow, row_at-put_row, length-put_row, length-new, count-new, any-new, any-known, pair_cmp_total, is_eq-then, same_bytes-symm}
 use Rattle.std.specs.Cmp.{IsTotalOrder}
-use Rattle.std.specs.List.{list_any}
-use Rattle.std.specs.Ordering.{is_eq}
 use Rattle.std.specs.declared.cmp.Ordering.{Ordering}
-use Rattle.std.proofs.lemmas.Bool.{or_left, or_right}
-use Rattle.toll_base.specs.Bytes.{Bytes, same_bytes, bytes_cmp}
-use Rattle.toll_base.specs.Keys.{pair_cmp}
-use Rattle.toll_base.specs.Table.{row_at, put_row}
-use Rattle.toll_base.specs.Slice.{Slice, with_row, lot_at, move_at}
-use Rattle.toll_base.specs.SliceRules.{is_actual_of}
 use Rattle.toll_history.specs.Tables.{Tables, tables_of}
-use Rattle.toll_base.specs.declared.rows.LotRow.{LotRow}
-use Rattle.toll_base.specs.declared.movement.MoveRow.{MoveRow}
-use Rattle.toll_base.specs.declared.rows.SublotRow.{SublotRow}
 use Rattle.toll_base.specs.declared.rows.VoidRow.{VoidRow}
 use Rattle.toll_base.specs.declared.rows.Row.TheVariants.{Lot, Sublot, Move, Void}
 use Rattle.toll_history.proofs.Decided.{put_rows}
 use Rattle.toll_history.proofs.Grown.{more}
-use Rattle.toll_base.proofs.KeyOrder.{row_at-put_row, length-put_row}
-use Rattle.toll_base.proofs.PutTables.{length-new, count-new, any-new, any-known}
-use Rattle.toll_base.proofs.Texts.{pair_cmp_total, is_eq-then, same_bytes-symm}
 
 -- tables with one movement more
 abbrev pub with_move : MoveRow → Tables → Tables

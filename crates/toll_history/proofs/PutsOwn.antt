@@ -1,15 +1,9 @@
 -- A decision's changes put rows of one owner alone, where those of its verdict do.
 use Rattle.std.proofs.Common.{Bool, List, [], ◌∷◌, map, sym, subst}
-use Rattle.toll_base.specs.Bytes.{Bytes}
+use Rattle.toll_history.proofs.Common.{Bytes, changes_of, Change, Put, Decision, Row, same_bytes-refl}
 use Rattle.toll_history.specs.Verdict.{Verdict, Checks, Accepted, Repeated, Refused, first_of}
-use Rattle.toll_base.specs.Changes.{changes_of}
 use Rattle.toll_history.specs.Decision.{IsDecided, changes_if}
 use Rattle.toll_history.specs.OwnChanges.{EachChange, PutsOnly}
-use Rattle.toll_base.specs.declared.decision.Change.{Change}
-use Rattle.toll_base.specs.declared.decision.Change.TheVariants.{Put}
-use Rattle.toll_base.specs.declared.decision.Decision.{Decision}
-use Rattle.toll_base.specs.declared.rows.Row.{Row}
-use Rattle.toll_base.proofs.Texts.{same_bytes-refl}
 
 each_if : (such : Change → Bool) (v : Verdict) (changes : List Change) → EachChange such changes → EachChange such (changes_if v changes)
 each_if such Accepted changes each = each

@@ -1,24 +1,12 @@
 -- The tables that a history gives after a movement more.
 use Rattle.std.proofs.Common.{◌≡◌, ℕ, ◌+◌, ◌-◌, Bool, true, false, not, ◌&&◌, ◌||◌, cond, Option, Some, None, is_none, ◌∷◌, refl, sym, ap, ◌∙◌, arith}
-use mathlib.Core.Bool.{false≢true}
-use Rattle.std.specs.Option.{option_map}
-use Rattle.std.proofs.lemmas.Bool.{and_right}
-use Rattle.toll_base.specs.Bytes.{Bytes, same_bytes}
-use Rattle.toll_base.specs.Words.{or_else, where_so, is_some_where}
+use Rattle.toll_history.proofs.Common.{false≢true, option_map, and_right, Bytes, same_bytes, or_else, where_so, is_some_where, lot_id, Quarantined, Origin, LotRow, MoveRow, SublotRow, both, same_bytes-exact, same_bytes-refl, same_bytes-symm}
 use Rattle.toll_history.specs.Command.{Record, by}
 use Rattle.toll_history.specs.History.{History, acts}
-use Rattle.toll_base.specs.Lots.{lot_id}
 use Rattle.toll_history.specs.Movements.{Made, made_by, first_made, lot_made, lot_brought, movements, movement_of, sublot_known, sublot_in, stock, brings_into, takes_from, makes_lot, makes_sublot, count_lots, count_sublots, material_used}
 use Rattle.toll_history.specs.Dispositions.{disposition_of}
 use Rattle.toll_history.specs.Tables.{tables_given, lot_row, sublot_row}
 use Rattle.toll_history.specs.Verdict.{Accepted, IsLawful, IsValid, verdict, amount_in}
-use Rattle.toll_base.specs.declared.lot.Disposition.TheVariants.{Quarantined}
-use Rattle.toll_base.specs.declared.lot.Origin.{Origin}
-use Rattle.toll_base.specs.declared.rows.LotRow.{LotRow}
-use Rattle.toll_base.specs.declared.movement.MoveRow.{MoveRow}
-use Rattle.toll_base.specs.declared.rows.SublotRow.{SublotRow}
-use Rattle.toll_base.proofs.Bools.{both}
-use Rattle.toll_base.proofs.Texts.{same_bytes-exact, same_bytes-refl, same_bytes-symm}
 use Rattle.toll_history.proofs.Options.{or_else_none, true_where}
 use Rattle.toll_history.proofs.Own.{acts-own}
 use Rattle.toll_history.proofs.OwnTables.{tables_but_amounts-other}

@@ -1,34 +1,18 @@
 -- That a slice has room for what is put, and that no lawful history leads where it has none.
 use Rattle.std.proofs.Common.{◌≡◌, ℕ, ◌+◌, ◌-◌, ◌≤◌, Bool, true, false, ◌&&◌, ◌||◌, cond, nat_le, nat_lt, length, Option, Some, None, is_some, is_none, [], ◌∷◌, ◌++◌, refl, ap, ◌∙◌, arith}
-use Rattle.std.specs.Cmp.Lexicographic.{nat_list_cmp_total}
-use Rattle.std.proofs.lemmas.Bool.{or_left, or_right}
-use Rattle.std.specs.Option.{option_map_or}
-use Rattle.std.proofs.lemmas.Bool.Decides.{nat_tests}
-use Rattle.toll_base.specs.Bytes.{Bytes, bytes_cmp}
-use Rattle.toll_base.specs.Keys.{pair_cmp}
+use Rattle.toll_history.proofs.Common.{nat_list_cmp_total, or_left, or_right, option_map_or, nat_tests, Bytes, bytes_cmp, pair_cmp, lot_id, Slice, with_row, material_at, lot_at, sublot_at, move_at, KeepsRules, row_fits, batch_has_room, Refusal, LimitReached, LotRow, MoveRow, SublotRow, and_is, amount_bound, pair_cmp_total}
 use Rattle.toll_history.specs.Bounds.{sublot_bounds}
 use Rattle.toll_history.specs.Command.{Record, by}
 use Rattle.toll_history.specs.History.{History, acts}
-use Rattle.toll_base.specs.Lots.{lot_id}
 use Rattle.toll_history.specs.Movements.{count_movements, count_sublots, stock, brings_into, takes_from}
-use Rattle.toll_base.specs.Slice.{Slice, with_row, material_at, lot_at, sublot_at, move_at}
-use Rattle.toll_base.specs.SliceRules.{KeepsRules, row_fits, batch_has_room}
 use Rattle.toll_history.specs.Tables.{tables_of, tables_given, sublot_row}
 use Rattle.toll_history.specs.Verdict.{Accepted, Checks, first_of, stopped, amount_in, verdict, IsLawful, IsValid}
-use Rattle.toll_base.specs.declared.refusal.Refusal.{Refusal}
-use Rattle.toll_base.specs.declared.refusal.Refusal.TheVariants.{LimitReached}
-use Rattle.toll_base.specs.declared.rows.LotRow.{LotRow}
-use Rattle.toll_base.specs.declared.movement.MoveRow.{MoveRow}
-use Rattle.toll_base.specs.declared.rows.SublotRow.{SublotRow}
 use Rattle.toll_base.specs.declared.rows.Row.TheVariants.{Lot, Sublot, Move}
-use Rattle.toll_base.proofs.Bools.{and_is}
 use Rattle.toll_history.proofs.Options.{some_of}
 use Rattle.toll_history.proofs.Decided.{less_of, RowsFit}
 use Rattle.toll_history.proofs.LimitsKept.{sublots_of_moves}
 use Rattle.toll_history.proofs.Moving.{held_is}
 use Rattle.toll_base.proofs.PutRules.{put_there, still_there}
-use Rattle.toll_base.proofs.SliceFits.{amount_bound}
-use Rattle.toll_base.proofs.Texts.{pair_cmp_total}
 use Rattle.toll_history.proofs.Stock.{stock_bounded}
 use Rattle.toll_history.proofs.StockChanges.{stock-recorded}
 

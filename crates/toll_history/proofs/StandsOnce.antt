@@ -1,15 +1,10 @@
 -- Of a lawful history, at most one standing movement has a key, and a void takes out just that one.
 use Rattle.std.proofs.Common.{◌≡◌, ℕ, ◌+◌, Bool, true, false, not, ◌&&◌, cond, Some, None, List, [], ◌∷◌, filter, refl, sym, ap, subst, ◌∙◌, arith}
-use Rattle.std.proofs.lemmas.Bool.{or_parts}
-use Rattle.toll_base.specs.Bytes.{Bytes, same_bytes}
-use Rattle.toll_base.specs.Words.{total}
+use Rattle.toll_history.proofs.Common.{or_parts, Bytes, same_bytes, total, MoveRow, both, same_bytes-exact}
 use Rattle.toll_history.specs.Command.{Action, Record, Void, by}
 use Rattle.toll_history.specs.History.{History, acts}
 use Rattle.toll_history.specs.Movements.{Movement, has_key, movement_of, movement_recorded, standing, voided_in, voids_key}
 use Rattle.toll_history.specs.Verdict.{Accepted, IsLawful, verdict}
-use Rattle.toll_base.specs.declared.movement.MoveRow.{MoveRow}
-use Rattle.toll_base.proofs.Bools.{both}
-use Rattle.toll_base.proofs.Texts.{same_bytes-exact}
 use Rattle.toll_history.proofs.Acts.{any_acts}
 use Rattle.toll_history.proofs.Found.{movement_of-recorded, movement_of-kept, key_found, key_is_new}
 use Rattle.toll_history.proofs.Sums.{total-alike, total-filtered}

@@ -1,9 +1,6 @@
 -- An order that isn't known was never cancelled.
 use Rattle.std.proofs.Common.{◌≡◌, true, false, ◌||◌, Option, Some, None, is_none, List, ◌∷◌, refl, sym, ap, ◌∙◌}
-use Rattle.std.specs.List.{list_any}
-use mathlib.Core.Bool.{false≢true}
-use Rattle.toll_base.specs.Bytes.{Bytes, same_bytes}
-use Rattle.toll_base.specs.Words.{or_else, where_so}
+use Rattle.toll_history.proofs.Common.{list_any, false≢true, Bytes, same_bytes, or_else, where_so, same_bytes-exact}
 use Rattle.toll_history.specs.Command.{Action, PlaceOrder, CancelOrder, by}
 use Rattle.toll_history.specs.History.{History, acts}
 use Rattle.toll_history.specs.Work.{order_of, cancels}
@@ -11,7 +8,6 @@ use Rattle.toll_history.specs.Verdict.{Accepted, verdict, IsLawful, IsValid}
 use Rattle.toll_history.proofs.Acts.{along_acts}
 use Rattle.toll_history.proofs.Options.{map_none}
 use Rattle.toll_history.proofs.Passed.{accepted_passes}
-use Rattle.toll_base.proofs.Texts.{same_bytes-exact}
 
 second_none : {X : Type 0} (x y : Option X) → is_none (or_else x y) ≡ true → is_none y ≡ true
 second_none None y h = h

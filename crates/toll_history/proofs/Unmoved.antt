@@ -1,7 +1,6 @@
 -- An action that records and voids nothing leaves the movements, the lots and the stock as they are.
 use Rattle.std.proofs.Common.{◌≡◌, false, refl, sym}
-use mathlib.Core.Bool.{false≢true}
-use Rattle.toll_base.specs.Bytes.{Bytes}
+use Rattle.toll_history.proofs.Common.{false≢true, Bytes}
 use Rattle.toll_history.specs.Command.{Action, Record, Void, by}
 use Rattle.toll_history.specs.History.{History}
 use Rattle.toll_history.specs.Movements.{stock, sublot_known, lot_made, count_lots, count_sublots, material_used}

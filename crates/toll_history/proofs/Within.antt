@@ -1,12 +1,6 @@
 -- Of checks that say the verdict: they say it with bounds after them that no lawful history meets.
 use Rattle.std.proofs.Common.{◌≡◌, List, ◌++◌, map, refl, sym, ap, ◌∙◌}
-use Rattle.toll_base.specs.Bytes.{Bytes}
-use Rattle.toll_base.specs.Slice.{Slice}
-use Rattle.toll_base.specs.SliceRules.{KeepsRules}
-use Rattle.toll_base.specs.Values.{house_name}
-use Rattle.toll_base.specs.declared.decision.Change.TheVariants.{Put}
-use Rattle.toll_base.specs.declared.decision.Decision.{Decision}
-use Rattle.toll_base.specs.declared.rows.Row.{Row}
+use Rattle.toll_history.proofs.Common.{Bytes, Slice, KeepsRules, house_name, Put, Decision, Row}
 use Rattle.toll_history.specs.Command.{Action, by}
 use Rattle.toll_history.specs.Decision.{IsDecided, Decides, DecisionKeepsRules}
 use Rattle.toll_history.specs.History.{History}

@@ -1,17 +1,8 @@
 -- Sums over the movements that stand: what is on hand of a lot, what was shipped of it, and what a batch did.
 use Rattle.std.specs.Prelude.{ℕ, ◌-◌, Bool, false, ◌&&◌, ◌==◌, if◌then◌else◌}
-use Rattle.toll_base.specs.Bytes.{Bytes, same_bytes}
-use Rattle.toll_base.specs.Words.{total}
-use Rattle.toll_base.specs.Roles.{same_role}
-use Rattle.toll_base.specs.SliceRules.{is_actual_of}
+use Rattle.toll_history.specs.Common.{Bytes, same_bytes, total, same_role, is_actual_of, lot_id, same_lot, LotId, Consumed, Produced, RequirementRow, Move, Receive, Ship, Scrap, Actual}
 use Rattle.toll_history.specs.History.{History}
-use Rattle.toll_base.specs.Lots.{lot_id, same_lot}
 use Rattle.toll_history.specs.Movements.{standing}
-use Rattle.toll_base.specs.declared.lot.LotId.{LotId}
-use Rattle.toll_base.specs.declared.role.Role.TheVariants.{Consumed, Produced}
-use Rattle.toll_base.specs.declared.rows.RequirementRow.{RequirementRow}
-use Rattle.toll_base.specs.declared.movement.Move.{Move}
-use Rattle.toll_base.specs.declared.movement.Move.TheVariants.{Receive, Ship, Scrap, Actual}
 
 -- the sum of the amounts of the standing movements that pass the test
 abbrev pub amounts : (Bytes → Move → Bool) → History → ℕ

@@ -1,10 +1,8 @@
 -- What a slice has no room for, besides what a verdict checks. No lawful history leads there.
 use Rattle.std.specs.Prelude.{ℕ, ◌+◌, ◌&&◌, nat_le, nat_lt, Some, is_none, [], ◌∷◌}
-use Rattle.toll_base.specs.Bytes.{Bytes}
+use Rattle.toll_history.specs.Common.{Bytes, MOST_STOCK, MOST_SUBLOTS, LimitReached}
 use Rattle.toll_history.specs.Tables.{Tables}
 use Rattle.toll_history.specs.Verdict.{Checks, amount_in}
-use Rattle.toll_base.specs.declared.capacity.TheConstants.{MOST_STOCK, MOST_SUBLOTS}
-use Rattle.toll_base.specs.declared.refusal.Refusal.TheVariants.{LimitReached}
 
 -- a sublot more than 20,000, or more in a sublot than 20,000,000,000,000
 abbrev pub sublot_bounds : Tables → (lot sublot : Bytes) → ℕ → Checks

@@ -1,13 +1,6 @@
 -- What the office is asked to write down.
 use Rattle.std.specs.Prelude.{ℕ, ℤ}
-use Rattle.toll_base.specs.Bytes.{Bytes}
-use Rattle.toll_base.specs.declared.rows.MaterialRow.{MaterialRow}
-use Rattle.toll_base.specs.declared.rows.TestRow.{TestRow}
-use Rattle.toll_base.specs.declared.rows.RecipeRow.{RecipeRow}
-use Rattle.toll_base.specs.declared.rows.RequirementRow.{RequirementRow}
-use Rattle.toll_base.specs.declared.movement.Move.{Move}
-use Rattle.toll_base.specs.declared.movement.MoveRow.{MoveRow}
-use Rattle.toll_base.specs.declared.state_command.StateCommand.{StateCommand}
+use Rattle.toll_history.specs.Common.{Bytes, MaterialRow, TestRow, RecipeRow, RequirementRow, Move, MoveRow, StateCommand}
 
 -- what is done; everything is named within the owner that the command concerns
 pub data Action : Type 0 where

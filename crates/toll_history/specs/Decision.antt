@@ -1,15 +1,11 @@
 -- What a decision is, and what it owes: it is the verdict, and its changes make the rows of the grown history.
 use Rattle.std.specs.Prelude.{◌≡◌, true, List, [], ◌∷◌, Result, Ok, Err}
-use Rattle.toll_base.specs.Values.{house_name}
+use Rattle.toll_history.specs.Common.{house_name, Slice, KeepsRules, Refusal, Change}
 use Rattle.toll_history.specs.Command.{Command}
 use Rattle.toll_history.specs.History.{History, owner_known}
 use Rattle.toll_base.specs.Changes.{after_change, after_changes, changes_of}
-use Rattle.toll_base.specs.Slice.{Slice}
-use Rattle.toll_base.specs.SliceRules.{KeepsRules}
 use Rattle.toll_history.specs.Tables.{IsRowsOf}
 use Rattle.toll_history.specs.Verdict.{Verdict, Checks, first_of, Accepted, Repeated as WasRepeated, Refused, verdict, grow, IsLawful, IsValid}
-use Rattle.toll_base.specs.declared.refusal.Refusal.{Refusal}
-use Rattle.toll_base.specs.declared.decision.Change.{Change}
 use Rattle.toll_base.specs.declared.decision.Decision.{Decision}
 use Rattle.toll_base.specs.declared.decision.Decision.TheVariants.{Accept, Repeated, Refuse}
 

@@ -1,15 +1,9 @@
 -- Results of tests, and dispositions of lots (IEC 62264-2, test results and the status of material lots).
 use Rattle.std.specs.Prelude.{ℕ, ◌+◌, ℤ, Bool, false, not, ◌&&◌, ◌||◌, ◌==◌, int_lt, if◌then◌else◌, Option, Some, None, List, [], ◌∷◌}
-use Rattle.std.specs.List.{list_any}
-use Rattle.toll_base.specs.Bytes.{Bytes, same_bytes}
-use Rattle.toll_base.specs.Words.{count, first_some, or_else, is_some_where}
+use Rattle.toll_history.specs.Common.{list_any, Bytes, same_bytes, count, first_some, or_else, is_some_where, ResultRow, TestRow, Disposition, Quarantined, Released, Rejected}
 use Rattle.toll_history.specs.Command.{Action, RecordResult, Release, Reject}
 use Rattle.toll_history.specs.Work.{test_of, test_added, count_added}
 use Rattle.toll_base.specs.declared.limits.Limits.{Limits}
-use Rattle.toll_base.specs.declared.rows.ResultRow.{ResultRow}
-use Rattle.toll_base.specs.declared.rows.TestRow.{TestRow}
-use Rattle.toll_base.specs.declared.lot.Disposition.{Disposition}
-use Rattle.toll_base.specs.declared.lot.Disposition.TheVariants.{Quarantined, Released, Rejected}
 
 -- ---- results
 

@@ -1,9 +1,6 @@
 -- Histories: the accepted commands, the newest first, and an owner's part in them.
 use Rattle.std.specs.Prelude.{ℕ, Bool, true, false, ◌||◌, Option, Some, None, List, map, filter}
-use Rattle.std.specs.List.{list_any}
-use Rattle.toll_base.specs.Bytes.{Bytes, same_bytes}
-use Rattle.toll_base.specs.Values.{house_name}
-use Rattle.toll_base.specs.Words.{count, first_some}
+use Rattle.toll_history.specs.Common.{list_any, Bytes, same_bytes, house_name, count, first_some}
 use Rattle.toll_history.specs.Command.{Action, AddOwner, AddUnit, Command}
 
 abbrev pub History : Type 0

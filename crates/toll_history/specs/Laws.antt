@@ -1,25 +1,13 @@
 -- What every lawful history keeps, where it has a name.
 use Rattle.std.specs.Prelude.{◌≡◌, ℕ, ◌+◌, ◌-◌, ◌≤◌, Bool, true, false, ◌||◌, Option, Some, None, is_some, List, ◌∷◌, if◌then◌else◌}
-use Rattle.std.specs.List.{list_any}
-use Rattle.toll_base.specs.Bytes.{Bytes, same_bytes}
-use Rattle.toll_base.specs.Values.{house_name}
-use Rattle.toll_base.specs.Words.{total, is_some_where}
+use Rattle.toll_history.specs.Common.{list_any, Bytes, same_bytes, house_name, total, is_some_where, lot_id, same_lot, MOST_ACTUALS, MOST_LOTS, MOST_MATERIALS, MOST_MOVEMENTS, MOST_ORDERS, MOST_RECIPES, MOST_REQUIREMENTS, MOST_RESULTS, MOST_SUBLOTS, MOST_TESTS, LotId, Quarantined, Released, Consumed, TestRow, MoveRow, Move, Ship, Actual}
 use Rattle.toll_history.specs.Command.{Action, Record, Void, Command, by}
 use Rattle.toll_history.specs.History.{History, acts}
 use Rattle.toll_history.specs.Work.{material_of, test_of, count_materials, count_tests, count_recipes, count_requirements, count_orders}
-use Rattle.toll_base.specs.Lots.{lot_id, same_lot}
 use Rattle.toll_history.specs.Movements.{Movement, Made, made_by, lot_made, movement_of, voided_in, movement_recorded, movements, standing, stock, material_used, brings_into, takes_from, sublot_known, count_movements, count_actuals_of, count_lots, count_sublots}
 use Rattle.toll_history.specs.Dispositions.{count_results, count_results_of, releases, rejects, disposition_of, has_open_test, passes}
 use Rattle.toll_history.specs.Tables.{tables_given, without_amounts, lot_row, sublot_row}
 use Rattle.toll_history.specs.Verdict.{Accepted, is_actual, verdict}
-use Rattle.toll_base.specs.declared.capacity.TheConstants.{MOST_ACTUALS, MOST_LOTS, MOST_MATERIALS, MOST_MOVEMENTS, MOST_ORDERS, MOST_RECIPES, MOST_REQUIREMENTS, MOST_RESULTS, MOST_SUBLOTS, MOST_TESTS}
-use Rattle.toll_base.specs.declared.lot.LotId.{LotId}
-use Rattle.toll_base.specs.declared.lot.Disposition.TheVariants.{Quarantined, Released}
-use Rattle.toll_base.specs.declared.role.Role.TheVariants.{Consumed}
-use Rattle.toll_base.specs.declared.rows.TestRow.{TestRow}
-use Rattle.toll_base.specs.declared.movement.MoveRow.{MoveRow}
-use Rattle.toll_base.specs.declared.movement.Move.{Move}
-use Rattle.toll_base.specs.declared.movement.Move.TheVariants.{Ship, Actual}
 
 -- an owner has no more of each kind than the office keeps
 pub record IsWithinLimits (H : History) (o : Bytes) : Type 0 where

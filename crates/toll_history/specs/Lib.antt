@@ -1,3 +1,4 @@
+pub mod Common
 pub mod Command
 pub mod History
 pub mod Work

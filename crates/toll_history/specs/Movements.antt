@@ -1,21 +1,9 @@
 -- Movements, stock, and where lots come from. A lot is an owner with a name, and is asked about over the commands of all.
 use Rattle.std.specs.Prelude.{ℕ, ◌+◌, ◌-◌, Bool, false, not, ◌&&◌, if◌then◌else◌, Option, Some, None, is_none, List, [], ◌∷◌, ◌++◌, filter}
-use Rattle.std.specs.List.{list_any}
-use Rattle.toll_base.specs.Bytes.{Bytes, same_bytes}
-use Rattle.toll_base.specs.Lots.{lot_id, same_lot}
-use Rattle.toll_base.specs.Words.{total, count, or_else, is_some_where, where_so}
-use Rattle.toll_base.specs.Roles.{same_role}
-use Rattle.toll_base.specs.SliceRules.{is_actual_of}
+use Rattle.toll_history.specs.Common.{list_any, Bytes, same_bytes, lot_id, same_lot, total, count, or_else, is_some_where, where_so, same_role, is_actual_of, MoveRow, Move, Receive, Split, Ship, Scrap, Actual, LotId, Origin, Receipts, Batch, Consumed, Produced}
 use Rattle.toll_history.specs.Command.{Action, Record, Void}
 use Rattle.toll_history.specs.History.{History}
 use Rattle.toll_history.specs.Work.{found, count_added}
-use Rattle.toll_base.specs.declared.movement.MoveRow.{MoveRow}
-use Rattle.toll_base.specs.declared.movement.Move.{Move}
-use Rattle.toll_base.specs.declared.movement.Move.TheVariants.{Receive, Split, Ship, Scrap, Actual}
-use Rattle.toll_base.specs.declared.lot.LotId.{LotId}
-use Rattle.toll_base.specs.declared.lot.Origin.{Origin}
-use Rattle.toll_base.specs.declared.lot.Origin.TheVariants.{Receipts, Batch}
-use Rattle.toll_base.specs.declared.role.Role.TheVariants.{Consumed, Produced}
 
 -- ---- movements
 

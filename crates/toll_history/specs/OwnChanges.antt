@@ -1,11 +1,6 @@
 -- Whose rows changes put.
 use Rattle.std.specs.Prelude.{◌≡◌, Bool, true, false, ◌&&◌, ◌||◌, List, [], ◌∷◌}
-use Rattle.toll_base.specs.Bytes.{Bytes, same_bytes}
-use Rattle.toll_base.specs.Values.{house_name}
-use Rattle.toll_base.specs.declared.decision.Change.{Change}
-use Rattle.toll_base.specs.declared.decision.Change.TheVariants.{Put}
-use Rattle.toll_base.specs.declared.movement.Move.{Move}
-use Rattle.toll_base.specs.declared.movement.Move.TheVariants.{Actual}
+use Rattle.toll_history.specs.Common.{Bytes, same_bytes, house_name, Change, Put, Move, Actual}
 use Rattle.toll_base.specs.declared.rows.Row.TheVariants.{Sublot}
 
 -- the change puts a row of this owner

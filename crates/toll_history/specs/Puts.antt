@@ -1,10 +1,7 @@
 -- What an accepted movement puts: the movement, and the sublot that it brings into or takes from.
 use Rattle.std.specs.Prelude.{ℕ, ◌+◌, ◌-◌, List, map}
-use Rattle.toll_base.specs.Bytes.{Bytes}
-use Rattle.toll_base.specs.declared.decision.Change.{Change}
-use Rattle.toll_base.specs.declared.decision.Change.TheVariants.{Put}
+use Rattle.toll_history.specs.Common.{Bytes, Change, Put, SublotRow}
 use Rattle.toll_base.specs.declared.rows.Row.{Row}
-use Rattle.toll_base.specs.declared.rows.SublotRow.{SublotRow}
 use Rattle.toll_history.specs.Tables.{Tables}
 use Rattle.toll_history.specs.Verdict.{amount_in}
 

@@ -1,27 +1,11 @@
 -- An owner's tables: those that a history gives, and those of a slice.
 use Rattle.std.specs.Prelude.{◌≡◌, ℕ, ℤ, Bool, ◌&&◌, Option, is_some, length}
-use Rattle.std.specs.List.{list_any}
-use Rattle.std.specs.Option.{option_map}
-use Rattle.toll_base.specs.Bytes.{Bytes, same_bytes}
-use Rattle.toll_base.specs.Keys.{RequirementKey}
-use Rattle.toll_base.specs.Words.{count, is_some_where, where_so}
-use Rattle.toll_base.specs.Slice.{Slice, material_at, test_at, recipe_at, requirement_at, order_at, batch_at, lot_at, sublot_at, move_at, result_at, void_at}
-use Rattle.toll_base.specs.SliceRules.{count_actuals}
+use Rattle.toll_history.specs.Common.{list_any, option_map, Bytes, same_bytes, RequirementKey, count, is_some_where, where_so, Slice, material_at, test_at, recipe_at, requirement_at, order_at, batch_at, lot_at, sublot_at, move_at, result_at, void_at, count_actuals, lot_id, MaterialRow, TestRow, RecipeRow, RequirementRow, OrderRow, BatchRow, SublotRow, MoveRow, ResultRow}
 use Rattle.toll_history.specs.History.{History, acts}
 use Rattle.toll_history.specs.Work.{material_of, count_materials, test_added, test_of, count_tests, recipe_of, count_recipes, recipe_used, requirement_of, count_requirements, order_of, count_orders, batch_of, count_opened}
-use Rattle.toll_base.specs.Lots.{lot_id}
 use Rattle.toll_history.specs.Movements.{lot_made, sublot_known, stock, movement_of, count_movements, voided_in, count_actuals_of, count_lots, count_sublots, material_used}
 use Rattle.toll_history.specs.Dispositions.{disposition_of, result_of, latest_value, count_results, count_results_of}
-use Rattle.toll_base.specs.declared.rows.MaterialRow.{MaterialRow}
-use Rattle.toll_base.specs.declared.rows.TestRow.{TestRow}
-use Rattle.toll_base.specs.declared.rows.RecipeRow.{RecipeRow}
-use Rattle.toll_base.specs.declared.rows.RequirementRow.{RequirementRow}
-use Rattle.toll_base.specs.declared.rows.OrderRow.{OrderRow}
-use Rattle.toll_base.specs.declared.rows.BatchRow.{BatchRow}
 use Rattle.toll_base.specs.declared.rows.LotRow.{LotRow}
-use Rattle.toll_base.specs.declared.rows.SublotRow.{SublotRow}
-use Rattle.toll_base.specs.declared.movement.MoveRow.{MoveRow}
-use Rattle.toll_base.specs.declared.rows.ResultRow.{ResultRow}
 
 -- an owner's tables: what each has at a key, how many rows it has, and what a decision asks besides
 pub record Tables : Type 0 where

@@ -1,36 +1,13 @@
 -- The verdict on a command, as a list of checks in their order, and how a history grows.
 use Rattle.std.specs.Prelude.{◌≡◌, ℕ, Bool, true, false, not, ◌&&◌, ◌||◌, if◌then◌else◌, nat_le, nat_lt, ◌==◌, Option, Some, None, is_some, is_none, List, [], ◌∷◌, ◌++◌}
-use Rattle.std.specs.Option.{option_map_or}
-use Rattle.toll_base.specs.Bytes.{Bytes, same_bytes}
+use Rattle.toll_history.specs.Common.{option_map_or, Bytes, same_bytes, house_name, IsAmount, IsBatchNo, is_some_where, RequirementKey, next_state, may_close, is_idle, MOST_ACTUALS, MOST_LOTS, MOST_MATERIALS, MOST_MOVEMENTS, MOST_ORDERS, MOST_OWNERS, MOST_RECIPES, MOST_REQUIREMENTS, MOST_RESULTS, MOST_TESTS, MOST_UNITS, Refusal, MaterialRow, TestRow, RecipeRow, RequirementRow, OrderRow, MoveRow, Move, Receive, Split, Ship, Scrap, Actual, LotId, Origin, Receipts, Batch, Disposition, Quarantined, Released, Rejected as IsRejected, Role, Consumed, Produced, StateCommand}
 use Rattle.toll_base.specs.Moves.{same_movement}
-use Rattle.toll_base.specs.Values.{house_name, IsAmount, IsBatchNo}
-use Rattle.toll_base.specs.Words.{is_some_where}
-use Rattle.toll_base.specs.Keys.{RequirementKey}
-use Rattle.toll_base.specs.States.{next_state, may_close, is_idle}
 use Rattle.toll_history.specs.Command.{Action, AddOwner, AddUnit, AddMaterial, AddTest, AddRecipe, Require, PlaceOrder, CancelOrder, OpenBatch, CommandBatch, CloseBatch, Record, RecordResult, Release, Reject, Void, Command}
 use Rattle.toll_history.specs.History.{History, owner_known, count_owners, unit_known, count_units}
 use Rattle.toll_history.specs.Holders.{holder}
 use Rattle.toll_history.specs.Dispositions.{is_outside}
 use Rattle.toll_history.specs.Tables.{Tables, tables_given}
-use Rattle.toll_base.specs.declared.capacity.TheConstants.{MOST_ACTUALS, MOST_LOTS, MOST_MATERIALS, MOST_MOVEMENTS, MOST_ORDERS, MOST_OWNERS, MOST_RECIPES, MOST_REQUIREMENTS, MOST_RESULTS, MOST_TESTS, MOST_UNITS}
-use Rattle.toll_base.specs.declared.refusal.Refusal.{Refusal}
 use Rattle.toll_base.specs.declared.refusal.Refusal.TheVariants.{UnknownOwner, OwnerExists, UnitExists, UnknownUnit, UnitBusy, MaterialExists, UnknownMaterial, MaterialInUse, TestExists, RecipeExists, UnknownRecipe, RecipeInUse, BadSegment, RequirementExists, OrderExists, UnknownOrder, OrderCancelled, OrderStarted, NoMoreBatches, UnknownBatch, BadState, BatchClosed, BatchIdle, NotInRecipe, UnknownLot, UnknownSublot, WrongMaterial, WrongOrigin, NotReleased, NotQuarantined, NotEnough, SameSublot, KeyConflict, TestsOpen, UnknownTest, CrossOwner, LimitReached, UnknownKey, Voided, Rejected}
-use Rattle.toll_base.specs.declared.rows.MaterialRow.{MaterialRow}
-use Rattle.toll_base.specs.declared.rows.TestRow.{TestRow}
-use Rattle.toll_base.specs.declared.rows.RecipeRow.{RecipeRow}
-use Rattle.toll_base.specs.declared.rows.RequirementRow.{RequirementRow}
-use Rattle.toll_base.specs.declared.rows.OrderRow.{OrderRow}
-use Rattle.toll_base.specs.declared.movement.MoveRow.{MoveRow}
-use Rattle.toll_base.specs.declared.movement.Move.{Move}
-use Rattle.toll_base.specs.declared.movement.Move.TheVariants.{Receive, Split, Ship, Scrap, Actual}
-use Rattle.toll_base.specs.declared.lot.LotId.{LotId}
-use Rattle.toll_base.specs.declared.lot.Origin.{Origin}
-use Rattle.toll_base.specs.declared.lot.Origin.TheVariants.{Receipts, Batch}
-use Rattle.toll_base.specs.declared.lot.Disposition.{Disposition}
-use Rattle.toll_base.specs.declared.lot.Disposition.TheVariants.{Quarantined, Released, Rejected as IsRejected}
-use Rattle.toll_base.specs.declared.role.Role.{Role}
-use Rattle.toll_base.specs.declared.role.Role.TheVariants.{Consumed, Produced}
-use Rattle.toll_base.specs.declared.state_command.StateCommand.{StateCommand}
 
 pub data Verdict : Type 0 where
   Accepted : Verdict

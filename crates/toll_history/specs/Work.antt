@@ -1,21 +1,9 @@
 -- Materials, tests, recipes, orders and batches of one owner, of which the owner's own actions tell.
 use Rattle.std.specs.Prelude.{ℕ, ◌+◌, Bool, false, ◌&&◌, ◌==◌, if◌then◌else◌, Option, Some, None, is_some, List, [], ◌∷◌}
-use Rattle.std.specs.List.{list_any}
-use Rattle.std.specs.Option.{option_map, option_map_or}
+use Rattle.toll_history.specs.Common.{list_any, option_map, option_map_or, Bytes, same_bytes, RequirementKey, requirement_cmp, count, first_some, where_so, or_else, followed, State, MaterialRow, TestRow, RecipeRow, RequirementRow, OrderRow, BatchRow}
 use Rattle.std.specs.Ordering.{is_eq}
-use Rattle.toll_base.specs.Bytes.{Bytes, same_bytes}
-use Rattle.toll_base.specs.Keys.{RequirementKey, requirement_cmp}
-use Rattle.toll_base.specs.Words.{count, first_some, where_so, or_else}
-use Rattle.toll_base.specs.States.{followed}
 use Rattle.toll_history.specs.Command.{Action, AddMaterial, AddTest, AddRecipe, Require, PlaceOrder, CancelOrder, OpenBatch, CommandBatch, CloseBatch}
-use Rattle.toll_base.specs.declared.state.State.{State}
 use Rattle.toll_base.specs.declared.state.State.TheVariants.{Idle}
-use Rattle.toll_base.specs.declared.rows.MaterialRow.{MaterialRow}
-use Rattle.toll_base.specs.declared.rows.TestRow.{TestRow}
-use Rattle.toll_base.specs.declared.rows.RecipeRow.{RecipeRow}
-use Rattle.toll_base.specs.declared.rows.RequirementRow.{RequirementRow}
-use Rattle.toll_base.specs.declared.rows.OrderRow.{OrderRow}
-use Rattle.toll_base.specs.declared.rows.BatchRow.{BatchRow}
 
 -- the row that was added and passes the test, of those that actions add
 abbrev pub found : {R : Type 0} → (Action → Option R) → (R → Bool) → List Action → Option R

@@ -1,20 +1,7 @@
 -- What is among slices, of which no owner has two, is what a content has, and the other way round.
 use Rattle.std.proofs.Common.{◌≡◌, ◌⊎◌, ℕ, ◌+◌, ◌<◌, true, false, cond, Option, Some, None, is_some, List, [], ◌∷◌, ◌++◌, length, get_or, take, refl, sym, ap, subst, ◌∙◌, inl, inr}
-use mathlib.Core.Bool.{false≢true}
+use Rattle.toll_keep.proofs.Common.{false≢true, take_more, All-contains, Contains-append_left, Contains-append_right, Contains-append_cases, Contains-push, Contains-push_cases, Bytes, is_some_where, row_at, Slice, empty_slice, batch_at, Edge, same_bytes-refl, same_bytes-symm, IsInOrder, edge_cmp, IsEdge, AreEdges, Contains-none, Contains-here, Contains-later, Contains-cases, member_of_all, kept_in_order, edges_exact}
 use Rattle.std.specs.Prelude.{Contains, Any}
-use Rattle.std.proofs.lemmas.List.{take_more}
-use Rattle.std.proofs.lemmas.List.Elements.{All-contains, Contains-append_left, Contains-append_right, Contains-append_cases, Contains-push, Contains-push_cases}
-use Rattle.toll_base.specs.Bytes.{Bytes}
-use Rattle.toll_base.specs.Words.{is_some_where}
-use Rattle.toll_base.specs.Table.{row_at}
-use Rattle.toll_base.specs.Slice.{Slice, empty_slice, batch_at}
-use Rattle.toll_base.specs.declared.lot.Edge.{Edge}
-use Rattle.toll_base.proofs.Texts.{same_bytes-refl, same_bytes-symm}
-use Rattle.toll_trace.specs.InOrder.{IsInOrder}
-use Rattle.toll_base.specs.Lots.{edge_cmp}
-use Rattle.toll_trace.specs.Edges.{IsEdge, AreEdges}
-use Rattle.toll_trace.proofs.Members.{Contains-none, Contains-here, Contains-later, Contains-cases, member_of_all, kept_in_order}
-use Rattle.toll_trace.proofs.Orders.{edges_exact}
 use Rattle.toll_keep.specs.declared.holder.Holder.{Holder}
 use Rattle.toll_keep.specs.Holding.{is_on, IsHolder, IsHolderIn, IsHolderAmong, IsEdgeOfSome, AreGathered}
 use Rattle.toll_keep.specs.Slices.{is_of, rows_in, IsOneEach, Kept, content_of}

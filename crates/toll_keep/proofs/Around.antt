@@ -1,9 +1,8 @@
 -- A keep that remembers, around another one: what is so of it by what is so of the one inside.
 use Rattle.std.proofs.Common.{◌≡◌, ◌≢◌, false, Some, Result, Ok, Err, OnOk, OnErr, inl, sym, subst, ◌∙◌}
 use Rattle.std.specs.Prelude.{IsSome, IsTrue}
-use mathlib.Core.Bool.{false≢true}
+use Rattle.toll_keep.proofs.Common.{false≢true, All-nil}
 use Rattle.std.proofs.Math.Logic.{∥∥₁_elim}
-use Rattle.std.proofs.lemmas.List.Elements.{All-nil}
 use Rattle.toll_keep.specs.Content.{Content, ContentKeepsRules, slice_of}
 use Rattle.toll_keep.specs.Goes.{Goes, IsReading}
 use Rattle.toll_keep.specs.Meaning.{Meaning, meaning_of}

@@ -1,12 +1,7 @@
 -- What changes leave as it was: whose a slice is, and who is known.
 use Rattle.std.proofs.Common.{◌≡◌, Bool, true, false, ◌||◌, [], ◌∷◌, cond, refl}
 use Rattle.std.specs.Cmp.Lexicographic.{nat_list_cmp_total}
-use Rattle.toll_base.specs.Bytes.{Bytes, bytes_cmp, same_bytes}
-use Rattle.toll_base.specs.Values.{house_name}
-use Rattle.toll_base.specs.Slice.{Slice, with_row}
-use Rattle.toll_base.specs.Changes.{after_change}
-use Rattle.toll_base.specs.declared.decision.Change.{Change}
-use Rattle.toll_base.specs.declared.decision.Change.TheVariants.{Owner, Unit as UnitAdded, Put}
+use Rattle.toll_keep.proofs.Common.{Bytes, bytes_cmp, same_bytes, house_name, Slice, with_row, after_change, Change, Owner, Unit as UnitAdded, Put}
 use Rattle.toll_base.proofs.PutRules.{still_there}
 use Rattle.toll_keep.specs.Content.{Content, knows, after}
 use Rattle.toll_keep.proofs.Slicing.{owner-with_row}

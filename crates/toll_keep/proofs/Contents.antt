@@ -1,13 +1,7 @@
 -- Contents with the same rows are one, and a content among some is one of them.
 use Rattle.std.proofs.Common.{◌≡◌, true, Some, None, cond, List, [], ◌∷◌, Vec, Global, length, sym, ap, ◌∙◌, inl, inr, subst}
 use Rattle.std.specs.Prelude.{Contains}
-use Rattle.std.specs.Vec.{with_items}
-use Rattle.std.proofs.lemmas.List.{with_items_is}
-use Rattle.toll_base.specs.Bytes.{Bytes}
-use Rattle.toll_base.specs.Slice.{Slice}
-use Rattle.toll_base.specs.declared.rows.OwnerRow.{OwnerRow}
-use Rattle.toll_base.specs.declared.rows.UnitRow.{UnitRow}
-use Rattle.toll_trace.proofs.Members.{Contains-none, Contains-here, Contains-later, Contains-cases}
+use Rattle.toll_keep.proofs.Common.{with_items, with_items_is, Bytes, Slice, OwnerRow, UnitRow, Contains-none, Contains-here, Contains-later, Contains-cases}
 use Rattle.toll_keep.specs.Content.{Content, knows, slice_of}
 use Rattle.toll_keep.specs.Goes.{IsAmong}
 use Rattle.toll_keep.specs.Slices.{Kept}

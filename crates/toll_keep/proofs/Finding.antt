@@ -1,15 +1,9 @@
 -- What a search along rows finds, by their keys.
 use Rattle.std.proofs.Common.{◌≡◌, Bool, true, false, not, cond, Option, Some, None, is_some, List, [], ◌∷◌, refl, sym, ap, subst, ◌∙◌, inl, inr}
-use mathlib.Core.Bool.{false≢true}
+use Rattle.toll_keep.proofs.Common.{false≢true, IsTotalOrder, is_eq, ordering_reverse, Ordering, row_at, IsInKeyOrder, is_some_where, none_or, Contains-none, Contains-here, Contains-later, Contains-cases}
 use Rattle.std.specs.Prelude.{find, Contains}
-use Rattle.std.specs.Cmp.{IsTotalOrder}
-use Rattle.std.specs.Ordering.{is_eq, ordering_reverse}
-use Rattle.std.specs.declared.cmp.Ordering.{Ordering}
 use Rattle.std.proofs.lemmas.Cmp.{tied_itself}
-use Rattle.toll_base.specs.Table.{row_at, IsInKeyOrder}
-use Rattle.toll_base.specs.Words.{is_some_where, none_or}
 use Rattle.toll_trace.proofs.Drawn.{row_of_member}
-use Rattle.toll_trace.proofs.Members.{Contains-none, Contains-here, Contains-later, Contains-cases}
 
 passed_over : {X : Type 0} (b : Bool) (x : X) (rest : Option X) → cond b (Some x) rest ≡ None → (b ≡ false) × (rest ≡ None)
 passed_over true x rest h = absurd (false≢true (ap is_some (sym h)))

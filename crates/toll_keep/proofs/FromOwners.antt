@@ -1,24 +1,9 @@
 -- The edges of all owners, gathered owner by owner.
 use Rattle.std.proofs.Common.{◌≡◌, ℕ, ◌+◌, ◌<◌, Bool, true, false, ◌||◌, Some, is_some, List, [], ◌∷◌, ◌++◌, length, get_or, take, refl, sym, ap, subst, ◌∙◌, inl, inr}
-use mathlib.Core.Bool.{false≢true}
+use Rattle.toll_keep.proofs.Common.{false≢true, take_more, Contains-append_left, Contains-append_right, Contains-append_cases, Contains-push_cases, is_eq, Bytes, bytes_cmp, same_bytes, edge_cmp, Slice, row_at, house_name, Edge, OwnerRow, same_bytes-exact, AreEdges, IsEdge, IsInOrder, Contains-none, Contains-here, Contains-later, kept_in_order, edges_exact}
 use Rattle.std.specs.Prelude.{Contains, if◌then◌else◌}
-use Rattle.std.proofs.lemmas.List.{take_more}
-use Rattle.std.proofs.lemmas.List.Elements.{Contains-append_left, Contains-append_right, Contains-append_cases, Contains-push_cases}
 use Rattle.std.proofs.lemmas.Map.Lookups.{exact_bytes}
 use Rattle.std.proofs.lemmas.Map.Views.{tells_apart}
-use Rattle.std.specs.Ordering.{is_eq}
-use Rattle.toll_base.specs.Bytes.{Bytes, bytes_cmp, same_bytes}
-use Rattle.toll_base.specs.Lots.{edge_cmp}
-use Rattle.toll_base.specs.Slice.{Slice}
-use Rattle.toll_base.specs.Table.{row_at}
-use Rattle.toll_base.specs.Values.{house_name}
-use Rattle.toll_base.specs.declared.lot.Edge.{Edge}
-use Rattle.toll_base.specs.declared.rows.OwnerRow.{OwnerRow}
-use Rattle.toll_base.proofs.Texts.{same_bytes-exact}
-use Rattle.toll_trace.specs.Edges.{AreEdges, IsEdge}
-use Rattle.toll_trace.specs.InOrder.{IsInOrder}
-use Rattle.toll_trace.proofs.Members.{Contains-none, Contains-here, Contains-later, kept_in_order}
-use Rattle.toll_trace.proofs.Orders.{edges_exact}
 use Rattle.toll_keep.specs.Content.{Content, knows}
 use Rattle.toll_keep.specs.Holding.{IsEdgeOfSome, AreMore}
 use Rattle.toll_keep.specs.Remembered.{OnlyKnownHaveRows}

@@ -1,17 +1,7 @@
 -- Changes that are held back from a keep, and what was read of it through them.
 use Rattle.std.proofs.Common.{◌≡◌, Bool, true, false, ◌||◌, cond, Some, None, List, [], ◌∷◌, ◌++◌, Result, Ok, inl, inr, refl, sym, ap, subst, ◌∙◌}
 use Rattle.std.specs.Prelude.{is_some, map}
-use Rattle.std.specs.List.{list_any}
-use Rattle.std.proofs.lemmas.List.Folds.{list_any-append}
-use Rattle.toll_base.specs.Bytes.{Bytes, bytes_cmp, same_bytes}
-use Rattle.toll_base.specs.Changes.{after_changes}
-use Rattle.toll_base.specs.Slice.{Slice}
-use Rattle.toll_base.specs.Table.{row_at}
-use Rattle.toll_base.specs.Values.{house_name}
-use Rattle.toll_base.specs.declared.decision.Change.{Change}
-use Rattle.toll_base.specs.declared.decision.Change.TheVariants.{Owner, Unit as UnitAdded, Put}
-use Rattle.toll_base.specs.declared.rows.OwnerRow.{OwnerRow}
-use Rattle.toll_base.specs.declared.rows.UnitRow.{UnitRow}
+use Rattle.toll_keep.proofs.Common.{list_any, list_any-append, Bytes, bytes_cmp, same_bytes, after_changes, Slice, row_at, house_name, Change, Owner, Unit as UnitAdded, Put, OwnerRow, UnitRow}
 use Rattle.toll_keep.specs.Content.{Content, Fits, slice_of, after, after_owners, after_units}
 use Rattle.toll_keep.specs.Goes.{IsReading}
 use Rattle.toll_keep.specs.Meaning.{Meaning}

@@ -1,22 +1,8 @@
 -- What is remembered: looked up, added, and after changes.
 use Rattle.std.proofs.Common.{◌≡◌, ℕ, Bool, true, false, cond, map, Some, None, List, [], ◌∷◌, ◌++◌, get_or, refl, sym, ap, subst, ◌∙◌}
 use Rattle.std.specs.Prelude.{position}
-use Rattle.std.specs.List.{list_any}
-use Rattle.std.proofs.lemmas.List.Elements.{All-get_or, All-push, All-weaker, All-map}
-use Rattle.std.proofs.lemmas.List.Quantifiers.{position-Some}
-use mathlib.Core.Bool.{false≢true}
-use Rattle.toll_base.specs.Bytes.{Bytes, same_bytes}
-use Rattle.toll_base.specs.Slice.{Slice, empty_slice, with_row}
-use Rattle.toll_base.specs.Changes.{after_change, after_changes}
-use Rattle.toll_base.specs.declared.decision.Change.{Change}
-use Rattle.toll_base.specs.declared.decision.Change.TheVariants.{Owner, Unit as UnitAdded, Put}
+use Rattle.toll_keep.proofs.Common.{list_any, All-get_or, All-push, All-weaker, All-map, position-Some, false≢true, Bytes, same_bytes, Slice, empty_slice, with_row, after_change, after_changes, Change, Owner, Unit as UnitAdded, Put, Edge, OwnerRow, UnitRow, AreEdges, IsEdge, Contains-none, same_bytes-exact}
 use Rattle.std.specs.List.Sorted.{IsStrictlySortedBy}
-use Rattle.toll_base.specs.declared.lot.Edge.{Edge}
-use Rattle.toll_base.specs.declared.rows.OwnerRow.{OwnerRow}
-use Rattle.toll_base.specs.declared.rows.UnitRow.{UnitRow}
-use Rattle.toll_trace.specs.Edges.{AreEdges, IsEdge}
-use Rattle.toll_trace.proofs.Members.{Contains-none}
-use Rattle.toll_base.proofs.Texts.{same_bytes-exact}
 use Rattle.toll_keep.specs.Content.{Content, knows, slice_of, after, after_owners, after_units, ChangeFits, Fits}
 use Rattle.toll_keep.specs.Remembered.{AreOf, OnlyKnownHaveRows, is_addition}
 use Rattle.toll_keep.specs.Slices.{is_of}

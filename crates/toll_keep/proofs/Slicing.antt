@@ -1,20 +1,10 @@
 -- What slices in a list have of each owner, and what a put does to it.
 use Rattle.std.proofs.Common.{◌≡◌, ℕ, zero, suc, ◌+◌, ◌<◌, Bool, true, false, not, cond, nat_lt, Option, Some, None, is_some, List, [], ◌∷◌, ◌++◌, length, get_or, set, refl, sym, ap, subst, ◌∙◌, arith}
-use mathlib.Core.Bool.{false≢true}
+use Rattle.toll_keep.proofs.Common.{false≢true, AllByRecursion, position_or_len, or_left, or_right, list_any-append, list_any_at, position-Some, Bytes, same_bytes, Slice, empty_slice, with_row, after_change, Change, Put, same_bytes-exact, same_bytes-refl, same_bytes-symm}
 use Rattle.std.specs.Prelude.{position}
-use Rattle.std.specs.List.{AllByRecursion, position_or_len}
 use Rattle.std.proofs.lemmas.Bool.Decides.{nat_tests}
-use Rattle.std.proofs.lemmas.Bool.{or_left, or_right}
-use Rattle.std.proofs.lemmas.List.Folds.{list_any-append, list_any_at}
-use Rattle.std.proofs.lemmas.List.Quantifiers.{position-Some}
-use Rattle.toll_base.specs.Bytes.{Bytes, same_bytes}
-use Rattle.toll_base.specs.Slice.{Slice, empty_slice, with_row}
-use Rattle.toll_base.specs.Changes.{after_change}
 use Rattle.toll_base.specs.declared.rows.Row.{Row}
 use Rattle.toll_base.specs.declared.rows.Row.TheVariants.{Material, Test, Recipe, Requirement, Order, Batch, Lot, Sublot, Move, Result, Void}
-use Rattle.toll_base.specs.declared.decision.Change.{Change}
-use Rattle.toll_base.specs.declared.decision.Change.TheVariants.{Put}
-use Rattle.toll_base.proofs.Texts.{same_bytes-exact, same_bytes-refl, same_bytes-symm}
 use Rattle.toll_keep.specs.Slices.{is_of, rows_in, put_slice, put_slices, IsOneEach, has_slice, IsTouched}
 
 -- ---- the rows of an owner are its own

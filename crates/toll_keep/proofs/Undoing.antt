@@ -1,18 +1,9 @@
 -- What takes changes back does.
 use Rattle.std.proofs.Common.{◌≡◌, ℕ, suc, ◌+◌, ◌<◌, drop, drop-cons, add-one, true, Option, Some, None, List, [], ◌∷◌, ◌++◌, length, get_or, set, refl, sym, ap, subst, ◌∙◌, arith}
-use Rattle.std.specs.Cmp.{IsTotalOrder}
-use Rattle.std.specs.declared.cmp.Ordering.{Ordering}
-use Rattle.toll_base.specs.Bytes.{Bytes}
-use Rattle.toll_base.specs.Table.{row_at, put_row}
-use Rattle.toll_base.specs.Slice.{Slice, empty_slice}
+use Rattle.toll_keep.proofs.Common.{IsTotalOrder, Ordering, Bytes, row_at, put_row, Slice, empty_slice, after_changes, Change, Owner, Unit as UnitAdded, Put as PutRow, OwnerRow, UnitRow}
 use Rattle.toll_base.specs.SliceRules.{KeepsRules}
-use Rattle.toll_base.specs.Changes.{after_changes}
 use Rattle.toll_base.specs.Former.{is_there, TakesBack, taken_back as row_taken_back}
-use Rattle.toll_base.specs.declared.decision.Change.{Change}
-use Rattle.toll_base.specs.declared.decision.Change.TheVariants.{Owner, Unit as UnitAdded, Put as PutRow}
 use Rattle.toll_base.specs.declared.former.Former.{Former}
-use Rattle.toll_base.specs.declared.rows.OwnerRow.{OwnerRow}
-use Rattle.toll_base.specs.declared.rows.UnitRow.{UnitRow}
 use Rattle.toll_base.proofs.TakeBack.{removed_again, found_again, put_again}
 use Rattle.toll_keep.specs.Content.{after_owners, after_units}
 use Rattle.toll_keep.specs.Slices.{Kept, rows_in}

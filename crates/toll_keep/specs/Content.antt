@@ -1,15 +1,7 @@
 -- All rows of the office, and what changes make of them.
 use Rattle.std.specs.Prelude.{◌≡◌, Bool, true, ◌||◌, if◌then◌else◌, Option, Some, None, is_some, List, [], ◌∷◌}
-use Rattle.toll_base.specs.Bytes.{Bytes, bytes_cmp, same_bytes}
+use Rattle.toll_keep.specs.Common.{Bytes, bytes_cmp, same_bytes, row_at, put_row, Slice, empty_slice, with_row, KeepsRules, after_changes, OwnerRow, UnitRow, Change, Owner, Unit as UnitAdded, Put}
 use Rattle.toll_base.specs.Values.{house_name}
-use Rattle.toll_base.specs.Table.{row_at, put_row}
-use Rattle.toll_base.specs.Slice.{Slice, empty_slice, with_row}
-use Rattle.toll_base.specs.SliceRules.{KeepsRules}
-use Rattle.toll_base.specs.Changes.{after_changes}
-use Rattle.toll_base.specs.declared.rows.OwnerRow.{OwnerRow}
-use Rattle.toll_base.specs.declared.rows.UnitRow.{UnitRow}
-use Rattle.toll_base.specs.declared.decision.Change.{Change}
-use Rattle.toll_base.specs.declared.decision.Change.TheVariants.{Owner, Unit as UnitAdded, Put}
 
 -- the owners besides HOUSE, the units, and the rows of each owner
 pub record Content : Type 0 where

@@ -1,3 +1,4 @@
+pub mod Common
 pub mod Content
 pub mod Fault
 pub mod Goes

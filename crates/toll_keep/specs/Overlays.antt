@@ -1,8 +1,6 @@
 -- Changes that are held back from a keep, and what was read of it.
 use Rattle.std.specs.Prelude.{◌≡◌, ◌⊎◌, false, Some, [], Result, OnOk, OnErr}
-use Rattle.std.specs.List.{list_any}
-use Rattle.toll_base.specs.Bytes.{Bytes}
-use Rattle.toll_base.specs.Slice.{Slice}
+use Rattle.toll_keep.specs.Common.{list_any, Bytes, Slice}
 use Rattle.toll_keep.specs.Content.{Content, after, slice_of}
 use Rattle.toll_keep.specs.Goes.{IsReading}
 use Rattle.toll_keep.specs.Meaning.{Meaning, OverHeld}

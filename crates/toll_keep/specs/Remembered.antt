@@ -1,10 +1,6 @@
 -- What is remembered of a content.
 use Rattle.std.specs.Prelude.{◌≡◌, Bool, true, false, Option, Some, None, IfSome, List, [], All, Vec}
-use Rattle.std.specs.Global.{Global}
-use Rattle.toll_base.specs.Bytes.{Bytes}
-use Rattle.toll_base.specs.Slice.{Slice, empty_slice}
-use Rattle.toll_base.specs.declared.decision.Change.{Change}
-use Rattle.toll_base.specs.declared.decision.Change.TheVariants.{Put}
+use Rattle.toll_keep.specs.Common.{Global, Bytes, Slice, empty_slice, Change, Put}
 use Rattle.toll_keep.specs.Content.{Content, knows, slice_of}
 use Rattle.toll_keep.specs.declared.recollection.Recollection.{Recollection}
 

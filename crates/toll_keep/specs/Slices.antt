@@ -1,13 +1,6 @@
 -- Slices in a list, and which rows they have of each owner.
 use Rattle.std.specs.Prelude.{◌≡◌, ◌+◌, ◌≤◌, Bool, true, false, if◌then◌else◌, List, [], ◌∷◌, ◌++◌, vec_len, vec_capacity}
-use Rattle.std.specs.Global.{Vec}
-use Rattle.std.specs.List.{AllByRecursion, list_any}
-use Rattle.toll_base.specs.Bytes.{Bytes, same_bytes}
-use Rattle.toll_base.specs.Slice.{Slice, empty_slice}
-use Rattle.toll_base.specs.declared.rows.OwnerRow.{OwnerRow}
-use Rattle.toll_base.specs.declared.rows.UnitRow.{UnitRow}
-use Rattle.toll_base.specs.declared.decision.Change.{Change}
-use Rattle.toll_base.specs.declared.decision.Change.TheVariants.{Put}
+use Rattle.toll_keep.specs.Common.{Vec, AllByRecursion, list_any, Bytes, same_bytes, Slice, empty_slice, OwnerRow, UnitRow, Change, Put}
 use Rattle.toll_keep.specs.Content.{Content}
 use Rattle.toll_keep.specs.declared.mem_keep.MemKeep.TheInside.{Inside}
 

@@ -1,12 +1,9 @@
 -- The commands of records.
 use Rattle.std.proofs.Common.{◌≡◌, Bool, true, false, cond, Option, Some, None, List, [], ◌∷◌, length, refl, ap, sym, subst, inl, inr}
 use Rattle.std.specs.Prelude.{◌==◌, IsSome, Result, Ok, Err}
-use Rattle.std.specs.List.{AllByRecursion}
-use Rattle.toll_base.specs.declared.refusal.Refusal.{Refusal}
+use Rattle.toll_plant.proofs.Common.{AllByRecursion, Refusal, IsValidDeed, asked_by, PlantCmd, looks_at_two}
 use Rattle.toll_base.specs.Lots.{lot_id}
 use Rattle.toll_base.specs.declared.movement.Move.TheVariants as move
-use Rattle.toll_desk.specs.Asking.{IsValidDeed, asked_by}
-use Rattle.toll_desk.specs.declared.plant_cmd.PlantCmd.{PlantCmd}
 use Rattle.toll_desk.specs.declared.plant_cmd.PlantCmd.TheVariants.{Actual, Unread}
 use Rattle.toll_plant.specs.Commands.{command_from}
 use Rattle.toll_plant.specs.Files.{Fields, command_in}
@@ -14,7 +11,6 @@ use Rattle.toll_plant.specs.Imports.{commands_in}
 use Rattle.toll_plant.specs.Table.{actual_line}
 use Rattle.toll_plant.specs.Words.{command_read, command_with, values_read}
 use Rattle.toll_plant.specs.declared.argument.Given.{Given}
-use Rattle.toll_desk.specs.PlantHeld.{looks_at_two}
 use Rattle.toll_plant.specs.Imports.{CanBeHeld, HasValidValues}
 use Rattle.toll_plant.proofs.ImportRuns.{IsDeed, IsDeedOrNone}
 use Rattle.toll_plant.proofs.OfficeLemmas.{same_number}

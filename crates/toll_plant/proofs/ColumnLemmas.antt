@@ -1,12 +1,8 @@
 -- A number at the right of a column, as a format writes it.
 use Rattle.std.proofs.Common.{◌≡◌, ◌-◌, ℕ, zero, suc, cond, [], ◌∷◌, ◌++◌, length, refl, ap, ◌∙◌, arith}
 use Rattle.std.specs.Prelude.{decimal, replicate, Result, Ok, Err, OnOk}
-use Rattle.std.specs.Result.{is_ok}
-use Rattle.std.specs.List.{repeat}
-use Rattle.std.specs.Fmt.{format_spec, styled_decimal, padded_integral, char_count}
-use Rattle.std.proofs.lemmas.List.{append-nil}
+use Rattle.toll_plant.proofs.Common.{is_ok, repeat, format_spec, styled_decimal, padded_integral, char_count, append-nil, Bytes}
 use Rattle.std.proofs.lemmas.Str.{encode_ascii}
-use Rattle.toll_base.specs.Bytes.{Bytes}
 use Rattle.toll_print.specs.Columns.{right}
 
 blanks_are : (n : ℕ) → repeat {A = ℕ} n (32 ∷ []) ≡ replicate n 32

@@ -1,8 +1,6 @@
 -- Fields of a record, one by one.
 use Rattle.std.proofs.Common.{◌≡◌, ◌+◌, ℕ, zero, suc, List, [], ◌∷◌, ◌++◌, drop, map, refl, sym, ap, ◌∙◌, append_assoc, add-one, Some, None}
-use Rattle.std.proofs.lemmas.List.{append-nil, map-append}
-use Rattle.csv.specs.Records.{field_at}
-use Rattle.toll_base.specs.Bytes.{Bytes}
+use Rattle.toll_plant.proofs.Common.{append-nil, map-append, field_at, Bytes}
 
 -- the field at a place stands before those behind it
 pub field_before : (fields : List Bytes) (i : ℕ) (field : Bytes) → field_at fields i ≡ Some field → drop i fields ≡ field ∷ drop (suc i) fields

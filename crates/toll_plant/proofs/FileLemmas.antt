@@ -1,16 +1,12 @@
 -- What a file reads as.
 use Rattle.std.proofs.Common.{◌≡◌, ◌≤◌, ◌<◌, ℕ, Bool, List, [], ◌∷◌, ◌-◌, length, take, drop, get_or, arith, map, refl, sym, ap, subst, ◌∙◌, Some, None, Bor}
 use Rattle.std.specs.Prelude.{◌↔◌, IsTrue, ◌&&◌}
-use Rattle.std.specs.Bool.{Decides}
+use Rattle.toll_plant.proofs.Common.{Decides, slice_eq-Decides, length-drop, take_all, AreRecords, Reached, Bytes}
 use Rattle.std.specs.Cmp.Lexicographic.{pointwise}
-use Rattle.std.proofs.lemmas.Slice.Eq.{slice_eq-Decides}
-use Rattle.std.proofs.lemmas.List.{length-drop, take_all}
 use Rattle.csv.specs.Machine.{Read, next_record}
-use Rattle.csv.specs.Reading.{AreRecords, Reached}
 use Rattle.csv.specs.Records.{Row, fields_of}
 use Rattle.csv.specs.declared.parser.Config.{Config}
 use Rattle.csv.specs.declared.parser.State.{State}
-use Rattle.toll_base.specs.Bytes.{Bytes}
 use Rattle.toll_plant.specs.Files.{Fields, Reads, HasActuals, HasHeader, header}
 
 -- a text has one list of records

@@ -1,20 +1,8 @@
 -- Groups of records, one after another, are a run.
 use Rattle.std.proofs.Common.{◌≡◌, ◌++◌, ℕ, drop, take-append-drop, Bool, true, false, ◌||◌, Option, List, [], ◌∷◌, Result, Ok, Err, refl, sym, subst, ap, ◌∙◌, inl, inr}
 use Rattle.std.specs.Prelude.{take}
-use Rattle.std.specs.List.{AllByRecursion, list_any}
-use Rattle.std.proofs.lemmas.List.{append-nil}
-use Rattle.std.proofs.lemmas.List.Folds.{list_any-append}
-use mathlib.Core.Bool.{false≢true}
-use Rattle.toll_history.specs.History.{History}
-use Rattle.toll_history.specs.Verdict.{IsLawful}
-use Rattle.toll_keep.specs.Content.{Content}
-use Rattle.toll_keep.specs.Goes.{Goes}
-use Rattle.toll_keep.specs.Meaning.{Meaning}
-use Rattle.toll_keep.specs.declared.fault.KeepFault.{KeepFault}
-use Rattle.toll_keep.specs.declared.fault.KeepFault.TheVariants.{Memory, Disk, Damaged, Closed}
-use Rattle.toll_standing.specs.Standing.{StandsFor}
+use Rattle.toll_plant.proofs.Common.{AllByRecursion, list_any, append-nil, list_any-append, false≢true, History, IsLawful, Content, Goes, Meaning, KeepFault, Memory, Disk, Damaged, Closed, StandsFor, PlantCmd}
 use Rattle.toll_standing.proofs.KeptRules.{standing_keeps_rules}
-use Rattle.toll_desk.specs.declared.plant_cmd.PlantCmd.{PlantCmd}
 use Rattle.toll_plant.specs.Imports.{AreGroupSteps, AreGroupsServed, AreRecordSteps, EndWith, Group, IsGroupServed, IsImport, IsImportOf, IsInGroups, IsOpenOutcome, IsWholeOutcome, NoneEnded, all_commands, all_told, last_outcome}
 use Rattle.toll_plant.specs.Outcomes.{is_fault}
 use Rattle.toll_plant.specs.declared.outcome.Outcome.{Outcome}

@@ -1,19 +1,8 @@
 -- A group of records over a keep: read, held back, and made at once or not at all.
 use Rattle.std.proofs.Common.{◌≡◌, ◌++◌, Bool, true, false, Option, List, [], ◌∷◌, Result, Ok, Err, IfErr, refl, sym, subst, ap, ◌∙◌, inl, inr}
 use Rattle.std.specs.Prelude.{◌⊎◌, take}
-use Rattle.std.specs.List.{list_any}
-use Rattle.std.proofs.lemmas.List.{append-nil}
-use Rattle.toll_base.specs.declared.decision.Change.{Change}
-use Rattle.toll_history.specs.History.{History}
-use Rattle.toll_keep.specs.Content.{Content, after}
-use Rattle.toll_keep.specs.Goes.{Goes, Settles}
-use Rattle.toll_keep.specs.Meaning.{Meaning}
-use Rattle.toll_keep.specs.declared.fault.KeepFault.{KeepFault}
-use Rattle.toll_keep.specs.declared.fault.KeepFault.TheVariants.{Memory, Damaged}
-use Rattle.toll_keep.proofs.Calls.{Rests, goes_as, goes_fault, goes_memory, goes_then, settles}
-use Rattle.toll_standing.specs.Standing.{StandsFor}
+use Rattle.toll_plant.proofs.Common.{list_any, append-nil, Change, History, Content, after, Goes, Settles, Meaning, KeepFault, Memory, Damaged, Rests, goes_as, goes_fault, goes_memory, goes_then, settles, StandsFor, PlantCmd}
 use Rattle.toll_desk.specs.Outcome.{LeavesOr}
-use Rattle.toll_desk.specs.declared.plant_cmd.PlantCmd.{PlantCmd}
 use Rattle.toll_plant.specs.HeldRecords.{AreCarried, AreHeld, IsAsked, IsHeldFor, IsMade, TellsMade}
 use Rattle.toll_plant.specs.Imports.{EndWith, IsGroupServed, after_records, before_accepted, last_outcome, refused_at}
 use Rattle.toll_plant.specs.Outcomes.{is_accepted, is_fault}

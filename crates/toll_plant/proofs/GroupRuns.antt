@@ -1,21 +1,8 @@
 -- Records of a group, one after another, and what is told where nothing of the group was made.
 use Rattle.std.proofs.Common.{◌≡◌, ◌<◌, ◌≤◌, ℕ, suc, Bool, true, false, ◌||◌, cond, Option, Some, None, List, [], ◌∷◌, ◌++◌, length, Result, Ok, Err, refl, sym, subst, ap, ◌∙◌, append_assoc, arith}
 use Rattle.std.specs.Prelude.{take}
-use Rattle.std.specs.Bool.{MatchBool}
-use Rattle.std.specs.List.{list_any}
-use Rattle.std.proofs.lemmas.List.{append-nil}
-use Rattle.std.proofs.lemmas.List.Folds.{list_any-append}
-use Rattle.toll_base.specs.declared.decision.Change.{Change}
-use Rattle.toll_history.specs.History.{History}
-use Rattle.toll_history.specs.Verdict.{Verdict, Accepted, Repeated, Refused, IsLawful, grown, verdict}
-use Rattle.toll_keep.specs.Content.{Content, after}
-use Rattle.toll_keep.specs.declared.fault.KeepFault.{KeepFault}
+use Rattle.toll_plant.proofs.Common.{MatchBool, list_any, append-nil, list_any-append, Change, History, Verdict, Accepted, Repeated, Refused, IsLawful, grown, verdict, Content, after, KeepFault, StandsFor, CannotRead, Does, AsksOrders, AsksStock, AsksBatch, AsksTrace, AsksRecall, IsPlantAnswer, Judged, PlantAsked, after_plant, asked_by, LeadsTo, PlantCmd}
 use Rattle.toll_keep.proofs.Overlays.{after_behind, fits_behind}
-use Rattle.toll_standing.specs.Standing.{StandsFor}
-use Rattle.toll_answers.specs.PlantAnswers.{CannotRead, Does, AsksOrders, AsksStock, AsksBatch, AsksTrace, AsksRecall, IsPlantAnswer, Judged, PlantAsked, after_plant}
-use Rattle.toll_desk.specs.Asking.{asked_by}
-use Rattle.toll_desk.specs.Plans.{LeadsTo}
-use Rattle.toll_desk.specs.declared.plant_cmd.PlantCmd.{PlantCmd}
 use Rattle.toll_plant.specs.HeldRecords.{IsHeldFor, IsRecordOver}
 use Rattle.toll_plant.specs.Imports.{Comes, IsImport, after_record, after_records, before_accepted, last_outcome, refused_at}
 use Rattle.toll_plant.specs.Outcomes.{is_accepted, is_fault, judged}

@@ -1,9 +1,7 @@
 -- The command of `clap`, as it grows.
 use Rattle.std.proofs.Common.{◌≡◌, ◌∙◌, ℕ, ◌+◌, ◌<◌, ◌≤◌, List, [], ◌∷◌, ◌++◌, length, map, take, get_or, refl, sym, ap, arith, append_assoc}
 use Rattle.std.specs.Prelude.{fold}
-use Rattle.std.proofs.lemmas.List.{append-nil, map_more, take_all, length-map}
-use Rattle.clap.specs.Walk.{Rule, Text}
-use Rattle.clap.specs.Simple.{App, Shape, new_shape, with_rule, with_subcommand}
+use Rattle.toll_plant.proofs.Common.{append-nil, map_more, take_all, length-map, Rule, Text, App, Shape, new_shape, with_rule, with_subcommand}
 use Rattle.toll_plant.specs.Lines.{Argument, Line}
 use Rattle.toll_plant.specs.ClapWords.{line_shape, office, start, value_rule}
 

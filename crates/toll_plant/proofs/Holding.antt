@@ -1,30 +1,9 @@
 -- Records that are held back, one by one.
 use Rattle.std.proofs.Common.{◌≡◌, ◌+◌, ◌<◌, ℕ, zero, suc, Bool, true, false, ◌||◌, Option, Some, None, List, [], ◌∷◌, ◌++◌, length, get_or, drop, Result, Ok, Err, refl, sym, subst, ap, ◌∙◌, inl, inr, append_assoc, arith}
 use Rattle.std.specs.Prelude.{◌⊎◌, take, IsOk, IsSome}
-use Rattle.std.specs.List.{AllByRecursion, list_any}
-use Rattle.std.proofs.lemmas.List.{append-nil, take_more}
-use Rattle.std.proofs.lemmas.List.Folds.{list_any-append}
-use mathlib.Core.Bool.{false≢true}
-use Rattle.toll_history.specs.Verdict.{Verdict, Accepted, Repeated, Refused}
-use Rattle.toll_history.specs.History.{History}
-use Rattle.toll_history.specs.Verdict.{IsLawful}
-use Rattle.toll_keep.specs.Content.{Content, after}
-use Rattle.toll_keep.specs.Goes.{IsReading}
-use Rattle.toll_keep.specs.Meaning.{Meaning}
-use Rattle.toll_keep.specs.Overlays.{IsOver, IsReadThrough, ReadsThrough}
-use Rattle.toll_keep.specs.Reads.{IsKept}
-use Rattle.toll_keep.specs.declared.fault.KeepFault.{KeepFault}
-use Rattle.toll_keep.specs.declared.fault.KeepFault.TheVariants.{Memory}
+use Rattle.toll_plant.proofs.Common.{AllByRecursion, list_any, append-nil, take_more, list_any-append, false≢true, Verdict, Accepted, Repeated, Refused, History, IsLawful, Content, after, IsReading, Meaning, IsOver, IsReadThrough, ReadsThrough, IsKept, KeepFault, Memory, read_fault, StandsFor, CannotRead, Does, AsksOrders, AsksStock, AsksBatch, AsksTrace, AsksRecall, IsPlantAnswer, Judged, PlantAsked, PlantTold, after_plant, IsPlantHeld, IsToldOver, IsUnasked, IsVerdictOrMemory, IsValidDeed, asked_by, is_accepted as is_granted, plant_told, LeadsTo, Change, PlantCmd}
 use Rattle.toll_keep.specs.declared.overlay.Overlay.{Overlay}
-use Rattle.toll_keep.proofs.Calls.{read_fault}
-use Rattle.toll_standing.specs.Standing.{StandsFor}
-use Rattle.toll_answers.specs.PlantAnswers.{CannotRead, Does, AsksOrders, AsksStock, AsksBatch, AsksTrace, AsksRecall, IsPlantAnswer, Judged, PlantAsked, PlantTold, after_plant}
 use Rattle.toll_answers.proofs.OwnReplies.{lawful-grow}
-use Rattle.toll_desk.specs.PlantHeld.{IsPlantHeld, IsToldOver, IsUnasked, IsVerdictOrMemory}
-use Rattle.toll_desk.specs.Asking.{IsValidDeed, asked_by, is_accepted as is_granted, plant_told}
-use Rattle.toll_desk.specs.Plans.{LeadsTo}
-use Rattle.toll_base.specs.declared.decision.Change.{Change}
-use Rattle.toll_desk.specs.declared.plant_cmd.PlantCmd.{PlantCmd}
 use Rattle.toll_desk.specs.declared.plant_cmd.PlantReply.{PlantReply}
 use Rattle.toll_plant.specs.HeldRecords.{IsAsked, IsIdle, IsRecordHeld, IsRecordOver}
 use Rattle.toll_plant.specs.Imports.{Comes, IsOpenOutcome, before_accepted}

@@ -1,12 +1,7 @@
 -- The groups of an import, one after another.
 use Rattle.std.proofs.Common.{◌≡◌, ℕ, ◌+◌, ◌-◌, ◌<◌, ◌≤◌, ◌++◌, drop, Bool, true, false, Option, List, [], ◌∷◌, length, Result, Ok, Err, refl, sym, subst, ap, ◌∙◌, append_assoc, take-append-drop, inl, inr, arith}
 use Rattle.std.specs.Prelude.{◌⊎◌, ◌==◌, min, take}
-use Rattle.std.specs.List.{AllByRecursion}
-use Rattle.std.proofs.Math.Seq.{drop-append-add}
-use Rattle.std.proofs.lemmas.List.{drop_all, drop_min, length-drop, length-take, length-take-le, take_min, take_rest}
-use Rattle.toll_keep.specs.Meaning.{Meaning}
-use Rattle.toll_keep.specs.declared.fault.KeepFault.{KeepFault}
-use Rattle.toll_desk.specs.declared.plant_cmd.PlantCmd.{PlantCmd}
+use Rattle.toll_plant.proofs.Common.{AllByRecursion, drop-append-add, drop_all, drop_min, length-drop, length-take, length-take-le, take_min, take_rest, Meaning, KeepFault, PlantCmd}
 use Rattle.toll_plant.specs.Imports.{AreGroupsServed, AreRecordsServed, Group, HasValidValues, IsGroupServed, NoneEnded, all_commands, all_told, outcomes_in}
 use Rattle.toll_plant.specs.UnderWay.{GoesOn, UnderWay, left_behind}
 use Rattle.toll_plant.specs.declared.grouping.TheConstants.{GROUP_RECORDS}

@@ -1,15 +1,7 @@
 -- Records of a file of actuals, one after another, are a run.
 use Rattle.std.proofs.Common.{◌≡◌, Option, Some, None, refl}
 use Rattle.std.specs.Prelude.{◌⊎◌}
-use Rattle.toll_base.specs.Bytes.{Bytes}
-use Rattle.toll_base.specs.declared.movement.MoveRow.{MoveRow}
-use Rattle.toll_base.specs.declared.refusal.Refusal.{Refusal}
-use Rattle.toll_history.specs.Command.{Record, by}
-use Rattle.toll_history.specs.History.{History}
-use Rattle.toll_history.specs.Verdict.{Verdict, Accepted, Repeated, Refused}
-use Rattle.toll_answers.specs.PlantAnswers.{PlantAsked, Does, CannotRead, Judged, IsPlantAnswer, after_plant}
-use Rattle.toll_desk.specs.Asking.{asked_by}
-use Rattle.toll_desk.specs.declared.plant_cmd.PlantCmd.{PlantCmd}
+use Rattle.toll_plant.proofs.Common.{Bytes, MoveRow, Refusal, Record, by, History, Verdict, Accepted, Repeated, Refused, PlantAsked, Does, CannotRead, Judged, IsPlantAnswer, after_plant, asked_by, PlantCmd}
 use Rattle.toll_plant.specs.Outcomes.{judged}
 use Rattle.toll_plant.specs.Imports.{Comes}
 

@@ -1,17 +1,7 @@
 -- A key acts once.
 use Rattle.std.proofs.Common.{◌≡◌, ◌+◌, ◌≤◌, ℕ, Bool, true, false, ◌&&◌, cond, Option, Some, None, is_some, List, [], ◌∷◌, ◌++◌, refl, sym, ap, subst, ◌∙◌, arith}
-use Rattle.std.specs.Bool.{MatchBool}
-use Rattle.toll_base.specs.Bytes.{Bytes, same_bytes}
-use Rattle.toll_history.specs.Command.{Command}
-use Rattle.toll_history.specs.History.{History, acts}
+use Rattle.toll_plant.proofs.Common.{MatchBool, Bytes, same_bytes, Command, History, acts, movement_of, Verdict, Accepted, Repeated, Refused, IsLawful, grown, verdict, count_acts, found_once, PlantAsked, Does, AsksOrders, AsksStock, AsksBatch, AsksTrace, AsksRecall, CannotRead, Judged, IsPlantAnswer, after_plant, asked_by, PlantCmd}
 use Rattle.toll_history.specs.Laws.{has_this_key}
-use Rattle.toll_history.specs.Movements.{movement_of}
-use Rattle.toll_history.specs.Verdict.{Verdict, Accepted, Repeated, Refused, IsLawful, grown, verdict}
-use Rattle.toll_history.proofs.Acts.{count_acts}
-use Rattle.toll_history.proofs.KeysOnce.{found_once}
-use Rattle.toll_answers.specs.PlantAnswers.{PlantAsked, Does, AsksOrders, AsksStock, AsksBatch, AsksTrace, AsksRecall, CannotRead, Judged, IsPlantAnswer, after_plant}
-use Rattle.toll_desk.specs.Asking.{asked_by}
-use Rattle.toll_desk.specs.declared.plant_cmd.PlantCmd.{PlantCmd}
 use Rattle.toll_plant.specs.Outcomes.{judged, is_fault}
 use Rattle.toll_plant.specs.Imports.{Comes, IsImport, commands_in}
 use Rattle.toll_plant.specs.Outcomes.{is_accepted}

@@ -1,3 +1,4 @@
+pub mod Common
 pub mod RuleLemmas
 pub mod GrowthLemmas
 pub mod ValueLemmas

@@ -1,8 +1,7 @@
 -- Lines of a report, one by one.
 use Rattle.std.proofs.Common.{◌≡◌, ◌+◌, ◌<◌, ℕ, suc, List, [], ◌∷◌, ◌++◌, length, drop, get_or, sym, ap, ◌∙◌, append_assoc, add-one, arith}
-use Rattle.std.proofs.Math.Seq.{drop-cons}
+use Rattle.toll_plant.proofs.Common.{drop-cons, map-append, take_more}
 use Rattle.toll_plant.specs.declared.outcome.Outcome.{Outcome}
-use Rattle.std.proofs.lemmas.List.{map-append, take_more}
 use Rattle.std.specs.Prelude.{take}
 use Rattle.toll_plant.specs.Imports.{AreNumbered, outcomes_in}
 use Rattle.toll_plant.specs.declared.report.ImportLine.{ImportLine}

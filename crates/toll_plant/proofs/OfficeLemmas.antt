@@ -1,19 +1,9 @@
 -- Words that fit a line are taken.
 use Rattle.std.proofs.Common.{◌≡◌, ◌∙◌, ℕ, ◌+◌, ◌<◌, ◌≤◌, Bool, true, false, cond, List, [], ◌∷◌, ◌++◌, length, map, drop, refl, sym, ap, subst, arith, append_assoc, Option, Some, None}
 use Rattle.std.specs.Prelude.{IfOk, Result, Ok, Err, ◌&&◌, ◌||◌, ◌==◌, not, find, fold, nat_lt, option_map, option_and_then, is_some, if◌then◌else◌}
-use Rattle.std.specs.List.{list_all}
-use Rattle.std.specs.Str.{bytes_eq}
-use Rattle.std.proofs.lemmas.List.{append-nil}
-use Rattle.std.proofs.lemmas.Bool.Decides.{nat_tests}
-use Rattle.std.proofs.lemmas.Slice.Eq.{bytes_eq-Decides}
-use Rattle.clap.specs.Lexer.{usize_max}
-use Rattle.clap.specs.Walk.{Names, Row, Rule, Text, Walk, answers_to, finished, first_of, has_row, nothing_held, rows_of, stop_after, with_default, walk, walk_from, walked}
-use Rattle.clap.specs.Simple.{App, Shape, built, built_leaf, entered, HasMatchesOf, inherited, is_ready_leaf, is_simple, is_simple_leaf, label_of, marked_built, names_of, on_top, rows_at, subcommand_of, subcommand_rows_of, with_leaf_noted}
-use Rattle.clap.specs.Takes.{default_passes, is_given, level_passes, takes, walk_passes}
-use Rattle.clap.specs.Words.{first_value}
+use Rattle.toll_plant.proofs.Common.{list_all, bytes_eq, append-nil, nat_tests, bytes_eq-Decides, usize_max, Names, Row, Rule, Text, Walk, answers_to, finished, first_of, has_row, nothing_held, rows_of, stop_after, with_default, walk, walk_from, walked, App, Shape, built, built_leaf, entered, HasMatchesOf, inherited, is_ready_leaf, is_simple, is_simple_leaf, label_of, marked_built, names_of, on_top, rows_at, subcommand_of, subcommand_rows_of, with_leaf_noted, default_passes, is_given, level_passes, takes, walk_passes, first_value, first_value-rows}
 use Rattle.clap.specs.declared.parser.matches.ArgMatches.{ArgMatches}
 use Rattle.clap.specs.declared.parser.matches.Found.{Found}
-use Rattle.clap.proofs.WalkLemmas.{first_value-rows}
 use Rattle.toll_plant.specs.declared.argument.Argument.{Argument as CodeArgument}
 use Rattle.toll_plant.specs.declared.line.Line.{Line as CodeLine}
 use Rattle.toll_plant.specs.Shown.{shown, shown_argument}

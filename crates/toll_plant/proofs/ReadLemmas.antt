@@ -2,9 +2,7 @@
 use Rattle.std.proofs.Common.{◌≡◌, ◌∙◌, List, [], ◌∷◌, ◌++◌, map, refl, sym, ap, append_assoc}
 use Rattle.std.specs.Prelude.{◌⊎◌, Result, Ok, Err}
 use Rattle.std.proofs.Common.{inl, inr}
-use Rattle.std.proofs.lemmas.List.{append-nil}
-use Rattle.toll_base.specs.Bytes.{Bytes}
-use Rattle.toll_base.specs.declared.refusal.Refusal.{Refusal}
+use Rattle.toll_plant.proofs.Common.{append-nil, Bytes, Refusal}
 use Rattle.toll_plant.specs.Lines.{Argument}
 use Rattle.toll_plant.specs.Readings.{read_as}
 use Rattle.toll_plant.specs.Words.{in_front, values_read}

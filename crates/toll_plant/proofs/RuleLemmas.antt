@@ -1,16 +1,8 @@
 -- The values of a line, as `clap` holds them.
 use Rattle.std.proofs.Common.{◌≡◌, ◌∙◌, ℕ, ◌+◌, ◌≤◌, Bool, true, false, List, [], ◌∷◌, ◌++◌, length, map, refl, sym, ap, subst, arith, append_assoc, Some, None}
 use Rattle.std.specs.Prelude.{◌&&◌, ◌||◌, ◌==◌, not, find, min}
-use Rattle.std.specs.List.{list_all, list_any}
+use Rattle.toll_plant.proofs.Common.{list_all, list_any, bytes_eq, append-nil, nat_tests, bytes_eq-Decides, usize_max, Row, Rule, Text, arg_by_id, arg_by_index, at_row, has_row, is_early_multiple, more_values, used, without, filled, filled_from, is_in_order, with_index, default_passes}
 use Rattle.std.specs.Option.{option_map_or}
-use Rattle.std.specs.Str.{bytes_eq}
-use Rattle.std.proofs.lemmas.List.{append-nil}
-use Rattle.std.proofs.lemmas.Bool.Decides.{nat_tests}
-use Rattle.std.proofs.lemmas.Slice.Eq.{bytes_eq-Decides}
-use Rattle.clap.specs.Lexer.{usize_max}
-use Rattle.clap.specs.Walk.{Row, Rule, Text, arg_by_id, arg_by_index, at_row, has_row, is_early_multiple, more_values, used, without}
-use Rattle.clap.specs.Simple.{filled, filled_from, is_in_order, with_index}
-use Rattle.clap.specs.Takes.{default_passes}
 use Rattle.clap.specs.declared.builder.value_parser.Reading.TheVariants.{AsWritten}
 use Rattle.clap.specs.declared.parser.matches.ValueSource.TheVariants.{CommandLine}
 use Rattle.toll_plant.specs.Lines.{Argument}

@@ -1,38 +1,19 @@
 -- What stands is repeated, and what was accepted or repeated stands.
 use Rattle.std.proofs.Common.{◌≡◌, ℕ, Bool, true, false, ◌&&◌, ◌||◌, not, cond, Option, Some, None, is_some, List, [], ◌∷◌, refl, sym, ap, subst, ◌∙◌, inl, inr, arith}
 use Rattle.std.specs.Prelude.{◌==◌, option_map}
-use Rattle.std.specs.Bool.{MatchBool}
-use Rattle.std.specs.List.{AllByRecursion, list_any}
-use Rattle.std.proofs.lemmas.Bool.{not-false}
-use Rattle.std.proofs.lemmas.Bool.Decides.{nat_tests}
-use mathlib.Core.Bool.{false≢true}
-use Rattle.toll_base.specs.Bytes.{Bytes, same_bytes}
-use Rattle.toll_base.specs.Values.{house_name}
+use Rattle.toll_plant.proofs.Common.{MatchBool, AllByRecursion, list_any, not-false, nat_tests, false≢true, Bytes, same_bytes, house_name, is_some_where, MoveRow, Refusal, UnknownOwner, KeyConflict, Voided, Role, Record, Command, by, History, acts, adds_owner, owner_known, has_key, movement_of, movements, voided_in, voids_key, any_acts, void_of_actual, PlantAsked, Does, Judged, IsPlantAnswer, after_plant, asked_by, PlantCmd}
 use Rattle.toll_base.specs.Moves.{same_movement, same_what}
 use Rattle.toll_base.specs.Roles.{same_role}
-use Rattle.toll_base.specs.Words.{is_some_where}
 use Rattle.toll_base.specs.declared.movement.Move.{Move}
 use Rattle.toll_base.specs.declared.movement.Move.TheVariants.{Receive, Split, Ship, Scrap, Actual}
-use Rattle.toll_base.specs.declared.movement.MoveRow.{MoveRow}
-use Rattle.toll_base.specs.declared.refusal.Refusal.{Refusal}
-use Rattle.toll_base.specs.declared.refusal.Refusal.TheVariants.{UnknownOwner, KeyConflict, Voided}
-use Rattle.toll_base.specs.declared.role.Role.{Role}
 use Rattle.toll_base.specs.declared.role.Role.TheVariants.{Consumed, Produced}
 use Rattle.toll_base.proofs.Bools.{and_is, both}
 use Rattle.toll_base.proofs.Texts.{same_bytes-exact, same_bytes-refl}
-use Rattle.toll_history.specs.Command.{Record, Command, by}
-use Rattle.toll_history.specs.History.{History, acts, adds_owner, owner_known}
-use Rattle.toll_history.specs.Movements.{has_key, movement_of, movements, voided_in, voids_key}
 use Rattle.toll_history.specs.Tables.{Tables, tables_given}
 use Rattle.toll_history.specs.Verdict.{Verdict, Accepted, Repeated, Refused, Checks, IsLawful, checks, first_of, grown, is_actual, movement_checks, verdict}
 use Rattle.toll_history.proofs.Accepted.{none_applies}
-use Rattle.toll_history.proofs.Acts.{any_acts}
 use Rattle.toll_history.proofs.EachMove.{each_move, of_found}
 use Rattle.toll_history.proofs.Found.{key_is_new, movement_of-recorded}
-use Rattle.toll_history.proofs.KeysOnce.{void_of_actual}
-use Rattle.toll_answers.specs.PlantAnswers.{PlantAsked, Does, Judged, IsPlantAnswer, after_plant}
-use Rattle.toll_desk.specs.Asking.{asked_by}
-use Rattle.toll_desk.specs.declared.plant_cmd.PlantCmd.{PlantCmd}
 use Rattle.toll_plant.specs.Outcomes.{judged, is_fault}
 use Rattle.toll_plant.specs.Imports.{Comes, IsImport}
 use Rattle.toll_plant.specs.ImportLaws.{IsKept, IsRepeatedOrFault, IsStanding}

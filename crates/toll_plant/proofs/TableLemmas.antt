@@ -1,18 +1,10 @@
 -- Each line of the table makes a command of its values.
 use Rattle.std.proofs.Common.{◌≡◌, ℕ, ℤ, Bool, true, false, cond, List, [], ◌∷◌, length, drop, refl, subst, arith, Option, Some, None}
 use Rattle.std.specs.Prelude.{◌==◌, ◌&&◌, IsSome, Result, Ok, Err, find, nat_le, option_and_then}
-use Rattle.std.specs.List.{AllByRecursion}
-use Rattle.std.specs.Str.{bytes_eq}
-use Rattle.std.proofs.lemmas.Bool.{leb-true}
-use Rattle.toll_base.specs.Bytes.{Bytes}
+use Rattle.toll_plant.proofs.Common.{AllByRecursion, bytes_eq, leb-true, Bytes, IsAmount, is_measure, is_name, is_owner_key, number_of, where_so, Role, Refusal, BadName, BadAmount}
 use Rattle.toll_base.specs.States.{read_command}
-use Rattle.toll_base.specs.Values.{IsAmount, is_measure, is_name, is_owner_key, number_of}
-use Rattle.toll_base.specs.Words.{where_so}
-use Rattle.toll_base.specs.declared.role.Role.{Role}
 use Rattle.toll_base.specs.declared.state_command.StateCommand.{StateCommand}
 use Rattle.toll_trace.specs.declared.way.Way.{Way}
-use Rattle.toll_base.specs.declared.refusal.Refusal.{Refusal}
-use Rattle.toll_base.specs.declared.refusal.Refusal.TheVariants.{BadName, BadAmount}
 use Rattle.toll_plant.specs.Commands.{command_from}
 use Rattle.toll_plant.specs.Lines.{Argument, Line, line_named, line_of}
 use Rattle.toll_plant.specs.Readings.{number_within, or_refused, read_as, role_of, value_of, way_of}

@@ -1,12 +1,7 @@
 -- The values of a line, word by word.
 use Rattle.std.proofs.Common.{◌≡◌, ◌∙◌, ℕ, ◌+◌, ◌<◌, ◌≤◌, Bool, true, false, List, [], ◌∷◌, ◌++◌, length, map, refl, sym, ap, subst, arith, append_assoc, Some}
 use Rattle.std.specs.Prelude.{◌||◌, ◌==◌, not, fold}
-use Rattle.std.specs.List.{list_all, list_any}
-use Rattle.std.specs.Str.{bytes_eq}
-use Rattle.clap.specs.Lexer.{usize_max}
-use Rattle.clap.specs.Walk.{Row, Rule, Text, Walk, arg_by_id, arg_by_index, first_of, has_row, nothing_held, settled, walk, walk_from, walked, with_default}
-use Rattle.clap.specs.Simple.{Shape}
-use Rattle.clap.specs.Takes.{is_given, settle_passes, walk_passes}
+use Rattle.toll_plant.proofs.Common.{list_all, list_any, bytes_eq, usize_max, Row, Rule, Text, Walk, arg_by_id, arg_by_index, first_of, has_row, nothing_held, settled, walk, walk_from, walked, with_default, Shape, is_given, settle_passes, walk_passes}
 use Rattle.toll_plant.specs.Lines.{Argument}
 use Rattle.toll_plant.specs.ClapWords.{are_new}
 use Rattle.toll_plant.proofs.RuleLemmas.{Knows, known, and_false, below_most, both, is_false, neither, or_true, same_text, the_rule, the_rules, used_first, value_row}

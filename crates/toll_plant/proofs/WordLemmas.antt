@@ -2,12 +2,7 @@
 use Rattle.std.proofs.Common.{◌≡◌, ◌∙◌, ℕ, Bool, true, false, List, [], ◌∷◌, length, map, refl, sym, ap, arith, Option, Some, None}
 use Rattle.std.specs.Prelude.{◌&&◌, ◌==◌, find, option_map, option_and_then, if◌then◌else◌}
 use Rattle.std.specs.Borrow.{Bor}
-use Rattle.std.specs.List.{list_all}
-use Rattle.std.specs.Str.{bytes_eq}
-use Rattle.std.proofs.lemmas.List.{length-map}
-use Rattle.std.proofs.lemmas.Bool.Decides.{nat_tests}
-use Rattle.clap.proofs.WalkLemmas.{find-map}
-use Rattle.toll_base.specs.Bytes.{Bytes}
+use Rattle.toll_plant.proofs.Common.{list_all, bytes_eq, length-map, nat_tests, find-map, Bytes}
 use Rattle.toll_plant.specs.Lines.{Line, is_plain, line_of, takes_values}
 use Rattle.toll_plant.specs.Shown.{shown}
 use Rattle.toll_plant.specs.declared.line.Line.{Line as CodeLine}

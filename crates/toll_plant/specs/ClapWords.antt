@@ -1,10 +1,8 @@
 -- The commands, as `clap` is given them.
 use Rattle.std.specs.Prelude.{Bool, true, false, not, ◌&&◌, nat_lt, List, [], ◌∷◌, ◌++◌, map, length, codes}
-use Rattle.std.specs.List.{list_all, list_any}
-use Rattle.std.specs.Str.{bytes_eq}
+use Rattle.toll_plant.specs.Common.{list_all, list_any, bytes_eq, Bytes}
 use Rattle.clap.specs.Walk.{Rule}
 use Rattle.clap.specs.Simple.{App, Shape, new_rule, new_shape}
-use Rattle.toll_base.specs.Bytes.{Bytes}
 use Rattle.toll_plant.specs.Lines.{Argument, Line}
 
 -- a value is required

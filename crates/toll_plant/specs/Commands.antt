@@ -1,11 +1,9 @@
 -- The commands that values make.
 use Rattle.std.specs.Prelude.{ℕ, ℤ, ◌≤ℤ◌, Bool, true, false, T, List, [], ◌∷◌, Option, Some, None, option_map}
 use Rattle.std.specs.Int.Signed.{le_z, le_z_yes}
-use Rattle.toll_base.specs.Bytes.{Bytes}
+use Rattle.toll_plant.specs.Common.{Bytes, BadAmount, PlantCmd}
 use Rattle.toll_base.specs.Lots.{lot_id}
 use Rattle.toll_base.specs.declared.limits.Limits.{Limits}
-use Rattle.toll_base.specs.declared.refusal.Refusal.TheVariants.{BadAmount}
-use Rattle.toll_desk.specs.declared.plant_cmd.PlantCmd.{PlantCmd}
 use Rattle.toll_desk.specs.declared.plant_cmd.PlantCmd.TheVariants as cmd
 use Rattle.toll_plant.specs.declared.taken.Taken.{Taken}
 use Rattle.toll_plant.specs.declared.command.CommandName.{CommandName}

@@ -1,21 +1,11 @@
 -- Records of a group, of which the changes are held back until all of them are done.
 use Rattle.std.specs.Prelude.{◌≡◌, ◌++◌, ◌⊎◌, true, false, Option, IsSome, List, [], ◌∷◌, Result, Ok, Err, IfErr, IfOk, IsOk, OnErr, OnOk}
-use Rattle.std.specs.List.{list_any}
+use Rattle.toll_plant.specs.Common.{list_any, History, IsLawful, Content, Fits, after, FindsNoDamage, Goes, IsReading, Settles, Meaning, OverHeld, OverLive, KeepFault, Memory, StandsFor, Over, PlantCmd}
 use Rattle.toll_base.specs.declared.decision.Change.{Change}
-use Rattle.toll_history.specs.History.{History}
-use Rattle.toll_history.specs.Verdict.{IsLawful}
-use Rattle.toll_keep.specs.Content.{Content, Fits, after}
-use Rattle.toll_keep.specs.Goes.{FindsNoDamage, Goes, IsReading, Settles}
-use Rattle.toll_keep.specs.Meaning.{Meaning, OverHeld, OverLive}
 use Rattle.toll_keep.specs.Overlays.{IsOver, ReadsThrough}
 use Rattle.toll_keep.specs.Reads.{HaveRead, IsKept}
-use Rattle.toll_keep.specs.declared.fault.KeepFault.{KeepFault}
-use Rattle.toll_keep.specs.declared.fault.KeepFault.TheVariants.{Memory}
 use Rattle.toll_keep.specs.declared.overlay.Overlay.{Overlay}
-use Rattle.toll_standing.specs.Standing.{StandsFor}
 use Rattle.toll_desk.specs.Plans.{LeadsTo}
-use Rattle.toll_desk.specs.Reads.{Over}
-use Rattle.toll_desk.specs.declared.plant_cmd.PlantCmd.{PlantCmd}
 use Rattle.toll_plant.specs.Imports.{Comes, EndWith, IsImport, IsOpenOutcome, refused_at}
 use Rattle.toll_plant.specs.Outcomes.{is_accepted, is_fault}
 use Rattle.toll_plant.specs.declared.grouping.Held.{Held}

@@ -1,17 +1,11 @@
 -- What imports do with keys.
 use Rattle.std.specs.Prelude.{◌≡◌, ◌⊎◌, ◌+◌, ◌≤◌, ℕ, Bool, true, false, ◌&&◌, if◌then◌else◌, Option, Some, None, List, [], ◌∷◌, ◌++◌, option_map}
-use Rattle.std.specs.List.{AllByRecursion}
-use Rattle.toll_base.specs.Bytes.{Bytes, same_bytes}
+use Rattle.toll_plant.specs.Common.{AllByRecursion, Bytes, same_bytes, count, is_some_where, total, History, acts, PlantAsked, Does, asked_by, PlantCmd}
 use Rattle.toll_base.specs.Moves.{same_movement}
-use Rattle.toll_base.specs.Words.{count, is_some_where, total}
 use Rattle.toll_base.specs.declared.movement.MoveRow.{MoveRow}
 use Rattle.toll_history.specs.Command.{Record, by}
-use Rattle.toll_history.specs.History.{History, acts}
 use Rattle.toll_history.specs.Laws.{has_this_key}
 use Rattle.toll_history.specs.Movements.{movement_of, voided_in}
-use Rattle.toll_answers.specs.PlantAnswers.{PlantAsked, Does}
-use Rattle.toll_desk.specs.Asking.{asked_by}
-use Rattle.toll_desk.specs.declared.plant_cmd.PlantCmd.{PlantCmd}
 use Rattle.toll_plant.specs.Files.{Fields}
 use Rattle.toll_plant.specs.Imports.{IsImport, commands_in}
 use Rattle.toll_plant.specs.Outcomes.{is_accepted}

@@ -1,22 +1,9 @@
 -- What comes of the records of a file of actuals.
 use Rattle.std.specs.Prelude.{◌≡◌, ◌≢◌, ◌+◌, ◌⊎◌, ◌≤◌, ℕ, true, false, if◌then◌else◌, Option, Some, None, List, [], ◌∷◌, ◌++◌, length, map, take, Result, Ok, Err}
 use Rattle.std.specs.Bool.{MatchBool}
-use Rattle.std.specs.List.{AllByRecursion, list_any}
-use Rattle.toll_base.specs.Bytes.{Bytes}
-use Rattle.toll_history.specs.History.{History}
-use Rattle.toll_history.specs.Verdict.{Verdict, IsLawful}
-use Rattle.toll_keep.specs.Goes.{FindsNoDamage, Goes, Settles}
-use Rattle.toll_keep.specs.Meaning.{Meaning, OverHeld}
-use Rattle.toll_keep.specs.Content.{Content}
-use Rattle.toll_keep.specs.declared.fault.KeepFault.{KeepFault}
-use Rattle.toll_keep.specs.declared.fault.KeepFault.TheVariants.{Memory, Damaged}
-use Rattle.toll_answers.specs.PlantAnswers.{Judged, IsPlantAnswer, after_plant}
-use Rattle.toll_standing.specs.Standing.{StandsFor}
+use Rattle.toll_plant.specs.Common.{AllByRecursion, list_any, Bytes, History, Verdict, IsLawful, FindsNoDamage, Goes, Settles, Meaning, OverHeld, Content, KeepFault, Memory, Damaged, Judged, IsPlantAnswer, after_plant, StandsFor, IsValidDeed, asked_by, Over, PlantCmd}
 use Rattle.toll_desk.specs.PlantHeld.{looks_at_two}
-use Rattle.toll_desk.specs.Asking.{IsValidDeed, asked_by}
 use Rattle.toll_desk.specs.Outcome.{HoldsFor, LeavesOr}
-use Rattle.toll_desk.specs.Reads.{Over}
-use Rattle.toll_desk.specs.declared.plant_cmd.PlantCmd.{PlantCmd}
 use Rattle.toll_plant.specs.Files.{Fields, HasActuals, command_in}
 use Rattle.toll_plant.specs.Outcomes.{judged, is_accepted, is_fault}
 use Rattle.toll_plant.specs.declared.grouping.TheConstants.{GROUP_RECORDS}

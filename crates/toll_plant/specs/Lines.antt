@@ -1,8 +1,6 @@
 -- The lines of words that commands are written in, and the words that fit one.
 use Rattle.std.specs.Prelude.{Bool, false, not, ◌&&◌, ◌==◌, List, [], ◌∷◌, length, find, codes, Option, Some, None, if◌then◌else◌, option_and_then}
-use Rattle.std.specs.List.{list_all}
-use Rattle.std.specs.Str.{bytes_eq}
-use Rattle.toll_base.specs.Bytes.{Bytes}
+use Rattle.toll_plant.specs.Common.{list_all, bytes_eq, Bytes}
 use Rattle.toll_plant.specs.declared.argument.Reading.{Reading}
 use Rattle.toll_plant.specs.declared.command.CommandName.{CommandName}
 

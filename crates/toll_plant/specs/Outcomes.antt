@@ -1,9 +1,6 @@
 -- What comes of a record of a file of actuals.
 use Rattle.std.specs.Prelude.{Bool, true, false, Result, Ok, Err}
-use Rattle.toll_history.specs.Verdict.{Verdict, Accepted, Repeated, Refused}
-use Rattle.toll_keep.specs.declared.fault.KeepFault.{KeepFault}
-use Rattle.toll_keep.specs.declared.fault.KeepFault.TheVariants.{Damaged}
-use Rattle.toll_answers.specs.PlantAnswers.{PlantTold, Judged, Shows}
+use Rattle.toll_plant.specs.Common.{Verdict, Accepted, Repeated, Refused, KeepFault, Damaged, PlantTold, Judged, Shows}
 use Rattle.toll_plant.specs.declared.outcome.Outcome.{Outcome}
 use Rattle.toll_plant.specs.declared.outcome.Outcome.TheVariants as came
 

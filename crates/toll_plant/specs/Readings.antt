@@ -1,13 +1,10 @@
 -- How the values of a command are read.
 use Rattle.std.specs.Prelude.{ℕ, ℤ, pos, neg_ℤ, nat_abs, ◌==◌, ◌&&◌, nat_le, [], ◌∷◌, find, codes, Option, Some, None, option_map, option_and_then, Result, Ok, Err, if◌then◌else◌}
-use Rattle.toll_base.specs.Bytes.{Bytes, same_bytes}
+use Rattle.toll_plant.specs.Common.{Bytes, same_bytes, where_so, Refusal, BadName, BadAmount}
 use Rattle.toll_base.specs.States.{read_command}
 use Rattle.toll_base.specs.ValueWords.{use_word}
 use Rattle.toll_base.specs.Values.{is_measure, is_name, is_owner_key, number_of}
-use Rattle.toll_base.specs.Words.{where_so}
 use Rattle.toll_base.specs.declared.bounded.TheConstants.{MOST_AMOUNT, MOST_BATCHES, MOST_DAY, MOST_SEGMENTS}
-use Rattle.toll_base.specs.declared.refusal.Refusal.{Refusal}
-use Rattle.toll_base.specs.declared.refusal.Refusal.TheVariants.{BadName, BadAmount}
 use Rattle.toll_base.specs.declared.role.Role.{Role}
 use Rattle.toll_base.specs.declared.role.Role.TheVariants.{Consumed, Produced}
 use Rattle.toll_base.specs.declared.value.TheConstants.{LEAST_VALUE, MOST_VALUE}

@@ -1,11 +1,7 @@
 -- An import that is under way.
 use Rattle.std.specs.Prelude.{◌≡◌, ◌≢◌, ◌⊎◌, ◌+◌, ◌≤◌, ℕ, Option, List, [], ◌++◌, length, take, drop, vec_capacity, vec_len, Result, Ok, Err}
 use Rattle.std.specs.Global.{Vec}
-use Rattle.std.specs.List.{AllByRecursion}
-use Rattle.toll_base.specs.Bytes.{Bytes}
-use Rattle.toll_keep.specs.Meaning.{Meaning}
-use Rattle.toll_keep.specs.declared.fault.KeepFault.{KeepFault}
-use Rattle.toll_desk.specs.declared.plant_cmd.PlantCmd.{PlantCmd}
+use Rattle.toll_plant.specs.Common.{AllByRecursion, Bytes, Meaning, KeepFault, PlantCmd}
 use Rattle.toll_plant.specs.Files.{Fields, HasActuals}
 use Rattle.toll_plant.specs.Imports.{AreNumbered, CanBeHeld, HasValidValues, IsGroupServed, commands_in, outcomes_in}
 use Rattle.toll_plant.specs.declared.grouping.TheConstants.{GROUP_RECORDS}

@@ -1,8 +1,6 @@
 -- The commands that words ask for.
 use Rattle.std.specs.Prelude.{◌≡◌, ◌<◌, List, [], ◌∷◌, drop, length, Result, Ok, Err, Option, Some, None, option_and_then}
-use Rattle.toll_base.specs.Bytes.{Bytes}
-use Rattle.toll_base.specs.declared.refusal.Refusal.{Refusal}
-use Rattle.toll_desk.specs.declared.plant_cmd.PlantCmd.{PlantCmd}
+use Rattle.toll_plant.specs.Common.{Bytes, Refusal, PlantCmd}
 use Rattle.toll_desk.specs.declared.plant_cmd.PlantCmd.TheVariants.{Unread}
 use Rattle.toll_plant.specs.Commands.{command_from}
 use Rattle.toll_plant.specs.Lines.{Argument, Line, line_of}

@@ -1,7 +1,6 @@
 -- What the code gives for a line, and for a script.
 use Rattle.std.specs.Prelude.{◌≡◌, Bool, true, List, [], ◌∷◌, ◌++◌, map, Option, Some, None, Result, Ok, Err}
-use Rattle.toll_base.specs.Bytes.{Bytes}
-use Rattle.toll_wire.specs.declared.event.Event.{Event}
+use Rattle.toll_programs.specs.Common.{Bytes, Event}
 use Rattle.toll_wire.specs.declared.event.Event.TheVariants.{Owner, Plant}
 use Rattle.toll_programs.specs.Script.{Asking, Deed, request, command, nothing, asks, bad, IsFirstBad, StopsForMemory, script_lines}
 use Rattle.toll_programs.specs.declared.events.LineFault.{LineFault}

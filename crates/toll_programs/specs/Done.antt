@@ -1,12 +1,7 @@
 -- What the program does over a keep, with what it tells of it.
 use Rattle.std.specs.Prelude.{ℕ, Result}
-use Rattle.toll_base.specs.Bytes.{Bytes}
+use Rattle.toll_programs.specs.Common.{Bytes, PlantCmd, PlantReply, Meaning, ImportFault, ImportReport}
 use Rattle.toll_desk.specs.PlantServed.{IsPlantServed}
-use Rattle.toll_desk.specs.declared.plant_cmd.PlantCmd.{PlantCmd}
-use Rattle.toll_desk.specs.declared.plant_cmd.PlantReply.{PlantReply}
-use Rattle.toll_keep.specs.Meaning.{Meaning}
-use Rattle.toll_plant.specs.declared.import_fault.ImportFault.{ImportFault}
-use Rattle.toll_plant.specs.declared.report.ImportReport.{ImportReport}
 use Rattle.toll_programs.specs.Imported.{IsImported}
 use Rattle.toll_programs.specs.Told.{IsImportTold, IsReplyTold, Streams}
 

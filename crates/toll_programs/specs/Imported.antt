@@ -1,13 +1,9 @@
 -- What is so where a file of actuals was imported over a keep.
 use Rattle.std.specs.Prelude.{◌≡◌, ◌≢◌, ◌↔◌, ◌<◌, ◌≤◌, List, Result, Err, IfOk, OnErr, length}
-use Rattle.toll_base.specs.Bytes.{Bytes}
-use Rattle.toll_keep.specs.Meaning.{Meaning}
+use Rattle.toll_programs.specs.Common.{Bytes, Meaning, ImportFault, Memory, TooLong, BadHeader, ImportReport}
 use Rattle.toll_plant.specs.Files.{Fields, HasActuals, HasHeader}
 use Rattle.toll_plant.specs.Imports.{AreRecordsServed, commands_in, outcomes_in}
-use Rattle.toll_plant.specs.declared.import_fault.ImportFault.{ImportFault}
-use Rattle.toll_plant.specs.declared.import_fault.ImportFault.TheVariants.{Memory, TooLong, BadHeader}
 use Rattle.toll_plant.specs.declared.importing.TheConstants.{MOST_FILE_BYTES}
-use Rattle.toll_plant.specs.declared.report.ImportReport.{ImportReport}
 
 -- its records got these outcomes one after another, up to a fault; or nothing acted, for this cause
 pub record IsImported {K : Type 0} (meaning : Meaning K) (old new : K) (file : Bytes) (imported : Result ImportReport ImportFault) : Type 0 where

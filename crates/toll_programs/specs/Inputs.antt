@@ -1,7 +1,6 @@
 -- What a script is read from.
 use Rattle.std.specs.Prelude.{◌≡◌, ◌+◌, ◌≤◌, ℕ, Option, length}
-use Rattle.std.specs.Io.KnownBytes.{Consumes, IsAtEnd}
-use Rattle.toll_base.specs.Bytes.{Bytes}
+use Rattle.toll_programs.specs.Common.{Consumes, IsAtEnd, Bytes}
 use Rattle.toll_programs.specs.declared.input.TheConstants.{TEXT_LIMIT}
 
 -- how many bytes a script may have

@@ -1,7 +1,6 @@
 -- The pieces of a text.
 use Rattle.std.specs.Prelude.{ℕ, Bool, ◌==◌, List, length}
-use Rattle.std.specs.List.{slice_split}
-use Rattle.toll_base.specs.Bytes.{Bytes}
+use Rattle.toll_programs.specs.Common.{slice_split, Bytes}
 
 -- what stands before, between and behind the bytes of this kind
 abbrev pub pieces_at : ℕ → Bytes → List Bytes

@@ -1,15 +1,12 @@
 -- What a script prints of the answers.
 use Rattle.std.specs.Prelude.{List, [], ◌∷◌, ◌++◌, take, drop, codes, decimal, flat_map, nat_eq, if◌then◌else◌}
-use Rattle.std.specs.List.{starts_with}
-use Rattle.toll_base.specs.Bytes.{Bytes}
+use Rattle.toll_programs.specs.Common.{starts_with, Bytes, PlantReply, Answer}
 use Rattle.toll_base.specs.Refusal.{code_of, title_of}
 use Rattle.toll_base.specs.declared.refusal.Refusal.{Refusal}
-use Rattle.toll_desk.specs.declared.plant_cmd.PlantReply.{PlantReply}
 use Rattle.toll_desk.specs.declared.plant_cmd.PlantReply.TheVariants as plant
 use Rattle.toll_keep.specs.declared.fault.KeepFault.{KeepFault}
 use Rattle.toll_keep.specs.Fault.{name_of}
 use Rattle.toll_wire.specs.OutTexts.{out_bytes}
-use Rattle.toll_wire.specs.declared.event.Answer.{Answer}
 use Rattle.toll_wire.specs.declared.event.Answer.TheVariants as answer
 
 -- the three digits behind `HTTP/1.1 `

@@ -1,8 +1,6 @@
 -- The lines of owners' requests, and the bytes of the requests.
 use Rattle.std.specs.Prelude.{◌||◌, List, [], ◌∷◌, ◌++◌, length, codes, decimal, Option, Some, None, if◌then◌else◌}
-use Rattle.std.specs.List.{join_with_byte}
-use Rattle.std.specs.Str.{bytes_eq}
-use Rattle.toll_base.specs.Bytes.{Bytes}
+use Rattle.toll_programs.specs.Common.{join_with_byte, bytes_eq, Bytes}
 use Rattle.toll_programs.specs.Pieces.{is_empty}
 
 -- `OWNER KEY METHOD TARGET`, and the body

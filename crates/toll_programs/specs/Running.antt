@@ -1,15 +1,10 @@
 -- How a script ends.
 use Rattle.std.specs.Prelude.{◌≡◌, ◌≢◌, ◌⊎◌, ◌<◌, ℕ, IsTrue, Bool, true, false, List, length, take, Option}
-use Rattle.std.specs.Io.KnownBytes.{Appends}
-use Rattle.toll_base.specs.Bytes.{Bytes}
-use Rattle.toll_keep.specs.Meaning.{Meaning}
+use Rattle.toll_programs.specs.Common.{Appends, Bytes, Meaning, HasFailed, NoneFailed, Answer, Event}
 use Rattle.toll_desk.specs.Reads.{Over}
-use Rattle.toll_streams.specs.Streams.{HasFailed, NoneFailed}
 use Rattle.toll_streams.specs.declared.sink.Sink as sink
 use Rattle.toll_streams.specs.declared.source.Source as source
 use Rattle.toll_wire.specs.OfficeRuns.{AreServed, IsRunOf}
-use Rattle.toll_wire.specs.declared.event.Answer.{Answer}
-use Rattle.toll_wire.specs.declared.event.Event.{Event}
 use Rattle.toll_programs.specs.Asked.{deeds_of}
 use Rattle.toll_programs.specs.Inputs.{IsTooLong, IsWhole}
 use Rattle.toll_programs.specs.Printing.{printed}

@@ -1,9 +1,6 @@
 -- What the lines of a script ask for.
 use Rattle.std.specs.Prelude.{◌≡◌, ℕ, Bool, true, false, ◌+◌, ◌==◌, ◌&&◌, not, List, [], ◌∷◌, ◌++◌, length, filter, flat_map, option_map, Option, Some, None, is_some, if◌then◌else◌}
-use Rattle.std.specs.List.{AllByRecursion}
-use Rattle.std.specs.Str.{is_utf8}
-use Rattle.toll_base.specs.Bytes.{Bytes}
-use Rattle.toll_desk.specs.declared.plant_cmd.PlantCmd.{PlantCmd}
+use Rattle.toll_programs.specs.Common.{AllByRecursion, is_utf8, Bytes, PlantCmd}
 use Rattle.toll_plant.specs.Words.{command_of_words}
 use Rattle.toll_programs.specs.Pieces.{is_empty, pieces_at}
 use Rattle.toll_programs.specs.Requests.{request_of, request_text}

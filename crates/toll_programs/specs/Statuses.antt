@@ -1,7 +1,6 @@
 -- How the program ends.
 use Rattle.std.specs.Prelude.{ℕ, Bool, true, false, List, if◌then◌else◌}
-use Rattle.std.specs.List.{list_any}
-use Rattle.toll_desk.specs.declared.plant_cmd.PlantReply.{PlantReply}
+use Rattle.toll_programs.specs.Common.{list_any, PlantReply}
 use Rattle.toll_desk.specs.declared.plant_cmd.PlantReply.TheVariants as plant
 use Rattle.toll_plant.specs.Outcomes.{is_fault}
 use Rattle.toll_plant.specs.declared.outcome.Outcome.{Outcome}

@@ -1,7 +1,6 @@
 -- What the words behind the program's name ask for.
 use Rattle.std.specs.Prelude.{ℕ, List, [], ◌∷◌, codes, Option, Some, None, if◌then◌else◌, option_map, option_and_then}
-use Rattle.std.specs.Str.{bytes_eq}
-use Rattle.toll_base.specs.Bytes.{Bytes}
+use Rattle.toll_programs.specs.Common.{bytes_eq, Bytes}
 use Rattle.toll_plant.specs.Readings.{number_within}
 use Rattle.toll_programs.specs.declared.task.TheConstants.{IMPORT_USAGE, MOST_CONNECTIONS, SERVE_USAGE, USAGE}
 

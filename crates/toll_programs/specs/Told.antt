@@ -1,15 +1,9 @@
 -- What the program writes of one command, one import or one script, and how it ends.
 use Rattle.std.specs.Prelude.{◌≡◌, ◌<◌, ◌⊎◌, ◌++◌, ℕ, Bool, [], Option, Result, Ok, Err, codes, decimal, length, take}
-use Rattle.std.specs.Io.KnownBytes.{Appends}
-use Rattle.toll_base.specs.Bytes.{Bytes}
-use Rattle.toll_desk.specs.declared.plant_cmd.PlantReply.{PlantReply}
+use Rattle.toll_programs.specs.Common.{Appends, Bytes, PlantReply, HasFailed, ImportFault, Memory, TooLong, BadHeader, ImportReport}
 use Rattle.toll_desk.specs.declared.plant_cmd.PlantReply.TheVariants as plant
-use Rattle.toll_streams.specs.Streams.{HasFailed}
 use Rattle.toll_streams.specs.declared.sink.Sink as sink
 use Rattle.toll_plant.specs.ImportTexts.{import_text}
-use Rattle.toll_plant.specs.declared.import_fault.ImportFault.{ImportFault}
-use Rattle.toll_plant.specs.declared.import_fault.ImportFault.TheVariants.{Memory, TooLong, BadHeader}
-use Rattle.toll_plant.specs.declared.report.ImportReport.{ImportReport}
 use Rattle.toll_programs.specs.Printing.{plant_lines, refusal_line}
 use Rattle.toll_programs.specs.Statuses.{after_lines, after_reply, after_script, code_of}
 use Rattle.toll_programs.specs.declared.scripts.ScriptEnd.{ScriptEnd}

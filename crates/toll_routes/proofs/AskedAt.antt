@@ -2,10 +2,8 @@
 use Rattle.std.proofs.Common.{◌≡◌, ap, refl, subst, Some, None, Result, Ok, Err}
 use Rattle.std.specs.Prelude.{IfOk}
 use Rattle.std.specs.declared.alloc.AllocError.{AllocError}
-use Rattle.toll_base.specs.Bytes.{Bytes}
+use Rattle.toll_routes.proofs.Common.{Bytes, Verb, Get, Post}
 use Rattle.toll_http.specs.declared.failure.Failure.TheVariants.{MethodNotAllowed, NoRoute}
-use Rattle.toll_http.specs.declared.verb.Verb.{Verb}
-use Rattle.toll_http.specs.declared.verb.Verb.TheVariants.{Get, Post}
 use Rattle.toll_routes.specs.Asking.{AsksBy, AsksOf, IsAsking, ask_of, other_of}
 use Rattle.toll_routes.specs.Places.{LeadsTo, path_of}
 use Rattle.toll_routes.specs.Routes.{Route, routes}

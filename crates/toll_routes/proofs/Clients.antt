@@ -1,15 +1,8 @@
 -- Each request is asked for at its address.
 use Rattle.std.proofs.Common.{◌≡◌, ◌∙◌, ℕ, ◌+◌, ◌<◌, zero, suc, true, cond, List, [], ◌∷◌, ◌++◌, length, take, get_or, refl, sym, ap, subst, arith, inl, inr, Some, None, append-nil}
 use Rattle.std.specs.Prelude.{codes, decimal, ◌==◌, nat_le, IsTrue}
-use Rattle.std.specs.List.{list_all, position_or_len}
-use Rattle.std.proofs.Math.Seq.{take-append_seam}
-use Rattle.std.proofs.lemmas.Bool.{and_parts}
-use Rattle.toll_base.specs.Bytes.{Bytes}
-use Rattle.toll_base.specs.Values.{is_name}
-use Rattle.toll_desk.specs.declared.request.Request.{Request}
+use Rattle.toll_routes.proofs.Common.{list_all, position_or_len, take-append_seam, and_parts, Bytes, is_name, Request, Verb, Get, Post}
 use Rattle.toll_desk.specs.declared.request.Request.TheVariants as request
-use Rattle.toll_http.specs.declared.verb.Verb.{Verb}
-use Rattle.toll_http.specs.declared.verb.Verb.TheVariants.{Get, Post}
 use Rattle.toll_routes.specs.Addresses.{IsAskable, IsAskedBy, IsQuery, address_of}
 use Rattle.toll_routes.specs.Asking.{AsksOf, IsAsking, ask_of}
 use Rattle.toll_routes.specs.Places.{IsPath, LeadsTo, path_of}

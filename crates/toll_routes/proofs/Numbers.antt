@@ -1,17 +1,10 @@
 -- The decimal texts of batches' numbers.
 use Rattle.std.proofs.Common.{◌≡◌, ◌∙◌, ℕ, ◌<◌, ◌≤◌, true, false, Bool, [], ◌∷◌, length, take, get_or, refl, sym, ap, subst, rules, arith, Some, None, Result, Ok, Err, nat_le}
 use Rattle.std.specs.Prelude.{decimal, nat_eq, ◌&&◌, if◌then◌else◌}
-use Rattle.std.specs.Result.{OkIff, result_ok}
-use Rattle.std.specs.List.{list_all}
+use Rattle.toll_routes.proofs.Common.{OkIff, result_ok, list_all, and_parts, and_from, nat_tests, Decides-eqb, decimal-digits_value, decimal_nonempty, digits_decimal, digits_value-decimal, first_decimal, length-decimal-le, starts_is, Bytes, IsBatchNo, is_digit, is_text_of, number_of}
 use Rattle.std.specs.Cmp.Lexicographic.{pointwise}
 use Rattle.std.specs.Str.Parse.{digits_value}
-use Rattle.std.proofs.lemmas.Bool.{and_parts, and_from}
-use Rattle.std.proofs.lemmas.Bool.Decides.{nat_tests, Decides-eqb}
-use Rattle.std.proofs.lemmas.Fmt.{decimal-digits_value, decimal_nonempty, digits_decimal, digits_value-decimal, first_decimal, length-decimal-le}
-use Rattle.std.proofs.lemmas.Slice.Eq.{starts_is}
 use Rattle.std.proofs.lemmas.Str.Parse.{IsNumeralModel, IsDigitsTest, numerals_by_value, digits_value_short}
-use Rattle.toll_base.specs.Bytes.{Bytes}
-use Rattle.toll_base.specs.Values.{IsBatchNo, is_digit, is_text_of, number_of}
 use Rattle.toll_base.specs.declared.refusal.Refusal.{Refusal}
 use Rattle.toll_routes.specs.Places.{IsNumberRead}
 

@@ -2,17 +2,7 @@
 use Rattle.std.proofs.Common.{◌≡◌, ◌∙◌, ℕ, ◌<◌, zero, suc, true, List, [], ◌∷◌, length, get_or, map, refl, sym, ap, subst, arith, inl, inr, Some, None, Result, Ok, Err}
 use Rattle.std.proofs.Common.{Fits, w8}
 use Rattle.std.specs.Prelude.{nat_le}
-use Rattle.std.specs.Result.{MatchResult, result_ok}
-use Rattle.std.specs.List.{AllByRecursion, list_all}
-use Rattle.std.specs.Str.{IsAscii, IsUtf8}
-use Rattle.std.proofs.lemmas.Bool.{and_parts}
-use Rattle.std.proofs.lemmas.Bool.Decides.{nat_tests}
-use Rattle.std.proofs.lemmas.Str.{IsUtf8-from_ascii}
-use Rattle.matchit.specs.Params.{walk}
-use Rattle.matchit.specs.Router.{RouteOf}
-use Rattle.matchit.specs.Rows.{RowsOf}
-use Rattle.matchit.specs.Seek.{first}
-use Rattle.toll_base.specs.Bytes.{Bytes}
+use Rattle.toll_routes.proofs.Common.{MatchResult, result_ok, AllByRecursion, list_all, IsAscii, IsUtf8, and_parts, nat_tests, IsUtf8-from_ascii, walk, RouteOf, RowsOf, first, Bytes}
 use Rattle.toll_routes.specs.Places.{AreReadFrom, IsPath, LeadsTo, count, parts_of, texts_of}
 use Rattle.toll_routes.specs.Routers.{In, IsOffice, LeadsBy, tokens}
 use Rattle.toll_routes.specs.Routes.{routes, spelled}

@@ -1,11 +1,7 @@
 -- A method, a target and a body ask for one thing.
 use Rattle.std.proofs.Common.{◌≡◌, ◌∙◌, true, List, [], ◌∷◌, ◌++◌, refl, sym, ap, subst, inl, inr, Option, Some, None}
 use Rattle.std.specs.Prelude.{option_map}
-use Rattle.std.proofs.lemmas.List.{append_cancel_left, append_cancel_right}
-use Rattle.toll_base.specs.Bytes.{Bytes}
-use Rattle.toll_http.specs.declared.verb.Verb.{Verb}
-use Rattle.toll_bodies.specs.declared.body.Placing.{Placing}
-use Rattle.toll_bodies.specs.Bodies.{AsksFor, AsksOrder, order_in}
+use Rattle.toll_routes.proofs.Common.{append_cancel_left, append_cancel_right, Bytes, Verb, Placing, AsksFor, AsksOrder, order_in}
 use Rattle.toll_routes.specs.Asking.{AsksAt, AsksBy, AsksOf, IsAsking, IsPlacing, ask_of, placing, request_from}
 use Rattle.toll_routes.specs.Places.{AreValues, IsPath, LeadsTo, parts_of, path_of, texts_of}
 use Rattle.toll_routes.specs.Routers.{holes}

@@ -1,13 +1,8 @@
 -- The paths of the routes: each is of one route, with one list of values.
 use Rattle.std.proofs.Common.{◌≡◌, ◌⊎◌, ◌∙◌, ℕ, ◌<◌, Bool, true, false, List, [], ◌∷◌, ◌++◌, length, refl, sym, ap, subst, arith, inl, inr, Some, None, append-nil, append_assoc}
 use Rattle.std.specs.Prelude.{decimal, ◌==◌, ◌&&◌, not, nat_eq, nat_le, nat_lt, IsTrue}
-use Rattle.std.specs.List.{list_all}
-use Rattle.std.proofs.lemmas.Bool.{and_from, and_parts}
-use Rattle.std.proofs.lemmas.Bool.Decides.{nat_tests}
-use Rattle.std.proofs.lemmas.Fmt.{decimal_injective, decimal_nonempty, digits_decimal}
+use Rattle.toll_routes.proofs.Common.{list_all, and_from, and_parts, nat_tests, decimal_injective, decimal_nonempty, digits_decimal, Bytes, IsBatchNo, is_digit, is_name, is_name_byte, is_text_of}
 use Rattle.std.proofs.lemmas.List.Folds.{list_all-append}
-use Rattle.toll_base.specs.Bytes.{Bytes}
-use Rattle.toll_base.specs.Values.{IsBatchNo, is_digit, is_name, is_name_byte, is_text_of}
 use Rattle.toll_routes.specs.Places.{AreValues, IsPath, LeadsTo, count, parts_of, texts_of}
 use Rattle.toll_routes.specs.Routers.{In, holes, tokens}
 use Rattle.toll_routes.specs.Routes.{Route, routes, spelled, text_of}

@@ -1,13 +1,9 @@
 -- What the router of the office holds.
 use Rattle.std.proofs.Common.{◌≡◌, ◌⊎◌, ◌∙◌, ◌&&◌, map, ℕ, ◌+◌, ◌<◌, ◌≤◌, suc, arith, length, drop, get_or, Bool, true, false, cond, List, [], ◌∷◌, refl, sym, ap, subst, inl, inr, Some, Result, Ok, Err}
-use Rattle.std.specs.Option.{is_none}
+use Rattle.toll_routes.proofs.Common.{is_none, drop-cons, and_parts, InsertsRead, RouteOf, nearest, route_from, RowsOf, comes_before}
 use Rattle.std.proofs.Math.ListN.{drop_of_length-le}
-use Rattle.std.proofs.Math.Seq.{drop-cons}
-use Rattle.std.proofs.lemmas.Bool.{and_parts}
 use Rattle.matchit.specs.Order.{placed}
 use Rattle.matchit.specs.Route.{Scan, parse_route}
-use Rattle.matchit.specs.Router.{InsertsRead, RouteOf, nearest, route_from}
-use Rattle.matchit.specs.Rows.{RowsOf, comes_before}
 use Rattle.matchit.specs.declared.error.InsertError.{InsertError}
 use Rattle.matchit.specs.declared.error.InsertError.TheVariants.{Conflict, InvalidParam, InvalidParamSegment, InvalidCatchAll, OutOfMemory}
 use Rattle.toll_routes.specs.Places.{count}

@@ -1,9 +1,6 @@
 -- Each route's values make its requests.
 use Rattle.std.proofs.Common.{◌≡◌, ℕ, List, [], ◌∷◌, refl, sym, ap, subst, inl, inr, Option, Some, None}
-use Rattle.std.specs.List.{AllByRecursion}
-use Rattle.toll_base.specs.Bytes.{Bytes}
-use Rattle.toll_http.specs.declared.verb.Verb.{Verb}
-use Rattle.toll_http.specs.declared.verb.Verb.TheVariants.{Get, Post}
+use Rattle.toll_routes.proofs.Common.{AllByRecursion, Bytes, Verb, Get, Post}
 use Rattle.toll_routes.specs.Asking.{Fits, ask_of}
 use Rattle.toll_routes.specs.Places.{LeadsTo, parts_of}
 use Rattle.toll_routes.specs.Routes.{Route, routes}

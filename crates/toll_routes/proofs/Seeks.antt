@@ -1,12 +1,7 @@
 -- A router of plain patterns finds a row that a path is of, where there is one.
 use Rattle.std.proofs.Common.{◌≡◌, ◌⊎◌, ◌↔◌, ◌∙◌, ℕ, ◌-◌, ◌<◌, ◌≤◌, zero, suc, Bool, true, false, cond, List, [], ◌∷◌, ◌++◌, length, take, drop, refl, sym, ap, subst, arith, inl, inr, Option, Some, None, length-append, append-nil}
 use Rattle.std.specs.Prelude.{◌==◌, ltb}
-use Rattle.std.specs.List.{AllByRecursion}
-use Rattle.std.proofs.lemmas.Bool.{and_parts}
-use Rattle.std.proofs.lemmas.Bool.Decides.{nat_tests, Decides-eqb}
-use Rattle.std.proofs.lemmas.Slice.Eq.{ends_is}
-use Rattle.matchit.specs.Rows.{RowsOf}
-use Rattle.matchit.specs.Seek.{cuts, first, has_slash, longest_from, or_else, own, param_step, seek, segment, step, with_suffix}
+use Rattle.toll_routes.proofs.Common.{AllByRecursion, and_parts, nat_tests, Decides-eqb, ends_is, RowsOf, cuts, first, has_slash, longest_from, or_else, own, param_step, seek, segment, step, with_suffix}
 use Rattle.toll_routes.specs.Routers.{In}
 use Rattle.toll_routes.proofs.Patterns.{EndsPart, IsFilled, IsPart, NoSlash, ends, ends_part, filled_nil, is_plain, plain, part_ends, split}
 

@@ -1,15 +1,7 @@
 -- What a router says that the parts of a path are.
 use Rattle.std.proofs.Common.{◌≡◌, ◌∙◌, ℕ, ◌+◌, ◌-◌, ◌<◌, true, false, List, [], ◌∷◌, ◌++◌, length, take, drop, get_or, map, refl, sym, ap, subst, arith, inl, inr, length-append}
 use Rattle.std.specs.Prelude.{ltb, leb}
-use Rattle.std.specs.List.{AllByRecursion}
-use Rattle.std.specs.Str.{IsCharBoundary, IsUtf8}
-use Rattle.std.proofs.Math.Seq.{take-append_seam, drop-append_seam}
-use Rattle.std.proofs.lemmas.Bool.{and_right}
-use Rattle.std.proofs.lemmas.Bool.Decides.{nat_tests}
-use Rattle.std.proofs.lemmas.List.{drop-drop, get_or-append-add, get_or-drop}
-use Rattle.std.proofs.lemmas.Str.{IsCharBoundary-before_ascii, IsUtf8-drop, IsUtf8-past_char, IsUtf8-take, encode_ascii}
-use Rattle.matchit.specs.Params.{after_token, part_of, walk, wild_from, wild_stop}
-use Rattle.matchit.specs.Seek.{segment}
+use Rattle.toll_routes.proofs.Common.{AllByRecursion, IsCharBoundary, IsUtf8, take-append_seam, drop-append_seam, and_right, nat_tests, drop-drop, get_or-append-add, get_or-drop, IsCharBoundary-before_ascii, IsUtf8-drop, IsUtf8-past_char, IsUtf8-take, encode_ascii, after_token, part_of, walk, wild_from, wild_stop, segment}
 use Rattle.toll_routes.proofs.Patterns.{EndsPart, GoOn, IsFilled, IsPart, ends, go_on, is_plain, part_ends, plain}
 use Rattle.toll_routes.proofs.Seeks.{segment_to}
 

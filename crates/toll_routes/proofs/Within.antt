@@ -1,14 +1,9 @@
 -- What is asked for is within its bounds.
 use Rattle.std.proofs.Common.{◌≡◌, Option, Some, None, sym, subst}
 use Rattle.std.specs.Prelude.{option_map}
-use Rattle.std.specs.Option.{IfSome}
-use Rattle.toll_base.specs.Bytes.{Bytes}
+use Rattle.toll_routes.proofs.Common.{IfSome, Bytes, Request, Verb, Placing, AsksOrder}
 use Rattle.toll_answers.specs.Replies.{IsValidAsked}
 use Rattle.toll_desk.specs.Asking.{asked_of}
-use Rattle.toll_desk.specs.declared.request.Request.{Request}
-use Rattle.toll_http.specs.declared.verb.Verb.{Verb}
-use Rattle.toll_bodies.specs.declared.body.Placing.{Placing}
-use Rattle.toll_bodies.specs.Bodies.{AsksOrder}
 use Rattle.toll_bodies.proofs.Within.{asked_within}
 use Rattle.toll_routes.specs.Asking.{AsksAt, AsksBy, AsksOf, IsAsking, IsPlacing, IsValidAsks, ask_of, placing, request_from}
 use Rattle.toll_routes.specs.Routes.{Route}

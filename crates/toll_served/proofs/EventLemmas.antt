@@ -1,26 +1,10 @@
 -- What came in at the doors is a run of events.
 use Rattle.std.proofs.Common.{◌≡◌, ℕ, Bool, List, [], ◌∷◌, ◌++◌, Option, drop, Result, Ok, Err, refl, sym, subst, ap, ◌∙◌, inl, inr}
 use Rattle.std.specs.Prelude.{if◌then◌else◌, take}
-use Rattle.std.specs.List.{list_any}
-use Rattle.std.proofs.lemmas.List.{append-nil}
-use Rattle.toll_base.specs.Bytes.{Bytes}
+use Rattle.toll_served.proofs.Common.{list_any, append-nil, Bytes, PlantCmd, Content, Meaning, ComesTo as TurnComesTo, Handed, IsWholeRun, Request, Runs, Task, Turn, Door, Owners, Plant, Progress, Told, Left, EndWith, HasValidValues, outcomes_in, is_fault, HasActed, UnderWay, left_behind, GROUP_RECORDS, Outcome, Streams, AreServed, IsAnswered, Answer, Event}
 use Rattle.toll_desk.specs.Reads.{Over}
-use Rattle.toll_desk.specs.declared.plant_cmd.PlantCmd.{PlantCmd}
-use Rattle.toll_keep.specs.Content.{Content}
-use Rattle.toll_keep.specs.Meaning.{Meaning}
 use Rattle.toll_keep.specs.declared.fault.KeepFault.{KeepFault}
-use Rattle.toll_peers.specs.Runs.{ComesTo as TurnComesTo, Handed, IsWholeRun, Request, Runs, Task, Turn}
-use Rattle.toll_peers.specs.declared.door.Door.{Door}
-use Rattle.toll_peers.specs.declared.door.Door.TheVariants.{Owners, Plant}
-use Rattle.toll_peers.specs.declared.progress.Progress.{Progress}
-use Rattle.toll_peers.specs.declared.progress.Progress.TheVariants.{Told, Left}
 use Rattle.toll_plant.proofs.GroupChains.{all_take, calm_group, faulty_group, group_honest}
-use Rattle.toll_plant.specs.Imports.{EndWith, HasValidValues, outcomes_in}
-use Rattle.toll_plant.specs.Outcomes.{is_fault}
-use Rattle.toll_plant.specs.UnderWay.{HasActed, UnderWay, left_behind}
-use Rattle.toll_plant.specs.declared.grouping.TheConstants.{GROUP_RECORDS}
-use Rattle.toll_plant.specs.declared.outcome.Outcome.{Outcome}
-use Rattle.toll_programs.specs.Told.{Streams}
 use Rattle.toll_served.proofs.ImportRuns.{records_run}
 use Rattle.toll_served.proofs.Pieces.{run_behind, run_from, run_none}
 use Rattle.toll_served.specs.Doors.{ComesTo, IsDone, IsServedIfRoom, WentOn, lists_of}
@@ -28,11 +12,7 @@ use Rattle.toll_served.specs.Events.{AreAllEventsOf, AreEventsOf, AreGroupEvents
 use Rattle.toll_served.specs.Serving.{AnswersOver, GoesOnOver, HasServed, IsRunAs, IsRunWhereAnswered, RunsOver}
 use Rattle.toll_served.specs.Wanted.{Wanted, Does, Imports, Unknown, wanted_of}
 use Rattle.toll_wire.proofs.Serving.{all_honest, run_of, steps_of}
-use Rattle.toll_wire.specs.OfficeRuns.{AreServed}
-use Rattle.toll_wire.specs.Steps.{IsAnswered}
-use Rattle.toll_wire.specs.declared.event.Answer.{Answer}
 use Rattle.toll_wire.specs.declared.event.Answer.TheVariants.{Bytes as Reply, Plant as CommandReply}
-use Rattle.toll_wire.specs.declared.event.Event.{Event}
 use Rattle.toll_wire.specs.declared.event.Event.TheVariants.{Owner, Plant as Command}
 
 module _ {K : Type 0} (meaning : Meaning K) (settled : (k : K) (c : Content) → meaning.is_honest k → meaning.is_live k → meaning.holds k c → meaning.leaves k (c ∷ [])) where

@@ -1,25 +1,14 @@
 -- The records of a file that is imported are events of a run.
 use Rattle.std.proofs.Common.{◌≡◌, Bool, true, false, List, [], ◌∷◌, Option, Some, None, Ok, Err, refl, sym, ap, subst, ◌∙◌}
-use Rattle.std.specs.Bool.{MatchBool}
-use Rattle.std.specs.List.{AllByRecursion}
+use Rattle.toll_served.proofs.Common.{MatchBool, AllByRecursion, PlantCmd, PlantReply, History, Comes, HasValidValues, IsImport, is_fault, judged, outcome_of, Outcome, AllShow, PlantShows, http, Answer, Event}
 use Rattle.toll_answers.specs.PlantAnswers.{Judged, IsPlantAnswer, after_plant}
 use Rattle.toll_desk.specs.Asking.{asked_by, plant_told}
-use Rattle.toll_desk.specs.declared.plant_cmd.PlantCmd.{PlantCmd}
-use Rattle.toll_desk.specs.declared.plant_cmd.PlantReply.{PlantReply}
 use Rattle.toll_desk.specs.declared.plant_cmd.PlantReply.TheVariants as plant
-use Rattle.toll_history.specs.History.{History}
 use Rattle.toll_history.specs.Verdict.{Verdict, Accepted, Repeated, Refused}
-use Rattle.toll_plant.specs.Imports.{Comes, HasValidValues, IsImport}
-use Rattle.toll_plant.specs.Outcomes.{is_fault, judged, outcome_of}
-use Rattle.toll_plant.specs.declared.outcome.Outcome.{Outcome}
 use Rattle.toll_plant.specs.declared.outcome.Outcome.TheVariants as came
 use Rattle.toll_served.specs.Events.{AreNone, AreRecordEvents}
-use Rattle.toll_wire.specs.OfficeRuns.{AllShow, PlantShows}
 use Rattle.toll_wire.specs.Runs.{Answered, AreValid, Happening, IsRun, IsStep, Plant, PlantFault, PlantTells}
-use Rattle.toll_wire.specs.Steps.{http}
-use Rattle.toll_wire.specs.declared.event.Answer.{Answer}
 use Rattle.toll_wire.specs.declared.event.Answer.TheVariants.{Plant as CommandReply}
-use Rattle.toll_wire.specs.declared.event.Event.{Event}
 use Rattle.toll_wire.specs.declared.event.Event.TheVariants.{Plant as Command}
 
 abbrev Commands : Type 0

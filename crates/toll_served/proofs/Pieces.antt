@@ -1,16 +1,9 @@
 -- Runs behind runs.
 use Rattle.std.proofs.Common.{◌≡◌, List, [], ◌∷◌, ◌++◌, refl, sym, subst}
-use Rattle.toll_history.specs.History.{History}
-use Rattle.toll_history.specs.Verdict.{IsLawful}
-use Rattle.toll_keep.specs.Content.{Content}
+use Rattle.toll_served.proofs.Common.{History, IsLawful, Content, AllShow, IsRunOf, Answered, AreValid, Happening, IsRun, http, Answer, Event}
 use Rattle.toll_standing.specs.Standing.{StandsFor}
 use Rattle.toll_desk.specs.Outcome.{HoldsFor}
 use Rattle.toll_wire.proofs.Private.{runs-private}
-use Rattle.toll_wire.specs.OfficeRuns.{AllShow, IsRunOf}
-use Rattle.toll_wire.specs.Runs.{Answered, AreValid, Happening, IsRun}
-use Rattle.toll_wire.specs.Steps.{http}
-use Rattle.toll_wire.specs.declared.event.Answer.{Answer}
-use Rattle.toll_wire.specs.declared.event.Event.{Event}
 
 show_both : (events more : List Event) (answers others : List Answer) (happenings later : List Happening) (told behind : List Answered)
     → AllShow events answers happenings told → AllShow more others later behind → AllShow (events ++ more) (answers ++ others) (happenings ++ later) (told ++ behind)

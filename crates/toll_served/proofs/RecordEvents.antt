@@ -1,14 +1,8 @@
 -- Events of records behind events of others.
 use Rattle.std.proofs.Common.{◌≡◌, Bool, true, false, ◌||◌, List, [], ◌∷◌, ◌++◌, Option, Some, None, refl, ap}
-use Rattle.std.specs.Bool.{MatchBool}
-use Rattle.std.specs.List.{list_any}
-use Rattle.toll_desk.specs.declared.plant_cmd.PlantCmd.{PlantCmd}
-use Rattle.toll_plant.specs.Outcomes.{is_fault}
-use Rattle.toll_plant.specs.declared.outcome.Outcome.{Outcome}
+use Rattle.toll_served.proofs.Common.{MatchBool, list_any, PlantCmd, is_fault, Outcome, Answer, Event}
 use Rattle.toll_served.specs.Events.{AreNone, AreRecordEvents}
-use Rattle.toll_wire.specs.declared.event.Answer.{Answer}
 use Rattle.toll_wire.specs.declared.event.Answer.TheVariants.{Bytes as Reply, Plant as CommandReply}
-use Rattle.toll_wire.specs.declared.event.Event.{Event}
 use Rattle.toll_wire.specs.declared.event.Event.TheVariants.{Owner, Plant as Command}
 
 abbrev Commands : Type 0

@@ -1,7 +1,6 @@
 -- The bytes of a request, as an event has them.
 use Rattle.std.proofs.Common.{◌≡◌, ◌<◌, ◌^◌, ℕ, length, refl, arith}
-use Rattle.std.specs.Global.{Vec}
-use Rattle.toll_base.specs.Bytes.{Bytes}
+use Rattle.toll_served.proofs.Common.{Vec, Bytes}
 
 -- some list holds them, which are no more than one can have
 pub held : (other : Vec ℕ) (bytes : Bytes) → length bytes < 2 ^ 63 → (request : Vec ℕ) × (request.items ≡ bytes)

@@ -1,25 +1,13 @@
 -- What is printed where the program can write nothing.
 use Rattle.std.proofs.Common.{◌≡◌, ℕ, Bool, List, [], ◌∷◌, Option, Result, Ok, Err, refl, sym, subst, inl, inr, arith}
-use Rattle.toll_base.specs.Bytes.{Bytes}
-use Rattle.toll_desk.specs.declared.plant_cmd.PlantReply.{PlantReply}
+use Rattle.toll_served.proofs.Common.{Bytes, PlantReply, Meaning, IsAskedBy, import_text, AreNumbered, ImportLine, IsFailing, IsImportTold, IsReplyTold, IsShown, IsShownIfRoom, IsTold, IsWarned, after_refused_file, no_memory, refused_file, Plant, Progress, Told, Left, UnderWay}
 use Rattle.toll_desk.specs.declared.plant_cmd.PlantReply.TheVariants.{Accepted, Repeated, Refused, Text, Fault}
-use Rattle.toll_keep.specs.Meaning.{Meaning}
-use Rattle.toll_parcels.specs.Messages.{IsAskedBy}
-use Rattle.toll_plant.specs.ImportTexts.{import_text}
-use Rattle.toll_plant.specs.Imports.{AreNumbered}
 use Rattle.toll_plant.specs.declared.import_fault.ImportFault.{ImportFault}
-use Rattle.toll_plant.specs.declared.report.ImportLine.{ImportLine}
 use Rattle.toll_plant.specs.declared.report.ImportReport.{ImportReport}
 use Rattle.toll_programs.specs.Printing.{plant_lines, refusal_line}
 use Rattle.toll_programs.specs.Statuses.{after_lines, after_reply, code_of}
-use Rattle.toll_programs.specs.Told.{IsFailing, IsImportTold, IsReplyTold, IsShown, IsShownIfRoom, IsTold, IsWarned}
-use Rattle.toll_programs.specs.Told.{after_refused_file, no_memory, refused_file}
 use Rattle.toll_programs.specs.declared.status.Status.{Status}
 use Rattle.toll_programs.specs.declared.status.Status.TheVariants.{Refused as IsRefused, Unread, Failed}
-use Rattle.toll_peers.specs.declared.door.Door.TheVariants.{Plant}
-use Rattle.toll_peers.specs.declared.progress.Progress.{Progress}
-use Rattle.toll_peers.specs.declared.progress.Progress.TheVariants.{Told, Left}
-use Rattle.toll_plant.specs.UnderWay.{UnderWay}
 use Rattle.toll_served.specs.Doors.{BeginsOrTells, ComesTo, IsBrokenOff, IsDone, IsPlantServed, IsServed, IsTelling, IsTellingIfRoom, IsTextIfRoom, IsToldSo, list_of, lists_of}
 use Rattle.toll_served.specs.Unwritten.{unwritten}
 use Rattle.toll_served.specs.Wanted.{Wanted, Does, Imports, Unknown, wanted_of}

@@ -1,32 +1,15 @@
 -- All turns of one request.
 use Rattle.std.proofs.Common.{◌≡◌, ℕ, Bool, true, false, cond, List, [], ◌∷◌, ◌++◌, Option, Some, None, drop, Ok, refl, sym, ap, subst, ◌∙◌, append_assoc, take-append-drop, inl, arith}
 use Rattle.std.specs.Prelude.{◌==◌, ◌≢◌, take}
-use Rattle.std.specs.Global.{Vec}
-use Rattle.std.specs.List.{list_any}
+use Rattle.toll_served.proofs.Common.{Vec, list_any, append-nil, Bytes, PlantCmd, AreOwn, Handed, IsOwn, Request, Task, Tasks, after_turn, Door, Owners, Plant, Progress, Told, Left, AreNumbered, commands_in, outcomes_in, is_fault, UnderWay, GROUP_RECORDS, Outcome, ImportLine, Answer, Event}
 use Rattle.std.proofs.lemmas.Bool.Decides.{nat_tests}
-use Rattle.std.proofs.lemmas.List.{append-nil}
 use Rattle.toll_base.proofs.Texts.{nat_eq-exact}
-use Rattle.toll_base.specs.Bytes.{Bytes}
-use Rattle.toll_desk.specs.declared.plant_cmd.PlantCmd.{PlantCmd}
-use Rattle.toll_peers.specs.Runs.{AreOwn, Handed, IsOwn, Request, Task, Tasks, after_turn}
 use Rattle.toll_peers.specs.Stages.{left_by}
-use Rattle.toll_peers.specs.declared.door.Door.{Door}
-use Rattle.toll_peers.specs.declared.door.Door.TheVariants.{Owners, Plant}
-use Rattle.toll_peers.specs.declared.progress.Progress.{Progress}
-use Rattle.toll_peers.specs.declared.progress.Progress.TheVariants.{Told, Left}
-use Rattle.toll_plant.specs.Imports.{AreNumbered, commands_in, outcomes_in}
-use Rattle.toll_plant.specs.Outcomes.{is_fault}
-use Rattle.toll_plant.specs.UnderWay.{UnderWay}
-use Rattle.toll_plant.specs.declared.grouping.TheConstants.{GROUP_RECORDS}
-use Rattle.toll_plant.specs.declared.outcome.Outcome.{Outcome}
-use Rattle.toll_plant.specs.declared.report.ImportLine.{ImportLine}
 use Rattle.toll_served.proofs.RecordEvents.{records_longer, records_then}
 use Rattle.toll_served.specs.Doors.{BeginsImport, IsReportTelling, lists_of}
 use Rattle.toll_served.specs.Events.{AreEventsOf, AreGroupEvents, AreParts, AreRecordEvents, AreTurnEvents, IsPrintedOf, Part, answers_of, events_of, turns_of}
 use Rattle.toll_served.specs.Wanted.{Imports}
 use Rattle.toll_served.specs.Whole.{BeginsWith, IsAllAsked, own_parts, told_or, told_to, up_to}
-use Rattle.toll_wire.specs.declared.event.Answer.{Answer}
-use Rattle.toll_wire.specs.declared.event.Event.{Event}
 
 abbrev Commands : Type 0
 Commands = List (Option PlantCmd)

@@ -1,27 +1,13 @@
 -- What is answered at the two doors of a server, over a keep.
 use Rattle.std.specs.Prelude.{◌≡◌, ◌≢◌, ◌⊎◌, ◌<◌, ◌==◌, ℕ, Bool, true, false, not, List, [], length, Option, Some, None, Ok, Err}
 use Rattle.std.specs.Global.{Vec}
-use Rattle.toll_base.specs.Bytes.{Bytes}
-use Rattle.toll_keep.specs.Meaning.{Meaning}
-use Rattle.toll_parcels.specs.Messages.{IsAskedBy, IsToldBy}
-use Rattle.toll_peers.specs.declared.door.Door.{Door}
-use Rattle.toll_peers.specs.declared.door.Door.TheVariants.{Owners, Plant}
-use Rattle.toll_peers.specs.declared.progress.Progress.{Progress}
-use Rattle.toll_peers.specs.declared.progress.Progress.TheVariants.{Told, Left}
+use Rattle.toll_served.specs.Common.{Bytes, Meaning, IsAskedBy, IsToldBy, Door, Owners, Plant, Progress, Told, Left, AreNumbered, GoesOn, IsBegun, UnderWay, ImportFault, ImportReport, code_of, IsFailing, IsImportTold, Stream, Streams, Failed, Unread, out_bytes}
 use Rattle.toll_plant.specs.ImportFaults.{IsRefusedFor}
 use Rattle.toll_plant.specs.ImportTexts.{import_text}
-use Rattle.toll_plant.specs.Imports.{AreNumbered}
-use Rattle.toll_plant.specs.UnderWay.{GoesOn, IsBegun, UnderWay}
-use Rattle.toll_plant.specs.declared.import_fault.ImportFault.{ImportFault}
 use Rattle.toll_plant.specs.declared.report.ImportLine.{ImportLine}
-use Rattle.toll_plant.specs.declared.report.ImportReport.{ImportReport}
 use Rattle.toll_programs.specs.Done.{IsCommandDone}
-use Rattle.toll_programs.specs.Statuses.{code_of}
-use Rattle.toll_programs.specs.Told.{IsFailing, IsImportTold, Stream, Streams}
-use Rattle.toll_programs.specs.declared.status.Status.TheVariants.{Failed, Unread}
 use Rattle.toll_served.specs.Unwritten.{unwritten}
 use Rattle.toll_served.specs.Wanted.{Wanted, Does, Imports, Unknown, wanted_of}
-use Rattle.toll_wire.specs.OutTexts.{out_bytes}
 use Rattle.toll_wire.specs.Steps.{IsAnswered}
 use Rattle.toll_wire.specs.declared.outgoing.Out.{Out}
 use Rattle.toll_wire.specs.declared.outgoing.Out.TheVariants.{Text, Unavailable}

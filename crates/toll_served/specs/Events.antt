@@ -2,31 +2,16 @@
 use Rattle.std.specs.Prelude.{◌≡◌, ◌⊎◌, ℕ, Bool, if◌then◌else◌, List, [], ◌∷◌, ◌++◌, drop, flat_map, map, take, Option, Some, None, Result, Ok, Err}
 use Rattle.std.specs.Bool.{MatchBool}
 use Rattle.std.specs.List.{AllByRecursion, list_any}
-use Rattle.toll_base.specs.Bytes.{Bytes}
+use Rattle.toll_served.specs.Common.{Bytes, PlantCmd, IsAskedBy, IsToldBy, Handed, Request, Task, Turn, Door, Owners, Plant, Progress, Told, Left, AreNumbered, commands_in, outcomes_in, UnderWay, ImportFault, ImportReport, IsImportTold, IsReplyTold, Streams, out_bytes, Answer, Event}
 use Rattle.toll_desk.specs.Asking.{plant_told}
-use Rattle.toll_desk.specs.declared.plant_cmd.PlantCmd.{PlantCmd}
-use Rattle.toll_parcels.specs.Messages.{IsAskedBy, IsToldBy}
-use Rattle.toll_peers.specs.Runs.{Handed, Request, Task, Turn}
-use Rattle.toll_peers.specs.declared.door.Door.{Door}
-use Rattle.toll_peers.specs.declared.door.Door.TheVariants.{Owners, Plant}
-use Rattle.toll_peers.specs.declared.progress.Progress.{Progress}
-use Rattle.toll_peers.specs.declared.progress.Progress.TheVariants.{Told, Left}
 use Rattle.toll_plant.specs.Files.{Fields, HasActuals}
-use Rattle.toll_plant.specs.Imports.{AreNumbered, commands_in, outcomes_in}
 use Rattle.toll_plant.specs.Outcomes.{is_fault, outcome_of}
-use Rattle.toll_plant.specs.UnderWay.{UnderWay}
 use Rattle.toll_plant.specs.declared.grouping.TheConstants.{GROUP_RECORDS}
-use Rattle.toll_plant.specs.declared.import_fault.ImportFault.{ImportFault}
 use Rattle.toll_plant.specs.declared.outcome.Outcome.{Outcome}
 use Rattle.toll_plant.specs.declared.outcome.Outcome.TheVariants.{BadRecord}
-use Rattle.toll_plant.specs.declared.report.ImportReport.{ImportReport}
-use Rattle.toll_programs.specs.Told.{IsImportTold, IsReplyTold, Streams}
 use Rattle.toll_served.specs.Doors.{BeginsImport, ComesTo, IsUsageTold, lists_of}
 use Rattle.toll_served.specs.Wanted.{Wanted, Does, Imports, Unknown, wanted_of}
-use Rattle.toll_wire.specs.OutTexts.{out_bytes}
-use Rattle.toll_wire.specs.declared.event.Answer.{Answer}
 use Rattle.toll_wire.specs.declared.event.Answer.TheVariants.{Bytes as Reply, Plant as CommandReply}
-use Rattle.toll_wire.specs.declared.event.Event.{Event}
 use Rattle.toll_wire.specs.declared.event.Event.TheVariants.{Owner, Plant as Command}
 
 -- nothing comes behind a fault

@@ -1,3 +1,4 @@
+pub mod Common
 pub mod Wanted
 pub mod Unwritten
 pub mod Doors

@@ -1,19 +1,12 @@
 -- What a server does to a keep.
 use Rattle.std.specs.Prelude.{◌≡◌, ℕ, Bool, List, None}
-use Rattle.toll_base.specs.Bytes.{Bytes}
+use Rattle.toll_served.specs.Common.{Bytes, Meaning, AreOwn, Runs, Turn, after_turns, no_tasks, Door, Progress, UnderWay, Answer, Event}
 use Rattle.toll_desk.specs.Reads.{Over}
 use Rattle.toll_history.specs.History.{History}
 use Rattle.toll_keep.specs.Content.{Content}
-use Rattle.toll_keep.specs.Meaning.{Meaning}
-use Rattle.toll_peers.specs.Runs.{AreOwn, Runs, Turn, after_turns, no_tasks}
-use Rattle.toll_peers.specs.declared.door.Door.{Door}
-use Rattle.toll_peers.specs.declared.progress.Progress.{Progress}
-use Rattle.toll_plant.specs.UnderWay.{UnderWay}
 use Rattle.toll_served.specs.Doors.{IsServedIfRoom, WentOn}
 use Rattle.toll_served.specs.Events.{AreAllEventsOf}
 use Rattle.toll_wire.specs.OfficeRuns.{IsRunOf}
-use Rattle.toll_wire.specs.declared.event.Answer.{Answer}
-use Rattle.toll_wire.specs.declared.event.Event.{Event}
 
 -- events with their answers that are such are a run from this history, which leaves what is held
 pub record IsRunAs (holds : Content → Type 0) (H : History) (Are : List Event → List Answer → Type 0) : Type 0 where

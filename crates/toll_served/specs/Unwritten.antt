@@ -1,8 +1,6 @@
 -- How the program ends where it can write nothing.
 use Rattle.std.specs.Prelude.{ℕ, [], ◌∷◌}
-use Rattle.toll_base.specs.Bytes.{Bytes}
-use Rattle.toll_programs.specs.Statuses.{code_of}
-use Rattle.toll_programs.specs.declared.status.Status.TheVariants.{Failed}
+use Rattle.toll_served.specs.Common.{Bytes, code_of, Failed}
 
 -- a failure where something would go to standard output; standard error changes nothing
 abbrev pub unwritten : (output : Bytes) (status : ℕ) → ℕ

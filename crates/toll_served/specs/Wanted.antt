@@ -1,8 +1,7 @@
 -- What the plant asks of a server.
 use Rattle.std.specs.Prelude.{Bool, false, List, [], ◌∷◌, codes, map, Option, Some, None, option_map, if◌then◌else◌}
 use Rattle.std.specs.Str.{bytes_eq}
-use Rattle.toll_base.specs.Bytes.{Bytes}
-use Rattle.toll_desk.specs.declared.plant_cmd.PlantCmd.{PlantCmd}
+use Rattle.toll_served.specs.Common.{Bytes, PlantCmd}
 use Rattle.toll_parcels.specs.declared.asked.Asked.{Asked}
 use Rattle.toll_plant.specs.Words.{command_of_words}
 

@@ -1,11 +1,6 @@
 -- What all turns come to that one request takes.
 use Rattle.std.specs.Prelude.{◌≡◌, ◌==◌, ℕ, List, [], ◌∷◌, Option, Some, None, if◌then◌else◌}
-use Rattle.toll_base.specs.Bytes.{Bytes}
-use Rattle.toll_peers.specs.Runs.{AreOwn, Request, Tasks}
-use Rattle.toll_peers.specs.declared.door.Door.{Door}
-use Rattle.toll_peers.specs.declared.progress.Progress.{Progress}
-use Rattle.toll_peers.specs.declared.progress.Progress.TheVariants.{Told, Left}
-use Rattle.toll_plant.specs.UnderWay.{UnderWay}
+use Rattle.toll_served.specs.Common.{Bytes, AreOwn, Request, Tasks, Door, Progress, Told, Left, UnderWay}
 use Rattle.toll_served.specs.Events.{AreEventsOf, AreParts, Part, answers_of, events_of, turns_of}
 
 -- what is told, or else what the turns behind tell

@@ -1,14 +1,6 @@
 -- Tables that are ours already, and the version that is read.
 use Rattle.std.proofs.Common.{◌≡◌, ◌≢◌, ◌⊎◌, inl, inr, ℕ, true, false, if◌then◌else◌, List, [], ◌∷◌, ◌++◌, slice_get, None, Some, Ok, Result, Option, IfOk, IfSome, OnOk, IsTrue, refl, sym, ap, subst, ◌∙◌}
-use Rattle.sqlite.proofs.StateLemmas.{survives_weaker}
-use Rattle.sqlite.specs.Effect.{Database}
-use Rattle.sqlite.specs.Schema.{Schema}
-use Rattle.sqlite.specs.Table.{Table}
-use Rattle.sqlite_catalog.specs.Change.{KeepsRows, indexed}
-use Rattle.sqlite.specs.State.{State, HasCleanDisk}
-use Rattle.sqlite.specs.Tree.{Trees}
-use Rattle.sqlite.specs.declared.error.Error.{Error}
-use Rattle.toll_keep.specs.Content.{Content}
+use Rattle.toll_sql.proofs.Common.{survives_weaker, Database, Schema, Table, KeepsRows, indexed, State, HasCleanDisk, Trees, Error, Content}
 use Rattle.toll_sql.specs.Asking.{IsQuerying}
 use Rattle.toll_sql.specs.First.{AreFirst, HasVersion, Tells, first_version, meta_rows}
 use Rattle.toll_sql.specs.Holds.{Holds, version}

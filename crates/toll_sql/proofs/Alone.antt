@@ -1,14 +1,6 @@
 -- What is told of one owner, by the table of owners and by this owner's rows.
 use Rattle.std.proofs.Common.{◌≡◌, ◌≢◌, Option, Some, None, List, Ok, Err, Result, IfOk, if◌then◌else◌, inl, inr, refl, sym, ap, subst, ◌∙◌}
-use Rattle.std.proofs.lemmas.Bool.{cases_Bool}
-use Rattle.sqlite.specs.State.{State}
-use Rattle.toll_base.specs.Bytes.{Bytes}
-use Rattle.toll_base.specs.Slice.{Slice}
-use Rattle.toll_base.specs.SliceRules.{KeepsRules}
-use Rattle.toll_base.specs.declared.rows.OwnerRow.{OwnerRow}
-use Rattle.toll_keep.specs.Content.{ContentKeepsRules, knows, slice_of}
-use Rattle.toll_keep.specs.declared.fault.KeepFault.{KeepFault}
-use Rattle.toll_keep.specs.declared.fault.KeepFault.TheVariants.{Damaged}
+use Rattle.toll_sql.proofs.Common.{cases_Bool, State, Bytes, Slice, KeepsRules, OwnerRow, ContentKeepsRules, knows, slice_of, KeepFault, Damaged}
 use Rattle.toll_sql.specs.Asking.{ForHeld, ForSlice, IsLooking}
 use Rattle.toll_sql.specs.PlantRows.{ForOwners}
 use Rattle.toll_sql.specs.Reading.{TellsAlone}

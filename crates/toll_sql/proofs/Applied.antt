@@ -1,9 +1,6 @@
 -- Changes put in one transaction.
 use Rattle.std.proofs.Common.{◌≡◌, List, Ok, Err, Result, None, OnOk, IsTrue, refl, sym, subst}
-use Rattle.sqlite.proofs.StateLemmas.{survives_weaker}
-use Rattle.sqlite.specs.State.{State, Survives}
-use Rattle.sqlite.specs.declared.error.Error.{Error}
-use Rattle.toll_base.specs.declared.decision.Change.{Change}
+use Rattle.toll_sql.proofs.Common.{survives_weaker, State, Survives, Error, Change}
 use Rattle.toll_sql.specs.Create.{IsWhole, begin}
 use Rattle.toll_sql.specs.Stores.{Applies, HasApplied, IsApplied, IsOurs, IsReady, LeavesPut, MakesAll, PutsAll}
 

@@ -1,8 +1,6 @@
 -- A commit that fails leaves what was there.
 use Rattle.std.proofs.Common.{◌≡◌, ◌∙◌, inl, inr, sym, IsTrue, true, false}
-use Rattle.sqlite.specs.declared.error.Error.{Error}
-use Rattle.sqlite.specs.State.{State, KeepsCommit}
-use Rattle.sqlite.specs.Steps.{FailsToCommit}
+use Rattle.toll_sql.proofs.Common.{Error, State, KeepsCommit, FailsToCommit}
 
 pub not_committed : (old last end : State) (e : Error) → (IsTrue old.is_open → old.now ≡ old.committed) → KeepsCommit (record old { in_transaction = true }) last → IsTrue last.in_transaction → IsTrue end.is_open
     → FailsToCommit last end e → (end.now ≡ old.now) × (end.committed ≡ old.committed)

@@ -1,14 +1,6 @@
 -- A query within a transaction, whatever the schema is; and what it finds where the tables are those of version 1.
 use Rattle.std.proofs.Common.{◌≡◌, ◌⊎◌, inl, inr, ℕ, true, false, cond, List, [], Option, None, Some, Ok, Err, Result, IsTrue, IfOk, IfErr, OnOk, refl, sym, ap, subst, ◌∙◌}
-use Rattle.sqlite.proofs.Callers.{IsPlain, command_of, never_commits}
-use Rattle.sqlite.proofs.StateLemmas.{survives_weaker}
-use Rattle.sqlite.specs.Listing.{understood, reads_listing}
-use Rattle.sqlite.specs.Order.{Row}
-use Rattle.sqlite.specs.State.{State, CommitsShowing, FailsToQuery, IsUnchanged, HasCleanDisk, IsTooLate, KeepsCommit, Shown, ShowsRows, Survives}
-use Rattle.sqlite.specs.declared.error.Error.{Error}
-use Rattle.sqlite_resolve.specs.declared.compiled.Compiled.{Compiled}
-use Rattle.sqlite_schema.specs.declared.command.Returning.{Returning}
-use Rattle.sqlite_tied.specs.Compute.{everything}
+use Rattle.toll_sql.proofs.Common.{IsPlain, command_of, never_commits, survives_weaker, understood, reads_listing, Row, State, CommitsShowing, FailsToQuery, IsUnchanged, HasCleanDisk, IsTooLate, KeepsCommit, Shown, ShowsRows, Survives, Error, Compiled, Returning, everything}
 use Rattle.toll_sql.specs.Causes.{IsCaused}
 use Rattle.toll_sql.specs.First.{first_ours}
 use Rattle.toll_sql.specs.Opening.{IsAskedInside, IsLeft}

@@ -1,23 +1,7 @@
 -- What a text that reads rows is answered.
 use Rattle.std.proofs.Common.{◌≡◌, ℕ, zero, suc, Bool, true, false, cond, ◌&&◌, List, [], ◌∷◌, map, length, Result, IfOk, IfErr, refl, sym, ap, ap₂, subst, ◌∙◌, Ordering}
-use Rattle.std.specs.Ordering.{on, ordering_then}
-use Rattle.std.specs.List.{list_all}
+use Rattle.toll_sql.proofs.Common.{on, ordering_then, list_all, filter_agree, IfErr-weaker, IsPlain, command_of, reads_as, never_commits, survives_weaker, understood, reads_listing, Row, column, row_cmp, overlay, IsAnswer, key_cmp, Schema, State, HasCleanDisk, Survives, Shown, FailsToQuery, CommitsShowing, Env, eval_all, holds, Trees, Error, Null, Text, Bytes}
 use Rattle.std.specs.Prelude.{filter, IsPermutation, IsSorted}
-use Rattle.std.proofs.lemmas.List.Elements.{filter_agree}
-use Rattle.std.proofs.lemmas.Result.{IfErr-weaker}
-use Rattle.sqlite.proofs.Callers.{IsPlain, command_of, reads_as, never_commits}
-use Rattle.sqlite.proofs.StateLemmas.{survives_weaker}
-use Rattle.sqlite.specs.Listing.{understood, reads_listing}
-use Rattle.sqlite.specs.Order.{Row, column, row_cmp}
-use Rattle.sqlite.specs.Program.{overlay}
-use Rattle.sqlite.specs.Query.{IsAnswer, key_cmp}
-use Rattle.sqlite.specs.Schema.{Schema}
-use Rattle.sqlite.specs.State.{State, HasCleanDisk, Survives, Shown, FailsToQuery, CommitsShowing}
-use Rattle.sqlite.specs.Term.{Env, eval_all, holds}
-use Rattle.sqlite.specs.Tree.{Trees}
-use Rattle.sqlite.specs.declared.error.Error.{Error}
-use Rattle.sqlite.specs.declared.types.Value.TheVariants.{Null, Text}
-use Rattle.toll_base.specs.Bytes.{Bytes}
 use Rattle.toll_sql.specs.Asking.{IsQuerying}
 use Rattle.toll_sql.specs.Bag.{owned_by}
 use Rattle.toll_sql.specs.Cells.{columns_from, key_cells, key_order}

@@ -1,17 +1,7 @@
 -- What a text reads of a database, whatever its tables are.
 use Rattle.std.proofs.Common.{◌≡◌, ◌≢◌, ◌⊎◌, inl, inr, ℕ, true, false, List, [], None, Ok, Err, Result, IfOk, IfErr, refl, sym, ap, subst, ◌∙◌}
-use Rattle.sqlite.specs.Clock.{timed}
-use Rattle.sqlite.specs.Effect.{Database, RefusesToRead}
-use Rattle.sqlite.specs.Order.{Row}
-use Rattle.sqlite.specs.Listing.{IsSourceOf, reads_listing, understood}
-use Rattle.sqlite.specs.State.{State, Shown, FailsToQuery, FailsToShow, HasCause, IsNotRun, IsNoStatement, IsTooLate, store_error}
-use Rattle.sqlite.specs.declared.error.Error.{Error}
-use Rattle.sqlite.specs.declared.error.Error.TheVariants.{SqliteFailure}
+use Rattle.toll_sql.proofs.Common.{timed, Database, RefusesToRead, Row, IsSourceOf, reads_listing, understood, State, Shown, FailsToQuery, FailsToShow, HasCause, IsNotRun, IsNoStatement, IsTooLate, store_error, Error, SqliteFailure, Compiled, CompileError, StoreError, OutOfMemory, Io, Corrupt, Full, Broken, Unstorable}
 use Rattle.sqlite.specs.declared.error.ErrorCode.TheVariants as code
-use Rattle.sqlite_resolve.specs.declared.compiled.Compiled.{Compiled}
-use Rattle.sqlite_resolve.specs.declared.error.CompileError.{CompileError}
-use Rattle.sqlite_trees.specs.declared.error.StoreError.{StoreError}
-use Rattle.sqlite_trees.specs.declared.error.StoreError.TheVariants.{OutOfMemory, Io, Corrupt, Full, Broken, Unstorable}
 use Rattle.toll_sql.specs.Asked.{AreReadBy, AreReadWith, IsUnreadBy, IsWholeText}
 use Rattle.toll_sql.specs.Causes.{is_disk_fault}
 

@@ -1,15 +1,8 @@
 -- A row that is put by its key is placed among the rows that the table has.
 use Rattle.std.proofs.Common.{◌≡◌, ◌⊎◌, inl, inr, ℕ, ◌+◌, Bool, true, false, cond, List, [], ◌∷◌, map, refl, sym, ap, ◌∙◌, arith, Ordering, Less, Equal, Greater}
 use Rattle.std.specs.Prelude.{IsPermutation}
-use Rattle.std.specs.Cmp.{IsTotalOrder}
-use Rattle.std.specs.List.{sum_by, AllByRecursion}
-use Rattle.std.specs.Ordering.{is_eq, match_ordering, ordering_reverse}
-use Rattle.std.proofs.lemmas.Cmp.{alike_right}
-use Rattle.std.proofs.lemmas.List.Sorted.{sum_by-IsPermutation, IsPermutation-map}
+use Rattle.toll_sql.proofs.Common.{IsTotalOrder, sum_by, AllByRecursion, is_eq, match_ordering, ordering_reverse, alike_right, sum_by-IsPermutation, IsPermutation-map, Row, all_has, Has}
 use Rattle.std.proofs.lemmas.List.Sums.{sum_by-cons}
-use Rattle.sqlite.specs.Order.{Row}
-use Rattle.sqlite_rules.proofs.ListLemmas.{all_has}
-use Rattle.sqlite_rules.specs.Lists.{Has}
 use Rattle.toll_sql.specs.Bag.{place, Rises, SameBag, total, all_cells}
 use Rattle.toll_sql.specs.Cells.{cells_of}
 use Rattle.toll_sql.specs.Put.{IsReplaced, IsAdded}

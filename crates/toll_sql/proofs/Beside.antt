@@ -1,8 +1,6 @@
 -- What stands behind the office's tables, by itself.
 use Rattle.std.proofs.Common.{◌≡◌, List, ◌++◌, ap₂}
-use Rattle.sqlite.specs.Schema.{Schema}
-use Rattle.sqlite.specs.Table.{Table}
-use Rattle.sqlite_schema.specs.declared.schema.Index.{Index}
+use Rattle.toll_sql.proofs.Common.{Schema, Table, Index}
 use Rattle.sqlite_schema.specs.declared.schema.View.{View}
 use Rattle.toll_sql.specs.Others.{HasOurs}
 use Rattle.toll_sql.specs.Tables.{made_all}

@@ -1,15 +1,6 @@
 -- What a call on a text that is understood may answer.
 use Rattle.std.proofs.Common.{◌≡◌, inl, inr, ℕ, false, List, length, Ok, Err, Result, sym, ap, subst, subst₂, ◌∙◌, arith}
-use Rattle.sqlite.specs.Order.{Row}
-use Rattle.sqlite_resolve.specs.declared.compiled.Compiled.{Compiled}
-use Rattle.sqlite_resolve.specs.declared.error.CompileError.{CompileError}
-use Rattle.sqlite.specs.Command.{Command}
-use Rattle.sqlite.specs.declared.error.Error.{Error}
-use Rattle.sqlite.specs.Listing.{understood, reads_listing, IsSourceOf}
-use Rattle.sqlite.specs.Effect.{RefusesToRead}
-use Rattle.sqlite.specs.Clock.{timed}
-use Rattle.sqlite.specs.State.{State, Shown, IsUnchanged, IsNotRun, Fails, FailsToQuery, IsNoStatement}
-use Rattle.sqlite.proofs.Callers.{command_of, IsPlain}
+use Rattle.toll_sql.proofs.Common.{Row, Compiled, CompileError, Command, Error, understood, reads_listing, IsSourceOf, RefusesToRead, timed, State, Shown, IsUnchanged, IsNotRun, Fails, FailsToQuery, IsNoStatement, command_of, IsPlain}
 use Rattle.toll_sql.specs.Given.{IsGiven}
 use Rattle.std.proofs.Common.{append-nil}
 

@@ -1,15 +1,8 @@
 -- Cells of rows that fill their table's columns.
 use Rattle.std.proofs.Common.{◌≡◌, ℕ, zero, suc, true, List, [], ◌∷◌, length, ap, ap₂, ◌∙◌, refl}
-use mathlib.Core.Bool.{false≢true}
-use Rattle.std.proofs.lemmas.Bool.{and_parts}
+use Rattle.toll_sql.proofs.Common.{false≢true, and_parts, Kind, Row, column, Table, Value, Null, Int, Real, Text, Blob, Column}
 use Rattle.sqlite.specs.Cast.{cast, cast_all, cast_row}
-use Rattle.sqlite.specs.Kind.{Kind}
 use Rattle.sqlite.specs.Kind.TheVariants as kind
-use Rattle.sqlite.specs.Order.{Row, column}
-use Rattle.sqlite.specs.Table.{Table}
-use Rattle.sqlite.specs.declared.types.Value.{Value}
-use Rattle.sqlite.specs.declared.types.Value.TheVariants.{Null, Int, Real, Text, Blob}
-use Rattle.sqlite_schema.specs.declared.schema.Column.{Column}
 use Rattle.toll_sql.specs.Cells.{columns_from, is_of_kind, fit}
 use Rattle.toll_sql.proofs.PutCommon.{cast_int}
 

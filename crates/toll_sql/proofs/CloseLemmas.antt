@@ -1,18 +1,11 @@
 -- Why files could not be closed.
 use Rattle.std.proofs.Common.{◌≡◌, ◌⊎◌, inl, inr, false, true, IsTrue, sym, ap, ◌∙◌}
 use Rattle.sqlite.specs.Files.{ExcusesClose, FailsToClose, IsClosed}
-use Rattle.sqlite.specs.Held.{Held}
-use Rattle.sqlite.specs.State.{store_error}
-use Rattle.sqlite.specs.declared.error.Error.{Error}
+use Rattle.toll_sql.proofs.Common.{Held, store_error, Error, IsClean, StoreError, OutOfMemory, Io, Corrupt, Full, Broken, Unstorable, KeepFault, Memory, Disk}
 use Rattle.sqlite_disk.specs.Disk.{MoreFaults}
 use Rattle.sqlite_disk.specs.declared.Disk.{Ghosts}
 use Rattle.sqlite_store.specs.FileStore.{faults, view}
 use Rattle.sqlite_store.specs.declared.store.FileStore.{FileStore}
-use Rattle.sqlite_trees.specs.View.{IsClean}
-use Rattle.sqlite_trees.specs.declared.error.StoreError.{StoreError}
-use Rattle.sqlite_trees.specs.declared.error.StoreError.TheVariants.{OutOfMemory, Io, Corrupt, Full, Broken, Unstorable}
-use Rattle.toll_keep.specs.declared.fault.KeepFault.{KeepFault}
-use Rattle.toll_keep.specs.declared.fault.KeepFault.TheVariants.{Memory, Disk}
 use Rattle.toll_sql.specs.Causes.{is_disk_fault}
 use Rattle.toll_sql.specs.FromFiles.{IsUnclosed}
 

@@ -1,18 +1,7 @@
 -- What CREATE TABLE and CREATE INDEX make of a database.
 use Rattle.std.proofs.Common.{◌≡◌, ℕ, false, List, [], slice_get, None, Some, Ok, sym, ap, subst, ◌∙◌}
-use Rattle.sqlite.proofs.Callers.{IsPlain, command_of, statement_of, runs_as}
+use Rattle.toll_sql.proofs.Common.{IsPlain, command_of, statement_of, runs_as, CreateTable, CreateIndex, table_defined_by, Tally, Does, OnTable, AtPlace, Defines, MakesIndex, lacks_sequence, Database, understood, Schema, State, Writes, Executes, mode_of, Table, indexed, index_defined_by, Index}
 use Rattle.sqlite.specs.Change.{created, next_tree, KeepsRows}
-use Rattle.sqlite.specs.Command.TheVariants.{CreateTable, CreateIndex}
-use Rattle.sqlite.specs.Compile.{table_defined_by}
-use Rattle.sqlite.specs.Does.{Tally, Does, OnTable, AtPlace, Defines, MakesIndex, lacks_sequence}
-use Rattle.sqlite.specs.Effect.{Database}
-use Rattle.sqlite.specs.Listing.{understood}
-use Rattle.sqlite.specs.Schema.{Schema}
-use Rattle.sqlite.specs.State.{State, Writes, Executes, mode_of}
-use Rattle.sqlite.specs.Table.{Table}
-use Rattle.sqlite_catalog.specs.Change.{indexed}
-use Rattle.sqlite_resolve.specs.Compile.{index_defined_by}
-use Rattle.sqlite_schema.specs.declared.schema.Index.{Index}
 use Rattle.toll_sql.proofs.UpsertLemmas.{went, same_value}
 
 module _ (sql : List ℕ) (schema : Schema) (whole : statement_of sql (understood schema sql) ≡ sql) (plain : IsPlain (understood schema sql)) (old new : State) (count : ℕ) (has : old.now.schema ≡ schema)

@@ -1,14 +1,6 @@
 -- What the texts that make the tables and the index mean.
 use Rattle.std.proofs.Common.{◌≡◌, ◌<◌, ℕ, zero, suc, false, [], ◌∷◌, take, get_or, Ok, refl, arith}
-use Rattle.sqlite.proofs.Callers.{IsPlain, command_of, statement_of}
-use Rattle.sqlite.specs.Change.{created, next_tree}
-use Rattle.sqlite.specs.Command.TheVariants.{CreateTable}
-use Rattle.sqlite.specs.Compile.{table_defined_by}
-use Rattle.sqlite.specs.Does.{lacks_sequence}
-use Rattle.sqlite.specs.Listing.{understood}
-use Rattle.sqlite.specs.Table.{Table}
-use Rattle.sqlite_resolve.specs.Compile.{compiled, index_defined_by}
-use Rattle.sqlite_tied.specs.Compute.{everything}
+use Rattle.toll_sql.proofs.Common.{IsPlain, command_of, statement_of, created, next_tree, CreateTable, table_defined_by, lacks_sequence, understood, Table, compiled, index_defined_by, everything}
 use Rattle.toll_sql.specs.Plain.{no_schema}
 use Rattle.toll_sql.specs.Tables.{every_table, with_tables, earlier, table_of, tree_of, made_before, by_batch, create_text, index_text}
 use Rattle.toll_sql.specs.declared.table_kind.TableKind.{TableKind}

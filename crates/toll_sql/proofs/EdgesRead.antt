@@ -1,21 +1,12 @@
 -- Edges that are read from rows that show them.
 use Rattle.std.proofs.Common.{◌≡◌, List, Result, IfOk, sym, ap, subst, ◌∙◌}
 use Rattle.std.specs.Prelude.{Contains}
-use Rattle.std.specs.List.{AllByRecursion}
-use Rattle.std.proofs.lemmas.Result.{IfOk-weaker}
-use Rattle.sqlite.specs.Order.{Row, column, bytes}
-use Rattle.toll_base.specs.Bytes.{bytes_cmp}
+use Rattle.toll_sql.proofs.Common.{AllByRecursion, IfOk-weaker, Row, column, bytes, bytes_cmp, Slice, Edge, MoveRow, member_of_row, Contains-map, Contains-from_map, kept_in_order, member_of_all, AreEdges, IsEdge}
 use Rattle.toll_base.specs.Lots.{edge_cmp}
-use Rattle.toll_base.specs.Slice.{Slice}
-use Rattle.toll_base.specs.declared.lot.Edge.{Edge}
-use Rattle.toll_base.specs.declared.movement.MoveRow.{MoveRow}
 use Rattle.toll_sql.specs.Cells.{columns_from}
 use Rattle.toll_sql.specs.EdgeRows.{AreReadFrom, HasNoEdge, IsNamedEdge, ShowEdges, edge_cells}
 use Rattle.toll_sql.specs.Valid.{IsMove, IsMovement}
-use Rattle.toll_trace.proofs.Drawn.{member_of_row}
-use Rattle.toll_trace.proofs.Members.{Contains-map, Contains-from_map, kept_in_order, member_of_all}
 use Rattle.toll_trace.proofs.Orders.{edges_exact}
-use Rattle.toll_trace.specs.Edges.{AreEdges, IsEdge}
 
 edge_same : (e f : Edge) → edge_cells e ≡ edge_cells f → e ≡ f
 edge_same e f h = ap (λ r. record { from = record { owner = bytes (column r 0); lot = bytes (column r 1) }; to = record { owner = bytes (column r 2); lot = bytes (column r 3) } }) h

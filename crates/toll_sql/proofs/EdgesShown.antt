@@ -1,25 +1,8 @@
 -- What is paired are just the edges of the slice whose rows the tables have.
 use Rattle.std.proofs.Common.{◌≡◌, ◌≤◌, true, false, is_some, List, [], ◌∷◌, refl, sym, ap, subst, subst₂, ◌∙◌}
-use mathlib.Core.Bool.{false≢true}
-use Rattle.std.specs.List.{list_all}
-use Rattle.std.specs.Ordering.{ordering_reverse}
+use Rattle.toll_sql.proofs.Common.{false≢true, list_all, ordering_reverse, Row, column, IsAnswer, State, Term, eval_all, holds, Trees, Value, Text, Bytes, bytes_cmp, Slice, void_at, IsInKeyOrder, Edge, MoveRow, Consumed, Produced, Content, IsEdgeOfSome, row_of_member, member_of_row, IsActual, Stands, IsEdge}
 use Rattle.std.specs.Prelude.{Contains}
 use Rattle.std.proofs.lemmas.Cmp.{tied_itself, nat_list_cmp_total}
-use Rattle.sqlite.specs.Order.{Row, column}
-use Rattle.sqlite.specs.Query.{IsAnswer}
-use Rattle.sqlite.specs.State.{State}
-use Rattle.sqlite.specs.Term.{Term, eval_all, holds}
-use Rattle.sqlite.specs.Tree.{Trees}
-use Rattle.sqlite.specs.declared.types.Value.{Value}
-use Rattle.sqlite.specs.declared.types.Value.TheVariants.{Text}
-use Rattle.toll_base.specs.Bytes.{Bytes, bytes_cmp}
-use Rattle.toll_base.specs.Slice.{Slice, void_at}
-use Rattle.toll_base.specs.Table.{IsInKeyOrder}
-use Rattle.toll_base.specs.declared.lot.Edge.{Edge}
-use Rattle.toll_base.specs.declared.movement.MoveRow.{MoveRow}
-use Rattle.toll_base.specs.declared.role.Role.TheVariants.{Consumed, Produced}
-use Rattle.toll_keep.specs.Content.{Content}
-use Rattle.toll_keep.specs.Holding.{IsEdgeOfSome}
 use Rattle.toll_sql.specs.EdgeRows.{ShowEdges, draws_edges, edge_cells}
 use Rattle.toll_sql.specs.Encode.{kind_number, lot_of, order_of, number_of, segment_of, move_cells, void_cells}
 use Rattle.toll_sql.specs.Holds.{HoldsEach, HoldsPart}
@@ -35,8 +18,6 @@ use Rattle.toll_sql.proofs.MemberRows.{AreRows, rows_kept, seen, under, under_na
 use Rattle.toll_sql.proofs.Orders.{moves_order}
 use Rattle.toll_sql.proofs.Placing.{in_key_order}
 use Rattle.toll_sql.proofs.Unvoided.{standing, missing}
-use Rattle.toll_trace.proofs.Drawn.{row_of_member, member_of_row}
-use Rattle.toll_trace.specs.Edges.{IsActual, Stands, IsEdge}
 
 -- ---- over rows as they are kept
 

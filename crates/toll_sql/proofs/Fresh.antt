@@ -1,15 +1,7 @@
 -- What the tables hold once the index and the version are there.
 use Rattle.std.proofs.Common.{◌≡◌, true, List, [], ◌∷◌, refl, sym, subst, ◌∙◌, arith}
-use Rattle.std.specs.List.{AllByRecursion}
-use Rattle.sqlite.specs.Order.{Row}
-use Rattle.sqlite.specs.State.{State}
-use Rattle.sqlite.specs.Table.{Table}
-use Rattle.sqlite.specs.Tree.{Trees}
-use Rattle.sqlite_trees.specs.View.{IsShaped}
+use Rattle.toll_sql.proofs.Common.{AllByRecursion, Row, State, Table, Trees, IsShaped, Bytes, empty_slice, Content, nothing}
 use Rattle.sqlite_trees.specs.declared.store.Shape.TheVariants as shape
-use Rattle.toll_base.specs.Bytes.{Bytes}
-use Rattle.toll_base.specs.Slice.{empty_slice}
-use Rattle.toll_keep.specs.Content.{Content, nothing}
 use Rattle.toll_sql.specs.Bag.{all_cells, owned_by, place}
 use Rattle.toll_sql.specs.Cells.{key_order}
 use Rattle.toll_sql.specs.Create.{Finishes, IsNew, IsShapedAs, MakesAllTables}

@@ -1,12 +1,6 @@
 -- A slice as far as it is read keeps the rules where the whole slice does.
 use Rattle.std.proofs.Common.{◌≡◌, ℕ, zero, suc, ◌+◌, ◌≤◌, Bool, true, false, cond, List, [], ◌∷◌, take, length, Option, Some, is_some, nat_le, refl, arith, Ordering}
-use Rattle.std.specs.Ordering.{is_eq}
-use Rattle.toll_base.specs.Bytes.{bytes_cmp}
-use Rattle.toll_base.specs.Keys.{pair_cmp}
-use Rattle.toll_base.specs.Slice.{Slice, material_at, lot_at}
-use Rattle.toll_base.specs.SliceRules.{KeepsRules, is_actual_of}
-use Rattle.toll_base.specs.Table.{row_at}
-use Rattle.toll_base.specs.Words.{count, none_or}
+use Rattle.toll_sql.proofs.Common.{is_eq, bytes_cmp, pair_cmp, Slice, material_at, lot_at, KeepsRules, is_actual_of, row_at, count, none_or}
 use Rattle.toll_base.specs.declared.capacity.TheConstants.{MOST_STOCK}
 use Rattle.toll_base.proofs.SliceFits.{empty_keeps}
 use Rattle.toll_sql.specs.Fronts.{front}

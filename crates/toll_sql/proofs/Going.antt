@@ -1,8 +1,6 @@
 -- Changes that are put one after another.
 use Rattle.std.proofs.Common.{◌≡◌, List, [], ◌∷◌, refl, ◌∙◌}
-use Rattle.sqlite.specs.State.{State}
-use Rattle.sqlite.specs.Tree.{Trees}
-use Rattle.toll_base.specs.declared.decision.Change.{Change}
+use Rattle.toll_sql.proofs.Common.{State, Trees, Change}
 use Rattle.toll_sql.specs.Stores.{IsReady, MakesAll, MakesPut, PutsAll}
 
 -- so far: what the changes that are left make of the trees, all changes make of the first

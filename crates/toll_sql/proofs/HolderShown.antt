@@ -1,38 +1,7 @@
 -- What is found on a unit are just the batches that hold it.
 use Rattle.std.proofs.Common.{◌≡◌, ℕ, pos, Bool, true, false, not, Option, Some, None, List, [], ◌∷◌, map, codes, Result, IfOk, refl, sym, ap, ap₂, subst, ◌∙◌, ◌&&◌}
-use mathlib.Core.Bool.{false≢true}
-use Rattle.std.specs.List.{list_all}
-use Rattle.std.specs.Ordering.{is_eq, ordering_reverse}
+use Rattle.toll_sql.proofs.Common.{false≢true, list_all, is_eq, ordering_reverse, and_parts, tied_itself, Contains-permutation, IsPermutation-sym, IfOk-weaker, IsPlain, command_of, reads_as, Binary, Command, Select, understood, reads_listing, Row, column, bytes, value_cmp, overlay, Query, IsAnswer, State, Shown, Term, col, lit, op2, holds, eval_all, Trees, Value, Null, Int, Text, Compare, Eq, everything, batch_cmp_total, same_bytes-exact, same_bytes-refl, Bytes, same_bytes, batch_cmp, Slice, batch_at, IsInKeyOrder, is_some_where, none_or, BatchRow, Content, IsHolder, is_on, row_of_member, member_of_row, Contains-none, Contains-map, Contains-from_map, Contains-filter, Contains-from_filter, member_of_all}
 use Rattle.std.specs.Prelude.{Contains, IsPermutation, filter}
-use Rattle.std.proofs.lemmas.Bool.{and_parts}
-use Rattle.std.proofs.lemmas.Cmp.{tied_itself}
-use Rattle.std.proofs.lemmas.List.Sorted.{Contains-permutation, IsPermutation-sym}
-use Rattle.std.proofs.lemmas.Result.{IfOk-weaker}
-use Rattle.sqlite.proofs.Callers.{IsPlain, command_of, reads_as}
-use Rattle.sqlite.specs.Collation.TheVariants.{Binary}
-use Rattle.sqlite.specs.Command.{Command}
-use Rattle.sqlite.specs.Command.TheVariants.{Select}
-use Rattle.sqlite.specs.Listing.{understood, reads_listing}
-use Rattle.sqlite.specs.Order.{Row, column, bytes, value_cmp}
-use Rattle.sqlite.specs.Program.{overlay}
-use Rattle.sqlite.specs.Query.{Query, IsAnswer}
-use Rattle.sqlite.specs.State.{State, Shown}
-use Rattle.sqlite.specs.Term.{Term, col, lit, op2, holds, eval_all}
-use Rattle.sqlite.specs.Tree.{Trees}
-use Rattle.sqlite.specs.declared.types.Value.{Value}
-use Rattle.sqlite.specs.declared.types.Value.TheVariants.{Null, Int, Text}
-use Rattle.sqlite_sql.specs.declared.ops.BinaryOp.TheVariants.{Compare}
-use Rattle.sqlite_sql.specs.declared.ops.CompareOp.TheVariants.{Eq}
-use Rattle.sqlite_tied.specs.Compute.{everything}
-use Rattle.toll_base.proofs.Texts.{batch_cmp_total, same_bytes-exact, same_bytes-refl}
-use Rattle.toll_base.specs.Bytes.{Bytes, same_bytes}
-use Rattle.toll_base.specs.Keys.{batch_cmp}
-use Rattle.toll_base.specs.Slice.{Slice, batch_at}
-use Rattle.toll_base.specs.Table.{IsInKeyOrder}
-use Rattle.toll_base.specs.Words.{is_some_where, none_or}
-use Rattle.toll_base.specs.declared.rows.BatchRow.{BatchRow}
-use Rattle.toll_keep.specs.Content.{Content}
-use Rattle.toll_keep.specs.Holding.{IsHolder, is_on}
 use Rattle.toll_keep.specs.declared.holder.Holder.{Holder}
 use Rattle.toll_sql.specs.Cells.{columns_from}
 use Rattle.toll_sql.specs.Encode.{flag, batch_cells}
@@ -53,8 +22,6 @@ use Rattle.toll_sql.proofs.PutCommon.{equals_text}
 use Rattle.toll_sql.proofs.SelectLemmas.{shown_by}
 use Rattle.toll_sql.proofs.Unvoided.{no_member}
 use Rattle.toll_sql.proofs.UpsertLemmas.{equals_int}
-use Rattle.toll_trace.proofs.Drawn.{row_of_member, member_of_row}
-use Rattle.toll_trace.proofs.Members.{Contains-none, Contains-map, Contains-from_map, Contains-filter, Contains-from_filter, member_of_all}
 
 -- ---- the text
 

@@ -1,26 +1,9 @@
 -- What changes that are put make of a content that the tables hold.
 use Rattle.std.proofs.Common.{◌≡◌, ◌≢◌, ◌⊎◌, inl, inr, ◌+◌, ◌≤◌, Bool, true, false, List, [], ◌∷◌, map, length, refl, sym, ap, subst, ◌∙◌, arith}
-use mathlib.Core.Bool.{false≢true}
-use Rattle.std.specs.Cmp.Lexicographic.{nat_list_cmp_total}
-use Rattle.std.specs.List.{AllByRecursion}
-use Rattle.std.specs.Ordering.{is_eq}
+use Rattle.toll_sql.proofs.Common.{false≢true, nat_list_cmp_total, AllByRecursion, is_eq, and_parts, IsPermutation-map, Row, column, value_cmp, Trees, Text, all-permutation, Bytes, bytes_cmp, same_bytes, Slice, with_row, Change, Owner, Unit as UnitAdded, Put, OwnerRow, UnitRow, is_eq-then, same_bytes-exact, same_bytes-refl, Content, after}
 use Rattle.std.specs.Prelude.{if◌then◌else◌}
-use Rattle.std.proofs.lemmas.Bool.{and_parts}
-use Rattle.std.proofs.lemmas.List.Sorted.{IsPermutation-map}
-use Rattle.sqlite.specs.Order.{Row, column, value_cmp}
-use Rattle.sqlite.specs.Tree.{Trees}
-use Rattle.sqlite.specs.declared.types.Value.TheVariants.{Text}
-use Rattle.sqlite_trees.proofs.ListLemmas.{all-permutation}
-use Rattle.toll_base.specs.Bytes.{Bytes, bytes_cmp, same_bytes}
-use Rattle.toll_base.specs.Slice.{Slice, with_row}
-use Rattle.toll_base.specs.declared.decision.Change.{Change}
-use Rattle.toll_base.specs.declared.decision.Change.TheVariants.{Owner, Unit as UnitAdded, Put}
-use Rattle.toll_base.specs.declared.rows.OwnerRow.{OwnerRow}
 use Rattle.toll_base.specs.declared.rows.Row.{Row as OfficeRow}
 use Rattle.toll_base.specs.declared.rows.Row.TheVariants as of
-use Rattle.toll_base.specs.declared.rows.UnitRow.{UnitRow}
-use Rattle.toll_base.proofs.Texts.{is_eq-then, same_bytes-exact, same_bytes-refl}
-use Rattle.toll_keep.specs.Content.{Content, after}
 use Rattle.toll_sql.specs.Bag.{place, all_cells, owned_by}
 use Rattle.toll_sql.specs.Cells.{cells_of, fill, key_order}
 use Rattle.toll_sql.specs.Encode.{meta_cells, owner_cells, unit_cells, table_for, cells_for, rows_for}

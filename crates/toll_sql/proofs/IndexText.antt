@@ -1,18 +1,7 @@
 -- What the text that makes the index means, where nothing is called as it is.
 use Rattle.std.proofs.Common.{◌≡◌, ℕ, Bool, false, ◌||◌, cond, List, [], slice_get, Option, Some, None, Ok, is_some, refl, sym, ap, ap₂, ◌∙◌}
-use Rattle.std.specs.Option.{option_or}
-use Rattle.sqlite.proofs.Callers.{IsPlain, command_of, statement_of}
-use Rattle.sqlite.specs.Command.{Command}
-use Rattle.sqlite.specs.Command.TheVariants.{CreateIndex, Nothing}
-use Rattle.sqlite.specs.Listing.{understood}
-use Rattle.sqlite.specs.Schema.{Schema}
-use Rattle.sqlite.specs.Table.{Table}
-use Rattle.sqlite_resolve.specs.Compile.{compiled, creates}
+use Rattle.toll_sql.proofs.Common.{option_or, IsPlain, command_of, statement_of, Command, CreateIndex, Nothing, understood, Schema, Table, compiled, creates, Compiled, Returning, index_named, table_named, view_named, everything}
 use Rattle.sqlite_resolve.specs.Lowering.{Checked, and_then}
-use Rattle.sqlite_resolve.specs.declared.compiled.Compiled.{Compiled}
-use Rattle.sqlite_schema.specs.declared.command.Returning.{Returning}
-use Rattle.sqlite_schema.specs.Names.{index_named, table_named, view_named}
-use Rattle.sqlite_tied.specs.Compute.{everything}
 use Rattle.toll_sql.specs.Others.{HasOurs, has_its_name}
 use Rattle.toll_sql.specs.Tables.{by_batch, index_text, table_of}
 use Rattle.toll_sql.specs.declared.table_kind.TableKind.TheVariants.{Moves}

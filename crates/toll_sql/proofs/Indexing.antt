@@ -1,14 +1,6 @@
 -- What the index leaves as it was.
 use Rattle.std.proofs.Common.{◌≡◌, inl, inr, Bool, false, List, if◌then◌else◌, refl, sym, ap, subst, ◌∙◌}
-use Rattle.std.proofs.lemmas.Bool.{cases_Bool}
-use Rattle.sqlite.specs.Effect.{Database}
-use Rattle.sqlite.specs.Schema.{Schema}
-use Rattle.sqlite.specs.State.{State}
-use Rattle.sqlite.specs.Table.{Table}
-use Rattle.sqlite.specs.Tree.{Trees}
-use Rattle.sqlite_catalog.specs.Change.{KeepsRows, indexed}
-use Rattle.sqlite_schema.specs.Names.{same_name}
-use Rattle.toll_keep.specs.Content.{Content}
+use Rattle.toll_sql.proofs.Common.{cases_Bool, Database, Schema, State, Table, Trees, KeepsRows, indexed, same_name, Content}
 use Rattle.toll_sql.specs.Bag.{all_cells}
 use Rattle.toll_sql.specs.Create.{IsUnindexed, MakesIndex}
 use Rattle.toll_sql.specs.Encode.{owner_cells, unit_cells}

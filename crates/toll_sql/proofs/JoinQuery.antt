@@ -1,19 +1,6 @@
 -- What the texts that pair movements mean.
 use Rattle.std.proofs.Common.{◌≡◌, ℕ, pos, negsuc, false, List, [], ◌∷◌, ◌++◌, None, codes, refl}
-use Rattle.sqlite.proofs.Callers.{IsPlain, command_of, reads_as}
-use Rattle.sqlite.specs.Collation.TheVariants.{Binary}
-use Rattle.sqlite.specs.Command.{Command}
-use Rattle.sqlite.specs.Command.TheVariants.{Select}
-use Rattle.sqlite.specs.Listing.{understood, reads_listing}
-use Rattle.sqlite.specs.Order.{Row}
-use Rattle.sqlite.specs.Program.{overlay}
-use Rattle.sqlite.specs.Query.{Query, Join, IsAnswer, inner, left, end}
-use Rattle.sqlite.specs.State.{State, Shown}
-use Rattle.sqlite.specs.Term.{Term, lit, col, op2}
-use Rattle.sqlite.specs.declared.types.Value.TheVariants.{Null, Int}
-use Rattle.sqlite_sql.specs.declared.ops.BinaryOp.TheVariants.{Compare, Is}
-use Rattle.sqlite_sql.specs.declared.ops.CompareOp.TheVariants.{Eq, Le}
-use Rattle.sqlite_tied.specs.Compute.{everything}
+use Rattle.toll_sql.proofs.Common.{IsPlain, command_of, reads_as, Binary, Command, Select, understood, reads_listing, Row, overlay, Query, Join, IsAnswer, inner, left, end, State, Shown, Term, lit, col, op2, Null, Int, Compare, Is, Eq, Le, everything}
 use Rattle.toll_sql.specs.Others.{HasOurs}
 use Rattle.toll_sql.proofs.Beside.{Others, is_ours, others_of, ours_and}
 use Rattle.toll_sql.specs.Tables.{tree_of}

@@ -1,16 +1,10 @@
 -- Which rows the pairing answers: those of two movements that pass, with what stands beside them.
 use Rattle.std.proofs.Common.{◌≡◌, inl, inr, Bool, true, false, cond, List, [], ◌∷◌, map, refl, sym, ap, subst, ◌∙◌}
-use Rattle.std.specs.List.{list_all}
+use Rattle.toll_sql.proofs.Common.{list_all, Contains-permutation, IsPermutation-sym, Row, Query, Output, output, IsAnswer, matches, or_nulls, Term, Env, eval_all, holds, Trees, Contains-none, Contains-here, Contains-cases, Contains-map, Contains-from_map, Contains-flat_map, Contains-from_flat_map}
 use Rattle.std.specs.Prelude.{Contains, filter}
-use Rattle.std.proofs.lemmas.List.Sorted.{Contains-permutation, IsPermutation-sym}
-use Rattle.sqlite.specs.Order.{Row}
-use Rattle.sqlite.specs.Query.{Query, Output, output, IsAnswer, matches, or_nulls}
-use Rattle.sqlite.specs.Term.{Term, Env, eval_all, holds}
-use Rattle.sqlite.specs.Tree.{Trees}
 use Rattle.toll_sql.specs.Tables.{tree_of}
 use Rattle.toll_sql.specs.declared.table_kind.TableKind.TheVariants.{Moves, Voids}
 use Rattle.toll_sql.proofs.JoinQuery.{pairs_that, sources, lots, void_of}
-use Rattle.toll_trace.proofs.Members.{Contains-none, Contains-here, Contains-cases, Contains-map, Contains-from_map, Contains-flat_map, Contains-from_flat_map}
 
 only_here : (b : Bool) (e env : Env) → Contains (cond b (e ∷ []) []) env → (b ≡ true) × (env ≡ e)
 only_here true e env i = elim (Contains-cases e [] env i) [ inl same ↦ (refl, sym same) | inr none ↦ absurd (Contains-none env none) ]

@@ -1,31 +1,10 @@
 -- What the tests ask of two movements as the table has them.
 use Rattle.std.proofs.Common.{◌≡◌, ◌≤◌, ℕ, ℤ, pos, Bool, true, false, ◌&&◌, List, [], ◌∷◌, refl, sym, ap, subst, ◌∙◌, Some, arith}
-use mathlib.Core.Bool.{false≢true}
-use Rattle.std.specs.List.{list_all}
-use Rattle.std.specs.Ordering.{is_eq, is_le, int_cmp}
-use Rattle.std.proofs.lemmas.Bool.Decides.{nat_tests}
-use Rattle.std.proofs.lemmas.Cmp.{tied_itself}
-use Rattle.std.proofs.lemmas.Map.Lookups.{exact_signed}
-use Rattle.sqlite.specs.Collation.TheVariants.{Binary}
-use Rattle.sqlite.specs.Ops.{binary, is_true, from_truth}
-use Rattle.sqlite.specs.Order.{Row, column, value_cmp}
-use Rattle.sqlite.specs.Term.{holds}
-use Rattle.sqlite.specs.declared.types.Value.{Value}
-use Rattle.sqlite.specs.declared.types.Value.TheVariants.{Null, Int, Text}
-use Rattle.sqlite_sql.specs.declared.ops.BinaryOp.TheVariants.{Compare, Is}
-use Rattle.sqlite_sql.specs.declared.ops.CompareOp.TheVariants.{Eq, Le}
-use Rattle.sqlite_value.proofs.OrderLemmas.{value_cmp_total, value_cmp-Int}
-use Rattle.toll_base.specs.Bytes.{Bytes}
-use Rattle.toll_base.specs.declared.movement.Move.{Move}
-use Rattle.toll_base.specs.declared.movement.Move.TheVariants.{Receive, Split, Ship, Scrap, Actual}
-use Rattle.toll_base.specs.declared.movement.MoveRow.{MoveRow}
-use Rattle.toll_base.specs.declared.role.Role.{Role}
-use Rattle.toll_base.specs.declared.role.Role.TheVariants.{Consumed, Produced}
+use Rattle.toll_sql.proofs.Common.{false≢true, list_all, is_eq, is_le, int_cmp, nat_tests, tied_itself, exact_signed, Binary, binary, is_true, from_truth, Row, column, value_cmp, holds, Value, Null, Int, Text, Compare, Is, Eq, Le, value_cmp_total, value_cmp-Int, Bytes, Move, Receive, Split, Ship, Scrap, Actual, MoveRow, Role, Consumed, Produced, IsActual}
 use Rattle.toll_sql.specs.Encode.{actual_kind, kind_number, lot_of, order_of, number_of, segment_of, move_cells}
 use Rattle.toll_sql.proofs.JoinQuery.{owners_tests, all_tests}
 use Rattle.toll_sql.proofs.PutCommon.{equals_text, tied, is_text as text_of}
 use Rattle.toll_sql.proofs.UpsertLemmas.{equals_int}
-use Rattle.toll_trace.specs.Edges.{IsActual}
 
 -- ---- tests of values
 

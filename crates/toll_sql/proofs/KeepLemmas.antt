@@ -1,17 +1,9 @@
 -- What a keep's calls make of what its store did.
 use Rattle.std.proofs.Common.{◌≡◌, ◌≢◌, inl, inr, Bool, false, None, List, [], ◌∷◌, Ok, Err, Result, IfOk, OnErr, OnOk, IsTrue, arith, refl, sym, ap, subst, ◌∙◌}
-use mathlib.Core.Bool.{false≢true}
-use Rattle.std.proofs.lemmas.Bool.{cases_Bool}
-use Rattle.sqlite.specs.Effect.{Database}
-use Rattle.sqlite.specs.State.{State, Survives, HasCleanDisk}
-use Rattle.sqlite.specs.Tree.{Trees}
-use Rattle.toll_base.specs.declared.decision.Change.{Change}
+use Rattle.toll_sql.proofs.Common.{false≢true, cases_Bool, Database, State, Survives, HasCleanDisk, Trees, Change, Content, ContentKeepsRules, after, KeepFault, Disk, Damaged, Closed}
 use Rattle.toll_keep.proofs.Calls.{goes_then, reads_then, read_fault}
-use Rattle.toll_keep.specs.Content.{Content, ContentKeepsRules, after}
 use Rattle.toll_keep.specs.Goes.{Goes, IsReading, among-more, closes}
 use Rattle.toll_keep.specs.Meaning.{Meaning}
-use Rattle.toll_keep.specs.declared.fault.KeepFault.{KeepFault}
-use Rattle.toll_keep.specs.declared.fault.KeepFault.TheVariants.{Disk, Damaged, Closed}
 use Rattle.toll_sql.specs.Asking.{IsFinding, IsLooking}
 use Rattle.toll_sql.specs.Causes.{HasCause, Reason}
 use Rattle.toll_sql.specs.Holds.{Holds}

@@ -1,19 +1,7 @@
 -- A stored row has the key of some cells just where the order of the key finds them equal.
 use Rattle.std.proofs.Common.{◌≡◌, ◌≤◌, ℕ, zero, suc, ◌+◌, pos, true, ◌&&◌, List, [], ◌∷◌, length, refl, sym, ap, ap₂, ◌∙◌, arith}
-use mathlib.Core.Bool.{false≢true}
-use Rattle.std.specs.List.{AllByRecursion}
-use Rattle.std.specs.Ordering.{is_eq}
-use Rattle.std.proofs.lemmas.Bool.{and_parts}
-use Rattle.sqlite.specs.Kind.{Kind}
+use Rattle.toll_sql.proofs.Common.{false≢true, AllByRecursion, is_eq, and_parts, Kind, Row, column, row_cmp, value_cmp, Value, Null, Int, Real, Text, Blob, agree, equal, Column, first_key-plain, plain, first_key, is_eq-then}
 use Rattle.sqlite.specs.Kind.TheVariants as kind
-use Rattle.sqlite.specs.Order.{Row, column, row_cmp, value_cmp}
-use Rattle.sqlite.specs.declared.types.Value.{Value}
-use Rattle.sqlite.specs.declared.types.Value.TheVariants.{Null, Int, Real, Text, Blob}
-use Rattle.sqlite_schema.specs.Rules.{agree, equal}
-use Rattle.sqlite_schema.specs.declared.schema.Column.{Column}
-use Rattle.sqlite_value.proofs.KeyLemmas.{first_key-plain}
-use Rattle.sqlite_value.specs.Keys.{plain, first_key}
-use Rattle.toll_base.proofs.Texts.{is_eq-then}
 use Rattle.toll_sql.specs.Cells.{columns_from, cells_of, fit, is_of_kind, key_order}
 use Rattle.toll_sql.specs.Stores.{has_key}
 use Rattle.toll_sql.specs.Tables.{keys_of}

@@ -1,3 +1,4 @@
+pub mod Common
 pub mod SelectLemmas
 pub mod TableLemmas
 pub mod Calls

@@ -1,10 +1,6 @@
 -- Stored rows listed as they are read.
 use Rattle.std.proofs.Common.{◌≡◌, ℕ, zero, suc, ◌+◌, ◌<◌, ◌≤◌, Bool, true, false, cond, ◌||◌, List, [], ◌∷◌, ◌++◌, map, take, length, get_or, Option, Some, is_some, refl, sym, ap, subst, ◌∙◌, arith, Ordering}
-use Rattle.std.specs.List.{AllByRecursion, list_any}
-use Rattle.std.specs.Ordering.{is_eq}
-use Rattle.std.proofs.lemmas.List.{get_or-map, length-map, take_more}
-use Rattle.sqlite.specs.Order.{Row}
-use Rattle.toll_base.specs.Table.{row_at}
+use Rattle.toll_sql.proofs.Common.{AllByRecursion, list_any, is_eq, get_or-map, length-map, take_more, Row, row_at}
 use Rattle.toll_sql.specs.StoredLaws.{StandAlone}
 use Rattle.toll_sql.specs.Cells.{columns_from}
 use Rattle.toll_sql.specs.Tables.{width_of}

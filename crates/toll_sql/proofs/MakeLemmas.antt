@@ -1,15 +1,7 @@
 -- What is made of the tables by making one more, the index, and the row of the version.
 use Rattle.std.proofs.Common.{◌≡◌, ◌&&◌, ◌==◌, inl, ℕ, suc, ◌+◌, false, List, [], ◌∷◌, ◌++◌, take, arith, Ok, Result, IsTrue, ap, subst, ◌∙◌, sym, refl}
-use Rattle.std.specs.List.{AllByRecursion}
-use Rattle.sqlite.specs.State.{State, ExecutesInside, Survives, HasCleanDisk}
-use Rattle.sqlite.specs.Schema.{Schema}
-use Rattle.sqlite.specs.Table.{Table}
-use Rattle.sqlite.specs.Tree.{Trees}
-use Rattle.sqlite.specs.declared.error.Error.{Error}
-use Rattle.sqlite_schema.specs.Names.{same_name}
-use Rattle.sqlite_schema.specs.declared.schema.Index.{Index}
+use Rattle.toll_sql.proofs.Common.{AllByRecursion, State, ExecutesInside, Survives, HasCleanDisk, Schema, Table, Trees, Error, same_name, Index, IsShaped}
 use Rattle.sqlite_catalog.specs.Change.{KeepsRows, indexed, next_tree}
-use Rattle.sqlite_trees.specs.View.{IsShaped}
 use Rattle.sqlite_trees.specs.declared.store.Shape.TheVariants as shape
 use Rattle.toll_sql.specs.Create.{AreEmpty, IsStep, IsMaking, IsUnindexed, MakesIndex, MakesTable, Keeps, IsShapedAs, Finishes}
 use Rattle.toll_sql.specs.Encode.{meta_cells}

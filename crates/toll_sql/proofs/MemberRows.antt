@@ -1,20 +1,7 @@
 -- The rows of a table that holds those of a slice, one by one.
 use Rattle.std.proofs.Common.{◌≡◌, inl, inr, ℕ, suc, ◌+◌, Bool, true, false, cond, IsTrue, List, [], ◌∷◌, map, drop, refl, sym, ap, subst, ◌∙◌, arith}
-use mathlib.Core.Bool.{false≢true}
+use Rattle.toll_sql.proofs.Common.{false≢true, AllByRecursion, is_eq, tied_itself, overlay, Trees, Row, column, value_cmp, row_cmp, Value, Text, Has, value_cmp_total, Bytes, Slice, is_name, Contains-none, Contains-here, Contains-later, Contains-cases, Contains-map, Contains-from_map, Contains-filter, Contains-from_filter, member_of_all}
 use Rattle.std.specs.Prelude.{Contains}
-use Rattle.std.specs.List.{AllByRecursion}
-use Rattle.std.specs.Ordering.{is_eq}
-use Rattle.std.proofs.lemmas.Cmp.{tied_itself}
-use Rattle.sqlite.specs.Program.{overlay}
-use Rattle.sqlite.specs.Tree.{Trees}
-use Rattle.sqlite.specs.Order.{Row, column, value_cmp, row_cmp}
-use Rattle.sqlite.specs.declared.types.Value.{Value}
-use Rattle.sqlite.specs.declared.types.Value.TheVariants.{Text}
-use Rattle.sqlite_rules.specs.Lists.{Has}
-use Rattle.sqlite_value.proofs.OrderLemmas.{value_cmp_total}
-use Rattle.toll_base.specs.Bytes.{Bytes}
-use Rattle.toll_base.specs.Slice.{Slice}
-use Rattle.toll_base.specs.Values.{is_name}
 use Rattle.toll_sql.specs.Bag.{SameBag, total, all_cells, owned_by}
 use Rattle.toll_sql.specs.Cells.{cells_of, fill}
 use Rattle.toll_sql.specs.Holds.{HoldsEach, HoldsPart, NamesOwner}
@@ -23,7 +10,6 @@ use Rattle.toll_sql.specs.declared.table_kind.TableKind.{TableKind}
 use Rattle.toll_sql.proofs.Keyed.{behind, cells_are}
 use Rattle.toll_sql.proofs.LookLemmas.{all_map}
 use Rattle.toll_sql.proofs.ReadLemmas.{IsItself, same_row, row_itself, found, among, stray, none_stray, row_exact, or_either}
-use Rattle.toll_trace.proofs.Members.{Contains-none, Contains-here, Contains-later, Contains-cases, Contains-map, Contains-from_map, Contains-filter, Contains-from_filter, member_of_all}
 
 -- ---- members of lists
 

@@ -1,14 +1,7 @@
 -- The version that rows of `meta` tell.
 use Rattle.std.proofs.Common.{◌≡◌, ◌≢◌, ◌≤◌, ◌-◌, inl, inr, ℕ, suc, pos, List, [], ◌∷◌, map, length, take, drop, get_or, arith, Option, None, Some, IfSome, codes, refl, ap, subst, ◌∙◌}
-use Rattle.std.specs.List.{AllByRecursion}
+use Rattle.toll_sql.proofs.Common.{AllByRecursion, take-length, IsPermutation-sym, Database, Row, column, Trees, Int, Text, all-permutation}
 use Rattle.std.specs.Prelude.{IsPermutation}
-use Rattle.std.proofs.Math.Seq.{take-length}
-use Rattle.std.proofs.lemmas.List.Sorted.{IsPermutation-sym}
-use Rattle.sqlite.specs.Effect.{Database}
-use Rattle.sqlite.specs.Order.{Row, column}
-use Rattle.sqlite.specs.Tree.{Trees}
-use Rattle.sqlite.specs.declared.types.Value.TheVariants.{Int, Text}
-use Rattle.sqlite_trees.proofs.ListLemmas.{all-permutation}
 use Rattle.toll_sql.specs.Asked.{ShowsMeta}
 use Rattle.toll_sql.specs.Bag.{all_cells}
 use Rattle.toll_sql.specs.Cells.{cells_of, columns_from}

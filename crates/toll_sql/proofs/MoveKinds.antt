@@ -1,12 +1,6 @@
 -- A movement is told by the number of its kind.
 use Rattle.std.proofs.Common.{◌≡◌, ℕ, pos, sym, ◌∙◌}
-use Rattle.sqlite.specs.declared.types.Value.{Value}
-use Rattle.sqlite.specs.declared.types.Value.TheVariants.{Int}
-use Rattle.toll_base.specs.Bytes.{Bytes}
-use Rattle.toll_base.specs.declared.lot.LotId.{LotId}
-use Rattle.toll_base.specs.declared.movement.Move.{Move}
-use Rattle.toll_base.specs.declared.movement.Move.TheVariants.{Receive, Split, Ship, Scrap, Actual}
-use Rattle.toll_base.specs.declared.role.Role.TheVariants.{Consumed, Produced}
+use Rattle.toll_sql.proofs.Common.{Value, Int, Bytes, LotId, Move, Receive, Split, Ship, Scrap, Actual, Consumed, Produced}
 use Rattle.toll_sql.specs.Encode.{kind_number}
 
 pub one_number : (v : Value) (m n : ℕ) → v ≡ Int (pos m) → v ≡ Int (pos n) → n ≡ m

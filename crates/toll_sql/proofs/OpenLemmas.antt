@@ -1,11 +1,6 @@
 -- A store that is asked whether it lies open.
 use Rattle.std.proofs.Common.{◌≡◌, ◌⊎◌, inl, inr, ℕ, false, List, [], Ok, Err, Result, IsTrue, refl, arith}
-use Rattle.sqlite.proofs.StateLemmas.{survives_weaker}
-use Rattle.sqlite.specs.Order.{Row}
-use Rattle.sqlite.specs.State.{State, HasCleanDisk, IsNotRun, IsUnchanged, Survives}
-use Rattle.sqlite.specs.declared.error.Error.{Error}
-use Rattle.toll_keep.specs.declared.fault.KeepFault.{KeepFault}
-use Rattle.toll_keep.specs.declared.fault.KeepFault.TheVariants.{Memory, Disk, Damaged, Closed}
+use Rattle.toll_sql.proofs.Common.{survives_weaker, Row, State, HasCleanDisk, IsNotRun, IsUnchanged, Survives, Error, KeepFault, Memory, Disk, Damaged, Closed}
 use Rattle.toll_sql.specs.Asking.{IsFinding}
 use Rattle.toll_sql.specs.Causes.{is_disk_fault}
 use Rattle.toll_sql.proofs.CauseLemmas.{not_run}

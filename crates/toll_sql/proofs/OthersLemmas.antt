@@ -1,15 +1,6 @@
 -- What stands behind the office's tables has no part in a put.
 use Rattle.std.proofs.Common.{◌≡◌, ℕ, zero, suc, slice_get, subst, Bool, false, ◌&&◌, ◌||◌, List, [], ◌∷◌, ◌++◌, Option, Some, refl, sym, ap, ◌∙◌}
-use Rattle.std.specs.List.{AllByRecursion, filter_map, flat_map, list_any}
-use Rattle.sqlite.specs.Order.{Row}
-use Rattle.sqlite.specs.Schema.{Schema}
-use Rattle.sqlite.specs.State.{State}
-use Rattle.sqlite.specs.Table.{Table}
-use Rattle.sqlite_rules.specs.Action.{Work, work_for, works}
-use Rattle.sqlite_rules.specs.Keys.{aims, shares}
-use Rattle.sqlite_schema.specs.Rules.{agree, guards}
-use Rattle.sqlite_schema.specs.declared.schema.Index.{Index}
-use Rattle.sqlite_schema.specs.declared.schema.Keys.TheVariants.{Enforced}
+use Rattle.toll_sql.proofs.Common.{AllByRecursion, filter_map, flat_map, list_any, Row, Schema, State, Table, Work, work_for, works, aims, shares, agree, guards, Index, Enforced}
 use Rattle.sqlite_schema.specs.declared.schema.Reference.{Reference}
 use Rattle.toll_sql.specs.Others.{GuardsNone, HasOurs, RefersToNone}
 use Rattle.toll_sql.specs.Put.{Puts}

@@ -1,11 +1,6 @@
 -- A store that is taken over by what is made in one transaction.
 use Rattle.std.proofs.Common.{◌≡◌, ◌⊎◌, inl, inr, false, Ok, Err, Result, IsTrue, refl, sym, subst}
-use Rattle.sqlite.proofs.StateLemmas.{survives_weaker}
-use Rattle.sqlite.specs.Effect.{Database}
-use Rattle.sqlite.specs.State.{State}
-use Rattle.sqlite.specs.Tree.{Trees}
-use Rattle.sqlite.specs.declared.error.Error.{Error}
-use Rattle.toll_keep.specs.Content.{nothing}
+use Rattle.toll_sql.proofs.Common.{survives_weaker, Database, State, Trees, Error, nothing}
 use Rattle.toll_sql.specs.Causes.{is_disk_fault}
 use Rattle.toll_sql.specs.Create.{IsMaking, IsNew, IsWhole, LeavesMade, begin}
 use Rattle.toll_sql.specs.Holds.{Holds}

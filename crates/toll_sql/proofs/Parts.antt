@@ -1,12 +1,7 @@
 -- The rows of one owner, after a put.
 use Rattle.std.proofs.Common.{◌≡◌, ◌⊎◌, inl, inr, Bool, true, false, cond, List, [], ◌∷◌, refl, sym, ap, subst₂, ◌∙◌}
 use Rattle.std.specs.Prelude.{filter, IsPermutation}
-use Rattle.std.specs.List.{AllByRecursion}
-use Rattle.std.specs.Ordering.{is_eq}
-use Rattle.sqlite_trees.proofs.ListLemmas.{IsPermutation-filter}
-use Rattle.sqlite.specs.Order.{Row, column, value_cmp}
-use Rattle.sqlite.specs.declared.types.Value.TheVariants.{Text}
-use Rattle.toll_base.specs.Bytes.{Bytes}
+use Rattle.toll_sql.proofs.Common.{AllByRecursion, is_eq, IsPermutation-filter, Row, column, value_cmp, Text, Bytes}
 use Rattle.toll_sql.specs.Bag.{SameBag, all_cells, owned_by}
 use Rattle.toll_sql.specs.Cells.{cells_of}
 use Rattle.toll_sql.specs.Put.{IsReplaced, IsAdded}

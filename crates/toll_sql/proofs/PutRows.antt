@@ -1,16 +1,7 @@
 -- What a text that puts a row makes of the tables.
 use Rattle.std.proofs.Common.{◌≡◌, ℕ, true, None, Ok, refl, ap, ◌∙◌}
-use Rattle.sqlite.specs.Cast.{cast}
-use Rattle.sqlite.specs.Kind.TheVariants.{Integer}
-use Rattle.sqlite.specs.Listing.{understood}
-use Rattle.sqlite.specs.Order.{Row}
-use Rattle.sqlite.specs.State.{State, Executes}
-use Rattle.sqlite.specs.Tree.{rowid}
-use Rattle.sqlite.specs.declared.types.Value.TheVariants.{Null, Int}
-use Rattle.sqlite_schema.specs.Rules.{agree}
-use Rattle.sqlite_trees.specs.View.{IsShaped}
+use Rattle.toll_sql.proofs.Common.{cast, Integer, understood, Row, State, Executes, rowid, Null, Int, agree, IsShaped, plain}
 use Rattle.sqlite_trees.specs.declared.store.Shape.TheVariants as shape
-use Rattle.sqlite_value.specs.Keys.{plain}
 use Rattle.toll_sql.specs.Cells.{columns_from, fill}
 use Rattle.toll_sql.specs.Stores.{PutsRow}
 use Rattle.toll_sql.specs.Others.{HasOurs}

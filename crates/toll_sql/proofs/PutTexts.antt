@@ -1,21 +1,7 @@
 -- What the texts that put rows mean.
 use Rattle.std.proofs.Common.{◌≡◌, ◌⊎◌, inl, inr, ℕ, zero, suc, nat_eq, List, [], ◌∷◌, ◌++◌, length, codes, Some, Ok, slice_get, get_or, refl, sym, ap, ◌∙◌}
 use Rattle.std.specs.Fmt.{decimal}
-use Rattle.std.proofs.lemmas.Bool.{cases_Bool, eqb-true, eq-eqb}
-use Rattle.sqlite.proofs.Callers.{command_of}
-use Rattle.sqlite.specs.Collation.TheVariants.{Binary}
-use Rattle.sqlite.specs.Command.{Command}
-use Rattle.sqlite.specs.Command.TheVariants.{InsertOr}
-use Rattle.sqlite.specs.Listing.{understood}
-use Rattle.sqlite.specs.Query.{Query}
-use Rattle.sqlite.specs.Source.TheVariants.{Values}
-use Rattle.sqlite.specs.Term.{Term, lit, col, op2}
-use Rattle.sqlite.specs.declared.types.Value.TheVariants.{Null}
-use Rattle.sqlite_schema.specs.declared.command.Conflict.TheVariants.{Abort}
-use Rattle.sqlite_resolve.specs.Compile.{compiled}
-use Rattle.sqlite_sql.specs.declared.ops.BinaryOp.TheVariants.{Compare}
-use Rattle.sqlite_sql.specs.declared.ops.CompareOp.TheVariants.{Eq}
-use Rattle.sqlite_tied.specs.Compute.{everything}
+use Rattle.toll_sql.proofs.Common.{cases_Bool, eqb-true, eq-eqb, command_of, Binary, Command, InsertOr, understood, Query, Values, Term, lit, col, op2, Null, Abort, compiled, Compare, Eq, everything}
 use Rattle.toll_sql.specs.Given.{IsGiven}
 use Rattle.toll_sql.specs.Select.{plain_query}
 use Rattle.toll_sql.specs.Tables.{ours, every_table, table_of, tree_of, keys_of, width_of, put_text}

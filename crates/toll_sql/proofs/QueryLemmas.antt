@@ -1,10 +1,6 @@
 -- What a query does to a connection, whatever its text and the schema are.
 use Rattle.std.proofs.Common.{◌≡◌, inl, inr, ℕ, true, false, List, Option, None, Some, Ok, Err, Result, IsTrue, IfOk, IfErr, OnOk, sym, ◌∙◌}
-use Rattle.sqlite.specs.declared.error.Error.{Error}
-use Rattle.sqlite.specs.Order.{Row}
-use Rattle.sqlite_schema.specs.declared.command.Returning.{Returning}
-use Rattle.sqlite_resolve.specs.declared.compiled.Compiled.{Compiled}
-use Rattle.sqlite.specs.State.{State, Fails, IsNotRun, RunsCommand, FailsToQuery, FailsToShow, IsUnchanged, Shown, ShowsRows}
+use Rattle.toll_sql.proofs.Common.{Error, Row, Returning, Compiled, State, Fails, IsNotRun, RunsCommand, FailsToQuery, FailsToShow, IsUnchanged, Shown, ShowsRows}
 use Rattle.toll_sql.specs.Causes.{IsCaused}
 use Rattle.toll_sql.proofs.CauseLemmas.{not_run, command}
 use Rattle.toll_sql.proofs.Refusals.{reading}

@@ -1,14 +1,7 @@
 -- Version 1 found and brought to this version.
 use Rattle.std.proofs.Common.{◌≡◌, ◌≢◌, ◌⊎◌, inl, inr, ℕ, None, Some, Ok, Err, Result, Option, IfOk, IfSome, IsTrue, OnOk, false, arith, refl, sym, ap, subst, ◌∙◌}
-use Rattle.std.proofs.lemmas.Result.{on_ok_weaker, on_err_weaker}
-use Rattle.sqlite.proofs.StateLemmas.{survives_then, survives_weaker}
-use Rattle.sqlite.specs.Effect.{Database}
-use Rattle.sqlite.specs.State.{State, HasCleanDisk, IsUnchanged, Survives}
-use Rattle.sqlite.specs.Tree.{Trees}
-use Rattle.sqlite.specs.declared.error.Error.{Error}
-use Rattle.sqlite.specs.declared.error.Error.TheVariants.{SqliteFailure}
+use Rattle.toll_sql.proofs.Common.{on_ok_weaker, on_err_weaker, survives_then, survives_weaker, Database, State, HasCleanDisk, IsUnchanged, Survives, Trees, Error, SqliteFailure, Content}
 use Rattle.sqlite.specs.declared.error.ErrorCode.TheVariants as code
-use Rattle.toll_keep.specs.Content.{Content}
 use Rattle.toll_sql.specs.Asked.{IsUnreadBy, meta_text}
 use Rattle.toll_sql.specs.Asking.{IsQuerying}
 use Rattle.toll_sql.specs.Causes.{is_disk_fault}

@@ -1,9 +1,7 @@
 -- What is made of the tables of version 1.
 use Rattle.std.proofs.Common.{◌≡◌, Ordering, Less, Equal, Greater, [], ◌∷◌, ap, refl, sym, subst}
-use Rattle.std.specs.Ordering.{match_ordering, ordering_reverse}
-use Rattle.sqlite.specs.State.{State}
+use Rattle.toll_sql.proofs.Common.{match_ordering, ordering_reverse, State, IsShaped}
 use Rattle.sqlite_catalog.specs.Change.{next_tree}
-use Rattle.sqlite_trees.specs.View.{IsShaped}
 use Rattle.sqlite_trees.specs.declared.store.Shape.TheVariants as shape
 use Rattle.toll_sql.specs.Bag.{place}
 use Rattle.toll_sql.specs.Cells.{key_order}

@@ -1,22 +1,8 @@
 -- What a query in the order of the key answers is the list of rows that the table has.
 use Rattle.std.proofs.Common.{◌≡◌, ◌⊎◌, ℕ, zero, suc, ◌+◌, ◌<◌, ◌≤◌, Bool, true, false, ◌&&◌, ◌||◌, cond, inl, inr, List, [], ◌∷◌, map, length, get_or, refl, sym, ap, ap₂, subst, ◌∙◌, arith, Ordering, Less, Equal}
-use mathlib.Core.Bool.{false≢true}
-use Rattle.std.specs.Cmp.{IsTotalOrder}
+use Rattle.toll_sql.proofs.Common.{false≢true, IsTotalOrder, AllByRecursion, is_eq, is_lt, int_cmp, and_parts, cases_Bool, tied_itself, int_cmp_total, sorted_far, ranks_by, Row, column, IsAscending, Value, Null, Int, Real, Text, Blob, all_has, Has, same_bytes-exact, same_bytes-refl, same_bytes}
 use Rattle.std.specs.FinMap.{int_cmp-IsAntisymmetric}
-use Rattle.std.specs.List.{AllByRecursion}
-use Rattle.std.specs.Ordering.{is_eq, is_lt, int_cmp}
 use Rattle.std.specs.Prelude.{IsSorted}
-use Rattle.std.proofs.lemmas.Bool.{and_parts, cases_Bool}
-use Rattle.std.proofs.lemmas.Cmp.{tied_itself, int_cmp_total}
-use Rattle.std.proofs.lemmas.List.Sorted.{sorted_far, ranks_by}
-use Rattle.sqlite.specs.Order.{Row, column}
-use Rattle.sqlite.specs.Tree.{IsAscending}
-use Rattle.sqlite.specs.declared.types.Value.{Value}
-use Rattle.sqlite.specs.declared.types.Value.TheVariants.{Null, Int, Real, Text, Blob}
-use Rattle.sqlite_rules.proofs.ListLemmas.{all_has}
-use Rattle.sqlite_rules.specs.Lists.{Has}
-use Rattle.toll_base.proofs.Texts.{same_bytes-exact, same_bytes-refl}
-use Rattle.toll_base.specs.Bytes.{same_bytes}
 use Rattle.toll_sql.specs.Bag.{Rises, NeverFalls, SameBag, total}
 use Rattle.toll_sql.specs.Cells.{cells_of, columns_from, fill, key_order}
 use Rattle.toll_sql.specs.Holds.{HasRows}

@@ -1,40 +1,22 @@
 -- No statement is refused by its own meaning with an error of the disk.
 use Rattle.std.proofs.Common.{◌≡◌, inl, inr, ℕ, ℤ, Bool, true, false, List, [], ◌∷◌, Option, Some, None, Err, Result, ◌++◌, fold, if◌then◌else◌, is_lt, int_cmp, is_some, slice_get, option_map, refl, ap, subst, ◌∙◌}
 use Rattle.std.specs.Bool.{MatchBool}
-use Rattle.std.specs.Option.{option_to_list}
+use Rattle.toll_sql.proofs.Common.{option_to_list, Does, IsKeptAside, Tally, Database, RefusesQuery, RefusesToAlter, RefusesToRead, alter_error, edit_error, Row, Part, Gives, Refuses, Task, Then, Written, Trees, Null, Error, InvalidQuery, SqliteFailure, without_index, without_table, without_view, ids_of, cast_row, Edit, edit_of, with_rowid, Given, Refusal, Abort, Ignore, Replace, Returning, Upsert, Refers}
 use Rattle.sqlite.specs.Does as does
-use Rattle.sqlite.specs.Does.{Does, IsKeptAside, Tally}
-use Rattle.sqlite.specs.Effect.{Database, RefusesQuery, RefusesToAlter, RefusesToRead, alter_error, edit_error}
-use Rattle.sqlite.specs.Order.{Row}
 use Rattle.sqlite.specs.Rows as rows
-use Rattle.sqlite.specs.Rows.{Part, Gives, Refuses, Task, Then, Written}
-use Rattle.sqlite.specs.Tree.{Trees}
-use Rattle.sqlite.specs.declared.types.Value.TheVariants.{Null}
 use Rattle.sqlite_trees.specs.Tree.{rowid}
-use Rattle.sqlite.specs.declared.error.Error.{Error}
-use Rattle.sqlite.specs.declared.error.Error.TheVariants.{InvalidQuery, SqliteFailure}
 use Rattle.sqlite.specs.declared.error.ErrorCode.TheVariants as code
 use Rattle.sqlite.specs.declared.run.Mode.{Mode}
 use Rattle.sqlite_catalog.specs.declared.error.Refusal.{Refusal as AlterRefusal}
 use Rattle.sqlite_catalog.specs.declared.error.Refusal.TheVariants as why
 use Rattle.sqlite_catalog.specs.Calls.{RefusesToDropIndex}
-use Rattle.sqlite_catalog.specs.Change.{without_index, without_table, without_view}
-use Rattle.sqlite_rules.specs.Calls.{ids_of}
-use Rattle.sqlite_rules.specs.Cast.{cast_row}
-use Rattle.sqlite_rules.specs.Edit.{Edit, edit_of, with_rowid}
-use Rattle.sqlite_rules.specs.declared.error.Rowids.TheVariants.{Given}
-use Rattle.sqlite_rules.specs.declared.error.Refusal.{Refusal}
 use Rattle.sqlite_rules.specs.declared.error.Refusal.TheVariants as broken
 use Rattle.sqlite_schema.specs.declared.command.Command.{Command}
 use Rattle.sqlite_schema.specs.declared.command.Command.TheVariants as command
 use Rattle.sqlite_schema.specs.declared.command.Conflict.{Conflict}
-use Rattle.sqlite_schema.specs.declared.command.Conflict.TheVariants.{Abort, Ignore, Replace}
-use Rattle.sqlite_schema.specs.declared.command.Returning.{Returning}
 use Rattle.sqlite_schema.specs.declared.command.Source.{Source}
 use Rattle.sqlite_schema.specs.declared.command.Source.TheVariants as source
-use Rattle.sqlite_schema.specs.declared.command.Upsert.{Upsert}
 use Rattle.sqlite_schema.specs.declared.program.Program.{Program}
-use Rattle.sqlite_schema.specs.Rules.{Refers}
 use Rattle.sqlite_schema.specs.declared.schema.Among.{Among}
 use Rattle.sqlite_schema.specs.declared.schema.Constraint.TheVariants.{ForeignKey}
 use Rattle.sqlite_schema.specs.declared.schema.Keys.{Keys}

@@ -1,10 +1,6 @@
 -- Stored rows put into a slice as they are read.
 use Rattle.std.proofs.Common.{◌≡◌, ℕ, ◌+◌, ◌<◌, List, length, get_or, sym, ap, subst, ◌∙◌}
-use Rattle.std.proofs.lemmas.List.{get_or-map, length-map}
-use Rattle.sqlite.specs.Order.{Row}
-use Rattle.toll_base.specs.Bytes.{Bytes}
-use Rattle.toll_base.specs.Slice.{Slice, with_row}
-use Rattle.toll_base.specs.SliceRules.{KeepsRules}
+use Rattle.toll_sql.proofs.Common.{get_or-map, length-map, Row, Bytes, Slice, with_row, KeepsRules}
 use Rattle.toll_base.specs.declared.rows.Row.{Row as OfficeRow}
 use Rattle.toll_sql.specs.Fronts.{front, IsStoredAs}
 use Rattle.toll_sql.specs.StoredLaws.{StandIn}

@@ -1,28 +1,8 @@
 -- What a row that is put makes of a slice, table by table.
 use Rattle.std.proofs.Common.{◌≡◌, inl, inr, sym, subst, Bool, true, false, cond, List, [], ◌∷◌, refl, Ordering}
-use Rattle.std.specs.Cmp.Lexicographic.{nat_list_cmp_total}
-use Rattle.std.specs.List.{AllByRecursion}
-use Rattle.std.specs.Ordering.{is_eq, is_lt}
-use Rattle.sqlite.specs.Order.{column}
-use Rattle.sqlite.specs.declared.types.Value.TheVariants.{Text}
-use Rattle.toll_base.specs.Bytes.{Bytes, bytes_cmp}
-use Rattle.toll_base.specs.Keys.{pair_cmp, batch_cmp, result_cmp, requirement_cmp}
-use Rattle.toll_base.specs.Slice.{Slice, with_row}
-use Rattle.toll_base.specs.Table.{replace_row, insert_row, put_row}
-use Rattle.toll_base.specs.declared.movement.MoveRow.{MoveRow}
-use Rattle.toll_base.specs.declared.rows.BatchRow.{BatchRow}
-use Rattle.toll_base.specs.declared.rows.LotRow.{LotRow}
-use Rattle.toll_base.specs.declared.rows.MaterialRow.{MaterialRow}
-use Rattle.toll_base.specs.declared.rows.OrderRow.{OrderRow}
-use Rattle.toll_base.specs.declared.rows.RecipeRow.{RecipeRow}
-use Rattle.toll_base.specs.declared.rows.RequirementRow.{RequirementRow}
-use Rattle.toll_base.specs.declared.rows.ResultRow.{ResultRow}
-use Rattle.toll_base.specs.declared.rows.SublotRow.{SublotRow}
-use Rattle.toll_base.specs.declared.rows.TestRow.{TestRow}
-use Rattle.toll_base.specs.declared.rows.VoidRow.{VoidRow}
+use Rattle.toll_sql.proofs.Common.{nat_list_cmp_total, AllByRecursion, is_eq, is_lt, column, Text, Bytes, bytes_cmp, pair_cmp, batch_cmp, result_cmp, requirement_cmp, Slice, with_row, replace_row, insert_row, put_row, MoveRow, BatchRow, LotRow, MaterialRow, OrderRow, RecipeRow, RequirementRow, ResultRow, SublotRow, TestRow, VoidRow, pair_cmp_total, batch_cmp_total, result_cmp_total, requirement_cmp_total}
 use Rattle.toll_base.specs.declared.rows.Row.{Row as OfficeRow}
 use Rattle.toll_base.specs.declared.rows.Row.TheVariants as of
-use Rattle.toll_base.proofs.Texts.{pair_cmp_total, batch_cmp_total, result_cmp_total, requirement_cmp_total}
 use Rattle.toll_sql.specs.Bag.{place, Rises}
 use Rattle.toll_sql.specs.Cells.{key_order}
 use Rattle.toll_sql.specs.Encode.{table_for, cells_for, rows_for, material_cells, test_cells, recipe_cells, requirement_cells, order_cells, batch_cells, lot_cells, sublot_cells, move_cells, result_cells, void_cells}

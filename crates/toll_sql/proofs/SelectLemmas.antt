@@ -1,16 +1,7 @@
 -- What a plain query answers.
 use Rattle.std.proofs.Common.{◌≡◌, ◌<◌, ◌+◌, ℕ, Bool, true, false, cond, List, [], ◌∷◌, ◌++◌, map, length, get_or, refl, sym, ap, subst, subst₂, ◌∙◌, arith, All}
 use Rattle.std.specs.Prelude.{filter, IsPermutation, IsSorted}
-use Rattle.std.specs.List.{list_all, flat_map}
-use Rattle.std.specs.Ordering.{on}
-use Rattle.std.proofs.lemmas.List.{get_or-map}
-use Rattle.std.proofs.lemmas.List.Elements.{All-map}
-use Rattle.std.proofs.lemmas.List.Sorted.{IsPermutation-map, All-permutation}
-use Rattle.sqlite.specs.Order.{Row}
-use Rattle.sqlite.specs.Term.{Term, Env, eval_all, holds}
-use Rattle.sqlite.specs.Query.{Output, IsAnswer, output, key_cmp}
-use Rattle.sqlite.specs.Tree.{Trees}
-use Rattle.sqlite_value.specs.declared.keys.Key.{Key}
+use Rattle.toll_sql.proofs.Common.{list_all, flat_map, on, get_or-map, All-map, IsPermutation-map, All-permutation, Row, Term, Env, eval_all, holds, Output, IsAnswer, output, key_cmp, Trees, Key}
 use Rattle.toll_sql.specs.Select.{plain_query, AreShown}
 
 flat_hits : (p : Row → Bool) (params : Row) (rows : List Row) → flat_map (λ r. cond (p r) ((params ∷ r ∷ []) ∷ []) []) rows ≡ map (λ r. params ∷ r ∷ []) (filter p rows)

@@ -1,18 +1,6 @@
 -- What the texts that read rows mean.
 use Rattle.std.proofs.Common.{◌≡◌, ℕ, zero, suc, Bool, true, false, cond, List, [], ◌∷◌, map, length, codes, Ok, refl}
-use Rattle.sqlite.proofs.Callers.{command_of}
-use Rattle.sqlite.specs.Collation.TheVariants.{Binary}
-use Rattle.sqlite.specs.Command.{Command}
-use Rattle.sqlite.specs.Command.TheVariants.{Select}
-use Rattle.sqlite.specs.Listing.{understood, reads_listing}
-use Rattle.sqlite.specs.Query.{Query}
-use Rattle.sqlite.specs.Term.{Term, col, op2}
-use Rattle.sqlite_resolve.specs.Compile.{compiled}
-use Rattle.sqlite_sql.specs.declared.ops.BinaryOp.TheVariants.{Compare}
-use Rattle.sqlite_sql.specs.declared.ops.CompareOp.TheVariants.{Eq}
-use Rattle.sqlite_tied.specs.Compute.{everything}
-use Rattle.sqlite_value.specs.Keys.{ascending}
-use Rattle.sqlite_value.specs.declared.keys.Key.{Key}
+use Rattle.toll_sql.proofs.Common.{command_of, Binary, Command, Select, understood, reads_listing, Query, Term, col, op2, compiled, Compare, Eq, everything, ascending, Key}
 use Rattle.toll_sql.specs.Given.{IsGiven}
 use Rattle.toll_sql.specs.Select.{plain_query}
 use Rattle.toll_sql.specs.Tables.{table_of, tree_of, keys_of, width_of, is_owned, select_text}

@@ -1,14 +1,6 @@
 -- Rows that are looked at one after another.
 use Rattle.std.proofs.Common.{◌≡◌, ◌<◌, ◌≤◌, ◌+◌, ◌∙◌, ℕ, zero, suc, cond, inl, inr, List, [], ◌∷◌, length, take, map, get_or, refl, sym, subst, arith, Ok, Err, Result, OnOk}
-use Rattle.std.proofs.lemmas.Bool.{cases_Bool}
-use Rattle.std.proofs.lemmas.List.Sorted.{IsPermutation-sym}
-use Rattle.std.specs.List.{AllByRecursion}
-use Rattle.std.specs.Ordering.{is_eq}
-use Rattle.sqlite.specs.Order.{Row, column, value_cmp}
-use Rattle.sqlite.specs.Tree.{Trees}
-use Rattle.sqlite.specs.declared.types.Value.TheVariants.{Text}
-use Rattle.sqlite_trees.proofs.ListLemmas.{all-permutation}
-use Rattle.toll_base.specs.Bytes.{Bytes}
+use Rattle.toll_sql.proofs.Common.{cases_Bool, IsPermutation-sym, AllByRecursion, is_eq, Row, column, value_cmp, Trees, Text, all-permutation, Bytes}
 use Rattle.toll_sql.specs.Bag.{owned_by}
 use Rattle.toll_sql.specs.Cells.{columns_from}
 use Rattle.toll_sql.specs.Shown.{AreOwnedBy, AreRowsOf, IsRowOf}

@@ -1,12 +1,6 @@
 -- Calls within a transaction that write, and several in turn.
 use Rattle.std.proofs.Common.{◌≡◌, inl, inr, ℕ, false, List, Ok, Err, Result, IfErr, OnOk, IsTrue, ap, sym, subst, arith}
-use Rattle.std.proofs.lemmas.Bool.{cases_Bool}
-use Rattle.std.proofs.lemmas.Result.{on_ok_weaker}
-use Rattle.sqlite.proofs.InsideLemmas.{inside_keeps, keeps_then}
-use Rattle.sqlite.proofs.StateLemmas.{survives_then}
-use Rattle.sqlite.specs.Order.{Row}
-use Rattle.sqlite.specs.State.{State, ExecutesInside, KeepsCommit, Survives, HasCleanDisk}
-use Rattle.sqlite.specs.declared.error.Error.{Error}
+use Rattle.toll_sql.proofs.Common.{cases_Bool, on_ok_weaker, inside_keeps, keeps_then, survives_then, Row, State, ExecutesInside, KeepsCommit, Survives, HasCleanDisk, Error}
 use Rattle.toll_sql.specs.Causes.{IsCaused}
 use Rattle.toll_sql.specs.Create.{IsStep}
 use Rattle.toll_sql.specs.Stores.{IsReady, IsWriting}

@@ -1,17 +1,8 @@
 -- Rows of a table by their rowids.
 use Rattle.std.proofs.Common.{◌≡◌, inl, inr, ℤ, true, false, not, ◌||◌, List, [], ◌∷◌, ◌++◌, refl, sym, ap, subst, ◌∙◌, Ordering, Less, Equal, Greater}
 use Rattle.std.specs.Prelude.{filter, IsPermutation}
-use Rattle.std.specs.Ordering.{is_eq, match_ordering, ordering_reverse}
-use Rattle.std.specs.List.{AllByRecursion}
-use Rattle.std.proofs.lemmas.Cmp.{tied_itself}
-use Rattle.std.proofs.lemmas.List.Sorted.{IsPermutation-refl, IsPermutation-cons, IsPermutation-trans, IsPermutation-middle, IsPermutation-filter_both}
-use Rattle.sqlite.specs.declared.types.Value.TheVariants.{Int}
-use Rattle.sqlite.specs.Order.{Row, value_cmp}
+use Rattle.toll_sql.proofs.Common.{is_eq, match_ordering, ordering_reverse, AllByRecursion, tied_itself, IsPermutation-refl, IsPermutation-cons, IsPermutation-trans, IsPermutation-middle, IsPermutation-filter_both, Int, Row, value_cmp, Has, is_taken, all_has, value_cmp_total}
 use Rattle.sqlite.specs.Tree.{rowid, has_rowid, put_row, without_rowid, IsTable}
-use Rattle.sqlite_rules.specs.Lists.{Has}
-use Rattle.sqlite_rules.specs.Edit.{is_taken}
-use Rattle.sqlite_rules.proofs.ListLemmas.{all_has}
-use Rattle.sqlite_value.proofs.OrderLemmas.{value_cmp_total}
 
 none_below : (id : ℤ) (rows : List Row) → AllByRecursion (λ b. value_cmp (Int id) (rowid b) ≡ Less) rows → filter (has_rowid id) rows ≡ []
 none_below id [] h = refl

@@ -1,11 +1,6 @@
 -- What a text asks for that compiles to one whole statement.
 use Rattle.std.proofs.Common.{◌≡◌, ◌-◌, ℕ, false, List, [], length, take_all, le-leb, None, Ok, if◌then◌else◌, refl, sym, ap, subst, ◌∙◌, arith}
-use Rattle.sqlite.proofs.Callers.{IsPlain, command_of, statement_of}
-use Rattle.sqlite.specs.Command.{Command}
-use Rattle.sqlite.specs.Listing.{understood, reads_listing, misses_table, if_select, listing_schema}
-use Rattle.sqlite.specs.Schema.{Schema}
-use Rattle.sqlite_resolve.specs.Compile.{compiled}
-use Rattle.sqlite_resolve.specs.declared.compiled.Compiled.{Compiled}
+use Rattle.toll_sql.proofs.Common.{IsPlain, command_of, statement_of, Command, understood, reads_listing, misses_table, if_select, listing_schema, Schema, compiled, Compiled}
 use Rattle.toll_sql.specs.Given.{IsGiven}
 
 -- the text is one statement, with parameters of these names, no RETURNING and no time

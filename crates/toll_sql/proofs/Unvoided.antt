@@ -1,22 +1,12 @@
 -- A movement is voided just where the table of voids has a row with its key.
 use Rattle.std.proofs.Common.{◌≡◌, ◌⊎◌, inl, inr, Bool, true, false, ◌&&◌, Option, Some, is_some, List, [], ◌∷◌, refl, sym, ap, subst, ◌∙◌}
-use mathlib.Core.Bool.{false≢true}
-use Rattle.std.specs.Ordering.{is_eq}
+use Rattle.toll_sql.proofs.Common.{false≢true, is_eq, and_parts, exact_bytes, Row, column, or_nulls, Text, Bytes, bytes_cmp, row_at, VoidRow, Contains-none, Contains-here, Contains-later, Contains-cases, Contains-filter, Contains-from_filter}
 use Rattle.std.specs.Prelude.{Contains, filter, if◌then◌else◌}
-use Rattle.std.proofs.lemmas.Bool.{and_parts}
 use Rattle.std.proofs.lemmas.Cmp.{tied_itself, nat_list_cmp_total}
-use Rattle.std.proofs.lemmas.Map.Lookups.{exact_bytes}
 use Rattle.std.proofs.lemmas.Map.Views.{tells_apart}
-use Rattle.sqlite.specs.Order.{Row, column}
-use Rattle.sqlite.specs.Query.{or_nulls}
-use Rattle.sqlite.specs.declared.types.Value.TheVariants.{Text}
-use Rattle.toll_base.specs.Bytes.{Bytes, bytes_cmp}
-use Rattle.toll_base.specs.Table.{row_at}
-use Rattle.toll_base.specs.declared.rows.VoidRow.{VoidRow}
 use Rattle.toll_sql.specs.Encode.{void_cells}
 use Rattle.toll_sql.proofs.JoinTests.{equals, is_no_value, is_text, texts_same, text_itself, text_is_value, both}
 use Rattle.toll_sql.proofs.MemberRows.{AreRows}
-use Rattle.toll_trace.proofs.Members.{Contains-none, Contains-here, Contains-later, Contains-cases, Contains-filter, Contains-from_filter}
 
 abbrev void_with : List VoidRow → Bytes → Option VoidRow
 void_with rows k = row_at bytes_cmp (λ row. row.key) rows k

@@ -1,53 +1,14 @@
 -- What an INSERT of one row with ON CONFLICT DO UPDATE makes of a table, whichever table it is.
 use Rattle.std.proofs.Common.{◌≡◌, ◌≢◌, ◌⊎◌, inl, inr, ℕ, ℤ, pos, Bool, true, false, not, cond, ◌&&◌, List, [], ◌∷◌, ◌++◌, map, drop, length, slice_get, Option, Some, None, Ok, Err, Result, refl, sym, ap, subst, subst₂, ◌∙◌}
 use Rattle.std.specs.Prelude.{filter, IsPermutation, ◌/◌}
-use Rattle.std.specs.Ordering.{is_eq}
-use Rattle.std.specs.List.{AllByRecursion, list_all}
-use Rattle.std.proofs.lemmas.List.Elements.{filter_agree}
-use Rattle.std.proofs.lemmas.List.Sorted.{IsPermutation-map}
-use Rattle.sqlite.specs.declared.types.Value.{Value}
-use Rattle.sqlite.specs.declared.types.Value.TheVariants.{Null, Int, Text, Real, Blob}
-use Rattle.sqlite.specs.Order.{Row, column, value_cmp}
-use Rattle.sqlite.specs.Ops.{binary, is_true, from_truth}
-use Rattle.sqlite.specs.Term.{Term, col, op2, eval_all, holds}
-use Rattle.sqlite.specs.Query.{Query, IsAnswer}
-use Rattle.sqlite.specs.Program.{overlay}
+use Rattle.toll_sql.proofs.Common.{is_eq, AllByRecursion, list_all, filter_agree, IsPermutation-map, Value, Null, Int, Text, Real, Blob, Row, column, value_cmp, binary, is_true, from_truth, Term, col, op2, eval_all, holds, Query, IsAnswer, overlay, IsShaped, Schema, Table, Values, Binary, plain, Compare, Eq, Abort, Upsert, Enforced, agree, Has, conflicts, AreConflicts, cast_row, ids_of, Given, Chosen, Above, edit_of, taken_by, is_taken, next_rowid, with_rowid, id_in, without_all, put_all, are_fresh, all_has, value_rows, edit_error, Refusal, one_step, one_permutation, Command, InsertOr, Database, Tally, Does, OnTable, OnRows, AtPlace, understood, State, mode_of, Executes, IsPlain, command_of, statement_of, runs_as}
 use Rattle.sqlite.specs.Tree.{Trees, rowid, has_rowid, put_row, without_rowid}
-use Rattle.sqlite_trees.specs.View.{IsShaped}
 use Rattle.sqlite_trees.specs.declared.store.Shape.TheVariants as shape
 use Rattle.sqlite_trees.proofs.TreeLemmas.{IsShaped-put_row, IsShaped-filter, not_true}
-use Rattle.sqlite.specs.Schema.{Schema}
-use Rattle.sqlite.specs.Table.{Table}
-use Rattle.sqlite.specs.Source.TheVariants.{Values}
-use Rattle.sqlite.specs.Collation.TheVariants.{Binary}
-use Rattle.sqlite_value.specs.Keys.{plain}
-use Rattle.sqlite_sql.specs.declared.ops.BinaryOp.TheVariants.{Compare}
-use Rattle.sqlite_sql.specs.declared.ops.CompareOp.TheVariants.{Eq}
-use Rattle.sqlite_schema.specs.declared.command.Conflict.TheVariants.{Abort}
-use Rattle.sqlite_schema.specs.declared.command.Upsert.{Upsert}
-use Rattle.sqlite_schema.specs.declared.schema.Keys.TheVariants.{Enforced}
-use Rattle.sqlite_schema.specs.Rules.{agree}
-use Rattle.sqlite_rules.specs.Lists.{Has}
-use Rattle.sqlite_rules.specs.Keys.{conflicts, AreConflicts}
-use Rattle.sqlite_rules.specs.Cast.{cast_row}
 use Rattle.sqlite_rules.specs.Action.{works, Writes}
-use Rattle.sqlite_rules.specs.Calls.{ids_of}
-use Rattle.sqlite_rules.specs.declared.error.Rowids.TheVariants.{Given, Chosen, Above}
 use Rattle.sqlite_rules.proofs.PlaceLemmas.{given as given_stay}
-use Rattle.sqlite_rules.specs.Edit.{edit_of, taken_by, is_taken, next_rowid, with_rowid, id_in, without_all, put_all, are_fresh}
 use Rattle.sqlite_rules.proofs.TableLemmas.{int_is}
-use Rattle.sqlite_rules.proofs.ListLemmas.{all_has}
 use Rattle.sqlite.specs.Rows.{Task, Written, Outcome, InsertsOr, Tries, TriesEach, Upserts, Puts as PutsRow, Resolves, Clears, Counts, Meets, Judged, nothing, stamped, count_of, rowids_for, shown as returned}
-use Rattle.sqlite.specs.Effect.{value_rows, edit_error}
-use Rattle.sqlite_rules.specs.declared.error.Refusal.{Refusal}
-use Rattle.sqlite.proofs.Callers.{one_step, one_permutation}
-use Rattle.sqlite.specs.Command.{Command}
-use Rattle.sqlite.specs.Command.TheVariants.{InsertOr}
-use Rattle.sqlite.specs.Effect.{Database}
-use Rattle.sqlite.specs.Does.{Tally, Does, OnTable, OnRows, AtPlace}
-use Rattle.sqlite.specs.Listing.{understood}
-use Rattle.sqlite.specs.State.{State, mode_of, Executes}
-use Rattle.sqlite.proofs.Callers.{IsPlain, command_of, statement_of, runs_as}
 use Rattle.toll_sql.specs.Put.{Puts}
 use Rattle.toll_sql.specs.Bag.{all_cells}
 use Rattle.toll_sql.specs.Select.{plain_query}

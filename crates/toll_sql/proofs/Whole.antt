@@ -1,11 +1,6 @@
 -- Calls within a transaction, and its end.
 use Rattle.std.proofs.Common.{◌≡◌, inl, inr, false, Ok, Err, Result, [], IfErr, OnOk, OnErr, IsTrue, refl, sym, subst, ◌∙◌, arith}
-use Rattle.sqlite.proofs.StateLemmas.{survives_then}
-use Rattle.sqlite.specs.Effect.{Database}
-use Rattle.sqlite.specs.State.{State, HasCleanDisk, IsRolledBack, KeepsCommit, KeepsCounts, Shows, Survives}
-use Rattle.sqlite.specs.Steps.{FailsToCommit}
-use Rattle.sqlite.specs.Tree.{Trees}
-use Rattle.sqlite.specs.declared.error.Error.{Error}
+use Rattle.toll_sql.proofs.Common.{survives_then, Database, State, HasCleanDisk, IsRolledBack, KeepsCommit, KeepsCounts, Shows, Survives, FailsToCommit, Trees, Error}
 use Rattle.toll_sql.specs.Causes.{IsCaused}
 use Rattle.toll_sql.specs.Create.{IsStep, IsWhole, LeavesMade, begin}
 use Rattle.toll_sql.proofs.ApplyLemmas.{not_committed}

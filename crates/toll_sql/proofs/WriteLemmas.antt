@@ -1,14 +1,6 @@
 -- One row put within a transaction.
 use Rattle.std.proofs.Common.{◌≡◌, ◌≢◌, ◌⊎◌, inl, inr, ℕ, true, false, List, [], ◌∷◌, Ok, Err, Result, OnOk, IsTrue, sym, ap, subst, ◌∙◌, nat_eq}
-use Rattle.std.specs.List.{AllByRecursion}
-use Rattle.std.proofs.lemmas.Bool.{cases_Bool, eqb-true, eq-eqb}
-use Rattle.sqlite.proofs.InsideLemmas.{inside_keeps}
-use Rattle.sqlite.specs.Order.{Row}
-use Rattle.sqlite.specs.State.{State, ExecutesInside, KeepsCommit, Survives, HasCleanDisk}
-use Rattle.sqlite.specs.Table.{Table}
-use Rattle.sqlite.specs.Tree.{Trees}
-use Rattle.sqlite.specs.declared.error.Error.{Error}
-use Rattle.sqlite_trees.specs.View.{IsShaped}
+use Rattle.toll_sql.proofs.Common.{AllByRecursion, cases_Bool, eqb-true, eq-eqb, inside_keeps, Row, State, ExecutesInside, KeepsCommit, Survives, HasCleanDisk, Table, Trees, Error, IsShaped}
 use Rattle.sqlite_trees.specs.declared.store.Shape.TheVariants as shape
 use Rattle.toll_sql.specs.Cells.{columns_from, fill}
 use Rattle.toll_sql.specs.Others.{HasOurs}

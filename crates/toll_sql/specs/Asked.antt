@@ -1,11 +1,8 @@
 -- What a store whose tables may be any is told of its version, by sqlite's own account.
 use Rattle.std.specs.Prelude.{◌≡◌, ◌≤◌, ℕ, List, [], length, Option, None, Ok}
 use Rattle.sqlite.specs.Clock.{timed}
-use Rattle.sqlite.specs.Effect.{Database, Reads, RefusesToRead}
+use Rattle.toll_sql.specs.Common.{Database, Reads, RefusesToRead, Row, Error, Compiled}
 use Rattle.sqlite.specs.Listing.{IsSourceOf, reads_listing, understood}
-use Rattle.sqlite.specs.Order.{Row}
-use Rattle.sqlite.specs.declared.error.Error.{Error}
-use Rattle.sqlite_resolve.specs.declared.compiled.Compiled.{Compiled}
 use Rattle.toll_sql.specs.Tables.{select_text}
 use Rattle.toll_sql.specs.declared.table_kind.TableKind.TheVariants.{Meta}
 

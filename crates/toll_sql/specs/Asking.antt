@@ -1,13 +1,6 @@
 -- What each call does that asks the store and writes nothing.
 use Rattle.std.specs.Prelude.{◌≡◌, ◌≢◌, Bool, true, false, IsTrue, Result, Err, IfErr, OnOk}
-use Rattle.sqlite.specs.State.{State, HasCleanDisk, Survives}
-use Rattle.sqlite.specs.Tree.{Trees}
-use Rattle.sqlite.specs.declared.error.Error.{Error}
-use Rattle.toll_base.specs.Bytes.{Bytes}
-use Rattle.toll_base.specs.Slice.{Slice}
-use Rattle.toll_keep.specs.Content.{Content}
-use Rattle.toll_keep.specs.declared.fault.KeepFault.{KeepFault}
-use Rattle.toll_keep.specs.declared.fault.KeepFault.TheVariants.{Disk, Damaged, Closed}
+use Rattle.toll_sql.specs.Common.{State, HasCleanDisk, Survives, Trees, Error, Bytes, Slice, Content, KeepFault, Disk, Damaged, Closed}
 use Rattle.toll_sql.specs.Causes.{IsCaused, Reason}
 use Rattle.toll_sql.specs.Stores.{HoldsIn, HoldsPartIn, LiesIdle}
 use Rattle.toll_sql.specs.Others.{HasOurs}

@@ -1,12 +1,7 @@
 -- Rows in any order, and rows in an order.
 use Rattle.std.specs.Prelude.{◌≡◌, false, ℕ, ◌+◌, List, [], ◌∷◌, map, filter}
-use Rattle.std.specs.declared.cmp.Ordering.{Ordering}
+use Rattle.toll_sql.specs.Common.{Ordering, is_eq, is_lt, match_ordering, Row, column, value_cmp, IsAscending, Text, Bytes}
 use Rattle.std.specs.declared.cmp.Ordering.TheVariants.{Less}
-use Rattle.std.specs.Ordering.{is_eq, is_lt, match_ordering}
-use Rattle.sqlite.specs.Order.{Row, column, value_cmp}
-use Rattle.sqlite.specs.Tree.{IsAscending}
-use Rattle.sqlite.specs.declared.types.Value.TheVariants.{Text}
-use Rattle.toll_base.specs.Bytes.{Bytes}
 use Rattle.toll_sql.specs.Cells.{cells_of}
 
 -- each is below those after it

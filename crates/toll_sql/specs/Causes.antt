@@ -1,9 +1,7 @@
 -- What an error of the store has for a cause.
 use Rattle.std.specs.Prelude.{◌≡◌, ◌≤◌, ◌⊎◌, Bool, true, false, IsTrue}
-use Rattle.sqlite.specs.State.{State}
+use Rattle.toll_sql.specs.Common.{State, Error, SqliteFailure}
 use Rattle.sqlite.specs.Disk.{MoreFaults}
-use Rattle.sqlite.specs.declared.error.Error.{Error}
-use Rattle.sqlite.specs.declared.error.Error.TheVariants.{SqliteFailure}
 use Rattle.sqlite.specs.declared.error.ErrorCode.TheVariants as code
 
 -- errors that are told as a fault of the disk

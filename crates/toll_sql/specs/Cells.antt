@@ -1,11 +1,7 @@
 -- Cells of stored rows, and the order of a table's key.
 use Rattle.std.specs.Prelude.{ℕ, zero, suc, Bool, true, false, ◌&&◌, List, [], ◌∷◌, length, drop}
-use Rattle.std.specs.Ordering.{on}
-use Rattle.std.specs.declared.cmp.Ordering.{Ordering}
-use Rattle.sqlite.specs.Order.{Row, column, row_cmp}
+use Rattle.toll_sql.specs.Common.{on, Ordering, Row, column, row_cmp, Int, Text, Column}
 use Rattle.sqlite.specs.declared.types.Value.{Value}
-use Rattle.sqlite.specs.declared.types.Value.TheVariants.{Int, Text}
-use Rattle.sqlite_schema.specs.declared.schema.Column.{Column}
 use Rattle.sqlite.specs.Kind.{Kind}
 use Rattle.sqlite.specs.Kind.TheVariants as kind
 use Rattle.toll_sql.specs.Tables.{keys_of, table_of}

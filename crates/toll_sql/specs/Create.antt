@@ -1,17 +1,9 @@
 -- Tables that are being made, within a transaction.
 use Rattle.std.specs.Prelude.{◌≡◌, None, [], ◌∷◌, IsTrue, Result, IfErr, OnOk, false, true}
-use Rattle.std.specs.List.{AllByRecursion}
-use Rattle.sqlite.specs.Effect.{Database}
-use Rattle.sqlite.specs.Schema.{Schema}
-use Rattle.sqlite.specs.State.{State, HasCleanDisk, KeepsCommit, Survives}
-use Rattle.sqlite.specs.Tree.{Trees}
-use Rattle.sqlite.specs.declared.error.Error.{Error}
-use Rattle.sqlite_catalog.specs.Change.{KeepsRows, indexed}
-use Rattle.sqlite_trees.specs.View.{IsShaped}
+use Rattle.toll_sql.specs.Common.{AllByRecursion, Database, Schema, State, HasCleanDisk, KeepsCommit, Survives, Trees, Error, KeepsRows, indexed, IsShaped, nothing}
 use Rattle.sqlite_trees.specs.declared.store.Shape.TheVariants as shape
 use Rattle.toll_sql.specs.Causes.{IsCaused}
 use Rattle.toll_sql.specs.Encode.{meta_cells}
-use Rattle.toll_keep.specs.Content.{nothing}
 use Rattle.toll_sql.specs.Holds.{Holds, version}
 use Rattle.toll_sql.specs.Stores.{IsOurs, PutsRow, StaysOnErr}
 use Rattle.toll_sql.specs.Others.{HasOurs, IsJustOurs, has_its_name}

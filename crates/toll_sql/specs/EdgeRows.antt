@@ -1,14 +1,8 @@
 -- Rows that show edges of genealogy.
 use Rattle.std.specs.Prelude.{◌≡◌, ◌≢◌, ℕ, Bool, true, false, List, [], ◌∷◌, map, Contains}
-use Rattle.sqlite.specs.Effect.{Database}
-use Rattle.sqlite.specs.Order.{Row}
-use Rattle.sqlite.specs.State.{State}
-use Rattle.sqlite.specs.declared.types.Value.TheVariants.{Text}
-use Rattle.toll_base.specs.Bytes.{Bytes}
+use Rattle.toll_sql.specs.Common.{Database, Row, State, Text, Bytes, Slice, Content}
 use Rattle.toll_base.specs.Lots.{edge_cmp}
-use Rattle.toll_base.specs.Slice.{Slice}
 use Rattle.toll_base.specs.declared.lot.Edge.{Edge}
-use Rattle.toll_keep.specs.Content.{Content}
 use Rattle.toll_sql.specs.Asked.{AreReadWith}
 use Rattle.toll_sql.specs.Asking.{ForPart, OverOurs}
 use Rattle.toll_sql.specs.AskedTexts.{owners_text}

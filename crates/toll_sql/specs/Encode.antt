@@ -1,34 +1,12 @@
 -- Rows as the tables have them: the cells behind the rowid.
 use Rattle.std.specs.Prelude.{ℕ, pos, Bool, true, false, List, [], ◌∷◌, map, codes}
-use Rattle.sqlite.specs.Order.{Row}
-use Rattle.sqlite.specs.declared.types.Value.TheVariants.{Int, Text}
-use Rattle.toll_base.specs.Bytes.{Bytes}
+use Rattle.toll_sql.specs.Common.{Row, Int, Text, Bytes, Slice, LotId, Origin, Receipts, Batch as OfBatch, Move, Receive, Split, Ship, Scrap, Actual, MoveRow, Role, BatchRow, LotRow, MaterialRow, OrderRow, OwnerRow, RecipeRow, RequirementRow, ResultRow, SublotRow, TestRow, UnitRow, VoidRow}
 use Rattle.toll_base.specs.Roles.{role_rank}
-use Rattle.toll_base.specs.Slice.{Slice}
 use Rattle.toll_base.specs.declared.lot.Disposition.{Disposition}
 use Rattle.toll_base.specs.declared.lot.Disposition.TheVariants.{Quarantined, Released, Rejected}
-use Rattle.toll_base.specs.declared.lot.LotId.{LotId}
-use Rattle.toll_base.specs.declared.lot.Origin.{Origin}
-use Rattle.toll_base.specs.declared.lot.Origin.TheVariants.{Receipts, Batch as OfBatch}
-use Rattle.toll_base.specs.declared.movement.Move.{Move}
-use Rattle.toll_base.specs.declared.movement.Move.TheVariants.{Receive, Split, Ship, Scrap, Actual}
-use Rattle.toll_base.specs.declared.movement.MoveRow.{MoveRow}
-use Rattle.toll_base.specs.declared.role.Role.{Role}
 use Rattle.toll_base.specs.declared.role.Role.TheVariants.{Consumed, Produced}
-use Rattle.toll_base.specs.declared.rows.BatchRow.{BatchRow}
-use Rattle.toll_base.specs.declared.rows.LotRow.{LotRow}
-use Rattle.toll_base.specs.declared.rows.MaterialRow.{MaterialRow}
-use Rattle.toll_base.specs.declared.rows.OrderRow.{OrderRow}
-use Rattle.toll_base.specs.declared.rows.OwnerRow.{OwnerRow}
-use Rattle.toll_base.specs.declared.rows.RecipeRow.{RecipeRow}
-use Rattle.toll_base.specs.declared.rows.RequirementRow.{RequirementRow}
-use Rattle.toll_base.specs.declared.rows.ResultRow.{ResultRow}
 use Rattle.toll_base.specs.declared.rows.Row.{Row as OfficeRow}
 use Rattle.toll_base.specs.declared.rows.Row.TheVariants as of
-use Rattle.toll_base.specs.declared.rows.SublotRow.{SublotRow}
-use Rattle.toll_base.specs.declared.rows.TestRow.{TestRow}
-use Rattle.toll_base.specs.declared.rows.UnitRow.{UnitRow}
-use Rattle.toll_base.specs.declared.rows.VoidRow.{VoidRow}
 use Rattle.toll_base.specs.declared.state.State.{State}
 use Rattle.toll_base.specs.declared.state.State.TheVariants.{Idle, Running, Pausing, Paused, Holding, Held, Restarting, Stopping, Stopped, Aborting, Aborted, Complete}
 use Rattle.toll_sql.specs.declared.table_kind.TableKind.{TableKind}

@@ -1,15 +1,7 @@
 -- The tables of version 1: no voids, and no index.
 use Rattle.std.specs.Prelude.{◌≡◌, ◌⊎◌, ℕ, nat_eq, pos, List, [], ◌∷◌, Option, Some, IfSome, codes, if◌then◌else◌}
-use Rattle.std.specs.List.{AllByRecursion}
-use Rattle.sqlite.specs.Effect.{Database}
-use Rattle.sqlite.specs.Order.{Row, column}
-use Rattle.sqlite.specs.Schema.{Schema}
-use Rattle.sqlite.specs.State.{State}
-use Rattle.sqlite.specs.Tree.{Trees}
-use Rattle.sqlite.specs.declared.types.Value.TheVariants.{Int, Text}
-use Rattle.sqlite_trees.specs.View.{IsShaped}
+use Rattle.toll_sql.specs.Common.{AllByRecursion, Database, Row, column, Schema, State, Trees, Int, Text, IsShaped, Content}
 use Rattle.sqlite_trees.specs.declared.store.Shape.TheVariants as shape
-use Rattle.toll_keep.specs.Content.{Content}
 use Rattle.toll_sql.specs.Bag.{all_cells}
 use Rattle.toll_sql.specs.Encode.{meta_cells}
 use Rattle.toll_sql.specs.Holds.{HasRows, Holds, version}

@@ -2,24 +2,17 @@
 use Rattle.std.specs.Prelude.{◌≡◌, ◌⊎◌, Bool, true, false, None, Option, Result, IfSome, IsTrue}
 use Rattle.sqlite.specs.Closing.{IsCopied}
 use Rattle.sqlite.specs.Files.{FailsToOpenFiles, IsBlankAs, IsCleanLeft, IsClosed, IsOpened, LeavesFiles, file_state}
-use Rattle.sqlite.specs.Held.{Held, IsNew}
+use Rattle.toll_sql.specs.Common.{Held, IsNew, State, HasCleanDisk, Error, SqliteFailure, KeepFault, FileStore, IsClean, Image}
 use Rattle.sqlite.specs.Opening.{is_open_error}
 use Rattle.sqlite.specs.Start.{FindsIn}
-use Rattle.sqlite.specs.State.{State, HasCleanDisk}
-use Rattle.sqlite.specs.declared.error.Error.{Error}
-use Rattle.sqlite.specs.declared.error.Error.TheVariants.{SqliteFailure}
 use Rattle.sqlite.specs.declared.error.ErrorCode.TheVariants as code
 use Rattle.sqlite.specs.declared.file.Leftover.{Leftover}
 use Rattle.sqlite_disk.specs.Disk.{MoreFaults}
 use Rattle.sqlite_disk.specs.declared.Files.{Files}
 use Rattle.sqlite_store.specs.FileStore.{faults, view}
-use Rattle.toll_keep.specs.declared.fault.KeepFault.{KeepFault}
 use Rattle.toll_keep.specs.declared.fault.KeepFault.TheVariants as keep
 use Rattle.sqlite_disk.specs.declared.Disk.{Ghosts}
-use Rattle.sqlite_store.specs.declared.store.FileStore.{FileStore}
-use Rattle.sqlite_trees.specs.View.{IsClean}
 use Rattle.sqlite_wal.specs.Reads.{AreClean}
-use Rattle.sqlite_wal.specs.Recovery.{Image}
 use Rattle.toll_sql.specs.Opening.{Adopts, Creates, refuses, succeeds}
 use Rattle.toll_sql.specs.declared.open_fault.OpenFault.{OpenFault}
 use Rattle.toll_sql.specs.declared.open_fault.OpenFault.TheVariants.{Memory, Disk, NotOurs}

@@ -1,7 +1,6 @@
 -- A slice as far as its tables are read, one after another.
 use Rattle.std.specs.Prelude.{◌≡◌, ℕ, List, [], length, take}
-use Rattle.sqlite.specs.Order.{Row}
-use Rattle.toll_base.specs.Slice.{Slice}
+use Rattle.toll_sql.specs.Common.{Row, Slice}
 use Rattle.toll_sql.specs.Bag.{Rises}
 use Rattle.toll_sql.specs.Cells.{key_order}
 use Rattle.toll_sql.specs.Encode.{rows_for}

@@ -1,15 +1,6 @@
 -- Rows that show the batch that holds a unit.
 use Rattle.std.specs.Prelude.{◌≡◌, ◌≢◌, ◌&&◌, ℕ, pos, Option, Some, None, IsTrue, List, [], ◌∷◌, map, filter, Contains, Result, Err, IfOk}
-use Rattle.std.specs.Ordering.{is_eq}
-use Rattle.sqlite.specs.Effect.{Database}
-use Rattle.sqlite.specs.Order.{Row, column, value_cmp}
-use Rattle.sqlite.specs.Tree.{Trees}
-use Rattle.sqlite.specs.declared.types.Value.TheVariants.{Int, Text}
-use Rattle.toll_base.specs.Bytes.{Bytes}
-use Rattle.toll_base.specs.Values.{is_name, IsBatchNo}
-use Rattle.toll_keep.specs.Content.{Content}
-use Rattle.toll_keep.specs.declared.fault.KeepFault.{KeepFault}
-use Rattle.toll_keep.specs.declared.fault.KeepFault.TheVariants.{Damaged}
+use Rattle.toll_sql.specs.Common.{is_eq, Database, Row, column, value_cmp, Trees, Int, Text, Bytes, is_name, IsBatchNo, Content, KeepFault, Damaged}
 use Rattle.toll_keep.specs.Holding.{IsHolder}
 use Rattle.toll_keep.specs.declared.holder.Holder.{Holder}
 use Rattle.toll_sql.specs.Asked.{AreReadWith}

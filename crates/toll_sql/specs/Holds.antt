@@ -1,15 +1,6 @@
 -- Tables that hold the rows of a content.
 use Rattle.std.specs.Prelude.{◌≡◌, ℕ, Bool, true, IsTrue, List, [], ◌∷◌, map}
-use Rattle.std.specs.List.{AllByRecursion}
-use Rattle.sqlite.specs.Order.{Row, column}
-use Rattle.sqlite.specs.Tree.{Trees}
-use Rattle.sqlite.specs.declared.types.Value.TheVariants.{Text}
-use Rattle.toll_base.specs.Bytes.{Bytes}
-use Rattle.toll_base.specs.Slice.{Slice}
-use Rattle.toll_base.specs.Values.{is_name}
-use Rattle.toll_base.specs.declared.rows.OwnerRow.{OwnerRow}
-use Rattle.toll_base.specs.declared.rows.UnitRow.{UnitRow}
-use Rattle.toll_keep.specs.Content.{Content}
+use Rattle.toll_sql.specs.Common.{AllByRecursion, Row, column, Trees, Text, Bytes, Slice, is_name, OwnerRow, UnitRow, Content}
 use Rattle.toll_sql.specs.Bag.{Rises, SameBag, all_cells, owned_by}
 use Rattle.toll_sql.specs.Cells.{key_order}
 use Rattle.toll_sql.specs.Encode.{meta_cells, owner_cells, unit_cells, rows_for}

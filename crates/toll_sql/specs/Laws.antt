@@ -2,10 +2,7 @@
 use Rattle.std.specs.Prelude.{◌≡◌, true, IsTrue, [], ◌∷◌}
 use Rattle.std.proofs.Common.{inl, ap, sym, subst, ◌∙◌}
 use Rattle.std.proofs.Math.Bool.{Bool-set}
-use Rattle.sqlite.specs.Effect.{Database}
-use Rattle.sqlite.specs.State.{State}
-use Rattle.sqlite.specs.Tree.{Trees}
-use Rattle.toll_keep.specs.Content.{Content}
+use Rattle.toll_sql.specs.Common.{Database, State, Trees, Content}
 use Rattle.toll_sql.specs.Holds.{Holds}
 use Rattle.toll_sql.specs.Stores.{HoldsIn, LeavesIn, LiesOpen}
 

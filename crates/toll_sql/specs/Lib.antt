@@ -1,3 +1,4 @@
+pub mod Common
 pub mod Plain
 pub mod Tables
 pub mod Others

@@ -1,13 +1,6 @@
 -- What a stored movement moves.
 use Rattle.std.specs.Prelude.{◌≡◌, ℕ, pos, [], IsTrue}
-use Rattle.sqlite.specs.Order.{Row, column}
-use Rattle.sqlite.specs.declared.types.Value.TheVariants.{Int, Text}
-use Rattle.toll_base.specs.Bytes.{Bytes}
-use Rattle.toll_base.specs.Values.{is_name}
-use Rattle.toll_base.specs.declared.lot.LotId.{LotId}
-use Rattle.toll_base.specs.declared.movement.Move.{Move}
-use Rattle.toll_base.specs.declared.movement.Move.TheVariants.{Receive, Split, Actual}
-use Rattle.toll_base.specs.declared.role.Role.{Role}
+use Rattle.toll_sql.specs.Common.{Row, column, Int, Text, Bytes, is_name, LotId, Move, Receive, Split, Actual, Role}
 use Rattle.toll_sql.specs.Encode.{kind_number, lot_of, sublot_of, target_of, material_of, order_of, number_of, segment_of}
 use Rattle.toll_sql.specs.Valid.{IsMove}
 

@@ -1,10 +1,8 @@
 -- A keep that was opened from files, before anything is asked of it.
 use Rattle.std.specs.Prelude.{◌≡◌, Bool}
-use Rattle.sqlite.specs.Held.{Held}
+use Rattle.toll_sql.specs.Common.{Held, FileStore, Image}
 use Rattle.sqlite_disk.specs.declared.Disk as disk
-use Rattle.sqlite_store.specs.declared.store.FileStore.{FileStore}
 use Rattle.sqlite_trees.specs.declared.store.Store as store
-use Rattle.sqlite_wal.specs.Recovery.{Image}
 use Rattle.toll_keep.specs.Remembered.{IsNothing}
 use Rattle.toll_keep.specs.declared.keep.Keep as keep
 use Rattle.toll_keep.specs.declared.remembering.Remembering.{Remembering}

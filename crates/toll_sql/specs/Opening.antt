@@ -1,13 +1,7 @@
 -- Whether tables are made or found.
 use Rattle.std.specs.Prelude.{◌≡◌, ◌≢◌, ◌⊎◌, false, None, List, ℕ, Option, codes, IsTrue, Result, Ok, Err, IfErr, OnOk}
-use Rattle.sqlite.specs.Effect.{Database}
-use Rattle.sqlite.specs.State.{State, HasCleanDisk, KeepsCommit, Survives}
-use Rattle.sqlite.specs.Schema.{Schema}
-use Rattle.sqlite.specs.Tree.{Trees}
-use Rattle.sqlite.specs.declared.error.Error.{Error}
-use Rattle.sqlite.specs.declared.error.Error.TheVariants.{SqliteFailure}
+use Rattle.toll_sql.specs.Common.{Database, State, HasCleanDisk, KeepsCommit, Survives, Schema, Trees, Error, SqliteFailure, Content, nothing}
 use Rattle.sqlite.specs.declared.error.ErrorCode.TheVariants as code
-use Rattle.toll_keep.specs.Content.{Content, nothing}
 use Rattle.toll_sql.specs.Asked.{IsUnreadBy, ShowsMeta, meta_text}
 use Rattle.toll_sql.specs.Causes.{IsCaused, Reason, is_disk_fault}
 use Rattle.toll_sql.specs.Create.{LeavesMade}

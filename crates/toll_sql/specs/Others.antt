@@ -1,12 +1,6 @@
 -- Schemas that have the office's tables, whatever other tools have made behind them.
 use Rattle.std.specs.Prelude.{◌≡◌, Bool, false, List, [], ◌++◌, if◌then◌else◌}
-use Rattle.std.specs.List.{AllByRecursion}
-use Rattle.sqlite.specs.Effect.{Database}
-use Rattle.sqlite.specs.Schema.{Schema}
-use Rattle.sqlite.specs.Table.{Table}
-use Rattle.sqlite_catalog.specs.Change.{KeepsRows, indexed, is_used}
-use Rattle.sqlite_schema.specs.Rules.{guards}
-use Rattle.sqlite_schema.specs.declared.schema.Index.{Index}
+use Rattle.toll_sql.specs.Common.{AllByRecursion, Database, Schema, Table, KeepsRows, indexed, is_used, guards, Index}
 use Rattle.toll_sql.specs.Tables.{by_batch, made_all, ours, table_of}
 use Rattle.toll_sql.specs.declared.table_kind.TableKind.TheVariants.{Moves}
 

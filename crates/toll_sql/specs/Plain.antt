@@ -1,13 +1,8 @@
 -- Tables of texts and whole numbers, each with a key and nothing else.
 use Rattle.std.specs.Prelude.{ℕ, true, false, None, List, [], ◌∷◌}
-use Rattle.sqlite.specs.Collation.TheVariants.{Binary}
+use Rattle.toll_sql.specs.Common.{Binary, Schema, Table, Null, Column, plain}
 use Rattle.sqlite.specs.Kind.TheVariants.{Integer, Text}
-use Rattle.sqlite.specs.Schema.{Schema}
-use Rattle.sqlite.specs.Table.{Table}
-use Rattle.sqlite.specs.declared.types.Value.TheVariants.{Null}
-use Rattle.sqlite_schema.specs.declared.schema.Column.{Column}
 use Rattle.sqlite_schema.specs.declared.schema.Stamps.{Stamps}
-use Rattle.sqlite_value.specs.Keys.{plain}
 
 abbrev pub no_schema : Schema
 no_schema = record { tables = []; indexes = []; views = [] }

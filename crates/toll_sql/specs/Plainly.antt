@@ -1,13 +1,6 @@
 -- Schemas of plain tables: what tells two of them apart are names, kinds, keys and numbers of trees.
 use Rattle.std.specs.Prelude.{◌≡◌, List, [], true}
-use Rattle.std.specs.List.{AllByRecursion}
-use Rattle.sqlite.specs.Collation.TheVariants.{Binary}
-use Rattle.sqlite.specs.Schema.{Schema}
-use Rattle.sqlite.specs.Table.{Table}
-use Rattle.sqlite.specs.declared.types.Value.TheVariants.{Null}
-use Rattle.sqlite_schema.specs.declared.schema.Column.{Column}
-use Rattle.sqlite_schema.specs.declared.schema.Index.{Index}
-use Rattle.sqlite_value.specs.Keys.{plain}
+use Rattle.toll_sql.specs.Common.{AllByRecursion, Binary, Schema, Table, Null, Column, Index, plain}
 use Rattle.toll_sql.specs.Plain.{table_with}
 
 -- never NULL, of its kind alone, compared byte by byte

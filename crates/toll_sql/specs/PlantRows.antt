@@ -1,10 +1,6 @@
 -- Rows of the plant, which owners do not part, as a table has them.
 use Rattle.std.specs.Prelude.{◌≡◌, List, map}
-use Rattle.std.specs.List.{AllByRecursion}
-use Rattle.sqlite.specs.Order.{Row}
-use Rattle.sqlite.specs.State.{State}
-use Rattle.toll_base.specs.declared.rows.OwnerRow.{OwnerRow}
-use Rattle.toll_base.specs.declared.rows.UnitRow.{UnitRow}
+use Rattle.toll_sql.specs.Common.{AllByRecursion, Row, State, OwnerRow, UnitRow}
 use Rattle.toll_sql.specs.Asking.{OverOurs}
 use Rattle.toll_sql.specs.Encode.{owner_cells, unit_cells}
 use Rattle.toll_sql.specs.Holds.{HoldsAll}

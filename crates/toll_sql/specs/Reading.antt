@@ -1,13 +1,8 @@
 -- An owner's rows, read table by table.
 use Rattle.std.specs.Prelude.{◌≡◌, ◌≢◌, ◌↔◌, Option, None, List, [], ◌∷◌, Result, Err, OnOk, IfOk, IfSome}
-use Rattle.sqlite.specs.Order.{Row}
-use Rattle.sqlite.specs.State.{State}
-use Rattle.toll_base.specs.Bytes.{Bytes}
-use Rattle.toll_base.specs.Slice.{Slice}
+use Rattle.toll_sql.specs.Common.{Row, State, Bytes, Slice, KeepFault, Damaged}
 use Rattle.toll_base.specs.SliceRules.{KeepsRules}
 use Rattle.toll_base.specs.declared.rows.Row.{Row as OfficeRow}
-use Rattle.toll_keep.specs.declared.fault.KeepFault.{KeepFault}
-use Rattle.toll_keep.specs.declared.fault.KeepFault.TheVariants.{Damaged}
 use Rattle.toll_sql.specs.Asking.{ForSlice, IsLooking}
 use Rattle.toll_sql.specs.Fronts.{IsStoredAs, front, past}
 use Rattle.toll_sql.specs.PlantRows.{ForOwners}

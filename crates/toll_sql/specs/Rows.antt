@@ -1,8 +1,6 @@
 -- Rows that a query answers.
 use Rattle.std.specs.Prelude.{List, map, IsPermutation, IsSorted}
-use Rattle.sqlite.specs.Order.{Row}
-use Rattle.sqlite.specs.Tree.{Trees}
-use Rattle.toll_base.specs.Bytes.{Bytes}
+use Rattle.toll_sql.specs.Common.{Row, Trees, Bytes}
 use Rattle.toll_sql.specs.Bag.{owned_by}
 use Rattle.toll_sql.specs.Cells.{columns_from, key_order}
 use Rattle.toll_sql.specs.Tables.{tree_of, width_of}

@@ -1,10 +1,8 @@
 -- A plain query on one table.
 use Rattle.std.specs.Prelude.{ℕ, pos, negsuc, false, List, [], map, None, IsPermutation, IsSorted}
-use Rattle.std.specs.Ordering.{on}
-use Rattle.sqlite.specs.Order.{Row}
+use Rattle.toll_sql.specs.Common.{on, Row, Int}
 use Rattle.sqlite.specs.Query.{Query, inner, end, key_cmp}
 use Rattle.sqlite.specs.Term.{Term, lit}
-use Rattle.sqlite.specs.declared.types.Value.TheVariants.{Int}
 use Rattle.sqlite_value.specs.declared.keys.Key.{Key}
 
 abbrev pub plain_query : ℕ → List Term → List Term → List (Term × Key) → Query

@@ -1,11 +1,7 @@
 -- What the rows of one kind have to do with their table.
 use Rattle.std.specs.Prelude.{◌≡◌, ℕ, ◌+◌, ◌<◌, true, false, List, length, map}
 use Rattle.std.proofs.Common.{get_or}
-use Rattle.std.specs.List.{AllByRecursion}
-use Rattle.sqlite.specs.Order.{Row}
-use Rattle.sqlite.specs.Tree.{Trees}
-use Rattle.toll_base.specs.Bytes.{Bytes}
-use Rattle.toll_base.specs.Slice.{Slice, with_row}
+use Rattle.toll_sql.specs.Common.{AllByRecursion, Row, Trees, Bytes, Slice, with_row}
 use Rattle.toll_base.specs.declared.rows.Row.{Row as OfficeRow}
 use Rattle.toll_sql.specs.Bag.{Rises}
 use Rattle.toll_sql.specs.Cells.{fill, key_order}

@@ -1,22 +1,9 @@
 -- The store behind a keep: what its tables have to be, and what is made of them.
 use Rattle.std.specs.Prelude.{◌≡◌, pos, true, None, Bool, List, [], ◌∷◌, IsTrue, Result, IfErr, OnOk, OnErr}
-use Rattle.std.specs.List.{AllByRecursion}
-use Rattle.sqlite.specs.Effect.{Database}
-use Rattle.sqlite.specs.Order.{Row}
-use Rattle.sqlite.specs.State.{State, HasCleanDisk, KeepsCommit, Survives}
-use Rattle.sqlite.specs.Tree.{Trees}
-use Rattle.sqlite.specs.declared.error.Error.{Error}
-use Rattle.sqlite.specs.declared.types.Value.TheVariants.{Int}
-use Rattle.sqlite_schema.specs.Rules.{agree}
-use Rattle.sqlite_trees.specs.View.{IsShaped}
+use Rattle.toll_sql.specs.Common.{AllByRecursion, Database, Row, State, HasCleanDisk, KeepsCommit, Survives, Trees, Error, Int, agree, IsShaped, plain, Bytes, Slice, is_name, Content}
 use Rattle.sqlite_trees.specs.declared.store.Shape.TheVariants as shape
-use Rattle.sqlite_value.specs.Keys.{plain}
-use Rattle.toll_base.specs.Bytes.{Bytes}
-use Rattle.toll_base.specs.Slice.{Slice}
-use Rattle.toll_base.specs.Values.{is_name}
 use Rattle.toll_base.specs.declared.decision.Change.{Change}
 use Rattle.toll_base.specs.declared.decision.Change.TheVariants.{Owner, Unit as UnitAdded, Put}
-use Rattle.toll_keep.specs.Content.{Content}
 use Rattle.toll_keep.specs.Goes.{IsAmong}
 use Rattle.toll_sql.specs.Causes.{IsCaused}
 use Rattle.toll_sql.specs.Cells.{fill}

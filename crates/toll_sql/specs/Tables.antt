@@ -1,11 +1,7 @@
 -- The tables, and the texts of the statements on them. Written by tools/sql-texts.
 use Rattle.std.specs.Prelude.{ℕ, Bool, true, false, List, [], ◌∷◌, codes}
 use Rattle.sqlite.specs.Change.{created}
-use Rattle.sqlite.specs.Schema.{Schema}
-use Rattle.sqlite.specs.Table.{Table}
-use Rattle.sqlite_catalog.specs.Change.{indexed}
-use Rattle.sqlite_schema.specs.declared.schema.Index.{Index}
-use Rattle.sqlite_value.specs.Keys.{plain}
+use Rattle.toll_sql.specs.Common.{Schema, Table, indexed, Index, plain}
 use Rattle.toll_sql.specs.Plain.{no_schema, table_with, text_column, int_column}
 use Rattle.toll_sql.specs.declared.table_kind.TableKind.{TableKind}
 use Rattle.toll_sql.specs.declared.table_kind.TableKind.TheVariants.{Meta, Owners, Units, Materials, Tests, Recipes, Requirements, Orders, Batches, Lots, Sublots, Moves, Results, Voids}

@@ -1,28 +1,8 @@
 -- Rows whose values are values of their kinds.
 use Rattle.std.specs.Prelude.{IsTrue, ℕ, ◌<◌, ◌^◌}
-use Rattle.std.specs.List.{AllByRecursion}
-use Rattle.toll_base.specs.Slice.{Slice}
-use Rattle.toll_base.specs.Values.{is_name, is_owner_key, is_measure, IsAmount, IsDay, IsSegment, IsBatchNo, IsValue}
-use Rattle.toll_base.specs.declared.lot.LotId.{LotId}
-use Rattle.toll_base.specs.declared.lot.Origin.{Origin}
-use Rattle.toll_base.specs.declared.lot.Origin.TheVariants.{Receipts, Batch as OfBatch}
-use Rattle.toll_base.specs.declared.movement.Move.{Move}
-use Rattle.toll_base.specs.declared.movement.Move.TheVariants.{Receive, Split, Ship, Scrap, Actual}
-use Rattle.toll_base.specs.declared.movement.MoveRow.{MoveRow}
-use Rattle.toll_base.specs.declared.rows.BatchRow.{BatchRow}
-use Rattle.toll_base.specs.declared.rows.LotRow.{LotRow}
-use Rattle.toll_base.specs.declared.rows.MaterialRow.{MaterialRow}
-use Rattle.toll_base.specs.declared.rows.OrderRow.{OrderRow}
-use Rattle.toll_base.specs.declared.rows.OwnerRow.{OwnerRow}
-use Rattle.toll_base.specs.declared.rows.RecipeRow.{RecipeRow}
-use Rattle.toll_base.specs.declared.rows.RequirementRow.{RequirementRow}
-use Rattle.toll_base.specs.declared.rows.ResultRow.{ResultRow}
+use Rattle.toll_sql.specs.Common.{AllByRecursion, Slice, is_name, is_owner_key, is_measure, IsAmount, IsDay, IsSegment, IsBatchNo, IsValue, LotId, Origin, Receipts, Batch as OfBatch, Move, Receive, Split, Ship, Scrap, Actual, MoveRow, BatchRow, LotRow, MaterialRow, OrderRow, OwnerRow, RecipeRow, RequirementRow, ResultRow, SublotRow, TestRow, UnitRow, VoidRow}
 use Rattle.toll_base.specs.declared.rows.Row.{Row as OfficeRow}
 use Rattle.toll_base.specs.declared.rows.Row.TheVariants as of
-use Rattle.toll_base.specs.declared.rows.SublotRow.{SublotRow}
-use Rattle.toll_base.specs.declared.rows.TestRow.{TestRow}
-use Rattle.toll_base.specs.declared.rows.UnitRow.{UnitRow}
-use Rattle.toll_base.specs.declared.rows.VoidRow.{VoidRow}
 use Rattle.toll_sql.specs.declared.table_kind.TableKind.{TableKind}
 use Rattle.toll_sql.specs.declared.table_kind.TableKind.TheVariants.{Meta, Owners, Units, Materials, Tests, Recipes, Requirements, Orders, Batches, Lots, Sublots, Moves, Results, Voids}
 

@@ -1,13 +1,7 @@
 -- No rows at all stand for the history in which nothing was done.
 use Rattle.std.proofs.Common.{[], refl}
-use Rattle.toll_base.specs.Bytes.{Bytes}
-use Rattle.toll_base.specs.Slice.{empty_slice}
-use Rattle.toll_base.specs.Table.{row_at}
-use Rattle.toll_history.specs.History.{acts}
-use Rattle.toll_history.specs.Movements.{stock, sublot_known, lot_made, count_lots, count_sublots, material_used}
-use Rattle.toll_history.specs.Tables.{IsRowsOf}
+use Rattle.toll_standing.proofs.Common.{Bytes, empty_slice, row_at, acts, stock, sublot_known, lot_made, count_lots, count_sublots, material_used, IsRowsOf, nothing}
 use Rattle.std.specs.List.Sorted.{IsStrictlySortedBy}
-use Rattle.toll_keep.specs.Content.{nothing}
 use Rattle.toll_standing.specs.Standing.{StandsFor}
 
 rows_of_nobody : (o : Bytes) → IsRowsOf [] (empty_slice o)

@@ -1,17 +1,7 @@
 -- The rows that a lawful history gives keep the rules of a slice.
 use Rattle.std.proofs.Common.{◌≡◌, ℕ, ◌≤◌, Bool, true, false, Option, Some, None, is_some, nat_le, refl, sym, subst, ◌∙◌, arith}
-use Rattle.std.specs.Option.{option_map}
-use Rattle.std.proofs.lemmas.Bool.Decides.{nat_tests}
-use Rattle.toll_base.specs.Bytes.{Bytes}
-use Rattle.toll_base.specs.Words.{none_or, where_so}
-use Rattle.toll_base.specs.Slice.{Slice}
-use Rattle.toll_base.specs.SliceRules.{KeepsRules}
-use Rattle.toll_history.specs.History.{History, acts, owner_known}
-use Rattle.toll_history.specs.Work.{material_of}
+use Rattle.toll_standing.proofs.Common.{option_map, nat_tests, Bytes, none_or, where_so, Slice, KeepsRules, History, acts, owner_known, material_of, lot_made, sublot_known, stock, Tables, lot_row, sublot_row, IsRowsOf, IsLawful, some_mapped, Content, ContentKeepsRules}
 use Rattle.toll_base.specs.Lots.{lot_id}
-use Rattle.toll_history.specs.Movements.{lot_made, sublot_known, stock}
-use Rattle.toll_history.specs.Tables.{Tables, lot_row, sublot_row, IsRowsOf}
-use Rattle.toll_history.specs.Verdict.{IsLawful}
 use Rattle.toll_base.specs.declared.rows.LotRow.{LotRow}
 use Rattle.toll_base.specs.declared.rows.SublotRow.{SublotRow}
 use Rattle.toll_history.proofs.LimitsKept.{limits_kept}
@@ -19,8 +9,6 @@ use Rattle.toll_history.proofs.LotMaterials.{lot_material}
 use Rattle.toll_history.proofs.Lots.{sublot_lot}
 use Rattle.toll_history.proofs.Stock.{stock_bounded}
 use Rattle.toll_base.proofs.SliceFits.{empty_keeps}
-use Rattle.toll_genealogy.proofs.KnownLots.{some_mapped}
-use Rattle.toll_keep.specs.Content.{Content, ContentKeepsRules}
 use Rattle.toll_standing.specs.Standing.{StandsFor}
 
 le_true : (n most : ℕ) → n ≤ most → nat_le n most ≡ true

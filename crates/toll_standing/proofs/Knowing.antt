@@ -1,13 +1,6 @@
 -- A content that stands for a history knows the owners that the history knows.
 use Rattle.std.proofs.Common.{◌≡◌, ◌||◌, Option, Some, None, is_some, List, [], ◌∷◌, refl, ap, ◌∙◌}
-use Rattle.std.specs.List.{list_any}
-use Rattle.toll_base.specs.Bytes.{Bytes, same_bytes}
-use Rattle.toll_base.specs.Values.{house_name}
-use Rattle.toll_base.specs.Words.{or_else}
-use Rattle.toll_history.specs.Command.{Action, AddOwner}
-use Rattle.toll_history.specs.History.{History, acts, key_added, adds_owner, owner_key, owner_known}
-use Rattle.toll_genealogy.proofs.KnownLots.{some_mapped}
-use Rattle.toll_keep.specs.Content.{Content, knows}
+use Rattle.toll_standing.proofs.Common.{list_any, Bytes, same_bytes, house_name, or_else, Action, AddOwner, History, acts, key_added, adds_owner, owner_key, owner_known, some_mapped, Content, knows}
 use Rattle.toll_standing.specs.Standing.{StandsFor}
 
 some_else : {X : Type 0} (first second : Option X) → is_some (or_else first second) ≡ (is_some first || is_some second)

@@ -1,19 +1,8 @@
 -- Over a lawful history one batch at most holds a unit.
 use Rattle.std.proofs.Common.{◌≡◌, ◌+◌, Bool, true, not, ◌&&◌, Some, None, is_some, [], ◌∷◌, refl, sym, ap, subst, ◌∙◌, inl, inr}
-use mathlib.Core.Bool.{false≢true}
+use Rattle.toll_standing.proofs.Common.{false≢true, or_parts, not-true, Bytes, same_bytes, both, and_is, same_bytes-exact, same_bytes-refl, Action, OpenBatch, by, History, acts, OpenedBatch, opened, holder, Accepted, verdict, IsLawful, closes, count_opened, is_closed, any_acts, Contains-none, Contains-cases}
 use Rattle.std.specs.Prelude.{find, Contains}
-use Rattle.std.proofs.lemmas.Bool.{or_parts, not-true}
-use Rattle.toll_base.specs.Bytes.{Bytes, same_bytes}
-use Rattle.toll_base.proofs.Bools.{both, and_is}
-use Rattle.toll_base.proofs.Texts.{same_bytes-exact, same_bytes-refl}
-use Rattle.toll_history.specs.Command.{Action, OpenBatch, by}
-use Rattle.toll_history.specs.History.{History, acts}
-use Rattle.toll_history.specs.Holders.{OpenedBatch, opened, holder}
-use Rattle.toll_history.specs.Verdict.{Accepted, verdict, IsLawful}
-use Rattle.toll_history.specs.Work.{closes, count_opened, is_closed}
-use Rattle.toll_history.proofs.Acts.{any_acts}
 use Rattle.toll_history.proofs.Passed.{accepted_passes}
-use Rattle.toll_trace.proofs.Members.{Contains-none, Contains-cases}
 use Rattle.toll_standing.specs.Held.{HoldsUnit}
 use Rattle.toll_keep.proofs.Finding.{found_in, found_one}
 

@@ -1,18 +1,12 @@
 -- The edges that a content has are those of the history that it stands for.
 use Rattle.std.proofs.Common.{◌≡◌, true, false, List, refl, sym, subst}
 use Rattle.std.specs.Prelude.{Contains}
-use Rattle.toll_base.specs.Bytes.{Bytes}
+use Rattle.toll_standing.proofs.Common.{Bytes, Record, History, acts, owner_known, IsLawful, Contains-none, Content, IsEdgeOfSome}
 use Rattle.toll_base.specs.declared.lot.Edge.{Edge}
-use Rattle.toll_history.specs.Command.{Record}
-use Rattle.toll_history.specs.History.{History, acts, owner_known}
-use Rattle.toll_history.specs.Verdict.{IsLawful}
 use Rattle.toll_trace.specs.Edges.{IsEdge, AreEdges}
-use Rattle.toll_trace.proofs.Members.{Contains-none}
 use Rattle.toll_trace.proofs.Unique.{edges_same}
 use Rattle.toll_genealogy.specs.Edges.{IsOwnEdge, IsPlantEdge}
 use Rattle.toll_genealogy.proofs.SliceEdges.{slice_edge_is_own, own_edge_is_slices}
-use Rattle.toll_keep.specs.Content.{Content}
-use Rattle.toll_keep.specs.Holding.{IsEdgeOfSome}
 use Rattle.toll_standing.specs.Standing.{StandsFor}
 use Rattle.toll_keep.proofs.AllOwners.{no_edges}
 use Rattle.toll_standing.proofs.Unknown.{acts_of_unknown}

@@ -1,28 +1,9 @@
 -- The batch that holds a unit, in a content and in the history that it stands for.
 use Rattle.std.proofs.Common.{◌≡◌, ◌⊎◌, ℕ, ◌+◌, ◌≤◌, Bool, true, false, not, ◌&&◌, ◌==◌, cond, Option, Some, None, is_some, List, [], ◌∷◌, ◌++◌, refl, sym, ap, subst, ◌∙◌, inl, inr, arith}
-use mathlib.Core.Bool.{false≢true}
+use Rattle.toll_standing.proofs.Common.{false≢true, option_map, not-true, nat_tests, Bytes, same_bytes, is_some_where, none_or, or_else, row_at, batch_at, Action, OpenBatch, Command, History, acts, owner_known, opens, count_opened, unit_opened, unit_of, is_closed, batch_of, OpenedBatch, opened_by, opened, holder, Tables, tables_of, tables_given, IsLawful, acts-own, acts-other, both, and_is, same_bytes-exact, same_bytes-refl, nat_eq-exact, Contains-none, Contains-here, Contains-cases, Content, is_on, IsHolder}
 use Rattle.std.specs.Prelude.{Contains, if◌then◌else◌}
-use Rattle.std.specs.Option.{option_map}
-use Rattle.std.proofs.lemmas.Bool.{not-true}
-use Rattle.std.proofs.lemmas.Bool.Decides.{nat_tests}
 use Rattle.std.proofs.lemmas.List.Elements.{Contains-append_left, Contains-append_right, Contains-append_cases}
-use Rattle.toll_base.specs.Bytes.{Bytes, same_bytes}
-use Rattle.toll_base.specs.Words.{is_some_where, none_or, or_else}
-use Rattle.toll_base.specs.Table.{row_at}
-use Rattle.toll_base.specs.Slice.{batch_at}
-use Rattle.toll_history.specs.Command.{Action, OpenBatch, Command}
-use Rattle.toll_history.specs.History.{History, acts, owner_known}
-use Rattle.toll_history.specs.Work.{opens, count_opened, unit_opened, unit_of, is_closed, batch_of}
-use Rattle.toll_history.specs.Holders.{OpenedBatch, opened_by, opened, holder}
-use Rattle.toll_history.specs.Tables.{Tables, tables_of, tables_given}
-use Rattle.toll_history.specs.Verdict.{IsLawful}
-use Rattle.toll_history.proofs.Own.{acts-own, acts-other}
-use Rattle.toll_base.proofs.Bools.{both, and_is}
-use Rattle.toll_base.proofs.Texts.{same_bytes-exact, same_bytes-refl, nat_eq-exact}
-use Rattle.toll_trace.proofs.Members.{Contains-none, Contains-here, Contains-cases}
 use Rattle.toll_keep.specs.declared.holder.Holder.{Holder}
-use Rattle.toll_keep.specs.Content.{Content}
-use Rattle.toll_keep.specs.Holding.{is_on, IsHolder}
 use Rattle.toll_standing.specs.Held.{HoldsUnit, on_unit}
 use Rattle.toll_standing.specs.Standing.{StandsFor}
 use Rattle.toll_standing.proofs.OneHolder.{holder_is, no_holder_is}

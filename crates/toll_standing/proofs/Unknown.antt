@@ -1,16 +1,7 @@
 -- A lawful history has no command of an owner that it does not know, and gives it no rows.
 use Rattle.std.proofs.Common.{◌≡◌, Bool, true, false, not, ◌&&◌, ◌||◌, [], ◌∷◌, refl, sym, ap, ◌∙◌}
-use mathlib.Core.Bool.{false≢true}
-use Rattle.std.specs.List.{list_any}
-use Rattle.toll_base.specs.Bytes.{Bytes, same_bytes}
-use Rattle.toll_base.specs.Values.{house_name}
-use Rattle.toll_history.specs.Command.{Action, AddOwner, Command}
-use Rattle.toll_history.specs.History.{History, part, acts, adds_owner, owner_known}
-use Rattle.toll_history.specs.Verdict.{Accepted, checks, needs_owner, verdict, IsLawful}
+use Rattle.toll_standing.proofs.Common.{false≢true, list_any, Bytes, same_bytes, house_name, Action, AddOwner, Command, History, part, acts, adds_owner, owner_known, Accepted, checks, needs_owner, verdict, IsLawful, any_acts, acts-part, part-other, same_bytes-exact}
 use Rattle.toll_history.proofs.Accepted.{none_applies}
-use Rattle.toll_history.proofs.Acts.{any_acts}
-use Rattle.toll_history.proofs.Own.{acts-part, part-other}
-use Rattle.toll_base.proofs.Texts.{same_bytes-exact}
 
 -- the owner of an accepted command is known, or added by it
 owner_of_accepted : (H : History) (c : Command) → verdict H c ≡ Accepted → (needs_owner c.action && not (owner_known H c.owner)) ≡ false

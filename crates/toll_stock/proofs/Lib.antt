@@ -1,3 +1,4 @@
+pub mod Common
 pub mod LotOrder
 pub mod MaterialLaw
 pub mod ReceiptLaw

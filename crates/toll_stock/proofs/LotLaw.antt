@@ -1,40 +1,8 @@
 -- What a decision on the disposition of a lot owes.
 use Rattle.std.proofs.Common.{◌≡◌, Bool, true, false, ◌||◌, cond, Option, Some, None, is_some, is_none, List, [], ◌∷◌, map, refl, sym, ap, ◌∙◌}
-use mathlib.Core.Bool.{false≢true}
-use Rattle.std.specs.Cmp.Lexicographic.{nat_list_cmp_total}
-use Rattle.std.specs.List.{list_any}
-use Rattle.std.specs.Option.{option_map}
-use Rattle.std.specs.Ordering.{is_eq}
-use Rattle.std.specs.declared.cmp.Ordering.{Ordering}
-use Rattle.std.proofs.lemmas.Bool.{or_left}
-use Rattle.toll_base.specs.Bytes.{Bytes, same_bytes, bytes_cmp}
-use Rattle.toll_history.specs.Command.{Action, Release, Reject, by}
-use Rattle.toll_history.specs.History.{History, acts}
-use Rattle.toll_base.specs.Slice.{Slice, lot_at, material_at, with_row}
-use Rattle.toll_base.specs.SliceRules.{KeepsRules}
-use Rattle.toll_base.specs.Table.{row_at}
-use Rattle.toll_base.specs.Words.{none_or}
-use Rattle.toll_base.specs.Lots.{lot_id}
-use Rattle.toll_history.specs.Movements.{Made, lot_made}
-use Rattle.toll_history.specs.Dispositions.{is_bad, rejects, stays_released, disposition_of}
-use Rattle.toll_history.specs.Tables.{Tables, tables_of, tables_given, lot_row, IsRowsOf}
-use Rattle.toll_history.specs.Decision.{IsDecided, Decides, DecisionKeepsRules}
-use Rattle.toll_history.specs.Verdict.{Checks, is_quarantined, release_checks, reject_checks}
-use Rattle.toll_base.specs.declared.decision.Change.TheVariants.{Put}
-use Rattle.toll_base.specs.declared.decision.Decision.{Decision}
-use Rattle.toll_base.specs.declared.lot.Disposition.{Disposition}
-use Rattle.toll_base.specs.declared.lot.Disposition.TheVariants.{Quarantined, Released, Rejected}
-use Rattle.toll_base.specs.declared.rows.LotRow.{LotRow}
-use Rattle.toll_base.specs.declared.rows.Row.TheVariants.{Lot}
-use Rattle.toll_base.proofs.Bools.{and_is}
-use Rattle.toll_history.proofs.Passed.{accepted_passes}
-use Rattle.toll_history.proofs.Decided.{verdict_is, Grows, put_rows, RowsFit, decides, keeps_rules}
-use Rattle.toll_history.proofs.Grown.{tables-own, tables-others}
-use Rattle.toll_base.proofs.KeyOrder.{row_at-put_row}
+use Rattle.toll_stock.proofs.Common.{false≢true, nat_list_cmp_total, list_any, option_map, is_eq, Ordering, or_left, Bytes, same_bytes, bytes_cmp, Action, Release, Reject, by, History, acts, Slice, lot_at, material_at, with_row, KeepsRules, row_at, none_or, lot_id, Made, lot_made, is_bad, rejects, stays_released, disposition_of, Tables, tables_of, tables_given, lot_row, IsRowsOf, IsDecided, Decides, DecisionKeepsRules, Checks, is_quarantined, release_checks, reject_checks, Put, Decision, Disposition, Quarantined, Released, Rejected, LotRow, Lot, and_is, accepted_passes, verdict_is, Grows, put_rows, RowsFit, decides, keeps_rules, tables-own, tables-others, row_at-put_row, length-known, any-known, same_bytes-exact, same_bytes-refl, same_bytes-symm}
 use Rattle.toll_history.proofs.Moving.{lot_row_none}
 use Rattle.toll_history.proofs.OneOrigin.{at_made}
-use Rattle.toll_base.proofs.PutTables.{length-known, any-known}
-use Rattle.toll_base.proofs.Texts.{same_bytes-exact, same_bytes-refl, same_bytes-symm}
 use Rattle.toll_stock.specs.LotRows.{given_disposition}
 
 -- tables with this row of a lot

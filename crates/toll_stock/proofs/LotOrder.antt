@@ -1,15 +1,6 @@
 -- Rows whose keys begin with their lots stand in the order of their lots.
 use Rattle.std.proofs.Common.{◌≡◌, zero, suc, ◌+◌, false, List, [], ◌∷◌, refl, ap, ◌∙◌, arith}
-use Rattle.std.specs.Cmp.Lexicographic.{nat_list_cmp_total}
-use Rattle.std.specs.List.Sorted.{IsStrictlySortedBy, IsSortedByKey}
-use Rattle.std.specs.Ordering.{is_lt, is_gt, ordering_then, ordering_reverse}
-use Rattle.std.specs.declared.cmp.Ordering.{Ordering}
-use Rattle.std.specs.declared.cmp.Ordering.TheVariants.{Less, Equal, Greater}
-use Rattle.toll_base.specs.Bytes.{Bytes, bytes_cmp}
-use Rattle.toll_base.specs.Keys.{pair_cmp, result_cmp}
-use Rattle.toll_base.specs.Table.{IsInKeyOrder}
-use Rattle.toll_base.specs.declared.rows.ResultRow.{ResultRow}
-use Rattle.toll_base.specs.declared.rows.SublotRow.{SublotRow}
+use Rattle.toll_stock.proofs.Common.{nat_list_cmp_total, IsStrictlySortedBy, IsSortedByKey, is_lt, is_gt, ordering_then, ordering_reverse, Ordering, Less, Equal, Greater, Bytes, bytes_cmp, pair_cmp, result_cmp, IsInKeyOrder, ResultRow, SublotRow}
 
 -- what comes first is not above where the whole is not
 pub first_not_above : (r s : Ordering) → is_gt (ordering_then r s) ≡ false → is_gt r ≡ false

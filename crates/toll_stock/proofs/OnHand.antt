@@ -1,19 +1,6 @@
 -- What is in the sublots of a slice, over a history whose rows it has.
 use Rattle.std.proofs.Common.{◌≡◌, ◌<◌, ◌≤◌, ◌^◌, ℕ, Bool, true, false, cond, nat_le, refl, sym, ap, ◌∙◌, arith}
-use Rattle.std.proofs.lemmas.Bool.{leb-true}
-use Rattle.std.specs.Option.{option_map}
-use Rattle.toll_base.specs.Bytes.{Bytes, same_bytes}
-use Rattle.toll_base.specs.Keys.{pair_cmp}
-use Rattle.toll_base.specs.Table.{IsInKeyOrder}
-use Rattle.toll_base.specs.SliceRules.{KeepsRules}
-use Rattle.toll_base.specs.Words.{where_so, none_or}
-use Rattle.toll_history.specs.History.{History}
-use Rattle.toll_base.specs.Lots.{lot_id}
-use Rattle.toll_history.specs.Movements.{sublot_known, stock}
-use Rattle.toll_base.specs.Slice.{Slice, sublot_at}
-use Rattle.toll_history.specs.Tables.{Tables, IsRowsOf}
-use Rattle.toll_base.specs.declared.rows.SublotRow.{SublotRow}
-use Rattle.toll_base.proofs.Texts.{pair_cmp_total}
+use Rattle.toll_stock.proofs.Common.{leb-true, option_map, Bytes, same_bytes, pair_cmp, IsInKeyOrder, KeepsRules, where_so, none_or, History, lot_id, sublot_known, stock, Slice, sublot_at, Tables, IsRowsOf, SublotRow, pair_cmp_total}
 use Rattle.toll_stock.specs.LotTotals.{on_hand_in}
 use Rattle.toll_stock.proofs.Sums.{along, each_found, total_bounded}
 

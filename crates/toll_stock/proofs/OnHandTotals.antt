@@ -1,36 +1,15 @@
 -- What is in the sublots of a lot is what its standing movements received and produced, less what they used up.
 use Rattle.std.proofs.Common.{◌≡◌, ℕ, ◌+◌, ◌-◌, ◌≤◌, Bool, true, false, not, ◌&&◌, cond, Option, Some, None, is_some, List, [], ◌∷◌, ◌++◌, refl, sym, ap, ◌∙◌, arith}
-use mathlib.Core.Bool.{false≢true}
-use Rattle.std.specs.List.{AllByRecursion}
-use Rattle.std.specs.Option.{option_map_or}
-use Rattle.std.specs.Ordering.{is_eq}
+use Rattle.toll_stock.proofs.Common.{false≢true, AllByRecursion, option_map_or, is_eq, Bytes, same_bytes, bytes_cmp, pair_cmp, IsInKeyOrder, row_at, total, is_some_where, Action, Record, Void, History, lot_id, same_lot, Movement, has_key, moved_by, movements, standing_after, standing, brings_into, takes_from, brought, taken, stock, sublot_known, Slice, sublot_at, Tables, IsRowsOf, sublot_row, IsLawful, Receive, Split, Ship, Scrap, Actual, SublotRow, both, and_is, some_where, same_bytes-exact, same_bytes-refl, same_bytes-symm, is_eq-then, pair_cmp_total, adds_to, uses_up, amounts, on_hand, total-alike}
 use Rattle.std.proofs.lemmas.Option.{cond_some}
-use Rattle.toll_base.specs.Bytes.{Bytes, same_bytes, bytes_cmp}
-use Rattle.toll_base.specs.Keys.{pair_cmp}
-use Rattle.toll_base.specs.Table.{IsInKeyOrder, row_at}
-use Rattle.toll_base.specs.Words.{total, is_some_where}
-use Rattle.toll_history.specs.Command.{Action, Record, Void}
-use Rattle.toll_history.specs.History.{History}
 use Rattle.toll_history.specs.Laws.{BringsOwn, TakesKnown}
-use Rattle.toll_base.specs.Lots.{lot_id, same_lot}
-use Rattle.toll_history.specs.Movements.{Movement, has_key, moved_by, movements, standing_after, standing, brings_into, takes_from, brought, taken, stock, sublot_known}
-use Rattle.toll_base.specs.Slice.{Slice, sublot_at}
-use Rattle.toll_history.specs.Tables.{Tables, IsRowsOf, sublot_row}
-use Rattle.toll_history.specs.Verdict.{IsLawful}
 use Rattle.toll_base.specs.declared.lot.LotId.{LotId}
 use Rattle.toll_base.specs.declared.role.Role.TheVariants.{Consumed, Produced}
 use Rattle.toll_base.specs.declared.movement.Move.{Move}
-use Rattle.toll_base.specs.declared.movement.Move.TheVariants.{Receive, Split, Ship, Scrap, Actual}
-use Rattle.toll_base.specs.declared.rows.SublotRow.{SublotRow}
-use Rattle.toll_base.proofs.Bools.{both, and_is}
 use Rattle.toll_history.proofs.Crossing.{all_filtered}
-use Rattle.toll_history.proofs.Options.{some_where}
 use Rattle.toll_history.proofs.Owned.{all_bring_own, all_take_known}
 use Rattle.toll_history.proofs.Stock.{covered}
-use Rattle.toll_base.proofs.Texts.{same_bytes-exact, same_bytes-refl, same_bytes-symm, is_eq-then, pair_cmp_total}
-use Rattle.toll_history.specs.Amounts.{adds_to, uses_up, amounts, on_hand}
 use Rattle.toll_stock.specs.LotTotals.{on_hand_in}
-use Rattle.toll_history.proofs.Sums.{total-alike}
 use Rattle.toll_stock.proofs.Sums.{total-along, total-plus, total-zero, total-swapped, cond-total, cond_zero, along, each_found, total_at}
 
 -- ---- the sublots that a movement brings into and takes from

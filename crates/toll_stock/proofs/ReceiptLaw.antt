@@ -1,35 +1,6 @@
 -- What a receipt owes.
 use Rattle.std.proofs.Common.{◌≡◌, ℕ, ◌+◌, not, ◌&&◌, is_some, List, [], ◌∷◌, ◌++◌, refl, sym, ap, ◌∙◌}
-use Rattle.std.proofs.lemmas.Bool.{or_parts}
-use Rattle.toll_history.specs.Bounds.{sublot_bounds}
-use Rattle.toll_base.specs.Bytes.{Bytes, same_bytes}
-use Rattle.toll_history.specs.Command.{Record, by}
-use Rattle.toll_history.specs.History.{History}
-use Rattle.toll_base.specs.Slice.{Slice, lot_at}
-use Rattle.toll_base.specs.SliceRules.{KeepsRules}
-use Rattle.toll_base.specs.Words.{where_so, is_some_where}
-use Rattle.toll_history.specs.Tables.{Tables, tables_of, tables_given}
-use Rattle.toll_history.specs.Decision.{IsDecided, Decides, DecisionKeepsRules}
-use Rattle.toll_history.specs.Verdict.{Accepted, Checks, first_of, key_checks, receive_checks, amount_in, verdict, IsLawful, IsValid}
-use Rattle.toll_base.specs.declared.decision.Change.TheVariants.{Put}
-use Rattle.toll_base.specs.declared.decision.Decision.{Decision}
-use Rattle.toll_base.specs.declared.lot.Disposition.TheVariants.{Quarantined}
-use Rattle.toll_base.specs.declared.lot.Origin.TheVariants.{Receipts}
-use Rattle.toll_base.specs.declared.rows.LotRow.{LotRow}
-use Rattle.toll_base.specs.declared.movement.MoveRow.{MoveRow}
-use Rattle.toll_base.specs.declared.movement.Move.TheVariants.{Receive}
-use Rattle.toll_base.specs.declared.rows.SublotRow.{SublotRow}
-use Rattle.toll_base.specs.declared.rows.Row.{Row}
-use Rattle.toll_base.specs.declared.rows.Row.TheVariants.{Lot, Sublot, Move}
-use Rattle.toll_history.proofs.Accepted.{none_applies}
-use Rattle.toll_history.proofs.Decided.{Grows, LeavesOthers}
-use Rattle.toll_history.proofs.Options.{known_passes}
-use Rattle.toll_history.proofs.Passed.{accepted_passes, move_fits}
-use Rattle.toll_history.proofs.PutMoves.{with_move, with_lot, with_sublot, put_came}
-use Rattle.toll_history.proofs.Recorded.{came_in, tables-untaken}
-use Rattle.toll_history.proofs.Room.{sublot_room, came_fit}
-use Rattle.toll_history.proofs.Within.{bounded_owes}
-use Rattle.toll_base.proofs.Texts.{same_bytes-exact, same_bytes-refl}
+use Rattle.toll_stock.proofs.Common.{or_parts, sublot_bounds, Bytes, same_bytes, Record, by, History, Slice, lot_at, KeepsRules, where_so, is_some_where, Tables, tables_of, tables_given, IsDecided, Decides, DecisionKeepsRules, Accepted, Checks, first_of, key_checks, receive_checks, amount_in, verdict, IsLawful, IsValid, Put, Decision, Quarantined, Receipts, LotRow, MoveRow, Receive, SublotRow, Row, Lot, Sublot, Move, none_applies, Grows, LeavesOthers, known_passes, accepted_passes, move_fits, with_move, with_lot, with_sublot, put_came, came_in, tables-untaken, sublot_room, came_fit, bounded_owes, same_bytes-exact, same_bytes-refl}
 
 module _ (key material lot sublot : Bytes) (amount day : ℕ) where
   abbrev receipt : MoveRow

@@ -1,38 +1,8 @@
 -- What the recording of a result owes.
 use Rattle.std.proofs.Common.{◌≡◌, ℕ, suc, ◌+◌, ◌<◌, ℤ, Bool, true, false, not, ◌&&◌, ◌==◌, cond, Option, Some, None, is_some, List, [], ◌∷◌, map, length, refl, sym, ap, ◌∙◌, arith}
-use mathlib.Core.Bool.{false≢true}
-use Rattle.std.specs.List.{list_any}
-use Rattle.std.specs.Option.{option_map}
-use Rattle.std.specs.Ordering.{is_eq, ordering_then, nat_cmp}
-use Rattle.std.proofs.lemmas.Bool.{or_right, false_from_ne_true}
+use Rattle.toll_stock.proofs.Common.{false≢true, list_any, option_map, is_eq, ordering_then, nat_cmp, or_right, false_from_ne_true, tied_itself, Bytes, same_bytes, bytes_cmp, result_cmp, Action, RecordResult, by, History, acts, Slice, lot_at, result_at, with_row, KeepsRules, row_fits, or_else, is_bad, rejects, stays_released, disposition_of, result_of, result_row, latest_value, count_results_of, Tables, tables_of, tables_given, count_results_in, latest_in, IsDecided, Decides, DecisionKeepsRules, is_released, result_checks, Put, Decision, Disposition, Quarantined, Released, Rejected, ResultRow, Result, none_applies, both, and_is, verdict_is, Grows, put_rows, decides, keeps_rules, less_of, tables-own, tables-others, tables_after, row_at-put_row, accepted_passes, length-new, count-new, same_bytes-exact, same_bytes-refl, same_bytes-symm, nat_eq-exact, is_eq-then, is_eq-nat_cmp, result_cmp_total}
 use Rattle.std.proofs.lemmas.Bool.Decides.{nat_tests}
-use Rattle.std.proofs.lemmas.Cmp.{tied_itself}
-use Rattle.toll_base.specs.Bytes.{Bytes, same_bytes, bytes_cmp}
-use Rattle.toll_base.specs.Keys.{result_cmp}
-use Rattle.toll_history.specs.Command.{Action, RecordResult, by}
-use Rattle.toll_history.specs.History.{History, acts}
-use Rattle.toll_base.specs.Slice.{Slice, lot_at, result_at, with_row}
-use Rattle.toll_base.specs.SliceRules.{KeepsRules, row_fits}
-use Rattle.toll_base.specs.Words.{or_else}
-use Rattle.toll_history.specs.Dispositions.{is_bad, rejects, stays_released, disposition_of, result_of, result_row, latest_value, count_results_of}
-use Rattle.toll_history.specs.Tables.{Tables, tables_of, tables_given, count_results_in, latest_in}
-use Rattle.toll_history.specs.Decision.{IsDecided, Decides, DecisionKeepsRules}
-use Rattle.toll_history.specs.Verdict.{is_released, result_checks}
-use Rattle.toll_base.specs.declared.decision.Change.TheVariants.{Put}
-use Rattle.toll_base.specs.declared.decision.Decision.{Decision}
-use Rattle.toll_base.specs.declared.lot.Disposition.{Disposition}
-use Rattle.toll_base.specs.declared.lot.Disposition.TheVariants.{Quarantined, Released, Rejected}
-use Rattle.toll_base.specs.declared.rows.ResultRow.{ResultRow}
-use Rattle.toll_base.specs.declared.rows.Row.TheVariants.{Result}
-use Rattle.toll_history.proofs.Accepted.{none_applies}
-use Rattle.toll_base.proofs.Bools.{both, and_is}
-use Rattle.toll_history.proofs.Decided.{verdict_is, Grows, put_rows, decides, keeps_rules, less_of}
-use Rattle.toll_history.proofs.Grown.{tables-own, tables-others, tables_after}
-use Rattle.toll_base.proofs.KeyOrder.{row_at-put_row}
-use Rattle.toll_history.proofs.Passed.{accepted_passes}
-use Rattle.toll_base.proofs.PutTables.{length-new, count-new}
 use Rattle.toll_base.proofs.SliceFits.{fits_exact}
-use Rattle.toll_base.proofs.Texts.{same_bytes-exact, same_bytes-refl, same_bytes-symm, nat_eq-exact, is_eq-then, is_eq-nat_cmp, result_cmp_total}
 use Rattle.toll_stock.specs.LotRows.{given_disposition, disposition_after, result_rows}
 use Rattle.toll_stock.proofs.LotLaw.{with_lot, disposed, in_slice, rows_fit, row_made, IsMade, known_made, lots_after, found_lot}
 

@@ -1,27 +1,10 @@
 -- What the shipments of a slice took of a lot is what its standing shipments took.
 use Rattle.std.proofs.Common.{◌≡◌, ℕ, Bool, true, false, ◌&&◌, cond, Some, refl, sym, ap, ◌∙◌, arith}
-use mathlib.Core.Bool.{false≢true}
-use Rattle.std.specs.Cmp.Lexicographic.{nat_list_cmp_total}
-use Rattle.std.specs.Option.{option_map_or}
-use Rattle.std.proofs.lemmas.Bool.{false_from_ne_true}
-use Rattle.toll_base.specs.Bytes.{Bytes, same_bytes, bytes_cmp}
-use Rattle.toll_base.specs.Table.{IsInKeyOrder}
-use Rattle.toll_base.specs.Words.{total, is_some_where}
-use Rattle.toll_history.specs.History.{History, acts}
-use Rattle.toll_base.specs.Lots.{lot_id}
-use Rattle.toll_history.specs.Movements.{Movement, has_key, movement_of, standing, voided_in}
-use Rattle.toll_base.specs.Slice.{Slice, move_at}
-use Rattle.toll_history.specs.Tables.{Tables, IsRowsOf}
-use Rattle.toll_history.specs.Verdict.{IsLawful, is_actual}
+use Rattle.toll_stock.proofs.Common.{false≢true, nat_list_cmp_total, option_map_or, false_from_ne_true, Bytes, same_bytes, bytes_cmp, IsInKeyOrder, total, is_some_where, History, acts, lot_id, Movement, has_key, movement_of, standing, voided_in, Slice, move_at, Tables, IsRowsOf, IsLawful, is_actual, Receive, Split, Ship, Scrap, Actual, MoveRow, same_bytes-exact, same_bytes-refl, same_bytes-symm, ships_from, shipped, total-alike}
 use Rattle.toll_base.specs.declared.movement.Move.{Move}
-use Rattle.toll_base.specs.declared.movement.Move.TheVariants.{Receive, Split, Ship, Scrap, Actual}
-use Rattle.toll_base.specs.declared.movement.MoveRow.{MoveRow}
 use Rattle.toll_history.proofs.KeysOnce.{all_found, void_of_actual}
 use Rattle.toll_history.proofs.StandsOnce.{stands_once}
-use Rattle.toll_base.proofs.Texts.{same_bytes-exact, same_bytes-refl, same_bytes-symm}
-use Rattle.toll_history.specs.Amounts.{ships_from, shipped}
 use Rattle.toll_stock.specs.LotTotals.{is_shipment_of, shipped_by, shipped_in}
-use Rattle.toll_history.proofs.Sums.{total-alike}
 use Rattle.toll_stock.proofs.Sums.{total-along, total-zero, total-swapped, cond-total, cond_zero, along, each_found, total_at}
 use Rattle.toll_stock.proofs.OnHandTotals.{each_standing}
 

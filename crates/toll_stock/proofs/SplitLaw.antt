@@ -1,30 +1,6 @@
 -- What a split owes.
 use Rattle.std.proofs.Common.{◌≡◌, ℕ, ◌+◌, ◌-◌, ◌&&◌, is_some, List, [], ◌∷◌, ◌++◌, false, refl, sym, ap, ◌∙◌}
-use Rattle.toll_history.specs.Bounds.{sublot_bounds}
-use Rattle.toll_base.specs.Bytes.{Bytes, same_bytes}
-use Rattle.toll_history.specs.Command.{Record, by}
-use Rattle.toll_history.specs.History.{History}
-use Rattle.toll_base.specs.Slice.{Slice}
-use Rattle.toll_base.specs.SliceRules.{KeepsRules}
-use Rattle.toll_history.specs.Tables.{Tables, tables_of, tables_given}
-use Rattle.toll_history.specs.Decision.{IsDecided, Decides, DecisionKeepsRules}
-use Rattle.toll_history.specs.Verdict.{Accepted, Checks, first_of, key_checks, split_checks, amount_in, verdict, IsLawful, IsValid}
-use Rattle.toll_base.specs.declared.decision.Change.TheVariants.{Put}
-use Rattle.toll_base.specs.declared.decision.Decision.{Decision}
-use Rattle.toll_base.specs.declared.movement.MoveRow.{MoveRow}
-use Rattle.toll_base.specs.declared.movement.Move.TheVariants.{Split}
-use Rattle.toll_base.specs.declared.rows.SublotRow.{SublotRow}
-use Rattle.toll_base.specs.declared.rows.Row.{Row}
-use Rattle.toll_base.specs.declared.rows.Row.TheVariants.{Sublot, Move}
-use Rattle.toll_history.proofs.Accepted.{none_applies}
-use Rattle.toll_history.proofs.Decided.{Grows, LeavesOthers}
-use Rattle.toll_history.proofs.Passed.{accepted_passes, move_fits}
-use Rattle.toll_history.proofs.PutMoves.{with_move, with_sublot, put_went_over}
-use Rattle.toll_history.proofs.Recorded.{went_over, tables-untaken}
-use Rattle.toll_history.proofs.Room.{sublot_room, went_over_fit}
-use Rattle.toll_history.proofs.Within.{bounded_owes}
-use Rattle.toll_base.proofs.Texts.{same_bytes-refl, same_bytes-symm}
-use Rattle.std.proofs.lemmas.Bool.{and_right}
+use Rattle.toll_stock.proofs.Common.{sublot_bounds, Bytes, same_bytes, Record, by, History, Slice, KeepsRules, Tables, tables_of, tables_given, IsDecided, Decides, DecisionKeepsRules, Accepted, Checks, first_of, key_checks, split_checks, amount_in, verdict, IsLawful, IsValid, Put, Decision, MoveRow, Split, SublotRow, Row, Sublot, Move, none_applies, Grows, LeavesOthers, accepted_passes, move_fits, with_move, with_sublot, put_went_over, went_over, tables-untaken, sublot_room, went_over_fit, bounded_owes, same_bytes-refl, same_bytes-symm, and_right}
 
 module _ (key lot sublot target : Bytes) (amount day : ℕ) where
   abbrev parting : MoveRow

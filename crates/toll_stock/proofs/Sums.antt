@@ -1,17 +1,7 @@
 -- Sums over lists, and over rows in the order of their keys.
 use Rattle.std.proofs.Common.{◌≡◌, ℕ, suc, ◌+◌, ◌*◌, ◌<◌, ◌≤◌, Bool, true, false, ◌&&◌, cond, Some, List, [], ◌∷◌, length, map, filter, drop, drop-cons, get_or, refl, sym, ap, ◌∙◌, arith}
-use mathlib.Core.Bool.{false≢true}
+use Rattle.toll_stock.proofs.Common.{false≢true, AllByRecursion, IsStrictlySortedBy, option_map_or, is_eq, ordering_reverse, Ordering, Less, Equal, Greater, tied_itself, IsInKeyOrder, row_at, total, count, total-alike, total-kept}
 use Rattle.std.specs.Cmp.{IsTotalOrder}
-use Rattle.std.specs.List.{AllByRecursion}
-use Rattle.std.specs.List.Sorted.{IsStrictlySortedBy}
-use Rattle.std.specs.Option.{option_map_or}
-use Rattle.std.specs.Ordering.{is_eq, ordering_reverse}
-use Rattle.std.specs.declared.cmp.Ordering.{Ordering}
-use Rattle.std.specs.declared.cmp.Ordering.TheVariants.{Less, Equal, Greater}
-use Rattle.std.proofs.lemmas.Cmp.{tied_itself}
-use Rattle.toll_base.specs.Table.{IsInKeyOrder, row_at}
-use Rattle.toll_base.specs.Words.{total, count}
-use Rattle.toll_history.proofs.Sums.{total-alike, total-kept}
 
 -- ---- sums
 

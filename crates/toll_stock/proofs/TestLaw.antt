@@ -1,40 +1,10 @@
 -- What the adding of a test owes.
 use Rattle.std.proofs.Common.{◌≡◌, false, ◌&&◌, ◌||◌, suc, cond, Some, None, is_some, [], ◌∷◌, length, refl, sym, ap, ◌∙◌}
-use mathlib.Core.Bool.{false≢true}
-use Rattle.std.specs.List.{list_any}
-use Rattle.std.specs.Option.{option_map}
-use Rattle.std.specs.Ordering.{is_eq}
-use Rattle.std.proofs.lemmas.Bool.{or_right, false_from_ne_true}
-use Rattle.toll_base.specs.Bytes.{Bytes, same_bytes, bytes_cmp}
-use Rattle.toll_base.specs.Keys.{pair_cmp}
-use Rattle.toll_history.specs.Command.{AddTest, by}
-use Rattle.toll_history.specs.History.{History, acts}
-use Rattle.toll_base.specs.Slice.{Slice, test_at, with_row}
-use Rattle.toll_base.specs.SliceRules.{KeepsRules}
+use Rattle.toll_stock.proofs.Common.{false≢true, list_any, option_map, is_eq, or_right, false_from_ne_true, Bytes, same_bytes, bytes_cmp, pair_cmp, AddTest, by, History, acts, Slice, test_at, with_row, KeepsRules, or_else, where_so, is_some_where, lot_id, Made, lot_made, material_used, is_outside, is_bad, rejects, stays_released, disposition_of, Tables, tables_of, tables_given, lot_row, IsDecided, Decides, DecisionKeepsRules, Accepted, test_checks, verdict, Put, Decision, Disposition, Quarantined, Released, Rejected, LotRow, Test, none_applies, accepted_passes, less_of, tables-own, put_first, row_at-put_row, length-new, any-new, same_bytes-exact, pair_cmp_total, is_eq-then}
 use Rattle.toll_history.specs.Work.{test_of}
-use Rattle.toll_base.specs.Words.{or_else, where_so, is_some_where}
-use Rattle.toll_base.specs.Lots.{lot_id}
-use Rattle.toll_history.specs.Movements.{Made, lot_made, material_used}
-use Rattle.toll_history.specs.Dispositions.{is_outside, is_bad, rejects, stays_released, disposition_of}
-use Rattle.toll_history.specs.Tables.{Tables, tables_of, tables_given, lot_row}
-use Rattle.toll_history.specs.Decision.{IsDecided, Decides, DecisionKeepsRules}
-use Rattle.toll_history.specs.Verdict.{Accepted, test_checks, verdict}
-use Rattle.toll_base.specs.declared.decision.Change.TheVariants.{Put}
-use Rattle.toll_base.specs.declared.decision.Decision.{Decision}
-use Rattle.toll_base.specs.declared.lot.Disposition.{Disposition}
-use Rattle.toll_base.specs.declared.lot.Disposition.TheVariants.{Quarantined, Released, Rejected}
-use Rattle.toll_base.specs.declared.rows.LotRow.{LotRow}
 use Rattle.toll_base.specs.declared.rows.TestRow.{TestRow}
-use Rattle.toll_base.specs.declared.rows.Row.TheVariants.{Test}
-use Rattle.toll_history.proofs.Accepted.{none_applies}
-use Rattle.toll_history.proofs.Passed.{accepted_passes}
 use Rattle.toll_history.proofs.Adding.{adding_decided, adding_keeps}
-use Rattle.toll_history.proofs.Decided.{less_of}
-use Rattle.toll_history.proofs.Grown.{tables-own, put_first}
-use Rattle.toll_base.proofs.KeyOrder.{row_at-put_row}
 use Rattle.toll_history.proofs.OpenTests.{is_used}
-use Rattle.toll_base.proofs.PutTables.{length-new, any-new}
-use Rattle.toll_base.proofs.Texts.{same_bytes-exact, pair_cmp_total, is_eq-then}
 
 -- tables with one test more
 abbrev with_test : TestRow → Tables → Tables

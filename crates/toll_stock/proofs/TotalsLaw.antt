@@ -1,15 +1,6 @@
 -- What the totals of a lot are, over a history whose rows the slice has.
 use Rattle.std.proofs.Common.{◌≡◌, Option, Some, None, is_some, refl, sym, ap, ◌∙◌}
-use Rattle.std.specs.Option.{option_map}
-use Rattle.toll_base.specs.Bytes.{Bytes}
-use Rattle.toll_base.specs.Words.{where_so}
-use Rattle.toll_history.specs.History.{History}
-use Rattle.toll_base.specs.Lots.{lot_id}
-use Rattle.toll_history.specs.Movements.{lot_made}
-use Rattle.toll_base.specs.Slice.{Slice, lot_at}
-use Rattle.toll_history.specs.Tables.{Tables, IsRowsOf}
-use Rattle.toll_base.specs.declared.rows.LotRow.{LotRow}
-use Rattle.toll_history.specs.Amounts.{on_hand, shipped}
+use Rattle.toll_stock.proofs.Common.{option_map, Bytes, where_so, History, lot_id, lot_made, Slice, lot_at, Tables, IsRowsOf, LotRow, on_hand, shipped}
 use Rattle.toll_stock.specs.LotTotals.{totals_given}
 use Rattle.toll_stock.specs.declared.stock.Totals.{Totals}
 

@@ -1,24 +1,8 @@
 -- What owes a movement that takes from one of the owner's sublots: a shipment, or scrapping.
 use Rattle.std.proofs.Common.{◌≡◌, ℕ, ◌-◌, true, false, nat_le, is_none, [], ◌∷◌, ◌++◌, refl, sym, ap, ◌∙◌}
-use Rattle.toll_base.specs.Bytes.{Bytes}
+use Rattle.toll_stock.proofs.Common.{Bytes, Record, by, History, Slice, KeepsRules, batch_has_room, Tables, tables_of, tables_given, IsDecided, Decides, DecisionKeepsRules, Accepted, Checks, first_of, key_checks, movement_checks, ship_checks, scrap_checks, amount_in, verdict, Put, Decision, MoveRow, Ship, Scrap, Sublot, Move, none_applies, rest_accept, verdict_is, decides, keeps_rules, checks_accept, went_fit}
 use Rattle.toll_base.specs.Values.{house_name}
-use Rattle.toll_history.specs.Command.{Record, by}
-use Rattle.toll_history.specs.History.{History}
-use Rattle.toll_base.specs.Slice.{Slice}
-use Rattle.toll_base.specs.SliceRules.{KeepsRules, batch_has_room}
-use Rattle.toll_history.specs.Tables.{Tables, tables_of, tables_given}
-use Rattle.toll_history.specs.Decision.{IsDecided, Decides, DecisionKeepsRules}
-use Rattle.toll_history.specs.Verdict.{Accepted, Checks, first_of, key_checks, movement_checks, ship_checks, scrap_checks, amount_in, verdict}
-use Rattle.toll_base.specs.declared.decision.Change.TheVariants.{Put}
-use Rattle.toll_base.specs.declared.decision.Decision.{Decision}
-use Rattle.toll_base.specs.declared.movement.MoveRow.{MoveRow}
-use Rattle.toll_base.specs.declared.movement.Move.TheVariants.{Ship, Scrap}
-use Rattle.toll_base.specs.declared.rows.Row.TheVariants.{Sublot, Move}
-use Rattle.toll_history.proofs.Accepted.{none_applies, rest_accept}
-use Rattle.toll_history.proofs.Decided.{verdict_is, decides, keeps_rules}
-use Rattle.toll_history.proofs.Passed.{checks_accept}
 use Rattle.toll_stock.proofs.Withdrawn.{Withdraws, left, rows, leaves, grows}
-use Rattle.toll_history.proofs.Room.{went_fit}
 
 module _ (row : MoveRow) (lot sublot : Bytes) (withdraws : Withdraws row lot sublot) (no_actual : (s : Slice) → batch_has_room s row.key row.what ≡ true) where
   -- where these checks are what the movement's own say

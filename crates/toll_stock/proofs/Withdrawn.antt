@@ -1,21 +1,6 @@
 -- What a movement that takes from one of its owner's sublots does to the tables of all.
 use Rattle.std.proofs.Common.{◌≡◌, ◌-◌, false, ◌&&◌, None, is_some, is_none, List, [], ◌∷◌, sym, ap, ◌∙◌}
-use Rattle.toll_base.specs.Bytes.{Bytes, same_bytes}
-use Rattle.toll_history.specs.Command.{Record, by}
-use Rattle.toll_history.specs.History.{History}
-use Rattle.toll_base.specs.Lots.{lot_id}
-use Rattle.toll_history.specs.Movements.{Movement, made_by, makes_lot, makes_sublot, lot_brought, brings_into, takes_from}
-use Rattle.toll_history.specs.Tables.{Tables, tables_of, sublot_row}
-use Rattle.toll_history.specs.Verdict.{Accepted, amount_in, verdict}
-use Rattle.toll_base.specs.declared.movement.MoveRow.{MoveRow}
-use Rattle.toll_base.specs.declared.rows.SublotRow.{SublotRow}
-use Rattle.toll_base.specs.declared.rows.Row.{Row}
-use Rattle.toll_base.specs.declared.rows.Row.TheVariants.{Sublot, Move}
-use Rattle.toll_history.proofs.Decided.{Grows, LeavesOthers}
-use Rattle.toll_history.proofs.Passed.{accepted_passes}
-use Rattle.toll_history.proofs.PutMoves.{with_move, with_sublot, put_went}
-use Rattle.toll_history.proofs.Recorded.{went_out, tables-untaken}
-use Rattle.toll_base.proofs.Texts.{same_bytes-refl, same_bytes-symm}
+use Rattle.toll_stock.proofs.Common.{Bytes, same_bytes, Record, by, History, lot_id, Movement, made_by, makes_lot, makes_sublot, lot_brought, brings_into, takes_from, Tables, tables_of, sublot_row, Accepted, amount_in, verdict, MoveRow, SublotRow, Row, Sublot, Move, Grows, LeavesOthers, accepted_passes, with_move, with_sublot, put_went, went_out, tables-untaken, same_bytes-refl, same_bytes-symm}
 
 -- of the owner's lots, the movement takes from this sublot and does nothing else
 pub record Withdraws (row : MoveRow) (lot sublot : Bytes) : Type 0 where

@@ -1,31 +1,14 @@
 -- The edges made from the uses of lots are those that two standing actuals draw.
 use Rattle.std.proofs.Common.{◌≡◌, ℕ, ◌≤◌, Bool, true, false, Some, None, is_some, List, [], ◌∷◌, map, refl, ap, ◌∙◌, subst, inl, inr, arith}
-use mathlib.Core.Bool.{false≢true}
+use Rattle.toll_trace.proofs.Common.{false≢true, flat_map, IsStrictlySortedBy, IsPermutation, is_eq, ordering_reverse, Ordering, Less, Equal, Greater, leb-true, le-leb, tied_itself, nat_list_cmp_total, Contains-permutation, IsPermutation-sym, tells_apart, Bytes, bytes_cmp, batch_cmp, LotId, Edge, Role, Consumed, Produced, MoveRow, edge_cmp}
 use Rattle.std.specs.Prelude.{Contains, filter, if◌then◌else◌}
-use Rattle.std.specs.List.{flat_map}
-use Rattle.std.specs.List.Sorted.{IsStrictlySortedBy, IsPermutation}
-use Rattle.std.specs.Ordering.{is_eq, ordering_reverse}
-use Rattle.std.specs.declared.cmp.Ordering.{Ordering}
-use Rattle.std.specs.declared.cmp.Ordering.TheVariants.{Less, Equal, Greater}
-use Rattle.std.proofs.lemmas.Bool.{leb-true, le-leb}
-use Rattle.std.proofs.lemmas.Cmp.{tied_itself, nat_list_cmp_total}
-use Rattle.std.proofs.lemmas.List.Sorted.{Contains-permutation, IsPermutation-sym}
-use Rattle.std.proofs.lemmas.Map.Views.{tells_apart}
-use Rattle.toll_base.specs.Bytes.{Bytes, bytes_cmp}
-use Rattle.toll_base.specs.Keys.{batch_cmp}
 use Rattle.toll_base.specs.Roles.{same_role}
 use Rattle.toll_base.specs.Slice.{Slice, void_at}
 use Rattle.toll_base.specs.Table.{row_at, IsInKeyOrder}
-use Rattle.toll_base.specs.declared.lot.LotId.{LotId}
-use Rattle.toll_base.specs.declared.lot.Edge.{Edge}
-use Rattle.toll_base.specs.declared.role.Role.{Role}
-use Rattle.toll_base.specs.declared.role.Role.TheVariants.{Consumed, Produced}
-use Rattle.toll_base.specs.declared.movement.MoveRow.{MoveRow}
 use Rattle.toll_base.specs.declared.movement.Move.{Move}
 use Rattle.toll_base.specs.declared.movement.Move.TheVariants.{Receive, Split, Ship, Scrap, Actual}
 use Rattle.toll_trace.specs.declared.edges.Use.{Use}
 use Rattle.toll_trace.specs.InOrder.{IsInOrder}
-use Rattle.toll_base.specs.Lots.{edge_cmp}
 use Rattle.toll_trace.specs.Edges.{IsActual, IsDrawn, Stands, IsEdge, AreEdges}
 use Rattle.toll_trace.specs.Uses.{Batch, AreLeft, use_as, standing_use, uses, is_not_above, edge_between, edges_from}
 use Rattle.toll_trace.proofs.Members.{Contains-none, Contains-here, Contains-later, Contains-cases, Contains-map, Contains-from_map, Contains-filter, Contains-from_filter, Contains-filter_map, Contains-from_filter_map, Contains-flat_map, Contains-from_flat_map, member_of_all, kept_in_order, some_of}

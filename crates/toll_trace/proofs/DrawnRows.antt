@@ -1,13 +1,7 @@
 -- The edges that movements of a list draw, as a list.
 use Rattle.std.proofs.Common.{ℕ, Some, None, List, refl, ap, ◌∙◌, arith}
 use Rattle.std.specs.Prelude.{Contains, if◌then◌else◌}
-use Rattle.std.specs.List.{filter_map, flat_map}
-use Rattle.toll_base.specs.Bytes.{Bytes}
-use Rattle.toll_base.specs.declared.lot.LotId.{LotId}
-use Rattle.toll_base.specs.declared.lot.Edge.{Edge}
-use Rattle.toll_base.specs.declared.role.Role.{Role}
-use Rattle.toll_base.specs.declared.role.Role.TheVariants.{Consumed, Produced}
-use Rattle.toll_base.specs.declared.movement.MoveRow.{MoveRow}
+use Rattle.toll_trace.proofs.Common.{filter_map, flat_map, Bytes, LotId, Edge, Role, Consumed, Produced, MoveRow}
 use Rattle.toll_trace.specs.declared.edges.Use.{Use}
 use Rattle.toll_trace.specs.Edges.{IsActual, IsDrawn}
 use Rattle.toll_trace.specs.Uses.{Batch, use_as, edges_from}

@@ -1,7 +1,6 @@
 -- The two ends of an edge, and the edge between two lots.
 use Rattle.std.proofs.Common.{◌≡◌, refl}
-use Rattle.toll_base.specs.declared.lot.LotId.{LotId}
-use Rattle.toll_base.specs.declared.lot.Edge.{Edge}
+use Rattle.toll_trace.proofs.Common.{LotId, Edge}
 use Rattle.toll_trace.specs.declared.way.Way.{Way}
 use Rattle.toll_trace.specs.declared.way.Way.TheVariants.{Back, Forward}
 use Rattle.toll_trace.specs.Chain.{edge_of, ends}

@@ -1,23 +1,7 @@
 -- Of uses in order, those that are left: of each lot that a batch uses the first.
 use Rattle.std.proofs.Common.{◌≡◌, ◌⊎◌, ℕ, suc, ◌<◌, ◌≤◌, Bool, true, false, cond, List, [], ◌∷◌, length, get_or, refl, sym, ap, ap₂, ◌∙◌, subst, inl, inr, arith}
-use mathlib.Core.Bool.{false≢true}
+use Rattle.toll_trace.proofs.Common.{false≢true, IsTotalOrder, IsStrictWeakOrder, dedup, dedup_from, IsPermutation, IsSortedBy, nat_cmp, is_lt, ordering_then, MatchOrdering, Ordering, Less, Equal, Greater, and_parts, eqb-true, ranked, tied_itself, nat_cmp_total, nat_list_cmp_total, then_total, on_total, Contains-from_dedup, Contains-permutation, IsPermutation-sym, ranks_by, IsStrictWeakOrder-flip, sorted_far, CmpEqualImpliesEq, exact_bytes, exact_unsigned, exact_pairs, tells_apart, Bytes, bytes_cmp, same_bytes, batch_cmp, lot_cmp, LotId}
 use Rattle.std.specs.Prelude.{Contains}
-use Rattle.std.specs.Cmp.{IsTotalOrder, IsStrictWeakOrder}
-use Rattle.std.specs.List.{dedup, dedup_from}
-use Rattle.std.specs.List.Sorted.{IsPermutation, IsSortedBy}
-use Rattle.std.specs.Ordering.{nat_cmp, is_lt, ordering_then, MatchOrdering}
-use Rattle.std.specs.declared.cmp.Ordering.{Ordering}
-use Rattle.std.specs.declared.cmp.Ordering.TheVariants.{Less, Equal, Greater}
-use Rattle.std.proofs.lemmas.Bool.{and_parts, eqb-true}
-use Rattle.std.proofs.lemmas.Cmp.{ranked, tied_itself, nat_cmp_total, nat_list_cmp_total, then_total, on_total}
-use Rattle.std.proofs.lemmas.List.Kept.{Contains-from_dedup}
-use Rattle.std.proofs.lemmas.List.Sorted.{Contains-permutation, IsPermutation-sym, ranks_by, IsStrictWeakOrder-flip, sorted_far}
-use Rattle.std.proofs.lemmas.Map.Lookups.{CmpEqualImpliesEq, exact_bytes, exact_unsigned, exact_pairs}
-use Rattle.std.proofs.lemmas.Map.Views.{tells_apart}
-use Rattle.toll_base.specs.Bytes.{Bytes, bytes_cmp, same_bytes}
-use Rattle.toll_base.specs.Keys.{batch_cmp}
-use Rattle.toll_base.specs.Lots.{lot_cmp}
-use Rattle.toll_base.specs.declared.lot.LotId.{LotId}
 use Rattle.toll_trace.specs.declared.edges.Use.{Use}
 use Rattle.toll_trace.specs.Uses.{Batch, AreLeft, same_use}
 use Rattle.toll_trace.proofs.Members.{Contains-none, Contains-here, Contains-later, Contains-cases}

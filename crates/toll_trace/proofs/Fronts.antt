@@ -1,17 +1,7 @@
 -- The next level, by the neighbours of the last level alone.
 use Rattle.std.proofs.Common.{◌≡◌, ◌⊎◌, ℕ, ◌+◌, ◌<◌, false, not, List, [], ◌∷◌, ◌++◌, map, length, take, get_or, sym, ap, ◌∙◌, subst, inl, inr}
 use Rattle.std.specs.Prelude.{Contains, filter}
-use Rattle.std.specs.List.{flat_map}
-use Rattle.std.specs.List.Sorted.{IsPermutation}
-use Rattle.std.specs.Ordering.{is_eq}
-use Rattle.std.proofs.lemmas.Bool.{not-true, not_from_false}
-use Rattle.std.proofs.lemmas.Cmp.{tied_itself}
-use Rattle.std.proofs.lemmas.List.{take_more, flat_map_more}
-use Rattle.std.proofs.lemmas.List.Elements.{Contains-append_left, Contains-append_right, Contains-append_cases}
-use Rattle.std.proofs.lemmas.List.Sorted.{Contains-permutation, IsPermutation-sym}
-use Rattle.std.proofs.lemmas.Map.Views.{tells_apart}
-use Rattle.toll_base.specs.declared.lot.LotId.{LotId}
-use Rattle.toll_base.specs.declared.lot.Edge.{Edge}
+use Rattle.toll_trace.proofs.Common.{flat_map, IsPermutation, is_eq, not-true, not_from_false, tied_itself, take_more, flat_map_more, Contains-append_left, Contains-append_right, Contains-append_cases, Contains-permutation, IsPermutation-sym, tells_apart, LotId, Edge, lot_cmp}
 use Rattle.toll_trace.specs.declared.graph.Graph.{Graph}
 use Rattle.toll_trace.specs.declared.step.Step.{Step}
 use Rattle.toll_trace.specs.declared.way.Way.{Way}
@@ -20,7 +10,6 @@ use Rattle.toll_trace.specs.Chain.{ends, edge_of, IsJoined}
 use Rattle.toll_trace.specs.Graph.{IsGraphOf, index_of}
 use Rattle.toll_trace.specs.InOrder.{IsInOrder}
 use Rattle.toll_trace.specs.Neighbours.{Leads, neighbours, new_neighbours}
-use Rattle.toll_base.specs.Lots.{lot_cmp}
 use Rattle.toll_trace.specs.Search.{step_at, is_found, IsLevel}
 use Rattle.toll_trace.specs.Trace.{lots_of, IsTrace}
 use Rattle.toll_trace.proofs.Levels.{lots_more, not_found_lot, level_of}

@@ -1,18 +1,8 @@
 -- A trace grows by levels: what a level adds, and that the levels end.
 use Rattle.std.proofs.Common.{◌≡◌, ◌⊎◌, ℕ, zero, suc, ◌+◌, ◌<◌, ◌≤◌, nat_eq, Bool, true, false, not, ◌||◌, cond, List, [], ◌∷◌, ◌++◌, map, length, refl, sym, ap, ◌∙◌, subst, inl, inr, arith}
-use mathlib.Core.Bool.{false≢true}
+use Rattle.toll_trace.proofs.Common.{false≢true, count, IsStrictlySortedBy, nat_cmp, is_eq, ordering_then, Less, cases_lt, or_cases, or_left, or_right, eqb-false, lt-ltb, not-true, not_from_true, not_from_false, false_from_ne_true, tied_itself, nat_cmp_total, eq_by_cmp_equiv, tells_apart, Contains-append_left, Contains-append_right, Contains-append_cases, LotId, lot_cmp}
 use Rattle.std.specs.Prelude.{Contains}
-use Rattle.toll_base.specs.Words.{count}
-use Rattle.std.specs.List.Sorted.{IsStrictlySortedBy}
-use Rattle.std.specs.Ordering.{nat_cmp, is_eq, ordering_then}
-use Rattle.std.specs.declared.cmp.Ordering.TheVariants.{Less}
-use Rattle.std.proofs.lemmas.Bool.{cases_lt, or_cases, or_left, or_right, eqb-false, lt-ltb, not-true, not_from_true, not_from_false, false_from_ne_true}
-use Rattle.std.proofs.lemmas.Cmp.{tied_itself, nat_cmp_total, eq_by_cmp_equiv}
-use Rattle.std.proofs.lemmas.Map.Views.{tells_apart}
-use Rattle.std.proofs.lemmas.List.Elements.{Contains-append_left, Contains-append_right, Contains-append_cases}
-use Rattle.toll_base.specs.declared.lot.LotId.{LotId}
 use Rattle.toll_trace.specs.declared.step.Step.{Step}
-use Rattle.toll_base.specs.Lots.{lot_cmp}
 use Rattle.toll_trace.specs.Order.{step_cmp}
 use Rattle.toll_trace.specs.Chain.{IsChain}
 use Rattle.toll_trace.specs.Trace.{lots_of, IsTrace}

@@ -1,19 +1,8 @@
 -- Members of lists, and lists in order.
 use Rattle.std.proofs.Common.{◌≡◌, ◌⊎◌, zero, suc, ◌+◌, ◌<◌, ◌≤◌, Bool, true, false, cond, Option, Some, None, List, [], ◌∷◌, ◌++◌, map, refl, sym, ap, ◌∙◌, subst, inl, inr, arith}
-use mathlib.Core.Bool.{false≢true}
+use Rattle.toll_trace.proofs.Common.{false≢true, CmpEqualImpliesEq, tells_apart, count, IsTotalOrder, AllByRecursion, filter_map, cons_option, flat_map, Contains-append_left, Contains-append_right, Contains-append_cases, IsStrictlySortedBy, is_eq, ordering_reverse, Ordering, Less, Greater, tied_itself}
 use Rattle.std.specs.Prelude.{Contains, Any, filter, if◌then◌else◌}
-use Rattle.std.proofs.lemmas.Map.Lookups.{CmpEqualImpliesEq}
-use Rattle.std.proofs.lemmas.Map.Views.{tells_apart}
-use Rattle.toll_base.specs.Words.{count}
 use Rattle.toll_trace.specs.InOrder.{IsInOrder}
-use Rattle.std.specs.Cmp.{IsTotalOrder}
-use Rattle.std.specs.List.{AllByRecursion, filter_map, cons_option, flat_map}
-use Rattle.std.proofs.lemmas.List.Elements.{Contains-append_left, Contains-append_right, Contains-append_cases}
-use Rattle.std.specs.List.Sorted.{IsStrictlySortedBy}
-use Rattle.std.specs.Ordering.{is_eq, ordering_reverse}
-use Rattle.std.specs.declared.cmp.Ordering.{Ordering}
-use Rattle.std.specs.declared.cmp.Ordering.TheVariants.{Less, Greater}
-use Rattle.std.proofs.lemmas.Cmp.{tied_itself}
 
 pub Contains-none : {X : Type 0} (x : X) → Contains [] x → ⊥
 Contains-none x (k, lt, e) = omega arith

@@ -1,13 +1,7 @@
 -- The orders of lots, edges and steps are total, and only a value ties with itself.
 use Rattle.std.proofs.Common.{ℕ, List, ap}
-use Rattle.std.specs.Cmp.{IsTotalOrder}
-use Rattle.std.proofs.lemmas.Cmp.{nat_cmp_total, nat_list_cmp_total, then_total, on_total}
-use Rattle.std.proofs.lemmas.Map.Lookups.{CmpEqualImpliesEq, exact_bytes, exact_pairs}
-use Rattle.toll_base.specs.Bytes.{bytes_cmp}
-use Rattle.toll_base.specs.declared.lot.LotId.{LotId}
-use Rattle.toll_base.specs.declared.lot.Edge.{Edge}
+use Rattle.toll_trace.proofs.Common.{IsTotalOrder, nat_cmp_total, nat_list_cmp_total, then_total, on_total, CmpEqualImpliesEq, exact_bytes, exact_pairs, bytes_cmp, LotId, Edge, lot_cmp, edge_cmp}
 use Rattle.toll_trace.specs.declared.step.Step.{Step}
-use Rattle.toll_base.specs.Lots.{lot_cmp, edge_cmp}
 use Rattle.toll_trace.specs.Order.{step_cmp}
 
 pub lots_total : IsTotalOrder lot_cmp

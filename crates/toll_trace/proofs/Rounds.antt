@@ -1,14 +1,10 @@
 -- The next level, by a look at every edge.
 use Rattle.std.proofs.Common.{◌≡◌, false, not, ◌&&◌, List, map, refl, sym, ap, ◌∙◌, subst}
 use Rattle.std.specs.Prelude.{Contains}
-use Rattle.std.specs.List.{filter_map}
-use Rattle.std.proofs.lemmas.Bool.{and_parts, and_from, not-true, not_from_false}
-use Rattle.toll_base.specs.declared.lot.LotId.{LotId}
-use Rattle.toll_base.specs.declared.lot.Edge.{Edge}
+use Rattle.toll_trace.proofs.Common.{filter_map, and_parts, and_from, not-true, not_from_false, LotId, Edge, lot_cmp}
 use Rattle.toll_trace.specs.declared.step.Step.{Step}
 use Rattle.toll_trace.specs.declared.way.Way.{Way}
 use Rattle.toll_trace.specs.InOrder.{IsInOrder}
-use Rattle.toll_base.specs.Lots.{lot_cmp}
 use Rattle.toll_trace.specs.Chain.{edge_of, ends, IsJoined}
 use Rattle.toll_trace.specs.Trace.{lots_of}
 use Rattle.toll_trace.specs.Search.{is_found, next_lot, IsLevel}

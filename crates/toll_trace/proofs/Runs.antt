@@ -1,13 +1,7 @@
 -- In a list sorted by a key, the items of one key stand between two places that searches find.
 use Rattle.std.proofs.Common.{◌≡◌, ℕ, zero, suc, ◌+◌, ◌-◌, ◌≤◌, Bool, true, false, cond, ltb, leb, List, [], ◌∷◌, length, take, drop, refl, sym, ap, ◌∙◌, subst, arith}
-use mathlib.Core.Bool.{false≢true}
+use Rattle.toll_trace.proofs.Common.{false≢true, IsTotalOrder, IsSortedByKey, IsPartitionedBy, IsPartitionPoint, is_lt, is_le, is_eq, ordering_index, Ordering, Less, Equal, Greater, searchable_from_sorted, IsPartitionedBy-ltb, IsPartitionedBy-leb}
 use Rattle.std.specs.Prelude.{filter}
-use Rattle.std.specs.Cmp.{IsTotalOrder}
-use Rattle.std.specs.List.Sorted.{IsSortedByKey, IsPartitionedBy, IsPartitionPoint}
-use Rattle.std.specs.Ordering.{is_lt, is_le, is_eq, ordering_index}
-use Rattle.std.specs.declared.cmp.Ordering.{Ordering}
-use Rattle.std.specs.declared.cmp.Ordering.TheVariants.{Less, Equal, Greater}
-use Rattle.std.proofs.lemmas.List.Sorted.{searchable_from_sorted, IsPartitionedBy-ltb, IsPartitionedBy-leb}
 
 is_lt-index : (o : Ordering) → is_lt o ≡ ltb (ordering_index o) 1
 is_lt-index Less = refl

@@ -1,11 +1,8 @@
 -- A trace is the only one, and depends on nothing but which lots an edge joins; and so are the edges of movements.
 use Rattle.std.proofs.Common.{◌≡◌, ℕ, zero, suc, List, sym, ap₂, subst, arith}
 use Rattle.std.specs.Prelude.{Contains}
-use Rattle.toll_base.specs.declared.lot.LotId.{LotId}
-use Rattle.toll_base.specs.declared.lot.Edge.{Edge}
-use Rattle.toll_base.specs.declared.movement.MoveRow.{MoveRow}
+use Rattle.toll_trace.proofs.Common.{LotId, Edge, MoveRow, edge_cmp}
 use Rattle.toll_trace.specs.declared.step.Step.{Step}
-use Rattle.toll_base.specs.Lots.{edge_cmp}
 use Rattle.toll_trace.specs.Order.{step_cmp}
 use Rattle.toll_trace.specs.Chain.{IsChain}
 use Rattle.toll_trace.specs.Trace.{IsTrace}

@@ -1,7 +1,6 @@
 -- Chains of lots, each joined to the next by an edge.
 use Rattle.std.specs.Prelude.{◌≡◌, ℕ, zero, suc, List, Contains}
-use Rattle.toll_base.specs.declared.lot.LotId.{LotId}
-use Rattle.toll_base.specs.declared.lot.Edge.{Edge}
+use Rattle.toll_trace.specs.Common.{LotId, Edge}
 use Rattle.toll_trace.specs.declared.way.Way.{Way}
 use Rattle.toll_trace.specs.declared.way.Way.TheVariants.{Back, Forward}
 

@@ -1,15 +1,7 @@
 -- Edges of genealogy: which lots went into which.
 use Rattle.std.specs.Prelude.{◌≡◌, ℕ, ◌≤◌, false, Some, is_some, List, Contains}
-use Rattle.std.specs.List.Sorted.{IsStrictlySortedBy}
-use Rattle.toll_base.specs.Bytes.{Bytes}
-use Rattle.toll_base.specs.Slice.{Slice, move_at, void_at}
-use Rattle.toll_base.specs.declared.lot.LotId.{LotId}
-use Rattle.toll_base.specs.declared.lot.Edge.{Edge}
-use Rattle.toll_base.specs.declared.role.Role.{Role}
+use Rattle.toll_trace.specs.Common.{IsStrictlySortedBy, Bytes, Slice, move_at, void_at, LotId, Edge, Role, MoveRow, Actual, edge_cmp}
 use Rattle.toll_base.specs.declared.role.Role.TheVariants.{Consumed, Produced}
-use Rattle.toll_base.specs.declared.movement.MoveRow.{MoveRow}
-use Rattle.toll_base.specs.declared.movement.Move.TheVariants.{Actual}
-use Rattle.toll_base.specs.Lots.{edge_cmp}
 
 -- the movement is an actual: this batch does this to this lot, in this segment
 pub record IsActual (order : Bytes) (number segment : ℕ) (role : Role) (lot : LotId) (row : MoveRow) : Type 0 where

@@ -1,8 +1,6 @@
 -- Graphs.
 use Rattle.std.specs.Prelude.{List, map}
-use Rattle.std.specs.List.Sorted.{IsPermutation}
-use Rattle.toll_base.specs.declared.lot.LotId.{LotId}
-use Rattle.toll_base.specs.declared.lot.Edge.{Edge}
+use Rattle.toll_trace.specs.Common.{IsPermutation, LotId, Edge}
 use Rattle.toll_trace.specs.declared.graph.Graph.{Graph}
 use Rattle.toll_trace.specs.declared.way.Way.{Way}
 use Rattle.toll_trace.specs.declared.way.Way.TheVariants.{Back, Forward}

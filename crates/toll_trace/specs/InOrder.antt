@@ -1,8 +1,6 @@
 -- Lists put in order.
 use Rattle.std.specs.Prelude.{◌≡◌, true, List, Contains, Any}
-use Rattle.std.specs.List.Sorted.{IsStrictlySortedBy}
-use Rattle.std.specs.Ordering.{is_eq}
-use Rattle.std.specs.declared.cmp.Ordering.{Ordering}
+use Rattle.toll_trace.specs.Common.{IsStrictlySortedBy, is_eq, Ordering}
 
 -- the same items in order, of those that compare equal only one
 pub record IsInOrder {X : Type 0} (cmp : X → X → Ordering) (items sorted : List X) : Type 0 where

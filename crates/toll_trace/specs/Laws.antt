@@ -1,7 +1,6 @@
 -- Laws of traces.
 use Rattle.std.specs.Prelude.{◌≡◌, List}
-use Rattle.toll_base.specs.declared.lot.LotId.{LotId}
-use Rattle.toll_base.specs.declared.lot.Edge.{Edge}
+use Rattle.toll_trace.specs.Common.{LotId, Edge}
 use Rattle.toll_trace.specs.declared.step.Step.{Step}
 use Rattle.toll_trace.specs.declared.way.Way.{Way}
 use Rattle.toll_trace.specs.Chain.{IsJoined}

@@ -1,3 +1,4 @@
+pub mod Common
 pub mod InOrder
 pub mod Order
 pub mod Chain

@@ -1,10 +1,7 @@
 -- The neighbours of lots, by a list of pairs of lots that one step joins.
 use Rattle.std.specs.Prelude.{not, List, Contains, map, filter}
-use Rattle.std.specs.List.{flat_map}
-use Rattle.std.specs.Ordering.{is_eq}
-use Rattle.toll_base.specs.declared.lot.LotId.{LotId}
+use Rattle.toll_trace.specs.Common.{flat_map, is_eq, LotId, lot_cmp}
 use Rattle.toll_trace.specs.declared.step.Step.{Step}
-use Rattle.toll_base.specs.Lots.{lot_cmp}
 use Rattle.toll_trace.specs.Search.{is_found}
 
 -- one of the pairs leads from `a` to `b`

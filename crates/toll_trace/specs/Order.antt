@@ -1,7 +1,5 @@
 -- The order of steps.
-use Rattle.std.specs.Ordering.{nat_cmp, ordering_then}
-use Rattle.std.specs.declared.cmp.Ordering.{Ordering}
-use Rattle.toll_base.specs.Lots.{lot_cmp}
+use Rattle.toll_trace.specs.Common.{nat_cmp, ordering_then, Ordering, lot_cmp}
 use Rattle.toll_trace.specs.declared.step.Step.{Step}
 
 -- steps by their number, then by their lot

@@ -1,13 +1,8 @@
 -- How a search for a trace goes: level by level, a level being the lots of one number of steps.
 use Rattle.std.specs.Prelude.{◌⊎◌, ◌&&◌, ℕ, Bool, not, Option, Some, None, List, Contains, if◌then◌else◌}
-use Rattle.std.specs.List.{list_any}
-use Rattle.std.specs.List.Sorted.{IsStrictlySortedBy}
-use Rattle.std.specs.Ordering.{is_eq}
-use Rattle.toll_base.specs.declared.lot.LotId.{LotId}
-use Rattle.toll_base.specs.declared.lot.Edge.{Edge}
+use Rattle.toll_trace.specs.Common.{list_any, IsStrictlySortedBy, is_eq, LotId, Edge, lot_cmp}
 use Rattle.toll_trace.specs.declared.step.Step.{Step}
 use Rattle.toll_trace.specs.declared.way.Way.{Way}
-use Rattle.toll_base.specs.Lots.{lot_cmp}
 use Rattle.toll_trace.specs.Chain.{ends}
 use Rattle.toll_trace.specs.Trace.{lots_of}
 

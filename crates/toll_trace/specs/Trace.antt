@@ -1,7 +1,6 @@
 -- Traces.
 use Rattle.std.specs.Prelude.{ℕ, ◌≤◌, List, map, Contains}
-use Rattle.std.specs.List.Sorted.{IsStrictlySortedBy}
-use Rattle.toll_base.specs.declared.lot.LotId.{LotId}
+use Rattle.toll_trace.specs.Common.{IsStrictlySortedBy, LotId}
 use Rattle.toll_trace.specs.declared.step.Step.{Step}
 use Rattle.toll_trace.specs.Order.{step_cmp}
 use Rattle.toll_trace.specs.Chain.{IsChain}

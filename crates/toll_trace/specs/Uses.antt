@@ -1,18 +1,9 @@
 -- What actuals use: the lists from which edges are made.
 use Rattle.std.specs.Prelude.{ℕ, Bool, ◌==◌, ◌&&◌, nat_le, Option, Some, None, is_some, List, Contains, map, filter, if◌then◌else◌}
-use Rattle.std.specs.List.{filter_map}
-use Rattle.std.specs.Ordering.{is_eq}
-use Rattle.toll_base.specs.Bytes.{Bytes, same_bytes}
+use Rattle.toll_trace.specs.Common.{filter_map, is_eq, Bytes, same_bytes, same_lot, Slice, void_at, LotId, Edge, Role, MoveRow, Actual}
 use Rattle.toll_base.specs.Keys.{batch_cmp}
-use Rattle.toll_base.specs.Lots.{same_lot}
 use Rattle.toll_base.specs.Roles.{same_role}
-use Rattle.toll_base.specs.Slice.{Slice, void_at}
-use Rattle.toll_base.specs.declared.lot.LotId.{LotId}
-use Rattle.toll_base.specs.declared.lot.Edge.{Edge}
-use Rattle.toll_base.specs.declared.role.Role.{Role}
-use Rattle.toll_base.specs.declared.movement.MoveRow.{MoveRow}
 use Rattle.toll_base.specs.declared.movement.Move.{Move}
-use Rattle.toll_base.specs.declared.movement.Move.TheVariants.{Actual}
 use Rattle.toll_trace.specs.declared.edges.Use.{Use}
 
 -- a batch of the owner: an order and a number

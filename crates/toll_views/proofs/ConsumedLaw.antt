@@ -1,25 +1,14 @@
 -- A standing consumption that a slice has is one of every lawful history of which it has the rows.
 use Rattle.std.proofs.Common.{◌≡◌, Bool, true, false, not, ◌&&◌, ◌||◌, cond, Option, Some, None, List, [], ◌∷◌, refl, sym, ap, ◌∙◌}
-use mathlib.Core.Bool.{false≢true}
+use Rattle.toll_views.proofs.Common.{false≢true, nat_list_cmp_total, AllByRecursion, list_any, Bytes, same_bytes, bytes_cmp, Slice, IsInKeyOrder, row_at, is_some_where, or_else, where_so, same_bytes-exact, same_bytes-refl, History, acts, Tables, IsRowsOf, Accepted, IsLawful, IsValid, verdict, each_found}
 use Rattle.std.proofs.lemmas.Bool.{or_left, or_right}
-use Rattle.std.specs.Cmp.Lexicographic.{nat_list_cmp_total}
-use Rattle.std.specs.List.{AllByRecursion, list_any}
-use Rattle.toll_base.specs.Bytes.{Bytes, same_bytes, bytes_cmp}
-use Rattle.toll_base.specs.Slice.{Slice}
-use Rattle.toll_base.specs.Table.{IsInKeyOrder, row_at}
-use Rattle.toll_base.specs.Words.{is_some_where, or_else, where_so}
 use Rattle.toll_base.specs.declared.lot.LotId.{LotId}
 use Rattle.toll_base.specs.declared.movement.MoveRow.{MoveRow}
-use Rattle.toll_base.proofs.Texts.{same_bytes-exact, same_bytes-refl}
 use Rattle.toll_history.specs.Command.{Action, Record, by}
-use Rattle.toll_history.specs.History.{History, acts}
 use Rattle.toll_history.specs.Movements.{movement_of, movement_recorded, voided_in}
-use Rattle.toll_history.specs.Tables.{Tables, IsRowsOf}
-use Rattle.toll_history.specs.Verdict.{Accepted, IsLawful, IsValid, verdict}
 use Rattle.toll_history.proofs.Acts.{along_acts}
 use Rattle.toll_history.proofs.Found.{key_is_new}
 use Rattle.toll_history.proofs.Options.{not_both}
-use Rattle.toll_stock.proofs.Sums.{each_found}
 use Rattle.toll_views.specs.InSlice.{has_consumed_in}
 use Rattle.toll_views.specs.Views.{consumes_lot, has_consumed}
 

@@ -1,3 +1,4 @@
+pub mod Common
 pub mod ConsumedLaw
 pub mod LotLaw
 pub mod StockLaw

@@ -1,22 +1,11 @@
 -- The view of a lot that a slice gives is that of every lawful history of which it has the rows.
 use Rattle.std.proofs.Common.{◌≡◌, Bool, true, cond, Option, Some, None, List, filter, sym, ap, subst, ◌∙◌}
-use Rattle.std.specs.Ordering.{is_eq}
-use Rattle.std.specs.declared.cmp.Ordering.{Ordering}
-use Rattle.toll_base.specs.Bytes.{Bytes, same_bytes}
-use Rattle.toll_base.specs.Keys.{pair_cmp, result_cmp}
-use Rattle.toll_base.specs.Slice.{Slice, lot_at}
-use Rattle.toll_base.specs.Table.{IsInKeyOrder, AreRowsGiven, row_at}
-use Rattle.toll_base.specs.declared.rows.LotRow.{LotRow}
+use Rattle.toll_views.proofs.Common.{is_eq, Ordering, Bytes, same_bytes, pair_cmp, result_cmp, Slice, lot_at, IsInKeyOrder, AreRowsGiven, row_at, LotRow, SublotRow, same_bytes-exact, History, acts, Tables, IsRowsOf, lot_row, row_at-filter, filter_ordered}
 use Rattle.toll_base.specs.declared.rows.ResultRow.{ResultRow}
-use Rattle.toll_base.specs.declared.rows.SublotRow.{SublotRow}
-use Rattle.toll_base.proofs.Texts.{same_bytes-exact}
-use Rattle.toll_history.specs.History.{History, acts}
-use Rattle.toll_history.specs.Tables.{Tables, IsRowsOf, lot_row}
 use Rattle.toll_views.specs.InSlice.{IsLotViewIn}
 use Rattle.toll_views.specs.Views.{results_of_lot, sublots_of_lot, IsLotViewOf}
 use Rattle.toll_views.specs.declared.lot.LotView.{LotView}
 use Rattle.toll_views.proofs.StockLaw.{measure_is}
-use Rattle.toll_work.proofs.KeyedRows.{row_at-filter, filter_ordered}
 use Rattle.toll_work.proofs.ViewLaw.{tied_first}
 
 -- of rows whose keys begin with a lot, those of one lot are given at the keys that begin with it

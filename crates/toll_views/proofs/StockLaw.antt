@@ -1,31 +1,17 @@
 -- The stock that a slice shows is that of every lawful history of which it has the rows.
 use Rattle.std.proofs.Common.{◌≡◌, ℕ, ◌<◌, true, Option, Some, None, is_some, List, [], ◌∷◌, length, get_or, map, zero, suc, refl, sym, ap, ◌∙◌, arith}
-use Rattle.std.specs.Cmp.Lexicographic.{nat_list_cmp_total}
-use Rattle.std.specs.List.{AllByRecursion}
+use Rattle.toll_views.proofs.Common.{nat_list_cmp_total, AllByRecursion, Bytes, bytes_cmp, pair_cmp, Slice, lot_at, material_at, IsInKeyOrder, AreRowsGiven, none_or, LotRow, same_bytes-exact, History, acts, Tables, IsRowsOf, IsLawful, on_hand_in, along, each_found, row_at-map, map_ordered}
 use Rattle.std.specs.Option.{option_map, option_map_or}
-use Rattle.toll_base.specs.Bytes.{Bytes, bytes_cmp}
-use Rattle.toll_base.specs.Keys.{pair_cmp}
 use Rattle.toll_base.specs.Lots.{lot_id}
-use Rattle.toll_base.specs.Slice.{Slice, lot_at, material_at}
 use Rattle.toll_base.specs.SliceRules.{KeepsRules}
-use Rattle.toll_base.specs.Table.{IsInKeyOrder, AreRowsGiven}
-use Rattle.toll_base.specs.Words.{none_or}
-use Rattle.toll_base.specs.declared.rows.LotRow.{LotRow}
 use Rattle.toll_base.specs.declared.rows.MaterialRow.{MaterialRow}
-use Rattle.toll_base.proofs.Texts.{same_bytes-exact}
 use Rattle.toll_history.specs.Amounts.{on_hand}
-use Rattle.toll_history.specs.History.{History, acts}
-use Rattle.toll_history.specs.Tables.{Tables, IsRowsOf}
-use Rattle.toll_history.specs.Verdict.{IsLawful}
 use Rattle.toll_history.specs.Work.{measure_of}
-use Rattle.toll_stock.specs.LotTotals.{on_hand_in}
 use Rattle.toll_stock.proofs.OnHandTotals.{on_hand_is}
-use Rattle.toll_stock.proofs.Sums.{along, each_found}
 use Rattle.toll_views.specs.InSlice.{measure_in, line_in}
 use Rattle.toll_views.specs.Views.{stock_line}
 use Rattle.toll_views.specs.declared.stock.StockLine.{StockLine}
 use Rattle.toll_work.proofs.FoundRow.{row_at-key}
-use Rattle.toll_work.proofs.KeyedRows.{row_at-map, map_ordered}
 
 -- the measure of a material is the history's
 pub measure_is : (H : History) (s : Slice) → IsRowsOf H s → (m : Bytes) → measure_in s m ≡ measure_of (acts s.owner H) m

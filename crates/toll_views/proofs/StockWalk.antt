@@ -1,22 +1,12 @@
 -- Along sublots in the order of their lots: what is passed, and what is left for the lots to come.
 use Rattle.std.proofs.Common.{◌≡◌, ℕ, ◌+◌, ◌<◌, ◌≤◌, false, cond, List, [], ◌∷◌, length, get_or, map, refl, sym, ap, subst, ◌∙◌, zero-add, arith}
-use mathlib.Core.Bool.{false≢true}
+use Rattle.toll_views.proofs.Common.{false≢true, nat_list_cmp_total, is_eq, is_gt, ordering_reverse, Ordering, Bytes, bytes_cmp, pair_cmp, Slice, IsInKeyOrder, LotRow, SublotRow, held_in, on_hand_in}
 use Rattle.std.specs.Cmp.{IsTotalOrder}
-use Rattle.std.specs.Cmp.Lexicographic.{nat_list_cmp_total}
 use Rattle.std.specs.List.Sorted.{IsStrictlySortedBy}
-use Rattle.std.specs.Ordering.{is_eq, is_gt, ordering_reverse}
-use Rattle.std.specs.declared.cmp.Ordering.{Ordering}
 use Rattle.std.specs.declared.cmp.Ordering.TheVariants.{Less, Equal, Greater}
 use Rattle.std.proofs.lemmas.Cmp.{back_total}
 use Rattle.std.proofs.lemmas.List.{get_or-map, length-map}
 use Rattle.std.proofs.lemmas.Map.Keys.{Less-from_sorted}
-use Rattle.toll_base.specs.Bytes.{Bytes, bytes_cmp}
-use Rattle.toll_base.specs.Keys.{pair_cmp}
-use Rattle.toll_base.specs.Slice.{Slice}
-use Rattle.toll_base.specs.Table.{IsInKeyOrder}
-use Rattle.toll_base.specs.declared.rows.LotRow.{LotRow}
-use Rattle.toll_base.specs.declared.rows.SublotRow.{SublotRow}
-use Rattle.toll_stock.specs.LotTotals.{held_in, on_hand_in}
 use Rattle.toll_stock.proofs.LotOrder.{first_not_above}
 
 abbrev pub AreInOrder : List SublotRow → Type 0

@@ -1,10 +1,6 @@
 -- The same events are told the same, whatever keeps answered.
 use Rattle.std.proofs.Common.{◌≡◌, false, List, [], ◌∷◌, map, Result, Ok, Err, refl, sym, ap, subst, ◌∙◌}
-use mathlib.Core.Bool.{false≢true}
-use Rattle.toll_history.specs.History.{History}
-use Rattle.toll_keep.specs.declared.fault.KeepFault.{KeepFault}
-use Rattle.toll_answers.specs.PlantAnswers.{PlantTold}
-use Rattle.toll_desk.specs.Asking.{plant_told}
+use Rattle.toll_wire.proofs.Common.{false≢true, History, KeepFault, PlantTold, plant_told}
 use Rattle.toll_wire.specs.declared.event.Answer.{Answer}
 use Rattle.toll_wire.specs.declared.event.Answer.TheVariants.{Bytes as Reply, Plant as CommandReply}
 use Rattle.toll_wire.specs.declared.event.Event.{Event}

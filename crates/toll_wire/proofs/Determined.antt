@@ -1,8 +1,6 @@
 -- Events have one list of answers, where none is a fault.
 use Rattle.std.proofs.Common.{◌≡◌, false, cond, Some, None, List, [], ◌∷◌, refl, sym, ap, subst, ◌∙◌}
-use mathlib.Core.Bool.{false≢true}
-use Rattle.toll_base.specs.Bytes.{Bytes}
-use Rattle.toll_history.specs.History.{History}
+use Rattle.toll_wire.proofs.Common.{false≢true, Bytes, History}
 use Rattle.toll_answers.proofs.OneReply.{one_reply}
 use Rattle.toll_answers.proofs.OneAnswer.{one_plant_answer}
 use Rattle.toll_wire.specs.Runs.{Asks, Fails, Saying, By, Nobody, Happening, Request, Plant, Answered, Text, Unavailable, PlantTells, PlantFault, Wire, IsTold, IsStep, IsRun, is_fault, NoFaults}

@@ -1,3 +1,4 @@
+pub mod Common
 pub mod Readings
 mod WorkedReplies
 pub mod Private

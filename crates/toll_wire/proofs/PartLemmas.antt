@@ -1,14 +1,7 @@
 -- An owner's part of a run, as bytes, and its replies alone.
 use Rattle.std.proofs.Common.{◌≡◌, Bool, true, false, cond, Option, Some, None, List, [], ◌∷◌, ◌++◌, Result, Ok, Err, refl, sym, ap, subst, ◌∙◌, inl, inr}
 use Rattle.std.specs.Prelude.{◌⊎◌}
-use mathlib.Core.Bool.{false≢true}
-use Rattle.toll_base.specs.Bytes.{Bytes, same_bytes}
-use Rattle.toll_history.specs.Command.{Command}
-use Rattle.toll_history.specs.History.{History, part}
-use Rattle.toll_history.specs.Verdict.{Accepted, Repeated, Refused}
-use Rattle.toll_keep.specs.declared.fault.KeepFault.{KeepFault}
-use Rattle.toll_answers.specs.PlantAnswers.{PlantAsked, Does, AsksOrders, AsksStock, AsksBatch, AsksTrace, AsksRecall, CannotRead, PlantTold, Judged, Shows as ShowsText}
-use Rattle.toll_desk.specs.Asking.{asked_by, plant_told}
+use Rattle.toll_wire.proofs.Common.{false≢true, Bytes, same_bytes, Command, History, part, Accepted, Repeated, Refused, KeepFault, PlantAsked, Does, AsksOrders, AsksStock, AsksBatch, AsksTrace, AsksRecall, CannotRead, PlantTold, Judged, Shows as ShowsText, asked_by, plant_told}
 use Rattle.toll_wire.specs.declared.event.Event.{Event}
 use Rattle.toll_wire.specs.declared.event.Event.TheVariants.{Owner, Plant as CommandOf}
 use Rattle.toll_wire.specs.declared.event.Answer.{Answer}

@@ -1,19 +1,12 @@
 -- What is printed of a recall and a trace is that of the definitions.
 use Rattle.std.proofs.Common.{◌≡◌, true, is_some, Some, List, ap, subst, ◌∙◌}
 use Rattle.std.specs.Prelude.{Contains, MatchBool}
-use Rattle.toll_base.specs.Bytes.{Bytes}
+use Rattle.toll_wire.proofs.Common.{Bytes, UnknownLot, History, acts, Verdict, Accepted, Repeated, Refused, first_of, AsksRecall, AsksTrace, Shows, IsCheckedOr, IsPlantAnswer, IsRecallShown, IsTraceShown, lot_checks, has_key, IsAnswer, IsReply, IsTraceTold, Asked, Told, TellForbidden, TellRefused, TellTrace, recall_text}
 use Rattle.toll_base.specs.Lots.{lot_id}
 use Rattle.toll_base.specs.declared.lot.LotId.{LotId}
-use Rattle.toll_base.specs.declared.refusal.Refusal.TheVariants.{UnknownLot}
-use Rattle.toll_history.specs.History.{History, acts}
 use Rattle.toll_history.specs.Tables.{lot_row}
-use Rattle.toll_history.specs.Verdict.{Verdict, Accepted, Repeated, Refused, first_of}
-use Rattle.toll_answers.specs.PlantAnswers.{AsksRecall, AsksTrace, Shows, IsCheckedOr, IsPlantAnswer, IsRecallShown, IsTraceShown, lot_checks}
-use Rattle.toll_answers.specs.Replies.{has_key, IsAnswer, IsReply, IsTraceTold}
-use Rattle.toll_answers.specs.Told.{Asked, Told, TellForbidden, TellRefused, TellTrace}
 use Rattle.toll_genealogy.specs.Edges.{IsOwnJoined}
 use Rattle.toll_genealogy.specs.declared.recall.RecallLine.{RecallLine}
-use Rattle.toll_print.specs.Texts.{recall_text}
 use Rattle.toll_trace.specs.Trace.{IsTrace}
 use Rattle.toll_trace.specs.declared.step.Step.{Step}
 use Rattle.toll_trace.specs.declared.way.Way.{Way}

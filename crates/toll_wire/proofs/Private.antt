@@ -1,16 +1,9 @@
 -- Each owner's replies in a run are those that its own events give by themselves.
 use Rattle.std.proofs.Common.{◌≡◌, Bool, true, false, ◌&&◌, cond, Option, Some, None, List, [], ◌∷◌, ◌++◌, refl, sym, ap, subst, ◌∙◌}
-use mathlib.Core.Bool.{false≢true}
-use Rattle.toll_base.specs.Bytes.{Bytes, same_bytes}
+use Rattle.toll_wire.proofs.Common.{false≢true, Bytes, same_bytes, PlaceOrder, CancelOrder, Release, Reject, Command, by, History, part, Verdict, Accepted, Repeated, Refused, verdict, grow, grown, IsLawful, Asked, AskPlace, AskCancel, AskRelease, AskReject, IsValidAsked, has_key, IsReply, after_answer, after_reply, PlantAsked, Does, AsksOrders, AsksStock, AsksBatch, AsksTrace, AsksRecall, CannotRead, PlantTold, Judged, after_plant}
 use Rattle.toll_base.specs.Values.{house_name}
-use Rattle.toll_history.specs.Command.{PlaceOrder, CancelOrder, Release, Reject, Command, by}
-use Rattle.toll_history.specs.History.{History, part}
-use Rattle.toll_history.specs.Verdict.{Verdict, Accepted, Repeated, Refused, verdict, grow, grown, IsLawful}
 use Rattle.toll_history.proofs.Own.{part-own, part-other}
 use Rattle.toll_base.proofs.Texts.{same_bytes-exact}
-use Rattle.toll_answers.specs.Told.{Asked, AskPlace, AskCancel, AskRelease, AskReject}
-use Rattle.toll_answers.specs.Replies.{IsValidAsked, has_key, IsReply, after_answer, after_reply}
-use Rattle.toll_answers.specs.PlantAnswers.{PlantAsked, Does, AsksOrders, AsksStock, AsksBatch, AsksTrace, AsksRecall, CannotRead, PlantTold, Judged, after_plant}
 use Rattle.toll_answers.proofs.OwnReplies.{lawful-grow, has_key-part, reply-both_ways, after_reply-part}
 use Rattle.toll_wire.specs.Runs.{Asking, Asks, Fails, Saying, By, Nobody, Happening, Request, Plant, Answered, Text, Unavailable, PlantTells, PlantFault, Wire, IsTold, after_saying, IsStep, IsRun, accepts, is_own, own_events, told_by, told, IsAlone, IsPrivate, IsValidSaying, IsValidEvent, AreValid, claims}
 

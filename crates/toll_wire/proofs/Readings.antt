@@ -1,7 +1,6 @@
 -- Bytes ask for one thing.
 use Rattle.std.proofs.Common.{◌≡◌, ◌∙◌, sym, ap, subst}
-use Rattle.toll_base.specs.Bytes.{Bytes}
-use Rattle.toll_http.specs.Arriving.{Outcome, refused, request}
+use Rattle.toll_wire.proofs.Common.{Bytes, Outcome, refused, request}
 use Rattle.toll_http.proofs.Arrivals.{arrives_once}
 use Rattle.toll_routes.proofs.Once.{asking_once}
 use Rattle.toll_wire.specs.Asking.{Asked, claimed, AskedOf, Reads}

@@ -1,30 +1,13 @@
 -- Requests that are served, over any keep.
 use Rattle.std.proofs.Common.{◌≡◌, ℕ, Bool, true, false, ◌&&◌, cond, List, [], ◌∷◌, Some, None, Result, Ok, Err, IfOk, refl, sym, ap, subst, inl, inr}
-use Rattle.std.specs.Global.{Vec}
+use Rattle.toll_wire.proofs.Common.{Vec, starts_with, digits, false≢true, Bytes, History, Meaning, Content, ContentKeepsRules, Fits, after, Goes, IsReading, StandsFor, KeepFault, Memory, Damaged, Asked, Told, TellForbidden, TellOrders, TellOrder, TellBatch, TellStock, TellLot, TellTrace, TellRefused, has_key, IsReply, after_reply, is_granted, may_change, writes, finished, IsDone, reply_text, Forbidden}
 use Rattle.std.specs.Prelude.{◌≢◌, OnOk, OnErr, IsTrue, nat_eq, codes}
-use Rattle.std.specs.List.{starts_with}
-use Rattle.std.specs.Fmt.{digits}
-use mathlib.Core.Bool.{false≢true}
-use Rattle.toll_base.specs.Bytes.{Bytes}
 use Rattle.toll_base.specs.declared.decision.Change.{Change}
-use Rattle.toll_history.specs.History.{History}
-use Rattle.toll_keep.specs.Meaning.{Meaning}
-use Rattle.toll_keep.specs.Content.{Content, ContentKeepsRules, Fits, after}
-use Rattle.toll_keep.specs.Goes.{Goes, IsReading}
-use Rattle.toll_standing.specs.Standing.{StandsFor}
-use Rattle.toll_keep.specs.declared.fault.KeepFault.{KeepFault}
-use Rattle.toll_keep.specs.declared.fault.KeepFault.TheVariants.{Memory, Damaged}
-use Rattle.toll_answers.specs.Told.{Asked, Told, TellForbidden, TellOrders, TellOrder, TellBatch, TellStock, TellLot, TellTrace, TellRefused}
-use Rattle.toll_answers.specs.Replies.{has_key, IsReply, after_reply}
-use Rattle.toll_desk.specs.Asking.{is_granted, may_change, writes}
-use Rattle.toll_desk.specs.Outcome.{finished, IsDone}
 use Rattle.toll_desk.specs.Plans.{IsPlan}
 use Rattle.toll_desk.specs.Reads.{Over}
 use Rattle.toll_keep.proofs.Calls.{Rests, goes_as, goes_fault, goes_memory, settles}
 use Rattle.toll_desk.proofs.Carried.{done_of, goes_on}
-use Rattle.toll_http.specs.Messages.{reply_text}
 use Rattle.toll_http.specs.declared.failure.Failure.{Failure}
-use Rattle.toll_http.specs.declared.failure.Failure.TheVariants.{Forbidden}
 use Rattle.toll_wire.specs.declared.outgoing.Out.{Out}
 use Rattle.toll_wire.specs.declared.outgoing.Out.TheVariants.{Text, Unavailable}
 use Rattle.toll_wire.specs.OutTexts.{IsText, text_if}

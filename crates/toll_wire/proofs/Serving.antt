@@ -1,21 +1,8 @@
 -- Events of the office, one after another, are a run.
 use Rattle.std.proofs.Common.{◌≡◌, ◌⊎◌, Bool, false, List, [], ◌∷◌, ◌++◌, Result, Ok, Err, refl, sym, subst, ap, ◌∙◌, inl, inr}
-use Rattle.std.specs.Global.{Vec}
-use Rattle.std.specs.List.{AllByRecursion}
+use Rattle.toll_wire.proofs.Common.{Vec, AllByRecursion, false≢true, History, IsLawful, Meaning, Content, Goes, Settles, StandsFor, KeepFault, Memory, Disk, Damaged, Closed, PlantAsked, PlantTold, Does, AsksOrders, AsksStock, AsksBatch, AsksTrace, AsksRecall, CannotRead, IsPlantAnswer, after_plant, asked_by, plant_told, IsValidDeed, GoesFor, IsDone}
 use Rattle.std.specs.Prelude.{ℕ}
-use mathlib.Core.Bool.{false≢true}
 use Rattle.toll_base.specs.declared.refusal.Refusal.{Refusal}
-use Rattle.toll_history.specs.History.{History}
-use Rattle.toll_history.specs.Verdict.{IsLawful}
-use Rattle.toll_keep.specs.Meaning.{Meaning}
-use Rattle.toll_keep.specs.Content.{Content}
-use Rattle.toll_keep.specs.Goes.{Goes, Settles}
-use Rattle.toll_standing.specs.Standing.{StandsFor}
-use Rattle.toll_keep.specs.declared.fault.KeepFault.{KeepFault}
-use Rattle.toll_keep.specs.declared.fault.KeepFault.TheVariants.{Memory, Disk, Damaged, Closed}
-use Rattle.toll_answers.specs.PlantAnswers.{PlantAsked, PlantTold, Does, AsksOrders, AsksStock, AsksBatch, AsksTrace, AsksRecall, CannotRead, IsPlantAnswer, after_plant}
-use Rattle.toll_desk.specs.Asking.{asked_by, plant_told, IsValidDeed}
-use Rattle.toll_desk.specs.Outcome.{GoesFor, IsDone}
 use Rattle.toll_desk.specs.declared.plant_cmd.PlantCmd.{PlantCmd}
 use Rattle.toll_desk.specs.declared.plant_cmd.PlantReply.{PlantReply}
 use Rattle.toll_wire.specs.declared.event.Event.{Event}

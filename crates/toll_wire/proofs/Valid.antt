@@ -1,7 +1,6 @@
 -- What the bytes of requests say is within its bounds.
 use Rattle.std.proofs.Common.{Option, Some, None, sym, subst}
-use Rattle.toll_base.specs.Bytes.{Bytes}
-use Rattle.toll_http.specs.Arriving.{Outcome, refused as refused_before, request as arrived}
+use Rattle.toll_wire.proofs.Common.{Bytes, Outcome, refused as refused_before, request as arrived}
 use Rattle.toll_routes.specs.declared.asks.Asks.{Asks}
 use Rattle.toll_routes.specs.declared.asks.Asks.TheVariants.{Failing, For}
 use Rattle.toll_routes.specs.Asking.{IsValidAsks}

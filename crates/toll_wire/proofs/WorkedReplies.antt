@@ -1,14 +1,10 @@
 -- Replies byte for byte, by the definitions.
 use Rattle.std.proofs.Common.{◌≡◌, Some, refl, false}
 use Rattle.std.specs.Prelude.{codes}
-use Rattle.std.specs.Fmt.{digits}
-use Rattle.serde_json.proofs.OnLiterals.{serde_json_on_literals}
+use Rattle.toll_wire.proofs.Common.{digits, serde_json_on_literals, OrderExists, Forbidden, MethodNotAllowed, NotImplemented, reply_text}
 use Rattle.toll_base.specs.declared.rows.OrderRow.{OrderRow}
-use Rattle.toll_base.specs.declared.refusal.Refusal.TheVariants.{OrderExists}
 use Rattle.toll_desk.specs.declared.request.Reply.TheVariants.{Order, Refused}
-use Rattle.toll_http.specs.declared.failure.Failure.TheVariants.{Forbidden, MethodNotAllowed, NotImplemented}
 use Rattle.toll_http.specs.declared.verb.Verb.TheVariants.{Get}
-use Rattle.toll_http.specs.Messages.{reply_text}
 use Rattle.toll_wire.specs.ReplyTexts.{text_of_failure, text_of_reply}
 
 abbrev open_order : OrderRow

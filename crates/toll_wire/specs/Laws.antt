@@ -1,17 +1,9 @@
 -- What the laws of runs say of a run, and of two.
 use Rattle.std.specs.Prelude.{◌≡◌, false, Some, List, map}
-use Rattle.toll_base.specs.Bytes.{Bytes, same_bytes}
+use Rattle.toll_wire.specs.Common.{Bytes, same_bytes, house_name, LotId, History, part, Way, trace_text, AsksRecall, IsPlantAnswer, Shows, TellTrace, Content}
 use Rattle.toll_base.specs.Lots.{lot_id}
-use Rattle.toll_base.specs.Values.{house_name}
-use Rattle.toll_base.specs.declared.lot.LotId.{LotId}
-use Rattle.toll_history.specs.History.{History, part}
 use Rattle.toll_trace.specs.declared.step.Step.{Step}
-use Rattle.toll_trace.specs.declared.way.Way.{Way}
 use Rattle.toll_genealogy.specs.Agreement.{IsOwnTrace, IsPlantTrace}
-use Rattle.toll_print.specs.Texts.{trace_text}
-use Rattle.toll_answers.specs.PlantAnswers.{AsksRecall, IsPlantAnswer, Shows}
-use Rattle.toll_answers.specs.Told.{TellTrace}
-use Rattle.toll_keep.specs.Content.{Content}
 use Rattle.toll_wire.specs.OfficeRuns.{IsRunOf, tells}
 use Rattle.toll_wire.specs.Parts.{AreAlone, IsPart, OwnEvent}
 use Rattle.toll_wire.specs.Printed.{PrintsLine, asks_trace}

@@ -1,14 +1,6 @@
 -- Events of the office, and their answers, as a run.
 use Rattle.std.specs.Prelude.{◌≡◌, ◌⊎◌, Bool, List, [], ◌∷◌, Result, Ok, Err}
-use Rattle.toll_history.specs.History.{History}
-use Rattle.toll_history.specs.Verdict.{IsLawful}
-use Rattle.toll_keep.specs.Meaning.{Meaning}
-use Rattle.toll_keep.specs.Content.{Content}
-use Rattle.toll_keep.specs.declared.fault.KeepFault.{KeepFault}
-use Rattle.toll_keep.specs.declared.fault.KeepFault.TheVariants.{Memory}
-use Rattle.toll_answers.specs.PlantAnswers.{PlantTold}
-use Rattle.toll_desk.specs.Asking.{asked_by, plant_told}
-use Rattle.toll_desk.specs.Outcome.{HoldsFor, LeavesOr}
+use Rattle.toll_wire.specs.Common.{History, IsLawful, Meaning, Content, KeepFault, Memory, PlantTold, asked_by, plant_told, HoldsFor, LeavesOr}
 use Rattle.toll_desk.specs.PlantServed.{IsPlantServed}
 use Rattle.toll_wire.specs.declared.event.Event.{Event}
 use Rattle.toll_wire.specs.declared.event.Event.TheVariants.{Owner, Plant as Command}

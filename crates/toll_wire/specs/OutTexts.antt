@@ -1,8 +1,7 @@
 -- What is sent back.
 use Rattle.std.specs.Prelude.{◌≡◌, ℕ, Option, Some, None, Result, Ok, Err}
 use Rattle.std.specs.Global.{Vec}
-use Rattle.toll_base.specs.Bytes.{Bytes}
-use Rattle.toll_keep.specs.declared.fault.KeepFault.{KeepFault}
+use Rattle.toll_wire.specs.Common.{Bytes, KeepFault}
 use Rattle.toll_wire.specs.ReplyTexts.{unavailable_text}
 use Rattle.toll_wire.specs.declared.outgoing.Out.{Out}
 use Rattle.toll_wire.specs.declared.outgoing.Out.TheVariants.{Text, Unavailable}

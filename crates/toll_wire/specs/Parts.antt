@@ -1,12 +1,7 @@
 -- What one owner has of a run, as bytes: its requests and their replies, and the commands on its rows.
 use Rattle.std.specs.Prelude.{◌≡◌, ◌⊎◌, true, if◌then◌else◌, Option, Some, None, List, [], ◌∷◌, Result, Ok}
-use Rattle.toll_base.specs.Bytes.{Bytes, same_bytes}
+use Rattle.toll_wire.specs.Common.{Bytes, same_bytes, History, Accepted, KeepFault, PlantAsked, Does, PlantTold, Judged, asked_by, plant_told}
 use Rattle.toll_history.specs.Command.{Command}
-use Rattle.toll_history.specs.History.{History}
-use Rattle.toll_history.specs.Verdict.{Accepted}
-use Rattle.toll_keep.specs.declared.fault.KeepFault.{KeepFault}
-use Rattle.toll_answers.specs.PlantAnswers.{PlantAsked, Does, PlantTold, Judged}
-use Rattle.toll_desk.specs.Asking.{asked_by, plant_told}
 use Rattle.toll_wire.specs.declared.event.Event.{Event}
 use Rattle.toll_wire.specs.declared.event.Event.TheVariants.{Owner, Plant}
 use Rattle.toll_wire.specs.declared.event.Answer.{Answer}

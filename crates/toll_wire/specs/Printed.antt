@@ -1,13 +1,8 @@
 -- Traces and recalls down to the bytes that are told.
 use Rattle.std.specs.Prelude.{◌≡◌, List, Contains}
-use Rattle.toll_base.specs.Bytes.{Bytes}
-use Rattle.toll_base.specs.declared.lot.LotId.{LotId}
-use Rattle.toll_answers.specs.Told.{Asked, AskBack, AskForward}
+use Rattle.toll_wire.specs.Common.{Bytes, LotId, Asked, AskBack, AskForward, History, recall_line, recall_text, Way}
 use Rattle.toll_genealogy.specs.Recall.{IsRecall}
 use Rattle.toll_genealogy.specs.declared.recall.RecallLine.{RecallLine}
-use Rattle.toll_history.specs.History.{History}
-use Rattle.toll_print.specs.Texts.{recall_line, recall_text}
-use Rattle.toll_trace.specs.declared.way.Way.{Way}
 use Rattle.toll_trace.specs.declared.way.Way.TheVariants.{Back, Forward}
 
 -- the request for an owner's trace this way

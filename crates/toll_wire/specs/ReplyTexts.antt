@@ -2,16 +2,11 @@
 use Rattle.std.specs.Prelude.{ℕ, [], Option, Some, None, Result, Ok, Err, codes}
 use Rattle.serde_json.specs.Data.{Data}
 use Rattle.serde_json.specs.Written.{compact_text}
-use Rattle.toll_base.specs.Bytes.{Bytes}
+use Rattle.toll_wire.specs.Common.{Bytes, KeepFault, Told, TellForbidden, TellOrders, TellOrder, TellBatch, TellStock, TellLot, TellTrace, TellRefused, told_of, Failure, Forbidden}
 use Rattle.toll_base.specs.declared.refusal.Refusal.{Refusal}
 use Rattle.toll_base.specs.declared.refusal.Refusal.TheVariants.{UnknownOrder, UnknownBatch, UnknownLot}
-use Rattle.toll_keep.specs.declared.fault.KeepFault.{KeepFault}
 use Rattle.toll_desk.specs.declared.request.Reply.{Reply}
-use Rattle.toll_answers.specs.Told.{Told, TellForbidden, TellOrders, TellOrder, TellBatch, TellStock, TellLot, TellTrace, TellRefused}
-use Rattle.toll_desk.specs.Asking.{told_of}
 use Rattle.toll_http.specs.Messages.{reply_text}
-use Rattle.toll_http.specs.declared.failure.Failure.{Failure}
-use Rattle.toll_http.specs.declared.failure.Failure.TheVariants.{Forbidden}
 use Rattle.toll_http.specs.Failures.{status_of_failure, word_of_failure, allowed_after}
 use Rattle.toll_bodies.specs.ReplyBodies.{batch_data, error_data, lot_data, order_data, orders_data, refusal_data, stock_data, trace_data}
 

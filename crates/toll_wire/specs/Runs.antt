@@ -1,14 +1,8 @@
 -- Runs of events with their answers, and what one owner's events give alone.
 use Rattle.std.specs.Prelude.{◌≡◌, Bool, false, true, ◌&&◌, if◌then◌else◌, Option, Some, None, List, [], ◌∷◌, ◌++◌}
-use Rattle.toll_base.specs.Bytes.{Bytes, same_bytes}
-use Rattle.toll_base.specs.Values.{house_name}
+use Rattle.toll_wire.specs.Common.{Bytes, same_bytes, house_name, History, part, Accepted, Asked, Told, PlantAsked, Does, PlantTold, Judged, IsPlantAnswer, after_plant, IsValidDeed}
 use Rattle.toll_base.specs.Words.{is_some_where}
-use Rattle.toll_history.specs.History.{History, part}
-use Rattle.toll_history.specs.Verdict.{Accepted}
-use Rattle.toll_answers.specs.Told.{Asked, Told}
 use Rattle.toll_answers.specs.Replies.{IsValidAsked, has_key, IsReply, after_reply}
-use Rattle.toll_answers.specs.PlantAnswers.{PlantAsked, Does, PlantTold, Judged, IsPlantAnswer, after_plant}
-use Rattle.toll_desk.specs.Asking.{IsValidDeed}
 
 -- what is asked with a key: a request, or something that fails a check after the key's, with the text that it is told
 pub data Asking : Type 0 where

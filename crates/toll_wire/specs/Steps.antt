@@ -1,18 +1,9 @@
 -- A request is one step of a run.
 use Rattle.std.specs.Prelude.{◌≡◌, ◌≢◌, ◌⊎◌, Bool, false, Some, None, List, Result, Ok, Err, IsTrue, nat_eq, codes}
 use Rattle.std.specs.List.{starts_with}
-use Rattle.toll_base.specs.Bytes.{Bytes}
-use Rattle.toll_history.specs.History.{History}
-use Rattle.toll_keep.specs.Meaning.{Meaning}
-use Rattle.toll_keep.specs.Content.{Content, ContentKeepsRules}
+use Rattle.toll_wire.specs.Common.{Bytes, History, Meaning, Content, ContentKeepsRules, KeepFault, Damaged, asked_of, writes, IsDone, Forbidden, Asks as AsksFor}
 use Rattle.toll_keep.specs.Goes.{Goes, Settles}
-use Rattle.toll_keep.specs.declared.fault.KeepFault.{KeepFault}
-use Rattle.toll_keep.specs.declared.fault.KeepFault.TheVariants.{Damaged}
-use Rattle.toll_desk.specs.Asking.{asked_of, writes}
-use Rattle.toll_desk.specs.Outcome.{IsDone}
 use Rattle.toll_desk.specs.Reads.{Over}
-use Rattle.toll_http.specs.declared.failure.Failure.TheVariants.{Forbidden}
-use Rattle.toll_routes.specs.declared.asks.Asks.{Asks as AsksFor}
 use Rattle.toll_routes.specs.declared.asks.Asks.TheVariants.{Failing, For}
 use Rattle.toll_wire.specs.declared.outgoing.Out.{Out}
 use Rattle.toll_wire.specs.declared.outgoing.Out.TheVariants.{Text, Unavailable}

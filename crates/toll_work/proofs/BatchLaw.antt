@@ -1,34 +1,7 @@
 -- What the commanding and the closing of a batch owe: each changes the row of a known batch.
 use Rattle.std.proofs.Common.{◌≡◌, ℕ, Bool, true, false, ◌&&◌, ◌||◌, ◌==◌, cond, Option, Some, None, is_none, List, [], ◌∷◌, map, refl, sym, ap, ◌∙◌, arith}
-use Rattle.std.specs.Option.{option_map}
-use Rattle.std.specs.Ordering.{is_eq}
-use Rattle.std.proofs.lemmas.Bool.Decides.{nat_tests}
-use Rattle.toll_base.specs.Bytes.{Bytes, same_bytes}
-use Rattle.toll_base.specs.Keys.{batch_cmp}
-use Rattle.toll_history.specs.Command.{Action, CommandBatch, CloseBatch, by}
-use Rattle.toll_history.specs.History.{History, acts}
-use Rattle.toll_base.specs.Slice.{Slice, batch_at, with_row}
-use Rattle.toll_base.specs.SliceRules.{KeepsRules}
-use Rattle.toll_base.specs.States.{followed}
-use Rattle.toll_history.specs.Work.{unit_of, state_of, is_closed, batch_of}
-use Rattle.toll_history.specs.Tables.{Tables, tables_of, tables_given}
-use Rattle.toll_history.specs.Decision.{IsDecided, Decides, DecisionKeepsRules}
-use Rattle.toll_history.specs.Verdict.{Checks, Accepted, first_of, verdict, batch_command_checks, close_checks}
-use Rattle.toll_history.specs.Laws.{records_or_voids}
-use Rattle.toll_base.specs.declared.state.State.{State}
+use Rattle.toll_work.proofs.Common.{option_map, is_eq, nat_tests, Bytes, same_bytes, batch_cmp, Action, CommandBatch, CloseBatch, by, History, acts, Slice, batch_at, with_row, KeepsRules, followed, unit_of, state_of, is_closed, batch_of, Tables, tables_of, tables_given, IsDecided, Decides, DecisionKeepsRules, Checks, Accepted, first_of, verdict, batch_command_checks, close_checks, records_or_voids, State, Put, Decision, BatchRow, Batch, none_applies, both, accepted_passes, verdict_is, Grows, RowsFit, put_rows, decides, keeps_rules, tables-own, tables-others, tables_after, row_at-put_row, count-known, same_bytes-exact, same_bytes-symm, nat_eq-exact, batch_cmp_total, same_batch}
 use Rattle.toll_base.specs.declared.state_command.StateCommand.{StateCommand}
-use Rattle.toll_base.specs.declared.decision.Change.TheVariants.{Put}
-use Rattle.toll_base.specs.declared.decision.Decision.{Decision}
-use Rattle.toll_base.specs.declared.rows.BatchRow.{BatchRow}
-use Rattle.toll_base.specs.declared.rows.Row.TheVariants.{Batch}
-use Rattle.toll_history.proofs.Accepted.{none_applies}
-use Rattle.toll_base.proofs.Bools.{both}
-use Rattle.toll_history.proofs.Passed.{accepted_passes}
-use Rattle.toll_history.proofs.Decided.{verdict_is, Grows, RowsFit, put_rows, decides, keeps_rules}
-use Rattle.toll_history.proofs.Grown.{tables-own, tables-others, tables_after}
-use Rattle.toll_base.proofs.KeyOrder.{row_at-put_row}
-use Rattle.toll_base.proofs.PutTables.{count-known}
-use Rattle.toll_base.proofs.Texts.{same_bytes-exact, same_bytes-symm, nat_eq-exact, batch_cmp_total, same_batch}
 use Rattle.toll_work.specs.Plans.{commanded_row, closed_row, changed_rows}
 use Rattle.toll_work.proofs.FoundRow.{row_at-key, of_known, known_changed}
 

@@ -1,29 +1,6 @@
 -- What the cancelling of an order owes.
 use Rattle.std.proofs.Common.{◌≡◌, Bool, true, false, cond, Option, Some, None, is_some, is_none, [], ◌∷◌, ◌||◌, map, refl, sym, ap, ◌∙◌}
-use Rattle.std.specs.List.{list_any}
-use Rattle.std.specs.Option.{option_map}
-use Rattle.std.proofs.lemmas.Bool.{or_left}
-use Rattle.std.specs.Cmp.Lexicographic.{nat_list_cmp_total}
-use Rattle.toll_base.specs.Bytes.{Bytes, same_bytes, bytes_cmp}
-use Rattle.toll_history.specs.Command.{CancelOrder, by}
-use Rattle.toll_history.specs.History.{History, acts}
-use Rattle.toll_base.specs.Slice.{Slice, order_at, with_row}
-use Rattle.toll_base.specs.SliceRules.{KeepsRules}
-use Rattle.toll_history.specs.Work.{order_of, cancels}
-use Rattle.toll_history.specs.Tables.{Tables, tables_of, tables_given}
-use Rattle.toll_history.specs.Decision.{IsDecided, Decides, DecisionKeepsRules}
-use Rattle.toll_history.specs.Verdict.{cancel_checks}
-use Rattle.toll_base.specs.declared.decision.Change.TheVariants.{Put}
-use Rattle.toll_base.specs.declared.decision.Decision.{Decision}
-use Rattle.toll_base.specs.declared.rows.OrderRow.{OrderRow}
-use Rattle.toll_base.specs.declared.rows.Row.TheVariants.{Order}
-use Rattle.toll_history.proofs.Accepted.{none_applies}
-use Rattle.toll_history.proofs.Passed.{accepted_passes}
-use Rattle.toll_history.proofs.Decided.{verdict_is, Grows, RowsFit, put_rows, decides, keeps_rules}
-use Rattle.toll_history.proofs.Grown.{tables-own, tables-others}
-use Rattle.toll_base.proofs.KeyOrder.{row_at-put_row}
-use Rattle.toll_base.proofs.PutTables.{length-known, any-known}
-use Rattle.toll_base.proofs.Texts.{same_bytes-exact, same_bytes-symm}
+use Rattle.toll_work.proofs.Common.{list_any, option_map, or_left, nat_list_cmp_total, Bytes, same_bytes, bytes_cmp, CancelOrder, by, History, acts, Slice, order_at, with_row, KeepsRules, order_of, cancels, Tables, tables_of, tables_given, IsDecided, Decides, DecisionKeepsRules, cancel_checks, Put, Decision, OrderRow, Order, none_applies, accepted_passes, verdict_is, Grows, RowsFit, put_rows, decides, keeps_rules, tables-own, tables-others, row_at-put_row, length-known, any-known, same_bytes-exact, same_bytes-symm}
 use Rattle.toll_work.specs.Plans.{cancelled_row, cancelled_rows}
 use Rattle.toll_work.proofs.FoundRow.{row_at-key, of_known, known_changed}
 use Rattle.toll_work.proofs.OrderLaw.{placed}

@@ -1,37 +1,6 @@
 -- What a consumption owes, of a lot of the batch's owner or of HOUSE.
 use Rattle.std.proofs.Common.{◌≡◌, ℕ, ◌-◌, true, false, ◌&&◌, cond, is_some, is_none, List, [], ◌∷◌, ◌++◌, refl, sym, ap, subst, ◌∙◌}
-use Rattle.std.proofs.lemmas.Bool.{or_parts, or_left}
-use Rattle.toll_base.specs.Bytes.{Bytes, same_bytes}
-use Rattle.toll_base.specs.Values.{house_name}
-use Rattle.toll_history.specs.Command.{Record, by}
-use Rattle.toll_history.specs.History.{History}
-use Rattle.toll_base.specs.Lots.{lot_id}
-use Rattle.toll_history.specs.Movements.{takes_from}
-use Rattle.toll_base.specs.Slice.{Slice, with_row}
-use Rattle.toll_base.specs.SliceRules.{KeepsRules, row_fits, count_actuals}
-use Rattle.toll_history.specs.Tables.{Tables, tables_of, tables_given, sublot_row, IsRowsOf}
-use Rattle.toll_base.specs.Changes.{after_changes, changes_of}
-use Rattle.toll_history.specs.Decision.{IsDecided, ChangesKeepRules, DecidesWith, DecisionKeepsRules}
-use Rattle.toll_history.specs.OwnChanges.{PutsOnlyWith}
-use Rattle.toll_history.specs.Verdict.{Accepted, Checks, first_of, key_checks, actual_checks, consumed_checks, tables_for, amount_in, verdict, IsLawful, IsValid}
-use Rattle.toll_base.specs.declared.decision.Change.{Change}
-use Rattle.toll_base.specs.declared.decision.Change.TheVariants.{Put}
-use Rattle.toll_base.specs.declared.decision.Decision.{Decision}
-use Rattle.toll_base.specs.declared.lot.LotId.{LotId}
-use Rattle.toll_base.specs.declared.role.Role.{Role}
-use Rattle.toll_base.specs.declared.role.Role.TheVariants.{Consumed}
-use Rattle.toll_base.specs.declared.movement.MoveRow.{MoveRow}
-use Rattle.toll_base.specs.declared.movement.Move.TheVariants.{Actual}
-use Rattle.toll_base.specs.declared.rows.SublotRow.{SublotRow}
-use Rattle.toll_base.specs.declared.rows.Row.TheVariants.{Sublot, Move}
-use Rattle.toll_history.proofs.Accepted.{applies, none_applies}
-use Rattle.toll_history.proofs.Decided.{verdict_is, right_over, rules_by, taken_in, left_out, keeps_put, keeps_skip, less_of}
-use Rattle.toll_history.proofs.Moving.{tables_for_are}
-use Rattle.toll_history.proofs.Passed.{accepted_passes, move_fits}
-use Rattle.toll_history.proofs.PutMoves.{with_move, with_sublot, is_at, put_move, put_sublot, put_went}
-use Rattle.toll_history.proofs.Recorded.{went_out, moved_elsewhere, taken_from_other, tables-untaken}
-use Rattle.toll_history.proofs.Room.{move_room, less_fit}
-use Rattle.toll_base.proofs.Texts.{same_bytes-exact, same_bytes-refl, same_bytes-symm}
+use Rattle.toll_work.proofs.Common.{or_parts, or_left, Bytes, same_bytes, house_name, Record, by, History, lot_id, takes_from, Slice, with_row, KeepsRules, row_fits, count_actuals, Tables, tables_of, tables_given, sublot_row, IsRowsOf, after_changes, changes_of, IsDecided, ChangesKeepRules, DecidesWith, DecisionKeepsRules, PutsOnlyWith, Accepted, Checks, first_of, key_checks, actual_checks, consumed_checks, tables_for, amount_in, verdict, IsLawful, IsValid, Change, Put, Decision, LotId, Role, Consumed, MoveRow, Actual, SublotRow, Sublot, Move, applies, none_applies, verdict_is, right_over, rules_by, taken_in, left_out, keeps_put, keeps_skip, less_of, tables_for_are, accepted_passes, move_fits, with_move, with_sublot, is_at, put_move, put_sublot, put_went, went_out, moved_elsewhere, taken_from_other, tables-untaken, move_room, less_fit, same_bytes-exact, same_bytes-refl, same_bytes-symm}
 use Rattle.toll_work.proofs.MadeChanges.{each_accepted, puts_consumed}
 
 module _ (key order : Bytes) (number segment : ℕ) (material : Bytes) (lot : LotId) (sublot : Bytes) (amount day : ℕ) where

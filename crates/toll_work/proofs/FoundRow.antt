@@ -1,10 +1,6 @@
 -- Rows that are found.
 use Rattle.std.proofs.Common.{◌≡◌, Bool, true, false, cond, Option, Some, None, is_none, List, [], ◌∷◌, refl, sym, ap, ◌∙◌}
-use mathlib.Core.Bool.{false≢true}
-use Rattle.std.specs.Option.{option_map, option_map_or}
-use Rattle.std.specs.Ordering.{is_eq}
-use Rattle.std.specs.declared.cmp.Ordering.{Ordering}
-use Rattle.toll_base.specs.Table.{row_at}
+use Rattle.toll_work.proofs.Common.{false≢true, option_map, option_map_or, is_eq, Ordering, row_at}
 
 -- a row that is found has the key
 pub row_at-key : {K R : Type 0} (cmp : K → K → Ordering) (key : R → K) (rows : List R) (k : K) (row : R) → row_at cmp key rows k ≡ Some row → is_eq (cmp k (key row)) ≡ true

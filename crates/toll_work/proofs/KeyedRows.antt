@@ -1,17 +1,11 @@
 -- Rows in key order, some of them taken out by their keys.
 use Rattle.std.proofs.Common.{◌≡◌, ℕ, ◌+◌, Bool, true, false, not, cond, Option, Some, None, List, [], ◌∷◌, map, filter, refl, sym, ap, subst, ◌∙◌, arith}
-use mathlib.Core.Bool.{false≢true}
+use Rattle.toll_work.proofs.Common.{false≢true, AllByRecursion, option_map, option_and_then, is_eq, Ordering, row_at, IsInKeyOrder, total, where_so}
 use Rattle.std.specs.Cmp.{IsTotalOrder}
-use Rattle.std.specs.List.{AllByRecursion}
 use Rattle.std.specs.List.Sorted.{IsStrictlySortedBy}
-use Rattle.std.specs.Option.{option_map, option_and_then}
-use Rattle.std.specs.Ordering.{is_eq}
-use Rattle.std.specs.declared.cmp.Ordering.{Ordering}
 use Rattle.std.specs.declared.cmp.Ordering.TheVariants.{Less, Equal, Greater}
 use Rattle.std.proofs.lemmas.Cmp.{tied_itself}
 use Rattle.std.proofs.lemmas.List.Kept.{IsStrictlySortedBy-filter}
-use Rattle.toll_base.specs.Table.{row_at, IsInKeyOrder}
-use Rattle.toll_base.specs.Words.{total, where_so}
 use Rattle.toll_work.proofs.FoundRow.{row_at-key}
 
 equal_of : (r : Ordering) → is_eq r ≡ true → r ≡ Equal

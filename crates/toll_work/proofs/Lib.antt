@@ -1,3 +1,4 @@
+pub mod Common
 pub mod VoidLaw
 pub mod ConsumptionLaw
 pub mod ProductionLaw

@@ -1,22 +1,6 @@
 -- Which changes a decision makes: none where a check applies, else rows of its owner, or a sublot of HOUSE.
 use Rattle.std.proofs.Common.{◌≡◌, ℕ, Bool, true, false, not, ◌&&◌, ◌||◌, List, [], ◌∷◌, sym, subst, ◌∙◌, refl}
-use mathlib.Core.Bool.{false≢true}
-use Rattle.std.proofs.lemmas.Bool.{or_left}
-use Rattle.toll_base.specs.Bytes.{Bytes, same_bytes}
-use Rattle.toll_base.specs.Changes.{changes_of}
-use Rattle.toll_base.specs.Values.{house_name}
-use Rattle.toll_base.specs.declared.decision.Change.{Change}
-use Rattle.toll_base.specs.declared.decision.Change.TheVariants.{Put}
-use Rattle.toll_base.specs.declared.decision.Decision.{Decision}
-use Rattle.toll_base.specs.declared.lot.LotId.{LotId}
-use Rattle.toll_base.specs.declared.role.Role.TheVariants.{Consumed}
-use Rattle.toll_base.specs.declared.rows.Row.TheVariants.{Sublot}
-use Rattle.toll_base.proofs.Bools.{and_is}
-use Rattle.toll_base.proofs.Texts.{same_bytes-refl}
-use Rattle.toll_history.specs.Decision.{IsDecided, changes_if}
-use Rattle.toll_history.specs.OwnChanges.{is_put_of, is_put_in_house, EachChange, PutsOnly, PutsOnlyWith}
-use Rattle.toll_history.specs.Verdict.{Verdict, Checks, Accepted, Repeated, Refused, first_of, crosses}
-use Rattle.toll_history.proofs.Accepted.{applies, none_applies}
+use Rattle.toll_work.proofs.Common.{false≢true, or_left, Bytes, same_bytes, changes_of, house_name, Change, Put, Decision, LotId, Consumed, Sublot, and_is, same_bytes-refl, IsDecided, changes_if, is_put_of, is_put_in_house, EachChange, PutsOnly, PutsOnlyWith, Verdict, Checks, Accepted, Repeated, Refused, first_of, crosses, applies, none_applies}
 
 each_if : (such : Change → Bool) (v : Verdict) (changes : List Change) → (v ≡ Accepted → EachChange such changes) → EachChange such (changes_if v changes)
 each_if such Accepted changes each = each refl

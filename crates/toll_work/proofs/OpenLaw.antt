@@ -1,36 +1,8 @@
 -- What the opening of a batch owes.
 use Rattle.std.proofs.Common.{◌≡◌, ℕ, suc, ◌+◌, ◌<◌, Bool, true, false, not, ◌&&◌, ◌||◌, ◌==◌, cond, Option, Some, None, is_some, is_none, List, [], ◌∷◌, map, refl, sym, ap, ◌∙◌, arith}
-use mathlib.Core.Bool.{false≢true}
-use Rattle.std.specs.Option.{option_map}
-use Rattle.std.specs.Ordering.{is_eq}
-use Rattle.std.proofs.lemmas.Bool.Decides.{nat_tests}
-use Rattle.toll_base.specs.Bytes.{Bytes, same_bytes}
-use Rattle.toll_base.specs.Words.{or_else}
-use Rattle.toll_base.specs.Keys.{batch_cmp}
-use Rattle.toll_history.specs.Command.{Action, OpenBatch, CommandBatch, CloseBatch, by}
-use Rattle.toll_history.specs.History.{History, acts, unit_known}
+use Rattle.toll_work.proofs.Common.{false≢true, option_map, is_eq, nat_tests, Bytes, same_bytes, or_else, batch_cmp, Action, OpenBatch, CommandBatch, CloseBatch, by, History, acts, unit_known, Slice, batch_at, with_row, KeepsRules, followed, opens, count_opened, unit_opened, unit_of, state_of, is_closed, batch_of, Tables, tables_of, tables_given, IsDecided, DecisionKeepsRules, Accepted, first_of, verdict, open_checks, IsLawful, IsValid, State, Put, Decision, BatchRow, Batch, along_acts, map_none, accepted_passes, verdict_is, Grows, keeps_rules, tables-own, tables-others, row_at-put_row, count-new, same_bytes-exact, same_bytes-symm, nat_eq-exact, batch_cmp_total, same_batch}
 use Rattle.toll_history.specs.Holders.{holder}
-use Rattle.toll_base.specs.Slice.{Slice, batch_at, with_row}
-use Rattle.toll_base.specs.SliceRules.{KeepsRules}
-use Rattle.toll_base.specs.States.{followed}
-use Rattle.toll_history.specs.Work.{opens, count_opened, unit_opened, unit_of, state_of, is_closed, batch_of}
-use Rattle.toll_history.specs.Tables.{Tables, tables_of, tables_given}
-use Rattle.toll_history.specs.Decision.{IsDecided, DecisionKeepsRules}
-use Rattle.toll_history.specs.Verdict.{Accepted, first_of, verdict, open_checks, IsLawful, IsValid}
-use Rattle.toll_base.specs.declared.state.State.{State}
 use Rattle.toll_base.specs.declared.state.State.TheVariants.{Idle}
-use Rattle.toll_base.specs.declared.decision.Change.TheVariants.{Put}
-use Rattle.toll_base.specs.declared.decision.Decision.{Decision}
-use Rattle.toll_base.specs.declared.rows.BatchRow.{BatchRow}
-use Rattle.toll_base.specs.declared.rows.Row.TheVariants.{Batch}
-use Rattle.toll_history.proofs.Acts.{along_acts}
-use Rattle.toll_history.proofs.Options.{map_none}
-use Rattle.toll_history.proofs.Passed.{accepted_passes}
-use Rattle.toll_history.proofs.Decided.{verdict_is, Grows, keeps_rules}
-use Rattle.toll_history.proofs.Grown.{tables-own, tables-others}
-use Rattle.toll_base.proofs.KeyOrder.{row_at-put_row}
-use Rattle.toll_base.proofs.PutTables.{count-new}
-use Rattle.toll_base.proofs.Texts.{same_bytes-exact, same_bytes-symm, nat_eq-exact, batch_cmp_total, same_batch}
 use Rattle.toll_work.specs.Opening.{DecidesOpening}
 use Rattle.toll_work.specs.Plans.{opened_row, opened_rows}
 use Rattle.toll_work.proofs.BatchLaw.{batch_key, batch_row, same_batch-exact, nat_eq-symm}

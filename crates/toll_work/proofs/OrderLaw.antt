@@ -1,33 +1,7 @@
 -- What the placing of an order owes.
 use Rattle.std.proofs.Common.{◌≡◌, suc, Bool, true, false, ◌||◌, cond, ℕ, Option, Some, None, is_some, is_none, List, [], ◌∷◌, length, refl, sym, ap, ◌∙◌}
-use Rattle.std.specs.List.{list_any}
-use Rattle.std.specs.Option.{option_map}
-use Rattle.std.proofs.lemmas.Bool.{or_right}
-use Rattle.std.specs.Cmp.Lexicographic.{nat_list_cmp_total}
-use Rattle.toll_base.specs.Bytes.{Bytes, same_bytes, bytes_cmp}
-use Rattle.toll_base.specs.Words.{first_some, or_else, where_so}
-use Rattle.toll_history.specs.Command.{Action, PlaceOrder, by}
-use Rattle.toll_history.specs.History.{History, acts}
-use Rattle.toll_base.specs.Slice.{Slice, order_at, with_row}
-use Rattle.toll_base.specs.SliceRules.{KeepsRules}
-use Rattle.toll_history.specs.Work.{order_placed, order_of, cancels}
-use Rattle.toll_history.specs.Tables.{Tables, tables_of, tables_given}
-use Rattle.toll_history.specs.Decision.{IsDecided, Decides, DecisionKeepsRules}
-use Rattle.toll_history.specs.Verdict.{Accepted, order_checks, verdict, IsLawful}
-use Rattle.toll_base.specs.declared.decision.Change.TheVariants.{Put}
-use Rattle.toll_base.specs.declared.decision.Decision.{Decision}
-use Rattle.toll_base.specs.declared.rows.OrderRow.{OrderRow}
-use Rattle.toll_base.specs.declared.rows.Row.TheVariants.{Order}
-use Rattle.toll_history.proofs.Accepted.{none_applies}
-use Rattle.toll_history.proofs.Passed.{accepted_passes}
-use Rattle.toll_history.proofs.Adding.{adding_decided, adding_keeps}
-use Rattle.toll_history.proofs.Decided.{less_of}
-use Rattle.toll_history.proofs.Grown.{tables-own}
-use Rattle.toll_base.proofs.KeyOrder.{row_at-put_row}
-use Rattle.toll_history.proofs.Options.{none_of}
+use Rattle.toll_work.proofs.Common.{list_any, option_map, or_right, nat_list_cmp_total, Bytes, same_bytes, bytes_cmp, first_some, or_else, where_so, Action, PlaceOrder, by, History, acts, Slice, order_at, with_row, KeepsRules, order_placed, order_of, cancels, Tables, tables_of, tables_given, IsDecided, Decides, DecisionKeepsRules, Accepted, order_checks, verdict, IsLawful, Put, Decision, OrderRow, Order, none_applies, accepted_passes, adding_decided, adding_keeps, less_of, tables-own, row_at-put_row, none_of, length-new, any-new, same_bytes-exact}
 use Rattle.toll_history.proofs.Uncancelled.{uncancelled}
-use Rattle.toll_base.proofs.PutTables.{length-new, any-new}
-use Rattle.toll_base.proofs.Texts.{same_bytes-exact}
 
 -- an order that was placed now
 abbrev new_order : (order recipe : Bytes) → ℕ → OrderRow

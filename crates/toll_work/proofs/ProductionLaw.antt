@@ -1,46 +1,11 @@
 -- What a production owes.
 use Rattle.std.proofs.Common.{◌≡◌, ℕ, ◌+◌, true, false, not, ◌&&◌, cond, Option, Some, None, is_some, is_none, List, [], ◌∷◌, ◌++◌, refl, sym, ap, subst, ◌∙◌}
-use Rattle.std.proofs.lemmas.Bool.{or_parts, or_left, not-false}
-use Rattle.toll_history.specs.Bounds.{lot_bounds, sublot_bounds}
-use Rattle.toll_base.specs.Bytes.{Bytes, same_bytes}
-use Rattle.toll_history.specs.Command.{Record, by}
-use Rattle.toll_history.specs.History.{History, acts}
-use Rattle.toll_base.specs.Lots.{lot_id}
-use Rattle.toll_history.specs.Movements.{first_made, sublot_in, movements}
-use Rattle.toll_base.specs.Slice.{Slice, lot_at}
-use Rattle.toll_base.specs.SliceRules.{KeepsRules, count_actuals}
-use Rattle.toll_base.specs.Words.{where_so, is_some_where}
-use Rattle.toll_history.specs.Work.{material_of}
-use Rattle.toll_history.specs.Tables.{Tables, tables_of, tables_given}
-use Rattle.toll_base.specs.Changes.{changes_of}
-use Rattle.toll_history.specs.OwnChanges.{PutsOnlyWith}
-use Rattle.toll_history.specs.Decision.{IsDecided, DecidesWith, DecisionKeepsRules}
-use Rattle.toll_history.specs.Verdict.{Accepted, Checks, first_of, stopped, key_checks, actual_checks, produced_checks, recipe_of_order, amount_in, verdict, IsLawful, IsValid}
-use Rattle.toll_base.specs.declared.decision.Change.TheVariants.{Put}
-use Rattle.toll_base.specs.declared.decision.Decision.{Decision}
+use Rattle.toll_work.proofs.Common.{or_parts, or_left, not-false, lot_bounds, sublot_bounds, Bytes, same_bytes, Record, by, History, acts, lot_id, first_made, sublot_in, movements, Slice, lot_at, KeepsRules, count_actuals, where_so, is_some_where, material_of, Tables, tables_of, tables_given, changes_of, PutsOnlyWith, IsDecided, DecidesWith, DecisionKeepsRules, Accepted, Checks, first_of, stopped, key_checks, actual_checks, produced_checks, recipe_of_order, amount_in, verdict, IsLawful, IsValid, Put, Decision, LotId, LimitReached, Role, Produced, MoveRow, Actual, SublotRow, Row, Lot, Sublot, Move, none_applies, verdict_is, Grows, LeavesOthers, decides_with, keeps_rules, rules_by, keeps_skip, less_of, some_of, known_passes, accepted_passes, move_fits, with_move, with_lot, with_sublot, put_came, came_in, tables-untaken, each_decided, sublot_room, came_fit, same_bytes-exact, same_bytes-refl, same_bytes-symm}
 use Rattle.toll_base.specs.declared.lot.Disposition.TheVariants.{Quarantined}
-use Rattle.toll_base.specs.declared.lot.LotId.{LotId}
 use Rattle.toll_base.specs.declared.lot.Origin.TheVariants.{Batch}
-use Rattle.toll_base.specs.declared.refusal.Refusal.TheVariants.{LimitReached}
-use Rattle.toll_base.specs.declared.role.Role.{Role}
-use Rattle.toll_base.specs.declared.role.Role.TheVariants.{Produced}
 use Rattle.toll_base.specs.declared.rows.LotRow.{LotRow}
-use Rattle.toll_base.specs.declared.movement.MoveRow.{MoveRow}
-use Rattle.toll_base.specs.declared.movement.Move.TheVariants.{Actual}
-use Rattle.toll_base.specs.declared.rows.SublotRow.{SublotRow}
-use Rattle.toll_base.specs.declared.rows.Row.{Row}
-use Rattle.toll_base.specs.declared.rows.Row.TheVariants.{Lot, Sublot, Move}
-use Rattle.toll_history.proofs.Accepted.{none_applies}
-use Rattle.toll_history.proofs.Decided.{verdict_is, Grows, LeavesOthers, decides_with, keeps_rules, rules_by, keeps_skip, less_of}
 use Rattle.toll_history.proofs.LotMaterials.{source_material}
-use Rattle.toll_history.proofs.Options.{some_of, known_passes}
-use Rattle.toll_history.proofs.Passed.{accepted_passes, move_fits}
-use Rattle.toll_history.proofs.PutMoves.{with_move, with_lot, with_sublot, put_came}
-use Rattle.toll_history.proofs.Recorded.{came_in, tables-untaken}
-use Rattle.toll_history.proofs.PutsOwn.{each_decided}
-use Rattle.toll_history.proofs.Room.{sublot_room, came_fit}
 use Rattle.toll_history.proofs.Within.{within_bounds}
-use Rattle.toll_base.proofs.Texts.{same_bytes-exact, same_bytes-refl, same_bytes-symm}
 use Rattle.toll_work.proofs.MadeChanges.{puts_with}
 
 module _ (key order : Bytes) (number segment : ℕ) (material : Bytes) (lot : LotId) (sublot : Bytes) (amount day : ℕ) where

@@ -1,28 +1,6 @@
 -- What the requiring of a material owes.
 use Rattle.std.proofs.Common.{◌≡◌, suc, false, cond, Some, is_some, [], ◌∷◌, length, refl, ◌∙◌}
-use Rattle.std.proofs.lemmas.Bool.{or_right}
-use Rattle.toll_base.specs.Bytes.{Bytes}
-use Rattle.toll_base.specs.Keys.{requirement_cmp}
-use Rattle.toll_history.specs.Command.{Require, by}
-use Rattle.toll_history.specs.History.{History, acts}
-use Rattle.toll_base.specs.Slice.{Slice, requirement_at, with_row}
-use Rattle.toll_base.specs.SliceRules.{KeepsRules}
-use Rattle.toll_history.specs.Work.{requirement_of, same_requirement}
-use Rattle.toll_history.specs.Tables.{Tables, tables_of, tables_given}
-use Rattle.toll_history.specs.Decision.{IsDecided, DecidesWith, DecisionKeepsRules}
-use Rattle.toll_history.specs.Verdict.{Checks, requirement_key, requirement_checks, tables_for}
-use Rattle.toll_base.specs.declared.decision.Change.TheVariants.{Put}
-use Rattle.toll_base.specs.declared.decision.Decision.{Decision}
-use Rattle.toll_base.specs.declared.rows.RequirementRow.{RequirementRow}
-use Rattle.toll_base.specs.declared.rows.Row.TheVariants.{Requirement}
-use Rattle.toll_history.proofs.Accepted.{none_applies}
-use Rattle.toll_history.proofs.Passed.{accepted_passes}
-use Rattle.toll_history.proofs.Adding.{adding_decided_with, adding_keeps}
-use Rattle.toll_history.proofs.Decided.{less_of}
-use Rattle.toll_history.proofs.Grown.{tables-own, put_first}
-use Rattle.toll_base.proofs.KeyOrder.{row_at-put_row}
-use Rattle.toll_base.proofs.PutTables.{length-new}
-use Rattle.toll_base.proofs.Texts.{requirement_cmp_total}
+use Rattle.toll_work.proofs.Common.{or_right, Bytes, requirement_cmp, Require, by, History, acts, Slice, requirement_at, with_row, KeepsRules, requirement_of, same_requirement, Tables, tables_of, tables_given, IsDecided, DecidesWith, DecisionKeepsRules, Checks, requirement_key, requirement_checks, tables_for, Put, Decision, RequirementRow, Requirement, none_applies, accepted_passes, adding_decided_with, adding_keeps, less_of, tables-own, put_first, row_at-put_row, length-new, requirement_cmp_total}
 
 -- tables with one requirement more
 abbrev with_requirement : RequirementRow → Tables → Tables

@@ -1,15 +1,6 @@
 -- What a decision by checks owes over one history, where its checks say that history's verdict.
 use Rattle.std.proofs.Common.{◌≡◌, List, map}
-use Rattle.toll_history.specs.Command.{Action, by}
-use Rattle.toll_history.specs.History.{History}
-use Rattle.toll_base.specs.Slice.{Slice}
-use Rattle.toll_history.specs.Tables.{Tables, tables_of, IsRowsOf}
-use Rattle.toll_history.specs.Decision.{IsDecided, IsRightOver}
-use Rattle.toll_history.specs.Verdict.{Checks, first_of, verdict, IsLawful, IsValid}
-use Rattle.toll_base.specs.declared.decision.Change.TheVariants.{Put}
-use Rattle.toll_base.specs.declared.decision.Decision.{Decision}
-use Rattle.toll_base.specs.declared.rows.Row.{Row}
-use Rattle.toll_history.proofs.Decided.{right_over, Grows, LeavesOthers, grown_rows}
+use Rattle.toll_work.proofs.Common.{Action, by, History, Slice, Tables, tables_of, IsRowsOf, IsDecided, IsRightOver, Checks, first_of, verdict, IsLawful, IsValid, Put, Decision, Row, right_over, Grows, LeavesOthers, grown_rows}
 
 module _ (a : Action) (rows : Tables → List Row) (grows : Grows a rows) (leaves : LeavesOthers a) (H : History) (own : Slice) (lawful : IsLawful H) (valid : IsValid a) (there : IsRowsOf H own) where
   -- a decision whose checks say the verdict of this history is right over it

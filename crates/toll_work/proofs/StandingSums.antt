@@ -1,22 +1,10 @@
 -- A sum over an owner's standing movements is one over its movements, those left out whose keys are voided.
 use Rattle.std.proofs.Common.{◌≡◌, ℕ, ◌+◌, Bool, true, false, not, ◌&&◌, ◌||◌, cond, Some, None, List, [], ◌∷◌, filter, refl, sym, ap, ◌∙◌, arith}
-use mathlib.Core.Bool.{false≢true}
-use Rattle.std.specs.Cmp.Lexicographic.{nat_list_cmp_total}
-use Rattle.toll_base.specs.Bytes.{Bytes, same_bytes, bytes_cmp}
-use Rattle.toll_base.specs.Table.{row_at, IsInKeyOrder}
-use Rattle.toll_base.specs.Words.{total, is_some_where, or_else, where_so}
+use Rattle.toll_work.proofs.Common.{false≢true, nat_list_cmp_total, Bytes, same_bytes, bytes_cmp, row_at, IsInKeyOrder, total, is_some_where, or_else, where_so, History, acts, Movement, has_key, movement_of, standing_after, standing, voided_in, Accepted, IsLawful, IsValid, verdict, is_actual, MoveRow, acts-cons, along_acts, other_than, same_bytes-exact, same_bytes-refl, same_bytes-symm, total-filtered, total-alike}
 use Rattle.toll_history.specs.Command.{Action, Record, Void, by}
-use Rattle.toll_history.specs.History.{History, acts}
-use Rattle.toll_history.specs.Movements.{Movement, has_key, movement_of, standing_after, standing, voided_in}
-use Rattle.toll_history.specs.Verdict.{Accepted, IsLawful, IsValid, verdict, is_actual}
-use Rattle.toll_base.specs.declared.movement.MoveRow.{MoveRow}
-use Rattle.toll_history.proofs.Acts.{acts-cons, along_acts}
 use Rattle.toll_history.proofs.Found.{key_is_new}
 use Rattle.toll_history.proofs.KeysOnce.{void_of_actual}
-use Rattle.toll_history.proofs.Own.{other_than}
-use Rattle.toll_base.proofs.Texts.{same_bytes-exact, same_bytes-refl, same_bytes-symm}
 use Rattle.toll_work.proofs.KeyedRows.{row_at-filter, filter_ordered, head_found, total_taken}
-use Rattle.toll_history.proofs.Sums.{total-filtered, total-alike}
 
 -- of an owner's actions, the movements that no later one voids
 abbrev pub own_standing : List Action → List MoveRow

@@ -1,30 +1,10 @@
 -- What a slice tells of a batch is what every lawful history tells of which it has the rows.
 use Rattle.std.proofs.Common.{◌≡◌, ℕ, Bool, true, false, not, ◌&&◌, cond, Option, Some, None, is_some, refl, sym, ap, subst, ◌∙◌}
-use Rattle.std.specs.Option.{option_and_then}
-use Rattle.std.specs.Ordering.{is_eq, ordering_then}
-use Rattle.std.specs.declared.cmp.Ordering.{Ordering}
-use Rattle.toll_base.specs.Bytes.{Bytes, same_bytes, bytes_cmp}
-use Rattle.toll_base.specs.Keys.{RequirementKey, requirement_cmp}
-use Rattle.toll_base.specs.Table.{IsInKeyOrder, AreRowsGiven}
-use Rattle.toll_base.specs.Words.{where_so}
-use Rattle.toll_history.specs.History.{History, acts}
-use Rattle.toll_base.specs.Slice.{Slice, order_at, batch_at, void_at}
-use Rattle.toll_base.specs.SliceRules.{is_actual_of}
-use Rattle.toll_history.specs.Movements.{standing, voided_in}
-use Rattle.toll_history.specs.Tables.{Tables, IsRowsOf}
-use Rattle.toll_history.specs.Verdict.{IsLawful, requirement_key}
-use Rattle.toll_base.specs.declared.rows.BatchRow.{BatchRow}
-use Rattle.toll_base.specs.declared.rows.OrderRow.{OrderRow}
-use Rattle.toll_base.specs.declared.movement.MoveRow.{MoveRow}
-use Rattle.toll_base.specs.declared.rows.RequirementRow.{RequirementRow}
-use Rattle.toll_base.proofs.Bools.{both}
-use Rattle.toll_base.proofs.Texts.{same_bytes-exact, is_eq-then}
-use Rattle.toll_history.specs.Amounts.{meets, actual_of}
+use Rattle.toll_work.proofs.Common.{option_and_then, is_eq, ordering_then, Ordering, Bytes, same_bytes, bytes_cmp, RequirementKey, requirement_cmp, IsInKeyOrder, AreRowsGiven, where_so, History, acts, Slice, order_at, batch_at, void_at, is_actual_of, standing, voided_in, Tables, IsRowsOf, IsLawful, requirement_key, BatchRow, OrderRow, MoveRow, RequirementRow, both, same_bytes-exact, is_eq-then, meets, actual_of, total-kept, total-alike}
 use Rattle.toll_work.specs.BatchView.{amount_for, standing_in, line, lines_in, IsViewIn, TellsInSlice, line_of, line_key, IsViewOver, TellsOverHistories}
 use Rattle.toll_work.specs.declared.views.BatchView.{BatchView}
 use Rattle.toll_work.proofs.KeyedRows.{made_at, made_ordered}
 use Rattle.toll_work.proofs.StandingSums.{of_owner, sum_of_rows}
-use Rattle.toll_history.proofs.Sums.{total-kept, total-alike}
 
 -- keys that tie are of one recipe
 pub tied_first : (a b : Ordering) → is_eq (ordering_then a b) ≡ true → is_eq a ≡ true

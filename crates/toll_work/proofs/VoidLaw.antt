@@ -1,55 +1,16 @@
 -- What a void owes.
 use Rattle.std.proofs.Common.{◌≡◌, ℕ, ◌+◌, ◌-◌, ◌≤◌, Bool, true, false, not, ◌&&◌, ◌||◌, cond, nat_le, nat_lt, Option, Some, None, is_some, is_none, List, [], ◌∷◌, ◌++◌, length, refl, sym, ap, subst, ◌∙◌, arith}
-use mathlib.Core.Bool.{false≢true}
+use Rattle.toll_work.proofs.Common.{false≢true, or_left, IfOk-weaker, nat_tests, Bytes, same_bytes, bytes_cmp, pair_cmp, house_name, History, acts, owner_known, lot_id, same_lot, movement_of, voided_in, brings_into, takes_from, sublot_known, stock, Slice, with_row, lot_at, sublot_at, move_at, KeepsRules, row_fits, Tables, tables_of, tables_given, sublot_row, IsRowsOf, where_so, is_some_where, none_or, after_changes, changes_of, IsDecided, ChangesKeepRules, DecidesWith, DecisionKeepsRules, PutsOnlyWith, Accepted, Refused, Checks, first_of, is_actual, is_of_closed, takes_too_much, tables_for, amount_in, verdict, IsLawful, IsValid, BringsOwn, TakesKnown, Change, Put, Decision, LotId, UnknownKey, Voided, BatchClosed, NotEnough, LimitReached, Role, Consumed, Produced, MoveRow, Actual, SublotRow, Sublot, Void as VoidPut, both, tables_for_are, held_is, none_applies, unbounded, sublot_room_in, less_fit, verdict_is, right_over, taken_in, left_out, rules_by, keeps_put, keeps_skip, accepted_passes, each_decided, with_sublot, with_void, is_at, put_sublot, put_void, same_bytes-exact, same_bytes-refl, same_bytes-symm, is_eq-then, more}
 use Rattle.std.specs.Prelude.{Result, IfOk}
-use Rattle.std.proofs.lemmas.Bool.{or_left}
-use Rattle.std.proofs.lemmas.Result.{IfOk-weaker}
-use Rattle.std.proofs.lemmas.Bool.Decides.{nat_tests}
-use Rattle.toll_base.specs.Bytes.{Bytes, same_bytes, bytes_cmp}
-use Rattle.toll_base.specs.Keys.{pair_cmp}
-use Rattle.toll_base.specs.Values.{house_name}
 use Rattle.toll_history.specs.Command.{Void, by}
-use Rattle.toll_history.specs.History.{History, acts, owner_known}
-use Rattle.toll_base.specs.Lots.{lot_id, same_lot}
-use Rattle.toll_history.specs.Movements.{movement_of, voided_in, brings_into, takes_from, sublot_known, stock}
-use Rattle.toll_base.specs.Slice.{Slice, with_row, lot_at, sublot_at, move_at}
-use Rattle.toll_base.specs.SliceRules.{KeepsRules, row_fits}
-use Rattle.toll_history.specs.Tables.{Tables, tables_of, tables_given, sublot_row, IsRowsOf}
-use Rattle.toll_base.specs.Words.{where_so, is_some_where, none_or}
-use Rattle.toll_base.specs.Changes.{after_changes, changes_of}
-use Rattle.toll_history.specs.Decision.{IsDecided, ChangesKeepRules, DecidesWith, DecisionKeepsRules}
-use Rattle.toll_history.specs.OwnChanges.{PutsOnlyWith}
-use Rattle.toll_history.specs.Verdict.{Accepted, Refused, Checks, first_of, is_actual, is_of_closed, takes_too_much, tables_for, amount_in, verdict, IsLawful, IsValid}
-use Rattle.toll_history.specs.Laws.{BringsOwn, TakesKnown}
 use Rattle.toll_work.specs.Voiding.{open_checks, giving_bounds, actual_sublot}
-use Rattle.toll_base.specs.declared.decision.Change.{Change}
-use Rattle.toll_base.specs.declared.decision.Change.TheVariants.{Put}
-use Rattle.toll_base.specs.declared.decision.Decision.{Decision}
 use Rattle.toll_base.specs.declared.decision.Decision.TheVariants.{Refuse}
-use Rattle.toll_base.specs.declared.lot.LotId.{LotId}
-use Rattle.toll_base.specs.declared.refusal.Refusal.TheVariants.{UnknownKey, Voided, BatchClosed, NotEnough, LimitReached}
-use Rattle.toll_base.specs.declared.role.Role.{Role}
-use Rattle.toll_base.specs.declared.role.Role.TheVariants.{Consumed, Produced}
-use Rattle.toll_base.specs.declared.movement.MoveRow.{MoveRow}
-use Rattle.toll_base.specs.declared.movement.Move.TheVariants.{Actual}
-use Rattle.toll_base.specs.declared.rows.SublotRow.{SublotRow}
-use Rattle.toll_base.specs.declared.rows.Row.TheVariants.{Sublot, Void as VoidPut}
-use Rattle.toll_base.proofs.Bools.{both}
 use Rattle.toll_history.proofs.EachMove.{of_found}
 use Rattle.toll_history.proofs.Owned.{all_bring_own, all_take_known}
-use Rattle.toll_history.proofs.Moving.{tables_for_are, held_is}
 use Rattle.toll_history.proofs.Stock.{stock_bounded}
 use Rattle.toll_history.proofs.StockChanges.{stock-voided}
-use Rattle.toll_history.proofs.Accepted.{none_applies}
-use Rattle.toll_history.proofs.Room.{unbounded, sublot_room_in, less_fit}
 use Rattle.toll_work.proofs.FoundRow.{row_at-key}
 use Rattle.toll_work.proofs.MadeChanges.{each_accepted, puts_with, puts_consumed}
-use Rattle.toll_history.proofs.Decided.{verdict_is, right_over, taken_in, left_out, rules_by, keeps_put, keeps_skip}
-use Rattle.toll_history.proofs.Passed.{accepted_passes}
-use Rattle.toll_history.proofs.PutsOwn.{each_decided}
-use Rattle.toll_history.proofs.PutMoves.{with_sublot, with_void, is_at, put_sublot, put_void}
-use Rattle.toll_base.proofs.Texts.{same_bytes-exact, same_bytes-refl, same_bytes-symm, is_eq-then}
-use Rattle.toll_history.proofs.Grown.{more}
 use Rattle.toll_work.proofs.Voided.{own_but_sublots, others_but_sublots, given_back, taken_out, stayed_at}
 
 -- ---- the rows of all, where the void changes one sublot of this owner

@@ -1,24 +1,9 @@
 -- The tables that a history gives after a void.
 use Rattle.std.proofs.Common.{◌≡◌, ℕ, ◌+◌, ◌-◌, Bool, true, false, cond, Some, is_none, ◌∷◌, refl, sym, ap, ◌∙◌, arith}
-use Rattle.toll_base.specs.Bytes.{Bytes, same_bytes}
-use Rattle.toll_base.specs.Words.{where_so}
+use Rattle.toll_work.proofs.Common.{Bytes, same_bytes, where_so, History, acts, lot_id, movement_of, voided_in, sublot_known, stock, brings_into, takes_from, lot_made, count_lots, count_sublots, material_used, tables_given, sublot_row, Accepted, IsLawful, IsValid, verdict, amount_in, MoveRow, SublotRow, both, same_bytes-exact, same_bytes-refl, true_where, acts-own, held_is, tables_from, after_is, with_void, is_at}
 use Rattle.toll_history.specs.Command.{Void, by}
-use Rattle.toll_history.specs.History.{History, acts}
-use Rattle.toll_base.specs.Lots.{lot_id}
-use Rattle.toll_history.specs.Movements.{movement_of, voided_in, sublot_known, stock, brings_into, takes_from, lot_made, count_lots, count_sublots, material_used}
-use Rattle.toll_history.specs.Tables.{tables_given, sublot_row}
-use Rattle.toll_history.specs.Verdict.{Accepted, IsLawful, IsValid, verdict, amount_in}
-use Rattle.toll_base.specs.declared.movement.MoveRow.{MoveRow}
-use Rattle.toll_base.specs.declared.rows.SublotRow.{SublotRow}
-use Rattle.toll_base.proofs.Bools.{both}
-use Rattle.toll_base.proofs.Texts.{same_bytes-exact, same_bytes-refl}
-use Rattle.toll_history.proofs.Options.{true_where}
-use Rattle.toll_history.proofs.Own.{acts-own}
 use Rattle.toll_history.proofs.OwnTables.{tables_but_amounts-other}
-use Rattle.toll_history.proofs.Moving.{held_is}
 use Rattle.toll_history.proofs.CameIn.{sublot_row-voided}
-use Rattle.toll_history.proofs.Grown.{tables_from, after_is}
-use Rattle.toll_history.proofs.PutMoves.{with_void, is_at}
 
 module _ (H : History) (o key : Bytes) (row : MoveRow) (lawful : IsLawful H) (valid : IsValid (Void key)) (accepted : verdict H (by o (Void key)) ≡ Accepted) (found : movement_of (acts o H) key ≡ Some row) (stays : voided_in (acts o H) key ≡ false) where
   -- ---- all but sublots

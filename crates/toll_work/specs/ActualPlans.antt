@@ -1,23 +1,10 @@
 -- The plans of actuals and of their voids: their checks, and the rows that they put where none applies.
 use Rattle.std.specs.Prelude.{ℕ, ◌++◌, nat_lt, is_none, Some, [], ◌∷◌}
-use Rattle.toll_base.specs.Bytes.{Bytes}
-use Rattle.toll_base.specs.Slice.{Slice, batch_at, recipe_at, requirement_at}
-use Rattle.toll_base.specs.States.{is_idle}
-use Rattle.toll_base.specs.Words.{is_some_where}
+use Rattle.toll_work.specs.Common.{Bytes, Slice, batch_at, recipe_at, requirement_at, is_idle, is_some_where, Decision, MoveRow, BadSegment, BatchIdle, CrossOwner, LimitReached, NotEnough, NotInRecipe, Consumed, Produced, Lot, Move, Sublot, Void, lot_bounds, IsDecided, puts, gained, lost, Tables, tables_of, Checks, actual_checks, amount_in, consumed_checks, crosses, key_checks, open_batch_checks, produced_checks, tables_for}
 use Rattle.toll_base.specs.declared.decision.Change.TheVariants.{Put}
-use Rattle.toll_base.specs.declared.decision.Decision.{Decision}
 use Rattle.toll_base.specs.declared.lot.Disposition.TheVariants.{Quarantined}
 use Rattle.toll_base.specs.declared.lot.Origin.TheVariants.{Batch}
-use Rattle.toll_base.specs.declared.movement.MoveRow.{MoveRow}
-use Rattle.toll_base.specs.declared.refusal.Refusal.TheVariants.{BadSegment, BatchIdle, CrossOwner, LimitReached, NotEnough, NotInRecipe}
 use Rattle.toll_base.specs.declared.role.Role.{Role}
-use Rattle.toll_base.specs.declared.role.Role.TheVariants.{Consumed, Produced}
-use Rattle.toll_base.specs.declared.rows.Row.TheVariants.{Lot, Move, Sublot, Void}
-use Rattle.toll_history.specs.Bounds.{lot_bounds}
-use Rattle.toll_history.specs.Decision.{IsDecided}
-use Rattle.toll_history.specs.Puts.{puts, gained, lost}
-use Rattle.toll_history.specs.Tables.{Tables, tables_of}
-use Rattle.toll_history.specs.Verdict.{Checks, actual_checks, amount_in, consumed_checks, crosses, key_checks, open_batch_checks, produced_checks, tables_for}
 use Rattle.toll_work.specs.Voiding.{giving_bounds, open_checks}
 use Rattle.toll_work.specs.declared.actuals.Use.{Use}
 

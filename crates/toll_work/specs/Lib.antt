@@ -1,3 +1,4 @@
+pub mod Common
 pub mod ActualPlans
 pub mod BatchView
 pub mod Opening

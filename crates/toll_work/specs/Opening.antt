@@ -1,14 +1,8 @@
 -- What the decision on the opening of a batch owes. Who decides sees one owner's rows, and is told of the unit.
 use Rattle.std.specs.Prelude.{◌≡◌, Bool, true, not, is_some}
-use Rattle.toll_base.specs.Bytes.{Bytes}
+use Rattle.toll_work.specs.Common.{Bytes, History, owner_known, unit_known, Slice, IsRowsOf, IsLawful, IsRightOver, Decision}
 use Rattle.toll_history.specs.Command.{OpenBatch, by}
-use Rattle.toll_history.specs.History.{History, owner_known, unit_known}
 use Rattle.toll_history.specs.Holders.{holder}
-use Rattle.toll_base.specs.Slice.{Slice}
-use Rattle.toll_history.specs.Tables.{IsRowsOf}
-use Rattle.toll_history.specs.Verdict.{IsLawful}
-use Rattle.toll_history.specs.Decision.{IsRightOver}
-use Rattle.toll_base.specs.declared.decision.Decision.{Decision}
 
 -- what was told of the unit is so: whether it is known, and whether no batch holds it
 pub record IsToldOfUnit (H : History) (unit : Bytes) (is_known is_free : Bool) : Type 0 where

@@ -1,19 +1,8 @@
 -- The rows that an accepted command puts, as the owner's tables make them, and the plans that put them.
 use Rattle.std.specs.Prelude.{ℕ, ◌+◌, Bool, true, false, not, List, [], ◌∷◌}
-use Rattle.std.specs.Option.{option_map_or}
-use Rattle.toll_base.specs.Bytes.{Bytes}
-use Rattle.toll_base.specs.States.{followed}
-use Rattle.toll_base.specs.Slice.{Slice}
-use Rattle.toll_base.specs.declared.decision.Decision.{Decision}
-use Rattle.toll_base.specs.declared.rows.RequirementRow.{RequirementRow}
-use Rattle.toll_history.specs.Decision.{IsDecided}
-use Rattle.toll_history.specs.Puts.{puts}
-use Rattle.toll_history.specs.Tables.{Tables, tables_of}
-use Rattle.toll_history.specs.Verdict.{batch_command_checks, cancel_checks, close_checks, open_checks, order_checks, requirement_checks, tables_for}
+use Rattle.toll_work.specs.Common.{option_map_or, Bytes, followed, Slice, Decision, RequirementRow, IsDecided, puts, Tables, tables_of, batch_command_checks, cancel_checks, close_checks, open_checks, order_checks, requirement_checks, tables_for, OrderRow, BatchRow}
 use Rattle.toll_base.specs.declared.state.State.TheVariants.{Idle}
 use Rattle.toll_base.specs.declared.state_command.StateCommand.{StateCommand}
-use Rattle.toll_base.specs.declared.rows.OrderRow.{OrderRow}
-use Rattle.toll_base.specs.declared.rows.BatchRow.{BatchRow}
 use Rattle.toll_base.specs.declared.rows.Row.{Row}
 use Rattle.toll_base.specs.declared.rows.Row.TheVariants.{Batch, Order, Requirement}
 

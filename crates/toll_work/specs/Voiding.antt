@@ -1,16 +1,8 @@
 -- What a void of an actual checks, and which sublot it changes.
 use Rattle.std.specs.Prelude.{ℕ, Option, Some, [], ◌∷◌, ◌++◌}
-use Rattle.std.specs.Option.{option_map_or}
-use Rattle.toll_base.specs.Bytes.{Bytes}
-use Rattle.toll_history.specs.Bounds.{returning_bounds}
+use Rattle.toll_work.specs.Common.{option_map_or, Bytes, returning_bounds, Tables, Checks, crosses, is_some_where, MoveRow, BatchClosed, LimitReached, Voided, Consumed}
 use Rattle.toll_history.specs.OwnChanges.{sublot_named}
-use Rattle.toll_history.specs.Tables.{Tables}
-use Rattle.toll_history.specs.Verdict.{Checks, crosses}
-use Rattle.toll_base.specs.Words.{is_some_where}
 use Rattle.toll_base.specs.declared.lot.LotId.{LotId}
-use Rattle.toll_base.specs.declared.movement.MoveRow.{MoveRow}
-use Rattle.toll_base.specs.declared.refusal.Refusal.TheVariants.{BatchClosed, LimitReached, Voided}
-use Rattle.toll_base.specs.declared.role.Role.TheVariants.{Consumed}
 
 -- the key isn't voided, and the batch isn't closed
 abbrev pub open_checks : Tables → (key order : Bytes) → (number : ℕ) → Checks

@@ -1,6 +1,5 @@
 use Rattle.std.proofs.Common.{[], ◌∷◌, sym, subst, ◌∙◌}
-use Rattle.toll_keep.proofs.Calls.{settles, settles_still}
-use Rattle.toll_keep.specs.Content.{after}
+use Rattle.toll_desk.proofs.Common.{settles, settles_still, after}
 use Rattle.toll_desk.proofs.Carried.{no_changes}
 use Rattle.toll_desk.proofs.carrying.carry.Goals as goal
 

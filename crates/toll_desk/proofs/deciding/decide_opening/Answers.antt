@@ -1,7 +1,5 @@
 use Rattle.std.proofs.Common.{refl, sym, ◌∙◌}
-use Rattle.std.proofs.lemmas.Result.{IfOk-weaker}
-use Rattle.toll_history.specs.Command.{OpenBatch, by}
-use Rattle.toll_answers.specs.PlantAnswers.{Does}
+use Rattle.toll_desk.proofs.Common.{IfOk-weaker, OpenBatch, by, Does}
 use Rattle.toll_desk.proofs.DeedPlans.{decided_own, decided_unknown}
 use Rattle.toll_desk.proofs.OwnerPlans.{slice_read, some_read, none_read}
 use Rattle.toll_desk.proofs.deciding.decide_opening.Goals as goal

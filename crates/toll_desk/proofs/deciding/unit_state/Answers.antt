@@ -1,7 +1,5 @@
 use Rattle.std.proofs.Common.{ap, is_some, ◌∙◌}
-use Rattle.std.proofs.lemmas.Result.{IfOk-weaker}
-use Rattle.toll_base.specs.Bytes.{bytes_cmp}
-use Rattle.toll_base.specs.Table.{row_at}
+use Rattle.toll_desk.proofs.Common.{IfOk-weaker, bytes_cmp, row_at}
 use Rattle.toll_desk.proofs.DeedPlans.{unit_known_alike}
 use Rattle.toll_desk.proofs.deciding.unit_state.Goals as goal
 

@@ -1,5 +1,4 @@
-use Rattle.std.proofs.lemmas.Result.{IfOk-weaker}
-use Rattle.toll_base.specs.Changes.{changes_of}
+use Rattle.toll_desk.proofs.Common.{IfOk-weaker, changes_of}
 use Rattle.toll_desk.proofs.Lift.{own_keep_others, shared_by_own, shared_by_named}
 use Rattle.toll_desk.proofs.decisions.decide_shared.Goals as goal
 

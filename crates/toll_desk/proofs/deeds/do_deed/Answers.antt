@@ -1,7 +1,5 @@
 use Rattle.std.proofs.Common.{◌≡◌, [], OnErr, sym, subst}
-use Rattle.std.proofs.lemmas.Result.{on_ok_weaker}
-use Rattle.toll_answers.specs.PlantAnswers.{IsPlantAnswer, after_plant}
-use Rattle.toll_keep.specs.Goes.{Goes}
+use Rattle.toll_desk.proofs.Common.{on_ok_weaker, IsPlantAnswer, after_plant, Goes}
 use Rattle.toll_desk.specs.Asking.{asked_by, is_accepted, plant_told}
 use Rattle.toll_desk.proofs.Carried.{done_of, goes_on, quiet_of}
 use Rattle.toll_desk.proofs.deeds.do_deed.Goals as goal

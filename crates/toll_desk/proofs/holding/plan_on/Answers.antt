@@ -1,8 +1,5 @@
 use Rattle.std.proofs.Common.{refl, ap, subst, sym}
-use Rattle.toll_history.specs.Decision.{verdict_of}
-use Rattle.toll_history.specs.Verdict.{Refused}
-use Rattle.toll_base.specs.declared.decision.Decision.TheVariants.{Refuse}
-use Rattle.toll_base.specs.declared.refusal.Refusal.TheVariants.{UnknownOwner}
+use Rattle.toll_desk.proofs.Common.{verdict_of, Refused, Refuse, UnknownOwner}
 use Rattle.toll_desk.specs.Asking.{asked_by, plant_told}
 use Rattle.toll_desk.specs.PlantHeld.{IsVerdictOrMemory}
 use Rattle.toll_desk.specs.Reads.{AreBoth}

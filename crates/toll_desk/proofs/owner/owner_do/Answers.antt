@@ -1,8 +1,5 @@
 use Rattle.std.proofs.Common.{◌≡◌, [], OnErr, sym, subst, ◌∙◌}
-use Rattle.std.proofs.lemmas.Result.{on_ok_weaker, IfOk-weaker}
-use Rattle.toll_keep.proofs.Calls.{settles}
-use Rattle.toll_keep.specs.Goes.{Goes}
-use Rattle.toll_answers.specs.Replies.{IsReply, after_reply}
+use Rattle.toll_desk.proofs.Common.{on_ok_weaker, IfOk-weaker, settles, Goes, IsReply, after_reply}
 use Rattle.toll_desk.specs.Asking.{asked_of, told_of, may_change}
 use Rattle.toll_desk.proofs.Carried.{done_of, goes_on, quiet_of}
 use Rattle.toll_desk.proofs.owner.owner_do.Goals as goal

@@ -1,11 +1,5 @@
 use Rattle.std.proofs.Common.{◌≡◌, true, false, sym, subst, ◌∙◌}
-use Rattle.std.proofs.lemmas.Result.{IfOk-weaker}
-use Rattle.std.specs.Option.{is_some, IfSome}
-use Rattle.toll_base.specs.Bytes.{same_bytes}
-use Rattle.toll_base.specs.Slice.{order_at}
-use Rattle.toll_base.specs.Values.{house_name}
-use Rattle.toll_history.specs.History.{owner_known}
-use Rattle.toll_answers.specs.Replies.{has_key}
+use Rattle.toll_desk.proofs.Common.{IfOk-weaker, is_some, IfSome, same_bytes, order_at, house_name, owner_known, has_key}
 use Rattle.toll_desk.specs.Asking.{asked_of, told_of}
 use Rattle.toll_desk.specs.Plans.{IsPlanFor}
 use Rattle.toll_desk.proofs.OwnerPlans.{right_key, wrong_key, key_known, not_house_by, plan_admitted, plan_forbidden}

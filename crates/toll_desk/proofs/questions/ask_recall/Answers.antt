@@ -1,7 +1,6 @@
 use Rattle.std.proofs.Common.{inl}
-use Rattle.toll_standing.proofs.KeptRules.{standing_keeps_rules}
+use Rattle.toll_desk.proofs.Common.{standing_keeps_rules, reads_then}
 use Rattle.toll_desk.proofs.Going.{going_ok_as}
-use Rattle.toll_keep.proofs.Calls.{reads_then}
 use Rattle.toll_desk.proofs.questions.ask_recall.Goals as goal
 
 pub returns-in-Ok-None-clause-going : goal.returns-in-Ok-None-clause-going

@@ -1,7 +1,5 @@
 use Rattle.std.proofs.Common.{IfErr, IfOk, sym, ap, ◌∙◌}
-use Rattle.toll_history.specs.Verdict.{Refused}
-use Rattle.toll_answers.specs.PlantAnswers.{IsPlantAnswer, Shows, Judged}
-use Rattle.toll_keep.specs.Content.{slice_of}
+use Rattle.toll_desk.proofs.Common.{Refused, IsPlantAnswer, Shows, Judged, slice_of}
 use Rattle.toll_desk.specs.Asking.{asked_by}
 use Rattle.toll_desk.specs.Subjects.{concerned}
 use Rattle.toll_desk.proofs.OwnerPlans.{none_read}

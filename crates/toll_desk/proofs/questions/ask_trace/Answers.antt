@@ -1,8 +1,5 @@
 use Rattle.std.proofs.Common.{sym, ap, subst, ◌∙◌}
-use Rattle.std.specs.List.{list_any}
-use Rattle.toll_trace.specs.Edges.{AreEdges}
-use Rattle.toll_genealogy.specs.Edges.{IsPlantEdge}
-use Rattle.toll_standing.proofs.StandingEdges.{edges_are_plants}
+use Rattle.toll_desk.proofs.Common.{list_any, AreEdges, IsPlantEdge, edges_are_plants}
 use Rattle.toll_desk.proofs.OwnTraces.{touches}
 use Rattle.toll_desk.proofs.PlantShown.{checked_lot, joined_there}
 use Rattle.toll_desk.proofs.questions.ask_trace.Goals as goal

@@ -1,9 +1,5 @@
 use Rattle.std.proofs.Common.{is_some, sym, ap, subst, ◌∙◌}
-use Rattle.toll_base.specs.Bytes.{Bytes}
-use Rattle.toll_history.specs.History.{acts}
-use Rattle.toll_history.specs.Work.{order_of, batch_of}
-use Rattle.toll_work.specs.BatchView.{IsViewOver, TellsOverHistories}
-use Rattle.toll_answers.specs.PlantAnswers.{IsPlantAnswer, AsksBatch, Shows}
+use Rattle.toll_desk.proofs.Common.{Bytes, acts, order_of, batch_of, IsViewOver, TellsOverHistories, IsPlantAnswer, AsksBatch, Shows}
 use Rattle.toll_desk.proofs.PlantShown.{batch_shown, order_unknown, batch_unknown}
 use Rattle.toll_desk.proofs.questions.show_batch.Goals as goal
 

@@ -1,8 +1,5 @@
 use Rattle.std.proofs.Common.{ap, ◌∙◌}
-use Rattle.std.proofs.lemmas.Result.{IfOk-weaker}
-use Rattle.toll_print.specs.Texts.{trace_text}
-use Rattle.toll_answers.specs.PlantAnswers.{Shows}
-use Rattle.toll_genealogy.specs.Edges.{IsPlantEdge}
+use Rattle.toll_desk.proofs.Common.{IfOk-weaker, trace_text, Shows, IsPlantEdge}
 use Rattle.toll_desk.proofs.OwnTraces.{trace_as}
 use Rattle.toll_desk.proofs.questions.text_of_trace.Goals as goal
 

@@ -1,7 +1,5 @@
 use Rattle.std.proofs.Common.{subst, ◌∙◌}
-use Rattle.toll_history.specs.History.{acts}
-use Rattle.toll_history.specs.Work.{order_of, batch_of}
-use Rattle.toll_work.specs.BatchView.{IsViewOver}
+use Rattle.toll_desk.proofs.Common.{acts, order_of, batch_of, IsViewOver}
 use Rattle.toll_desk.proofs.ReadOver.{given_orders, none_by, order_absent, batch_absent, batch_told}
 use Rattle.toll_desk.proofs.reading.batch_shown.Goals as goal
 

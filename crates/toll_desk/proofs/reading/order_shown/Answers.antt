@@ -1,7 +1,5 @@
 use Rattle.std.proofs.Common.{refl, subst, ◌∙◌}
-use Rattle.toll_answers.specs.Replies.{IsOrderOr}
-use Rattle.toll_answers.specs.Told.{TellOrder, TellRefused}
-use Rattle.toll_base.specs.declared.refusal.Refusal.TheVariants.{UnknownOrder}
+use Rattle.toll_desk.proofs.Common.{IsOrderOr, TellOrder, TellRefused, UnknownOrder}
 use Rattle.toll_desk.proofs.ReadOver.{given_orders}
 use Rattle.toll_desk.proofs.reading.order_shown.Goals as goal
 

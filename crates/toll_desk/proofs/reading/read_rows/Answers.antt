@@ -1,8 +1,5 @@
 use Rattle.std.proofs.Common.{sym, ap, subst, ◌∙◌}
-use mathlib.Core.Bool.{false≢true}
-use Rattle.std.proofs.lemmas.Result.{IfOk-weaker}
-use Rattle.toll_answers.specs.Replies.{IsAnswer}
-use Rattle.toll_history.specs.Tables.{IsRowsOf}
+use Rattle.toll_desk.proofs.Common.{false≢true, IfOk-weaker, IsAnswer, IsRowsOf}
 use Rattle.toll_desk.specs.Forms.{asked_to_read}
 use Rattle.toll_desk.specs.Asking.{told_of}
 use Rattle.toll_desk.proofs.OwnerPlans.{slice_read, none_read}

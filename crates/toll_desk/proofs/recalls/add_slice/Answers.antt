@@ -1,7 +1,6 @@
 use Rattle.std.proofs.Common.{[], ◌∷◌, ◌++◌, sym, ap, subst, ◌∙◌}
 use Rattle.std.specs.Prelude.{position}
-use Rattle.toll_keep.specs.Slices.{is_of}
-use Rattle.toll_keep.proofs.Outcomes.{of_ok}
+use Rattle.toll_desk.proofs.Common.{is_of, of_ok}
 use Rattle.toll_desk.specs.Questions.{AreSlicesFor}
 use Rattle.toll_desk.proofs.OwnerPlans.{none_read}
 use Rattle.toll_desk.proofs.OwnTraces.{rows_read}

@@ -1,10 +1,5 @@
 use Rattle.std.proofs.Common.{ap, ◌∙◌}
-use Rattle.std.specs.Option.{option_map}
-use Rattle.toll_base.specs.Lots.{lot_id}
-use Rattle.toll_base.specs.Slice.{lot_at}
-use Rattle.toll_base.specs.declared.rows.LotRow.{LotRow}
-use Rattle.toll_history.specs.Tables.{lot_row}
-use Rattle.toll_stock.specs.LotTotals.{totals_given}
+use Rattle.toll_desk.proofs.Common.{option_map, lot_id, lot_at, LotRow, lot_row, totals_given}
 use Rattle.toll_desk.proofs.RecallLines.{line_is, line_none}
 use Rattle.toll_desk.proofs.recalls.line_in.Goals as goal
 

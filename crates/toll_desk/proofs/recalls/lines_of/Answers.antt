@@ -1,8 +1,6 @@
 use Rattle.std.proofs.Common.{Some, map, ap, subst, sym, ◌∙◌}
-use Rattle.std.proofs.lemmas.List.Elements.{Contains-get_or}
+use Rattle.toll_desk.proofs.Common.{Contains-get_or, recall_line, RecallLine}
 use Rattle.std.specs.Prelude.{Contains}
-use Rattle.toll_genealogy.specs.Recall.{recall_line}
-use Rattle.toll_genealogy.specs.declared.recall.RecallLine.{RecallLine}
 use Rattle.toll_desk.proofs.RecallLines.{lines_more}
 use Rattle.toll_desk.proofs.recalls.lines_of.Goals as goal
 

@@ -1,7 +1,5 @@
 use Rattle.std.proofs.Common.{◌≡◌, Some, map, take}
-use Rattle.toll_history.specs.History.{History}
-use Rattle.toll_history.specs.Verdict.{IsLawful}
-use Rattle.toll_genealogy.specs.Recall.{recall_line}
+use Rattle.toll_desk.proofs.Common.{History, IsLawful, recall_line}
 use Rattle.toll_desk.specs.Questions.{AreSlicesFor}
 use Rattle.toll_desk.proofs.recalls.lines_of.Given as goal
 

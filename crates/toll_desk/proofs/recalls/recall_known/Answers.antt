@@ -1,9 +1,5 @@
 use Rattle.std.proofs.Common.{refl, inl, sym, subst}
-use Rattle.toll_trace.specs.Trace.{IsTrace}
-use Rattle.toll_trace.specs.declared.way.Way.TheVariants.{Forward}
-use Rattle.toll_genealogy.specs.Edges.{IsPlantEdge, IsPlantJoined}
-use Rattle.toll_standing.proofs.KeptRules.{standing_keeps_rules}
-use Rattle.toll_standing.proofs.StandingEdges.{edges_are_plants}
+use Rattle.toll_desk.proofs.Common.{IsTrace, Forward, IsPlantEdge, IsPlantJoined, standing_keeps_rules, edges_are_plants}
 use Rattle.toll_desk.proofs.Going.{reads_as, fault_as}
 use Rattle.toll_desk.proofs.OwnTraces.{trace_as, trace_of}
 use Rattle.toll_desk.proofs.recalls.recall_known.Goals as goal

@@ -1,9 +1,6 @@
 use Rattle.std.proofs.Common.{take, [], ◌∷◌, ◌++◌, subst, sym, ap, ◌∙◌}
-use Rattle.toll_keep.specs.Goes.{IsReading}
-use Rattle.std.proofs.lemmas.List.{take_all, take_more}
+use Rattle.toll_desk.proofs.Common.{IsReading, take_all, take_more, of_ok, read_ok, read_fault}
 use Rattle.toll_desk.specs.Questions.{AreSlicesFor}
-use Rattle.toll_keep.proofs.Outcomes.{of_ok}
-use Rattle.toll_keep.proofs.Calls.{read_ok, read_fault}
 use Rattle.toll_desk.proofs.RecallLines.{one_slice, passed_on}
 use Rattle.toll_desk.proofs.recalls.slices_of.Goals as goal
 

@@ -1,9 +1,5 @@
 use Rattle.std.proofs.Common.{sym, subst, ◌∙◌}
-use Rattle.std.specs.List.{list_any}
-use Rattle.toll_history.specs.History.{acts}
-use Rattle.toll_trace.specs.Edges.{AreEdges}
-use Rattle.toll_genealogy.specs.Edges.{IsOwnEdge}
-use Rattle.toll_standing.proofs.StandingEdges.{edges_are_own}
+use Rattle.toll_desk.proofs.Common.{list_any, acts, AreEdges, IsOwnEdge, edges_are_own}
 use Rattle.toll_desk.proofs.OwnTraces.{touches, trace_of, traced, joined_traces}
 use Rattle.toll_desk.proofs.tracing.trace_own.Goals as goal
 

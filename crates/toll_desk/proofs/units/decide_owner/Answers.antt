@@ -1,7 +1,5 @@
 use Rattle.std.proofs.Common.{[], ◌∷◌, subst, ◌∙◌}
-use Rattle.toll_history.specs.Decision.{IsDecided}
-use Rattle.toll_base.specs.declared.decision.Change.TheVariants.{Owner}
-use Rattle.toll_base.specs.declared.rows.OwnerRow.{OwnerRow}
+use Rattle.toll_desk.proofs.Common.{IsDecided, Owner, OwnerRow}
 use Rattle.toll_desk.specs.Admission.{owner_row_checks}
 use Rattle.toll_desk.proofs.DeedPlans.{decided_owner}
 use Rattle.toll_desk.proofs.units.decide_owner.Goals as goal

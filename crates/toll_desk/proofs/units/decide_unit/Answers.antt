@@ -1,7 +1,5 @@
 use Rattle.std.proofs.Common.{[], ◌∷◌, subst, ◌∙◌}
-use Rattle.toll_history.specs.Decision.{IsDecided}
-use Rattle.toll_base.specs.declared.decision.Change.TheVariants.{Unit}
-use Rattle.toll_base.specs.declared.rows.UnitRow.{UnitRow}
+use Rattle.toll_desk.proofs.Common.{IsDecided, Unit, UnitRow}
 use Rattle.toll_desk.specs.Admission.{unit_row_checks}
 use Rattle.toll_desk.proofs.DeedPlans.{decided_unit}
 use Rattle.toll_desk.proofs.units.decide_unit.Goals as goal

@@ -1,9 +1,5 @@
 use Rattle.std.proofs.Common.{sym, ap, subst}
-use Rattle.toll_base.specs.Changes.{changes_of}
-use Rattle.toll_history.specs.Decision.{verdict_of}
-use Rattle.toll_history.specs.Tables.{lot_row}
-use Rattle.toll_views.specs.Views.{IsLotViewOf}
-use Rattle.toll_answers.specs.Told.{TellLot}
+use Rattle.toll_desk.proofs.Common.{changes_of, verdict_of, lot_row, IsLotViewOf, TellLot}
 use Rattle.toll_desk.specs.Plans.{IsPlanOver}
 use Rattle.toll_desk.proofs.WriteOver.{dispose_accepted}
 use Rattle.toll_desk.proofs.writing.disposed.Goals as goal

@@ -1,8 +1,5 @@
 use Rattle.std.proofs.Common.{sym, ap, subst}
-use Rattle.toll_base.specs.Changes.{changes_of}
-use Rattle.toll_history.specs.Command.{CancelOrder}
-use Rattle.toll_history.specs.Decision.{verdict_of}
-use Rattle.toll_answers.specs.Told.{AskCancel}
+use Rattle.toll_desk.proofs.Common.{changes_of, CancelOrder, verdict_of, AskCancel}
 use Rattle.toll_desk.specs.Plans.{IsPlanOver}
 use Rattle.toll_desk.proofs.DeedPlans.{own_decision}
 use Rattle.toll_desk.proofs.WriteOver.{cancel_unknown, cancel_accepted, cancel_repeated, cancel_refused}

@@ -1,9 +1,5 @@
 use Rattle.std.proofs.Common.{ap, subst}
-use Rattle.std.proofs.lemmas.Result.{IfOk-weaker}
-use Rattle.toll_base.specs.Changes.{changes_of}
-use Rattle.toll_history.specs.Command.{PlaceOrder}
-use Rattle.toll_history.specs.Decision.{verdict_of}
-use Rattle.toll_answers.specs.Told.{AskPlace}
+use Rattle.toll_desk.proofs.Common.{IfOk-weaker, changes_of, PlaceOrder, verdict_of, AskPlace}
 use Rattle.toll_desk.specs.Asking.{told_of}
 use Rattle.toll_desk.specs.Plans.{IsPlanOver}
 use Rattle.toll_desk.proofs.DeedPlans.{own_decision}

@@ -1,5 +1,4 @@
-use Rattle.toll_history.specs.Command.{Reject}
-use Rattle.toll_answers.specs.Told.{AskReject}
+use Rattle.toll_desk.proofs.Common.{Reject, AskReject}
 use Rattle.toll_desk.proofs.DeedPlans.{own_decision}
 use Rattle.toll_desk.proofs.WriteOver.{rejecting}
 use Rattle.toll_desk.proofs.writing.plan_rejection.Goals as goal

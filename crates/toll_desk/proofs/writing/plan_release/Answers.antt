@@ -1,5 +1,4 @@
-use Rattle.toll_history.specs.Command.{Release}
-use Rattle.toll_answers.specs.Told.{AskRelease}
+use Rattle.toll_desk.proofs.Common.{Release, AskRelease}
 use Rattle.toll_desk.proofs.DeedPlans.{own_decision}
 use Rattle.toll_desk.proofs.WriteOver.{releasing}
 use Rattle.toll_desk.proofs.writing.plan_release.Goals as goal

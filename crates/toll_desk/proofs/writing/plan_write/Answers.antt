@@ -1,10 +1,5 @@
 use Rattle.std.proofs.Common.{◌≡◌, true, sym, ap, subst, ◌∙◌}
-use mathlib.Core.Bool.{false≢true}
-use Rattle.std.proofs.lemmas.Result.{IfOk-weaker}
-use Rattle.toll_base.specs.Slice.{order_at}
-use Rattle.toll_history.specs.History.{owner_known}
-use Rattle.toll_history.specs.Tables.{IsRowsOf}
-use Rattle.std.specs.Option.{is_some}
+use Rattle.toll_desk.proofs.Common.{false≢true, IfOk-weaker, order_at, owner_known, IsRowsOf, is_some}
 use Rattle.toll_desk.specs.Forms.{asked_to_write}
 use Rattle.toll_desk.specs.Asking.{told_of}
 use Rattle.toll_desk.proofs.OwnerPlans.{slice_read, none_read, plan_lift}

@@ -1,7 +1,5 @@
 use Rattle.std.proofs.Common.{[], ◌∷◌, refl}
-use Rattle.std.specs.List.Sorted.{IsStrictlySortedBy}
-use Rattle.toll_history.specs.History.{acts}
-use Rattle.toll_history.specs.Worked.{acme, one_product}
+use Rattle.toll_genealogy.proofs.Common.{IsStrictlySortedBy, acts, acme, one_product}
 use Rattle.toll_genealogy.proofs.DrawnHere.{edges_are_drawn}
 use Rattle.toll_genealogy.proofs.WorkedEdges.{from_a, from_house, to_listed, from_listed}
 use Rattle.toll_genealogy.proofs.worked.edges_of_a_batch.Goals as goal

@@ -1,10 +1,6 @@
 use Rattle.std.proofs.Common.{[], ◌∷◌, refl}
 use Rattle.std.specs.Prelude.{codes}
-use Rattle.std.specs.List.Sorted.{IsStrictlySortedBy}
-use Rattle.toll_base.specs.Values.{house_name}
-use Rattle.toll_history.specs.History.{acts}
-use Rattle.toll_history.specs.Worked.{acme}
-use Rattle.toll_trace.specs.declared.way.Way.TheVariants.{Back, Forward}
+use Rattle.toll_genealogy.proofs.Common.{IsStrictlySortedBy, house_name, acts, acme, Back, Forward}
 use Rattle.toll_genealogy.specs.Worked.{of_acme, of_house, house_material}
 use Rattle.toll_genealogy.proofs.DrawnHere.{trace_by_list}
 use Rattle.toll_genealogy.proofs.WorkedEdges.{into_product, product_drawn, in_house, house_drawn}

@@ -1,9 +1,6 @@
 use Rattle.std.proofs.Common.{[], ◌∷◌, refl}
 use Rattle.std.specs.Prelude.{codes}
-use Rattle.std.specs.List.Sorted.{IsStrictlySortedBy}
-use Rattle.toll_history.specs.History.{acts}
-use Rattle.toll_history.specs.Worked.{acme, one_product}
-use Rattle.toll_trace.specs.declared.way.Way.TheVariants.{Back, Forward}
+use Rattle.toll_genealogy.proofs.Common.{IsStrictlySortedBy, acts, acme, one_product, Back, Forward}
 use Rattle.toll_genealogy.specs.Worked.{of_acme, of_house}
 use Rattle.toll_genealogy.proofs.DrawnHere.{trace_of_a_level}
 use Rattle.toll_genealogy.proofs.WorkedEdges.{from_a, from_house, to_listed, from_listed}

@@ -1,8 +1,6 @@
 use Rattle.std.proofs.Common.{◌≡◌, Some, None, option_map, find, sym, ap, ◌∙◌, subst, rules, tests}
-use Rattle.std.proofs.lemmas.Iterator.{YieldsList-from_slice}
-use Rattle.std.proofs.lemmas.Iterator.Search.{find_from_yields_List}
+use Rattle.toll_keep.proofs.Common.{YieldsList-from_slice, find_from_yields_List, batch_cmp_total}
 use Rattle.toll_base.specs.Keys.{batch_cmp}
-use Rattle.toll_base.proofs.Texts.{batch_cmp_total}
 use Rattle.toll_keep.specs.Holding.{is_on, IsHolderIn}
 use Rattle.toll_keep.proofs.Finding.{none_found, one_found}
 use Rattle.toll_keep.proofs.holder.holder_in.Goals as goal

@@ -1,8 +1,5 @@
 use Rattle.std.proofs.Common.{rules, ◌≡◌, ◌++◌, ◌∷◌, [], length, position, true, sym, ap, subst, ◌∙◌, arith}
-use Rattle.std.specs.Vec.{with_items}
-use Rattle.std.proofs.lemmas.List.{with_items_is}
-use Rattle.toll_base.specs.Bytes.{Bytes}
-use Rattle.toll_base.specs.Slice.{Slice, empty_slice}
+use Rattle.toll_keep.proofs.Common.{with_items, with_items_is, Bytes, Slice, empty_slice}
 use Rattle.toll_keep.specs.Slices.{is_of, rows_in, put_slice, IsOneEach, has_slice}
 use Rattle.toll_keep.proofs.Slicing.{owner-rows_in, taken_too, has_found, has_more, has_new}
 use Rattle.toll_keep.proofs.opening.open_rows.Goals as goal

@@ -1,7 +1,5 @@
 use Rattle.std.proofs.Common.{take, ap, sym, subst, arith, ◌∙◌}
-use Rattle.std.specs.List.{All}
-use Rattle.std.proofs.lemmas.List.{take_all}
-use Rattle.std.proofs.lemmas.List.Elements.{All-weaker, All-more}
+use Rattle.toll_keep.proofs.Common.{All, take_all, All-weaker, All-more}
 use Rattle.toll_keep.specs.Slices.{rows_in, IsOneEach, IsTouched}
 use Rattle.toll_keep.proofs.Slicing.{rows_in-put_slices, one_each-put_slices, touched_still}
 use Rattle.toll_keep.proofs.opening.open_touched.Goals as goal

@@ -1,6 +1,5 @@
 use Rattle.std.proofs.Common.{◌≡◌, ◌+◌, ◌≤◌, ◌++◌, length, take, vec_len, vec_capacity}
-use Rattle.std.specs.List.{All}
-use Rattle.toll_base.specs.Bytes.{Bytes}
+use Rattle.toll_keep.proofs.Common.{All, Bytes}
 use Rattle.toll_keep.specs.Slices.{rows_in, IsOneEach, IsTouched}
 use Rattle.toll_keep.proofs.opening.open_touched.Given as goal
 

@@ -1,7 +1,5 @@
 use Rattle.std.proofs.Common.{◌≡◌, [], ◌∷◌, ◌++◌, cond, is_ok, sym, ap, ◌∙◌}
-use Rattle.std.proofs.lemmas.Bool.{not-false}
-use Rattle.toll_base.specs.Bytes.{same_bytes}
-use Rattle.toll_base.proofs.Texts.{same_bytes-exact}
+use Rattle.toll_keep.proofs.Common.{not-false, same_bytes, same_bytes-exact}
 use Rattle.toll_keep.proofs.RememberedLemmas.{perhaps_more}
 use Rattle.toll_keep.proofs.remembered.remember_edges.Goals as goal
 

@@ -1,7 +1,6 @@
 use Rattle.std.proofs.Common.{◌≡◌, Some, sym, ap, subst, ◌∙◌}
 use Rattle.std.specs.Prelude.{position}
-use Rattle.std.proofs.lemmas.Result.{IfOk-weaker}
-use Rattle.toll_trace.specs.Edges.{AreEdges, IsEdge}
+use Rattle.toll_keep.proofs.Common.{IfOk-weaker, AreEdges, IsEdge}
 use Rattle.toll_keep.specs.Slices.{is_of}
 use Rattle.toll_keep.proofs.RememberedLemmas.{remembered_there, rows_there}
 use Rattle.toll_keep.proofs.remembered.remembered_edges.Goals as goal

@@ -1,6 +1,5 @@
 use Rattle.std.proofs.Common.{rules, tests}
-use Rattle.std.proofs.lemmas.Iterator.{YieldsList-from_slice}
-use Rattle.std.proofs.lemmas.Iterator.Search.{position_from_yields_List}
+use Rattle.toll_keep.proofs.Common.{YieldsList-from_slice, position_from_yields_List}
 use Rattle.toll_keep.specs.Slices.{is_of}
 use Rattle.toll_keep.proofs.slices.place_of.Goals as goal
 

@@ -1,6 +1,5 @@
 use Rattle.std.proofs.Common.{◌≡◌, map, ap, ◌∙◌}
-use Rattle.std.proofs.lemmas.Bool.Decides.{Decides-eqb}
-use Rattle.csv.specs.Records.{fields_of}
+use Rattle.toll_plant.proofs.Common.{Decides-eqb, fields_of}
 use Rattle.toll_plant.specs.Files.{header}
 use Rattle.toll_plant.proofs.FileLemmas.{same_texts}
 use Rattle.toll_plant.proofs.actuals.is_header.Goals as goal

@@ -1,7 +1,5 @@
 use Rattle.std.proofs.Common.{◌≡◌, ◌+◌, ◌++◌, true, false, [], ◌∷◌, drop, Ok, Err, refl, sym, subst, ap, ◌∙◌}
-use Rattle.std.specs.List.{list_any}
-use Rattle.std.proofs.lemmas.List.{append-nil, drop_all}
-use Rattle.toll_keep.specs.declared.fault.KeepFault.TheVariants.{Memory}
+use Rattle.toll_plant.proofs.Common.{list_any, append-nil, drop_all, Memory}
 use Rattle.toll_plant.specs.HeldRecords.{IsHeldFor}
 use Rattle.toll_plant.specs.Outcomes.{is_accepted, is_fault}
 use Rattle.toll_plant.proofs.GroupRuns.{SoFar, held_all, held_to, refused_now, so_far_more}

@@ -1,11 +1,5 @@
 use Rattle.std.proofs.Common.{◌≡◌, false, [], drop, vec_len, vec_capacity}
-use Rattle.std.specs.List.{list_any}
-use Rattle.toll_history.specs.History.{History}
-use Rattle.toll_history.specs.Verdict.{IsLawful}
-use Rattle.toll_keep.specs.Content.{Content}
-use Rattle.toll_keep.specs.Overlays.{IsOver, IsReadThrough}
-use Rattle.toll_keep.specs.Reads.{IsKept}
-use Rattle.toll_standing.specs.Standing.{StandsFor}
+use Rattle.toll_plant.proofs.Common.{list_any, History, IsLawful, Content, IsOver, IsReadThrough, IsKept, StandsFor}
 use Rattle.toll_plant.specs.Outcomes.{is_accepted, is_fault}
 use Rattle.toll_plant.proofs.GroupRuns.{SoFar}
 use Rattle.toll_plant.proofs.grouping.hold_all.Given as goal

@@ -1,6 +1,5 @@
 use Rattle.std.proofs.Common.{◌≡◌, Bool, true, false, sym, subst, ap, ◌∙◌}
-use Rattle.std.specs.List.{AllByRecursion}
-use mathlib.Core.Bool.{false≢true}
+use Rattle.toll_plant.proofs.Common.{AllByRecursion, false≢true}
 use Rattle.toll_plant.specs.Imports.{AreRecordsServed, IsOpenOutcome, IsWholeOutcome, commands_in, outcomes_in}
 use Rattle.toll_plant.proofs.GroupChains.{all_honest, all_open, all_whole, run_of, steps_of}
 use Rattle.toll_plant.proofs.ImportDone.{fewer, so_on, so_over}

@@ -1,6 +1,5 @@
 use Rattle.std.proofs.Common.{◌≡◌, ◌≢◌, true, false, Some, rules, ap, sym, ◌∙◌}
-use Rattle.sqlite.specs.Held.{state}
-use Rattle.sqlite_catalog.specs.Change.{is_used}
+use Rattle.toll_sql.proofs.Common.{state, is_used}
 use Rattle.toll_sql.specs.First.{first_version}
 use Rattle.toll_sql.specs.Holds.{version}
 use Rattle.toll_sql.specs.Others.{has_its_name}

@@ -1,7 +1,5 @@
 use Rattle.std.proofs.Common.{[], IfOk, IfErr, subst}
-use Rattle.std.proofs.lemmas.Result.{IfOk-weaker}
-use Rattle.sqlite.specs.Held.{state}
-use Rattle.sqlite.specs.State.{CommitsShowing, FailsToQuery, Shown, Survives}
+use Rattle.toll_sql.proofs.Common.{IfOk-weaker, state, CommitsShowing, FailsToQuery, Shown, Survives}
 use Rattle.toll_sql.specs.Tables.{select_text}
 use Rattle.toll_sql.proofs.AskLemmas.{all_selected, plain, querying}
 use Rattle.toll_sql.proofs.AskedLemmas.{read_of}

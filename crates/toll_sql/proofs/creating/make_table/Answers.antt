@@ -1,6 +1,5 @@
 use Rattle.std.proofs.Common.{[], ap, subst}
-use Rattle.sqlite.specs.Held.{state}
-use Rattle.sqlite.specs.State.{ExecutesInside}
+use Rattle.toll_sql.proofs.Common.{state, ExecutesInside}
 use Rattle.toll_sql.proofs.MakeLemmas.{table_step}
 use Rattle.toll_sql.proofs.creating.make_table.Goals as goal
 

@@ -1,6 +1,5 @@
 use Rattle.std.proofs.Common.{[]}
-use Rattle.std.proofs.lemmas.Result.{IfOk-weaker}
-use Rattle.sqlite.specs.Held.{state}
+use Rattle.toll_sql.proofs.Common.{IfOk-weaker, state}
 use Rattle.toll_sql.proofs.AskLemmas.{querying}
 use Rattle.toll_sql.proofs.AskedLemmas.{read_with}
 use Rattle.toll_sql.proofs.EdgesShown.{all_shown}

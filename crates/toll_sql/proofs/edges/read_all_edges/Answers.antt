@@ -1,7 +1,5 @@
 use Rattle.std.proofs.Common.{IfOk, refl, subst}
-use Rattle.std.proofs.lemmas.Result.{IfOk-weaker}
-use Rattle.sqlite.specs.Held.{state}
-use Rattle.toll_keep.specs.Holding.{IsEdgeOfSome}
+use Rattle.toll_sql.proofs.Common.{IfOk-weaker, state, IsEdgeOfSome}
 use Rattle.toll_sql.specs.EdgeRows.{AreReadFrom, HasNoEdge}
 use Rattle.toll_sql.specs.declared.table_kind.TableKind.TheVariants.{Moves}
 use Rattle.toll_sql.proofs.EdgesRead.{each_named, edge_named, read_from}

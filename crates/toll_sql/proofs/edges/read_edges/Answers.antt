@@ -1,12 +1,10 @@
 use Rattle.std.proofs.Common.{IfOk, refl, subst}
-use Rattle.std.proofs.lemmas.Result.{IfOk-weaker}
-use Rattle.sqlite.specs.Held.{state}
+use Rattle.toll_sql.proofs.Common.{IfOk-weaker, state, IsEdge}
 use Rattle.toll_sql.specs.EdgeRows.{AreReadFrom, HasNoEdge}
 use Rattle.toll_sql.specs.declared.table_kind.TableKind.TheVariants.{Moves}
 use Rattle.toll_sql.proofs.EdgesRead.{each_named, edge_named, read_from}
 use Rattle.toll_sql.proofs.LookLemmas.{looking}
 use Rattle.toll_sql.proofs.edges.read_edges.Goals as goal
-use Rattle.toll_trace.specs.Edges.{IsEdge}
 
 pub returns-in-Ok-clause-looks : goal.returns-in-Ok-clause-looks
 returns-in-Ok-clause-looks g c = looking (state g.S.Store c.args.conn.now) (state g.S.Store c.owners_pairs.new.conn) c.in-Ok.rows c.edges_shown.result c.in-Ok.ensures.asks.asks c.edges_shown.ensures.disk c.edges_shown.ensures.closed

@@ -1,8 +1,5 @@
 use Rattle.std.proofs.Common.{[], ◌∷◌, IfOk, subst}
-use Rattle.std.proofs.lemmas.Result.{IfOk-weaker}
-use Rattle.sqlite.specs.Held.{state}
-use Rattle.sqlite.specs.State.{Shown}
-use Rattle.sqlite.specs.declared.types.Value.TheVariants.{Text}
+use Rattle.toll_sql.proofs.Common.{IfOk-weaker, state, Shown, Text}
 use Rattle.toll_sql.proofs.AskLemmas.{querying}
 use Rattle.toll_sql.proofs.AskedLemmas.{read_with}
 use Rattle.toll_sql.specs.AskedTexts.{unit_text}

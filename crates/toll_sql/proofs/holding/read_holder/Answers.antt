@@ -1,6 +1,5 @@
 use Rattle.std.proofs.Common.{IfOk, subst}
-use Rattle.std.proofs.lemmas.Result.{IfOk-weaker}
-use Rattle.sqlite.specs.Held.{state}
+use Rattle.toll_sql.proofs.Common.{IfOk-weaker, state}
 use Rattle.toll_sql.specs.HolderRows.{HasNoHolder, IsShownIn, open_on}
 use Rattle.toll_sql.proofs.HolderShown.{each_named, read_from, told_too, unnamed_too}
 use Rattle.toll_sql.proofs.LookLemmas.{looking}

@@ -1,6 +1,5 @@
 use Rattle.std.proofs.Common.{◌≡◌, ◌∙◌, rules}
-use Rattle.sqlite.specs.Order.{column}
-use Rattle.sqlite.specs.declared.types.Value.TheVariants.{Text}
+use Rattle.toll_sql.proofs.Common.{column, Text}
 use Rattle.toll_sql.specs.Shown.{IsRowOf}
 use Rattle.toll_sql.proofs.SoFar.{all_behind, one_more, value_there}
 use Rattle.toll_sql.proofs.RowsIn.{it, it_is, it_valid, with_it, with_it_keeps}

@@ -1,7 +1,5 @@
 use Rattle.std.proofs.Common.{◌≡◌, take}
-use Rattle.std.specs.List.{AllByRecursion}
-use Rattle.toll_base.specs.Bytes.{Bytes}
-use Rattle.toll_base.specs.Slice.{Slice}
+use Rattle.toll_sql.proofs.Common.{AllByRecursion, Bytes, Slice}
 use Rattle.toll_sql.specs.Fronts.{front, IsStoredAs}
 use Rattle.toll_sql.specs.Shown.{AreOwnedBy, IsRowOf}
 use Rattle.toll_sql.specs.StoredLaws.{StandIn}

@@ -1,15 +1,10 @@
 use Rattle.std.proofs.Common.{◌≡◌, true, List, sym, subst}
-use Rattle.sqlite.specs.Held.{state}
-use Rattle.sqlite.specs.Order.{Row}
-use Rattle.sqlite.specs.State.{HasCleanDisk}
-use Rattle.toll_base.specs.Slice.{Slice}
+use Rattle.toll_sql.proofs.Common.{state, Row, HasCleanDisk, Slice, on_ok_weaker, AllByRecursion}
 use Rattle.toll_sql.specs.Fronts.{IsStoredAs}
 use Rattle.toll_sql.specs.Rows.{AreOfOwner}
 use Rattle.toll_sql.specs.Stores.{HoldsPartIn}
 use Rattle.toll_sql.specs.Others.{HasOurs}
 use Rattle.toll_sql.specs.Tables.{is_owned}
-use Rattle.std.proofs.lemmas.Result.{on_ok_weaker}
-use Rattle.std.specs.List.{AllByRecursion}
 use Rattle.toll_sql.specs.Shown.{AreOwnedBy, IsRowOf}
 use Rattle.toll_sql.proofs.LookLemmas.{looking, stored_as}
 use Rattle.toll_sql.proofs.SoFar.{read_owned, stored_shown}

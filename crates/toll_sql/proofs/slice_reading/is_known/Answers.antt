@@ -1,6 +1,5 @@
 use Rattle.std.proofs.Common.{◌∙◌, rules}
-use Rattle.toll_base.specs.Bytes.{bytes_cmp}
-use Rattle.toll_base.specs.declared.rows.OwnerRow.{OwnerRow}
+use Rattle.toll_sql.proofs.Common.{bytes_cmp, OwnerRow}
 use Rattle.toll_sql.proofs.ListLemmas.{any_there}
 use Rattle.toll_sql.proofs.slice_reading.is_known.Goals as goal
 

@@ -1,7 +1,5 @@
 use Rattle.std.proofs.Common.{[], rules, Option, Ok, Err, sym, subst, ◌∙◌}
-use mathlib.Core.Bool.{false≢true}
-use Rattle.sqlite.specs.Held.{state}
-use Rattle.toll_base.specs.Slice.{Slice}
+use Rattle.toll_sql.proofs.Common.{false≢true, state, Slice}
 use Rattle.toll_sql.specs.Asking.{IsLooking}
 use Rattle.toll_sql.specs.Encode.{owner_cells}
 use Rattle.toll_sql.specs.Shown.{AreTold, tables_of_owners}

@@ -1,6 +1,5 @@
 use Rattle.std.proofs.Common.{◌≡◌, ◌≢◌, codes, true, false, sym, ◌∙◌}
-use Rattle.sqlite.specs.Order.{column}
-use Rattle.sqlite.specs.declared.types.Value.TheVariants.{Text}
+use Rattle.toll_sql.proofs.Common.{column, Text}
 use Rattle.toll_sql.proofs.MetaLemmas.{after_first}
 use Rattle.toll_sql.proofs.version.+version_in.Goals as goal
 

@@ -1,6 +1,5 @@
 use Rattle.std.proofs.Common.{◌⊎◌, [], IfOk, IfErr, subst}
-use Rattle.sqlite.specs.Held.{state}
-use Rattle.sqlite.specs.State.{FailsToQuery, IsTooLate, Shown}
+use Rattle.toll_sql.proofs.Common.{state, FailsToQuery, IsTooLate, Shown}
 use Rattle.toll_sql.specs.Tables.{select_text}
 use Rattle.toll_sql.specs.declared.table_kind.TableKind.TheVariants.{Meta}
 use Rattle.toll_sql.proofs.AskInside.{asked}

@@ -1,7 +1,5 @@
 use Rattle.std.proofs.Common.{Ok, Err, ap, subst}
-use Rattle.sqlite.specs.Held.{state}
-use Rattle.sqlite.specs.State.{ExecutesInside}
-use Rattle.sqlite.specs.Values.{bound}
+use Rattle.toll_sql.proofs.Common.{state, ExecutesInside, bound}
 use Rattle.toll_sql.proofs.WriteLemmas.{writes_row, writes_uncounted}
 use Rattle.toll_sql.proofs.writing.put.Goals as goal
 

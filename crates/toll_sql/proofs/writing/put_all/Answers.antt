@@ -1,8 +1,6 @@
 use Rattle.std.proofs.Common.{arith, subst}
 use Rattle.std.proofs.lemmas.Grind.{common_steps}
-use Rattle.sqlite.proofs.InsideLemmas.{keeps_then}
-use Rattle.sqlite.specs.Held.{state}
-use Rattle.sqlite.specs.State.{HasCleanDisk}
+use Rattle.toll_sql.proofs.Common.{keeps_then, state, HasCleanDisk}
 use Rattle.toll_keep.proofs.Undoing.{next_left}
 use Rattle.toll_sql.proofs.Going.{GoesOn, one_more}
 use Rattle.toll_sql.proofs.writing.put_all.Goals as goal

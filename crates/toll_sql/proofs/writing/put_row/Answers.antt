@@ -1,7 +1,5 @@
 use Rattle.std.proofs.Common.{sym, subst}
-use Rattle.sqlite.specs.Held.{state}
-use Rattle.sqlite.specs.Values.{bound}
-use Rattle.toll_base.specs.declared.decision.Change.TheVariants.{Put}
+use Rattle.toll_sql.proofs.Common.{state, bound, Put}
 use Rattle.toll_base.specs.declared.rows.Row.TheVariants.{Move}
 use Rattle.toll_sql.specs.Stores.{IsWriting, MakesPut}
 use Rattle.toll_sql.proofs.ChangeLemmas.{as_change}

@@ -1,5 +1,4 @@
-use Rattle.toll_history.proofs.PutsOwn.{puts_rows}
-use Rattle.toll_history.proofs.Owed.{owed}
+use Rattle.toll_stock.proofs.Common.{puts_rows, owed}
 use Rattle.toll_stock.proofs.LotLaw.{reject_decided, lot_keeps}
 use Rattle.toll_stock.proofs.dispositions.reject.Goals as goal
 

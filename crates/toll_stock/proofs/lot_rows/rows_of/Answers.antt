@@ -1,7 +1,6 @@
 use Rattle.std.proofs.Common.{rules}
-use Rattle.std.specs.Cmp.Lexicographic.{nat_list_cmp_total}
+use Rattle.toll_stock.proofs.Common.{nat_list_cmp_total, bytes_cmp}
 use Rattle.std.proofs.lemmas.List.Sorted.{IsPartitionPoint-from_clause}
-use Rattle.toll_base.specs.Bytes.{bytes_cmp}
 use Rattle.toll_trace.proofs.Runs.{below, up_to, found_run}
 use Rattle.toll_stock.proofs.lot_rows.rows_of.Goals as goal
 

@@ -1,5 +1,4 @@
-use Rattle.toll_base.proofs.Texts.{same_bytes-refl}
-use Rattle.toll_history.proofs.Owed.{owed}
+use Rattle.toll_stock.proofs.Common.{same_bytes-refl, owed}
 use Rattle.toll_stock.proofs.TestLaw.{test_decided, test_keeps}
 use Rattle.toll_stock.proofs.material_tests.add_test.Goals as goal
 

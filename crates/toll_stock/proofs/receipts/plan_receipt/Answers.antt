@@ -1,13 +1,6 @@
 use Rattle.std.proofs.Common.{rules, ◌+◌, [], ◌∷◌, ◌++◌}
 use Rattle.std.specs.Prelude.{IfOk}
-use Rattle.toll_base.specs.declared.decision.Change.TheVariants.{Put}
-use Rattle.toll_base.specs.declared.lot.Disposition.TheVariants.{Quarantined}
-use Rattle.toll_base.specs.declared.lot.Origin.TheVariants.{Receipts}
-use Rattle.toll_base.specs.declared.rows.Row.TheVariants.{Lot, Move, Sublot}
-use Rattle.toll_history.specs.Bounds.{sublot_bounds}
-use Rattle.toll_history.specs.Decision.{IsDecided}
-use Rattle.toll_history.specs.Tables.{tables_of}
-use Rattle.toll_history.specs.Verdict.{amount_in, key_checks, receive_checks}
+use Rattle.toll_stock.proofs.Common.{Put, Quarantined, Receipts, Lot, Move, Sublot, sublot_bounds, IsDecided, tables_of, amount_in, key_checks, receive_checks}
 use Rattle.toll_stock.proofs.receipts.plan_receipt.Goals as goal
 
 pub returns-clause-plan : goal.returns-clause-plan

@@ -1,9 +1,6 @@
 use Rattle.std.proofs.Common.{◌≡◌, ◌&&◌, arith, ap, sym, ◌∙◌}
 use Rattle.std.proofs.lemmas.Grind.{common_steps}
-use Rattle.std.specs.List.{count_by}
-use Rattle.toll_base.specs.Bytes.{same_bytes}
-use Rattle.toll_base.specs.Words.{count}
-use Rattle.toll_base.specs.declared.rows.ResultRow.{ResultRow}
+use Rattle.toll_stock.proofs.Common.{count_by, same_bytes, count, ResultRow}
 use Rattle.toll_base.proofs.PutRules.{count-is, count-le-length}
 use Rattle.toll_stock.proofs.Sums.{count-kept}
 use Rattle.toll_stock.proofs.results.count_results.Goals as goal

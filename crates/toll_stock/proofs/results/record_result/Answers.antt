@@ -1,7 +1,5 @@
-use Rattle.toll_history.proofs.PutsOwn.{puts_rows}
-use Rattle.toll_history.specs.Tables.{tables_of}
+use Rattle.toll_stock.proofs.Common.{puts_rows, tables_of, owed}
 use Rattle.toll_stock.specs.LotRows.{result_rows}
-use Rattle.toll_history.proofs.Owed.{owed}
 use Rattle.toll_stock.proofs.ResultLaw.{result_decided, result_keeps}
 use Rattle.toll_stock.proofs.results.record_result.Goals as goal
 

@@ -1,9 +1,6 @@
 use Rattle.std.proofs.Common.{[], ◌∷◌, Some, ap, ◌∙◌}
 use Rattle.toll_base.specs.declared.refusal.Refusal.TheVariants.{SameSublot}
-use Rattle.toll_history.specs.Bounds.{sublot_bounds}
-use Rattle.toll_history.specs.Tables.{tables_of}
-use Rattle.toll_history.specs.Verdict.{first_of, scrap_checks, split_checks}
-use Rattle.toll_history.proofs.Accepted.{refused_first}
+use Rattle.toll_stock.proofs.Common.{sublot_bounds, tables_of, first_of, scrap_checks, split_checks, refused_first}
 use Rattle.toll_stock.proofs.splits.check_split.Goals as goal
 
 pub returns-in-Err : goal.returns-in-Err

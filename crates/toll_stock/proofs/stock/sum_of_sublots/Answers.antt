@@ -1,9 +1,5 @@
 use Rattle.std.proofs.Common.{◌≡◌, ◌<◌, ◌^◌, get_or, ap, sym, subst, ◌∙◌, arith}
-use Rattle.std.proofs.lemmas.List.{at_drop_all}
-use Rattle.toll_base.specs.Bytes.{same_bytes}
-use Rattle.toll_base.specs.Words.{total}
-use Rattle.toll_base.specs.declared.rows.SublotRow.{SublotRow}
-use Rattle.toll_history.proofs.Sums.{total-kept}
+use Rattle.toll_stock.proofs.Common.{at_drop_all, same_bytes, total, SublotRow, total-kept}
 use Rattle.toll_stock.proofs.Sums.{total-drop}
 use Rattle.toll_stock.proofs.OnHand.{on_hand_small}
 use Rattle.toll_stock.proofs.stock.sum_of_sublots.Goals as goal

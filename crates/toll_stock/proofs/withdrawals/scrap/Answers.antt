@@ -1,7 +1,4 @@
-use Rattle.toll_base.proofs.Texts.{same_bytes-refl}
-use Rattle.toll_history.proofs.Owed.{owed_by}
-use Rattle.toll_history.specs.Tables.{tables_of}
-use Rattle.toll_history.specs.Verdict.{scrap_checks}
+use Rattle.toll_stock.proofs.Common.{same_bytes-refl, owed_by, tables_of, scrap_checks}
 use Rattle.toll_stock.proofs.WithdrawalLaw.{scrapping_owes}
 use Rattle.toll_stock.proofs.withdrawals.scrap.Goals as goal
 

@@ -1,7 +1,6 @@
 use Rattle.std.proofs.Common.{ap, ◌∙◌, subst}
-use Rattle.std.proofs.lemmas.List.{take_all}
+use Rattle.toll_trace.proofs.Common.{take_all, lot_cmp}
 use Rattle.toll_trace.specs.InOrder.{IsInOrder}
-use Rattle.toll_base.specs.Lots.{lot_cmp}
 use Rattle.toll_trace.specs.Neighbours.{new_neighbours}
 use Rattle.toll_trace.proofs.Fronts.{new_neighbours_more}
 use Rattle.toll_trace.proofs.graph.next_front.Goals as goal

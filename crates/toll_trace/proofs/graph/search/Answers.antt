@@ -1,9 +1,7 @@
 use Rattle.std.proofs.Common.{◌≡◌, ◌+◌, ◌<◌, ◌++◌, [], ◌∷◌, length, map, ap, ◌∙◌, sym, subst, arith}
-use Rattle.std.proofs.lemmas.List.{nil_from_length, length-append, length-map}
-use Rattle.std.proofs.lemmas.Bool.{eqb-true}
+use Rattle.toll_trace.proofs.Common.{nil_from_length, length-append, length-map, eqb-true, lot_cmp}
 use Rattle.toll_trace.specs.InOrder.{IsInOrder}
 use Rattle.toll_trace.specs.Neighbours.{Leads, new_neighbours}
-use Rattle.toll_base.specs.Lots.{lot_cmp}
 use Rattle.toll_trace.specs.Search.{IsLevel, step_at}
 use Rattle.toll_trace.specs.Trace.{IsTrace}
 use Rattle.toll_trace.proofs.Fronts.{level_first, level_next}

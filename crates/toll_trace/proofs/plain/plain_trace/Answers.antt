@@ -1,6 +1,5 @@
 use Rattle.std.proofs.Common.{◌≡◌, ◌+◌, ◌<◌, ◌++◌, [], length, map, ap, ◌∙◌, sym, subst, arith}
-use Rattle.std.proofs.lemmas.List.{nil_from_length, length-append, length-map}
-use Rattle.std.proofs.lemmas.Bool.{eqb-true}
+use Rattle.toll_trace.proofs.Common.{nil_from_length, length-append, length-map, eqb-true}
 use Rattle.toll_trace.specs.Chain.{IsJoined, ends}
 use Rattle.toll_trace.specs.Trace.{IsTrace}
 use Rattle.toll_trace.specs.Search.{IsLevel, step_at}

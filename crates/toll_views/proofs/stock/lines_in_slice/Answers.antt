@@ -1,9 +1,6 @@
 use Rattle.std.proofs.Common.{◌≡◌, ◌<◌, ◌^◌, true, is_some, length, get_or, ap, subst, sym, ◌∙◌, arith}
 use Rattle.std.proofs.lemmas.Grind.{common_steps}
-use Rattle.toll_base.specs.Bytes.{bytes_cmp}
-use Rattle.toll_base.specs.Slice.{material_at}
-use Rattle.toll_base.specs.Table.{IsInKeyOrder}
-use Rattle.toll_base.specs.declared.rows.LotRow.{LotRow}
+use Rattle.toll_views.proofs.Common.{bytes_cmp, material_at, IsInKeyOrder, LotRow}
 use Rattle.toll_stock.proofs.OnHand.{on_hand_small}
 use Rattle.toll_views.specs.InSlice.{line_in}
 use Rattle.toll_views.specs.declared.stock.StockLine.{StockLine}

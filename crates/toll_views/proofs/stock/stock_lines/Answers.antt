@@ -1,7 +1,5 @@
 use Rattle.std.proofs.Common.{sym, subst}
-use Rattle.std.proofs.lemmas.Result.{IfOk-weaker}
-use Rattle.toll_base.specs.Bytes.{bytes_cmp}
-use Rattle.toll_base.specs.Table.{AreRowsGiven}
+use Rattle.toll_views.proofs.Common.{IfOk-weaker, bytes_cmp, AreRowsGiven}
 use Rattle.toll_views.specs.Views.{stock_line}
 use Rattle.toll_views.specs.declared.stock.StockLine.{StockLine}
 use Rattle.toll_views.proofs.StockLaw.{stock_given}

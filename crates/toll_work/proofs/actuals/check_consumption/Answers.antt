@@ -1,8 +1,5 @@
 use Rattle.std.proofs.Common.{◌∙◌}
-use Rattle.toll_history.specs.Tables.{tables_of}
-use Rattle.toll_history.specs.Verdict.{actual_checks, consumed_checks}
-use Rattle.toll_base.specs.declared.role.Role.TheVariants.{Consumed}
-use Rattle.toll_history.proofs.Accepted.{refused_first, accepted_first}
+use Rattle.toll_work.proofs.Common.{tables_of, actual_checks, consumed_checks, Consumed, refused_first, accepted_first}
 use Rattle.toll_work.proofs.actuals.check_consumption.Goals as goal
 
 pub returns-in-Err : goal.returns-in-Err

@@ -1,9 +1,5 @@
 use Rattle.std.proofs.Common.{◌++◌}
-use Rattle.toll_history.specs.Bounds.{lot_bounds}
-use Rattle.toll_history.specs.Tables.{tables_of}
-use Rattle.toll_history.specs.Verdict.{actual_checks, produced_checks}
-use Rattle.toll_base.specs.declared.role.Role.TheVariants.{Produced}
-use Rattle.toll_history.proofs.Accepted.{refused_first}
+use Rattle.toll_work.proofs.Common.{lot_bounds, tables_of, actual_checks, produced_checks, Produced, refused_first}
 use Rattle.toll_work.proofs.actuals.check_production.Goals as goal
 
 pub returns-in-Err : goal.returns-in-Err

@@ -1,11 +1,5 @@
 use Rattle.std.proofs.Common.{◌++◌, [], ◌∷◌, is_none, nat_lt, Some}
-use Rattle.toll_base.specs.Slice.{recipe_at, requirement_at, batch_at}
-use Rattle.toll_base.specs.States.{is_idle}
-use Rattle.toll_history.specs.Tables.{tables_of}
-use Rattle.toll_history.specs.Verdict.{open_batch_checks, recipe_of_order, crosses}
-use Rattle.toll_base.specs.Words.{is_some_where}
-use Rattle.toll_base.specs.declared.refusal.Refusal.TheVariants.{BatchIdle, BadSegment, CrossOwner, NotInRecipe}
-use Rattle.toll_history.proofs.Accepted.{refused_first}
+use Rattle.toll_work.proofs.Common.{recipe_at, requirement_at, batch_at, is_idle, tables_of, open_batch_checks, recipe_of_order, crosses, is_some_where, BatchIdle, BadSegment, CrossOwner, NotInRecipe, refused_first}
 use Rattle.toll_work.proofs.actuals.check_use.Goals as goal
 
 pub returns-in-Err : goal.returns-in-Err

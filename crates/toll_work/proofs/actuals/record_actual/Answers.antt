@@ -1,8 +1,4 @@
-use Rattle.std.proofs.lemmas.Result.{IfOk-weaker}
-use Rattle.toll_history.specs.Command.{Record, by}
-use Rattle.toll_base.specs.Changes.{changes_of}
-use Rattle.toll_history.specs.Decision.{DecidesWith, DecisionKeepsRules}
-use Rattle.toll_history.specs.OwnChanges.{sublot_named, PutsOnlyWith}
+use Rattle.toll_work.proofs.Common.{IfOk-weaker, Record, by, changes_of, DecidesWith, DecisionKeepsRules, sublot_named, PutsOnlyWith}
 use Rattle.toll_work.proofs.ConsumptionLaw.{of_consumption, consumption_decided, consumption_keeps, consumption_keeps_house, consumption_puts}
 use Rattle.toll_work.proofs.ProductionLaw.{of_production, production_decided, production_keeps, production_keeps_house, production_puts}
 use Rattle.toll_work.proofs.actuals.record_actual.Goals as goal

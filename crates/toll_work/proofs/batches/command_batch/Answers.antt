@@ -1,5 +1,4 @@
-use Rattle.toll_history.proofs.PutsOwn.{puts_rows}
-use Rattle.toll_history.proofs.Owed.{owed}
+use Rattle.toll_work.proofs.Common.{puts_rows, owed}
 use Rattle.toll_work.proofs.BatchLaw.{command_decided, command_keeps}
 use Rattle.toll_work.proofs.batches.command_batch.Goals as goal
 

@@ -1,6 +1,4 @@
-use Rattle.std.proofs.lemmas.Result.{IfOk-weaker}
-use Rattle.toll_history.proofs.PutsOwn.{each_decided, puts_rows}
-use Rattle.toll_history.specs.Tables.{tables_of}
+use Rattle.toll_work.proofs.Common.{IfOk-weaker, each_decided, puts_rows, tables_of}
 use Rattle.toll_work.specs.Plans.{opened_rows}
 use Rattle.toll_work.proofs.OpenLaw.{opening_decided, opening_keeps}
 use Rattle.toll_work.proofs.batches.open_batch.Goals as goal

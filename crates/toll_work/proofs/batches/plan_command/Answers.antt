@@ -1,11 +1,5 @@
 use Rattle.std.proofs.Common.{is_none, Some, [], ◌∷◌, map}
-use Rattle.toll_base.specs.States.{next_state}
-use Rattle.toll_base.specs.Words.{is_some_where}
-use Rattle.toll_base.specs.declared.decision.Change.TheVariants.{Put}
-use Rattle.toll_base.specs.declared.refusal.Refusal.TheVariants.{BadState}
-use Rattle.toll_history.specs.Tables.{tables_of}
-use Rattle.toll_history.specs.Verdict.{open_batch_checks}
-use Rattle.toll_history.proofs.Decided.{refused_decides}
+use Rattle.toll_work.proofs.Common.{next_state, is_some_where, Put, BadState, tables_of, open_batch_checks, refused_decides}
 use Rattle.toll_work.specs.Plans.{commanded_row, changed_rows}
 use Rattle.toll_work.proofs.batches.plan_command.Goals as goal
 

@@ -1,5 +1,4 @@
-use Rattle.toll_history.proofs.PutsOwn.{puts_rows}
-use Rattle.toll_history.proofs.Owed.{owed}
+use Rattle.toll_work.proofs.Common.{puts_rows, owed}
 use Rattle.toll_work.proofs.CancelLaw.{cancel_decided, cancel_keeps}
 use Rattle.toll_work.proofs.orders.cancel_order.Goals as goal
 

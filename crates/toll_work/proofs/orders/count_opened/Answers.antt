@@ -1,7 +1,5 @@
 use Rattle.std.proofs.Common.{rules, ◌≡◌, sym, ◌∙◌}
-use Rattle.std.specs.List.{count_by}
-use Rattle.toll_base.specs.Bytes.{same_bytes}
-use Rattle.toll_base.specs.declared.rows.BatchRow.{BatchRow}
+use Rattle.toll_work.proofs.Common.{count_by, same_bytes, BatchRow}
 use Rattle.toll_base.proofs.PutRules.{count-is}
 use Rattle.toll_work.proofs.orders.count_opened.Goals as goal
 

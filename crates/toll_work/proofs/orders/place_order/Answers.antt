@@ -1,8 +1,4 @@
-use Rattle.std.proofs.lemmas.Result.{IfOk-weaker}
-use Rattle.toll_base.proofs.Texts.{same_bytes-refl}
-use Rattle.toll_history.proofs.Owed.{owed}
-use Rattle.toll_history.specs.Tables.{tables_of}
-use Rattle.toll_history.specs.Verdict.{order_checks}
+use Rattle.toll_work.proofs.Common.{IfOk-weaker, same_bytes-refl, owed, tables_of, order_checks}
 use Rattle.toll_work.proofs.MadeChanges.{none_made}
 use Rattle.toll_work.proofs.OrderLaw.{order_decided, order_keeps}
 use Rattle.toll_work.proofs.orders.place_order.Goals as goal

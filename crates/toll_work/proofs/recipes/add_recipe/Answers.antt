@@ -1,5 +1,4 @@
-use Rattle.toll_base.proofs.Texts.{same_bytes-refl}
-use Rattle.toll_history.proofs.Owed.{owed_by}
+use Rattle.toll_work.proofs.Common.{same_bytes-refl, owed_by}
 use Rattle.toll_work.proofs.RecipeLaw.{recipe_owes}
 use Rattle.toll_work.proofs.recipes.add_recipe.Goals as goal
 

@@ -1,6 +1,4 @@
-use Rattle.std.proofs.lemmas.Result.{IfOk-weaker}
-use Rattle.toll_base.proofs.Texts.{same_bytes-refl}
-use Rattle.toll_history.proofs.PutsOwn.{each_decided}
+use Rattle.toll_work.proofs.Common.{IfOk-weaker, same_bytes-refl, each_decided}
 use Rattle.toll_work.proofs.RequirementLaw.{requirement_decided, requirement_keeps}
 use Rattle.toll_work.proofs.recipes.require.Goals as goal
 

@@ -1,6 +1,5 @@
 use Rattle.std.proofs.Common.{cond, sym, ap, ◌+◌, ◌∙◌, arith}
-use Rattle.toll_base.specs.declared.movement.MoveRow.{MoveRow}
-use Rattle.toll_history.specs.Amounts.{meets}
+use Rattle.toll_work.proofs.Common.{MoveRow, meets}
 use Rattle.toll_work.proofs.Sums.{total-more}
 use Rattle.toll_work.proofs.views.amount_for.Goals as goal
 

@@ -1,9 +1,5 @@
 use Rattle.std.proofs.Common.{◌+◌, [], ◌∷◌}
-use Rattle.toll_history.specs.Tables.{tables_of}
-use Rattle.toll_history.specs.Verdict.{tables_for, amount_in}
-use Rattle.toll_base.specs.declared.decision.Change.TheVariants.{Put}
-use Rattle.toll_base.specs.declared.rows.Row.TheVariants.{Sublot, Void}
-use Rattle.toll_history.proofs.Decided.{refused_decides}
+use Rattle.toll_work.proofs.Common.{tables_of, tables_for, amount_in, Put, Sublot, Void, refused_decides}
 use Rattle.toll_work.specs.Voiding.{open_checks, giving_bounds}
 use Rattle.toll_work.proofs.voids.give_back.Goals as goal
 

@@ -1,10 +1,5 @@
 use Rattle.std.proofs.Common.{◌-◌, nat_lt, is_none, Some, [], ◌∷◌}
-use Rattle.toll_history.specs.Tables.{tables_of}
-use Rattle.toll_history.specs.Verdict.{amount_in}
-use Rattle.toll_base.specs.declared.decision.Change.TheVariants.{Put}
-use Rattle.toll_base.specs.declared.refusal.Refusal.TheVariants.{NotEnough, LimitReached}
-use Rattle.toll_base.specs.declared.rows.Row.TheVariants.{Sublot, Void}
-use Rattle.toll_history.proofs.Decided.{refused_decides}
+use Rattle.toll_work.proofs.Common.{tables_of, amount_in, Put, NotEnough, LimitReached, Sublot, Void, refused_decides}
 use Rattle.toll_work.specs.Voiding.{open_checks}
 use Rattle.toll_work.proofs.voids.take_out.Goals as goal
 

@@ -1,7 +1,5 @@
 use Rattle.std.proofs.Common.{◌∙◌, sym, ap}
-use Rattle.toll_history.specs.Verdict.{is_actual}
-use Rattle.toll_base.specs.Words.{is_some_where}
-use Rattle.toll_base.specs.declared.movement.MoveRow.{MoveRow}
+use Rattle.toll_work.proofs.Common.{is_actual, is_some_where, MoveRow}
 use Rattle.toll_work.proofs.VoidLaw.{unknown_owes, owed, giving_owes, taking_owes}
 use Rattle.toll_work.proofs.voids.void_actual.Goals as goal
 

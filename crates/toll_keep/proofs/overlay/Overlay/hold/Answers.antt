@@ -1,7 +1,6 @@
 use Rattle.std.proofs.Common.{◌≡◌, ◌++◌, false, sym, ap, subst, ◌∙◌}
 use Rattle.std.specs.Prelude.{map}
-use Rattle.std.specs.List.{list_any}
-use Rattle.toll_base.specs.Changes.{after_changes}
+use Rattle.toll_keep.proofs.Common.{list_any, after_changes}
 use Rattle.toll_keep.specs.Content.{after}
 use Rattle.toll_keep.specs.Remembered.{AreOf, is_addition}
 use Rattle.toll_keep.proofs.Outcomes.{of_ok}

@@ -1,8 +1,5 @@
 use Rattle.std.proofs.Common.{◌≡◌, Some, is_ok, sym, ap, ◌∙◌}
-use Rattle.std.proofs.lemmas.Bool.{not-false}
-use Rattle.toll_base.specs.Bytes.{same_bytes}
-use Rattle.toll_base.specs.Changes.{after_changes}
-use Rattle.toll_base.proofs.Texts.{same_bytes-exact}
+use Rattle.toll_keep.proofs.Common.{not-false, same_bytes, after_changes, same_bytes-exact}
 use Rattle.toll_keep.specs.Content.{after}
 use Rattle.toll_keep.proofs.Overlays.{some_after}
 use Rattle.toll_keep.proofs.RememberedLemmas.{perhaps_more}

@@ -1,10 +1,5 @@
 use Rattle.std.proofs.Common.{◌≡◌, Some, None, sym, ap, subst, ◌∙◌}
-use Rattle.toll_base.specs.Lots.{lot_id}
-use Rattle.toll_base.specs.Slice.{Slice, lot_at}
-use Rattle.toll_history.specs.Amounts.{on_hand}
-use Rattle.toll_history.specs.History.{History}
-use Rattle.toll_history.specs.Tables.{IsRowsOf}
-use Rattle.toll_history.specs.Verdict.{IsLawful}
+use Rattle.toll_stock.proofs.Common.{lot_id, Slice, lot_at, on_hand, History, IsRowsOf, IsLawful}
 use Rattle.toll_stock.specs.LotTotals.{totals_given}
 use Rattle.toll_stock.specs.declared.stock.Totals.{Totals}
 use Rattle.toll_stock.proofs.TotalsLaw.{none_given, given}

@@ -1,10 +1,5 @@
 use Rattle.std.proofs.Common.{◌≡◌, subst, ◌∙◌}
-use Rattle.toll_base.specs.Lots.{lot_id}
-use Rattle.toll_base.specs.Slice.{Slice}
-use Rattle.toll_history.specs.Amounts.{shipped}
-use Rattle.toll_history.specs.History.{History}
-use Rattle.toll_history.specs.Tables.{IsRowsOf}
-use Rattle.toll_history.specs.Verdict.{IsLawful}
+use Rattle.toll_stock.proofs.Common.{lot_id, Slice, shipped, History, IsRowsOf, IsLawful}
 use Rattle.toll_stock.proofs.ShippedTotals.{shipped_is}
 use Rattle.toll_stock.proofs.lot_totals.LotTotals.shipped_of.Goals as goal
 

@@ -1,6 +1,5 @@
 use Rattle.std.proofs.Common.{◌≤◌, cond, length, sym, ap, subst, ◌∙◌, arith}
-use Rattle.std.proofs.lemmas.List.{at_drop_more}
-use Rattle.toll_base.specs.Words.{total}
+use Rattle.toll_stock.proofs.Common.{at_drop_more, total}
 use Rattle.toll_stock.specs.LotTotals.{is_shipment_of, shipped_by}
 use Rattle.toll_stock.proofs.ShippedLots.{amount_small}
 use Rattle.toll_stock.proofs.shipped.Shipped.of.Goals as goal

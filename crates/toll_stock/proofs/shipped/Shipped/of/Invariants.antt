@@ -1,6 +1,5 @@
 use Rattle.std.proofs.Common.{◌≡◌, ◌+◌, ◌*◌, ◌≤◌, drop}
-use Rattle.toll_base.specs.Bytes.{Bytes}
-use Rattle.toll_base.specs.Words.{total}
+use Rattle.toll_stock.proofs.Common.{Bytes, total}
 use Rattle.toll_stock.specs.LotTotals.{amount_of, shipped_by}
 use Rattle.toll_stock.proofs.shipped.Shipped.of.Given as goal
 

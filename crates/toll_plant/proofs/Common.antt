@@ -1,0 +1,54 @@
+-- Words that several proofs here use.
+pub use Rattle.clap.proofs.WalkLemmas.{find-map, first_value-rows}
+pub use Rattle.clap.specs.Lexer.{usize_max}
+pub use Rattle.clap.specs.Simple.{App, HasMatchesOf, Shape, built, built_leaf, entered, filled, filled_from, inherited, is_in_order, is_ready_leaf, is_simple, is_simple_leaf, label_of, marked_built, names_of, new_shape, on_top, rows_at, subcommand_of, subcommand_rows_of, with_index, with_leaf_noted, with_rule, with_subcommand}
+unfoldable pub use Rattle.clap.specs.Takes.{walk_passes}
+pub use Rattle.clap.specs.Takes.{default_passes, is_given, level_passes, settle_passes, takes}
+unfoldable pub use Rattle.clap.specs.Walk.{walked}
+pub use Rattle.clap.specs.Walk.{Names, Row, Rule, Text, Walk, answers_to, arg_by_id, arg_by_index, at_row, finished, first_of, has_row, is_early_multiple, more_values, nothing_held, rows_of, settled, stop_after, used, walk, walk_from, with_default, without}
+pub use Rattle.clap.specs.Words.{first_value}
+unfoldable pub use Rattle.csv.specs.Reading.{Reached}
+pub use Rattle.csv.specs.Reading.{AreRecords, Ready, default_config, is_flexible, source_of, strip_bom}
+unfoldable pub use Rattle.csv.specs.Records.{field_at}
+pub use Rattle.csv.specs.Records.{fields_of}
+pub use Rattle.std.proofs.Math.Seq.{drop-append-add, drop-cons}
+pub use Rattle.std.proofs.lemmas.Bool.{leb-true, not-false}
+pub use Rattle.std.proofs.lemmas.Bool.Decides.{Decides-eqb, nat_tests}
+pub use Rattle.std.proofs.lemmas.List.{append-nil, drop_all, drop_min, length-drop, length-map, length-take, length-take-le, map-append, map_more, take_all, take_min, take_more, take_rest}
+pub use Rattle.std.proofs.lemmas.List.Folds.{list_any-append}
+pub use Rattle.std.proofs.lemmas.Slice.Eq.{bytes_eq-Decides, slice_eq-Decides}
+pub use Rattle.std.specs.Bool.{Decides, MatchBool}
+unfoldable pub use Rattle.std.specs.Fmt.{char_count, padded_integral}
+pub use Rattle.std.specs.Fmt.{format_spec, styled_decimal}
+pub use Rattle.std.specs.List.{AllByRecursion, list_all, list_any, repeat}
+pub use Rattle.std.specs.Result.{is_ok}
+pub use Rattle.std.specs.Str.{bytes_eq}
+pub use Rattle.toll_answers.specs.PlantAnswers.{AsksBatch, AsksOrders, AsksRecall, AsksStock, AsksTrace, CannotRead, Does, IsPlantAnswer, Judged, PlantAsked, PlantTold, after_plant}
+pub use Rattle.toll_base.specs.Bytes.{Bytes, same_bytes}
+pub use Rattle.toll_base.specs.Values.{IsAmount, house_name, is_measure, is_name, is_owner_key, number_of}
+pub use Rattle.toll_base.specs.Words.{is_some_where, where_so}
+pub use Rattle.toll_base.specs.declared.decision.Change.{Change}
+pub use Rattle.toll_base.specs.declared.movement.MoveRow.{MoveRow}
+pub use Rattle.toll_base.specs.declared.refusal.Refusal.{Refusal}
+pub use Rattle.toll_base.specs.declared.refusal.Refusal.TheVariants.{BadAmount, BadName, KeyConflict, UnknownOwner, Voided}
+pub use Rattle.toll_base.specs.declared.role.Role.{Role}
+pub use Rattle.toll_desk.specs.Asking.{IsValidDeed, asked_by, is_accepted, plant_told}
+pub use Rattle.toll_desk.specs.Plans.{LeadsTo}
+pub use Rattle.toll_desk.specs.PlantHeld.{IsPlantHeld, IsToldOver, IsUnasked, IsVerdictOrMemory, looks_at_two}
+pub use Rattle.toll_desk.specs.declared.plant_cmd.PlantCmd.{PlantCmd}
+pub use Rattle.toll_history.proofs.Acts.{any_acts, count_acts}
+pub use Rattle.toll_history.proofs.KeysOnce.{found_once, void_of_actual}
+pub use Rattle.toll_history.specs.Command.{Command, Record, by}
+pub use Rattle.toll_history.specs.History.{History, acts, adds_owner, owner_known}
+pub use Rattle.toll_history.specs.Movements.{has_key, movement_of, movements, voided_in, voids_key}
+pub use Rattle.toll_history.specs.Verdict.{Accepted, IsLawful, Refused, Repeated, Verdict, grown, verdict}
+pub use Rattle.toll_keep.proofs.Calls.{Rests, goes_as, goes_fault, goes_memory, goes_then, read_fault, settles}
+pub use Rattle.toll_keep.specs.Content.{Content, after}
+pub use Rattle.toll_keep.specs.Goes.{Goes, IsReading, Settles}
+pub use Rattle.toll_keep.specs.Meaning.{Meaning}
+pub use Rattle.toll_keep.specs.Overlays.{IsOver, IsReadThrough, ReadsThrough}
+pub use Rattle.toll_keep.specs.Reads.{IsKept}
+pub use Rattle.toll_keep.specs.declared.fault.KeepFault.{KeepFault}
+pub use Rattle.toll_keep.specs.declared.fault.KeepFault.TheVariants.{Closed, Damaged, Disk, Memory}
+pub use Rattle.toll_standing.specs.Standing.{StandsFor}
+pub use mathlib.Core.Bool.{false≢true}

@@ -1,0 +1,19 @@
+-- Words of other crates that several definitions here are said in.
+pub use Rattle.std.specs.List.{AllByRecursion, list_all, list_any}
+pub use Rattle.std.specs.Str.{bytes_eq}
+pub use Rattle.toll_answers.specs.PlantAnswers.{Does, IsPlantAnswer, Judged, PlantAsked, PlantTold, Shows, after_plant}
+pub use Rattle.toll_base.specs.Bytes.{Bytes, same_bytes}
+pub use Rattle.toll_base.specs.Words.{count, is_some_where, total, where_so}
+pub use Rattle.toll_base.specs.declared.refusal.Refusal.{Refusal}
+pub use Rattle.toll_base.specs.declared.refusal.Refusal.TheVariants.{BadAmount, BadName}
+pub use Rattle.toll_desk.specs.Asking.{IsValidDeed, asked_by}
+pub use Rattle.toll_desk.specs.Reads.{Over}
+pub use Rattle.toll_desk.specs.declared.plant_cmd.PlantCmd.{PlantCmd}
+pub use Rattle.toll_history.specs.History.{History, acts}
+pub use Rattle.toll_history.specs.Verdict.{Accepted, IsLawful, Refused, Repeated, Verdict}
+pub use Rattle.toll_keep.specs.Content.{Content, Fits, after}
+pub use Rattle.toll_keep.specs.Goes.{FindsNoDamage, Goes, IsReading, Settles}
+pub use Rattle.toll_keep.specs.Meaning.{Meaning, OverHeld, OverLive}
+pub use Rattle.toll_keep.specs.declared.fault.KeepFault.{KeepFault}
+pub use Rattle.toll_keep.specs.declared.fault.KeepFault.TheVariants.{Damaged, Memory}
+pub use Rattle.toll_standing.specs.Standing.{StandsFor}

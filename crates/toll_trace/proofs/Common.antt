@@ -1,0 +1,27 @@
+-- Words that several proofs here use.
+pub use Rattle.std.proofs.lemmas.Bool.{and_from, and_parts, cases_lt, eqb-false, eqb-true, false_from_ne_true, le-leb, leb-true, lt-ltb, not-true, not_from_false, not_from_true, or_cases, or_left, or_right}
+pub use Rattle.std.proofs.lemmas.Cmp.{eq_by_cmp_equiv, nat_cmp_total, nat_list_cmp_total, on_total, ranked, then_total, tied_itself}
+pub use Rattle.std.proofs.lemmas.Grind.{common_steps}
+pub use Rattle.std.proofs.lemmas.List.{flat_map_more, length-append, length-map, nil_from_length, take_all, take_more}
+pub use Rattle.std.proofs.lemmas.List.Elements.{Contains-append_cases, Contains-append_left, Contains-append_right}
+pub use Rattle.std.proofs.lemmas.List.Kept.{Any-dedup, Contains-from_dedup, IsStrictlySortedBy-dedup}
+pub use Rattle.std.proofs.lemmas.List.Sorted.{Contains-permutation, IsPartitionedBy-leb, IsPartitionedBy-ltb, IsPermutation-sym, IsStrictWeakOrder-flip, answers_always, ranks_by, searchable_from_sorted, sorted_far}
+pub use Rattle.std.proofs.lemmas.Map.Lookups.{CmpEqualImpliesEq, exact_bytes, exact_pairs, exact_unsigned}
+pub use Rattle.std.proofs.lemmas.Map.Views.{tells_apart}
+pub use Rattle.std.specs.Cmp.{IsStrictWeakOrder, IsTotalOrder}
+pub use Rattle.std.specs.List.{AllByRecursion, cons_option, dedup, dedup_from, filter_map, flat_map}
+unfoldable pub use Rattle.std.specs.List.Sorted.{IsStrictlySortedBy}
+pub use Rattle.std.specs.List.Sorted.{IsPartitionPoint, IsPartitionedBy, IsPermutation, IsSortedBy, IsSortedByKey}
+pub use Rattle.std.specs.Ordering.{MatchOrdering, is_eq, is_le, is_lt, nat_cmp, ordering_index, ordering_reverse, ordering_then}
+pub use Rattle.std.specs.declared.cmp.Ordering.{Ordering}
+pub use Rattle.std.specs.declared.cmp.Ordering.TheVariants.{Equal, Greater, Less}
+pub use Rattle.toll_base.specs.Bytes.{Bytes, bytes_cmp, same_bytes}
+pub use Rattle.toll_base.specs.Keys.{batch_cmp}
+pub use Rattle.toll_base.specs.Lots.{edge_cmp, lot_cmp}
+pub use Rattle.toll_base.specs.Words.{count}
+pub use Rattle.toll_base.specs.declared.lot.Edge.{Edge}
+pub use Rattle.toll_base.specs.declared.lot.LotId.{LotId}
+pub use Rattle.toll_base.specs.declared.movement.MoveRow.{MoveRow}
+pub use Rattle.toll_base.specs.declared.role.Role.{Role}
+pub use Rattle.toll_base.specs.declared.role.Role.TheVariants.{Consumed, Produced}
+pub use mathlib.Core.Bool.{false≢true}
