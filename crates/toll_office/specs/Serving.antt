@@ -1,19 +1,22 @@
 -- What a server tells its peers, over an office that stays open between them.
-use Rattle.std.specs.Prelude.{◌≡◌, ◌⊎◌, ◌+◌, ℕ, List, [], ◌∷◌, Option, None, Some, option_map}
+use Rattle.std.specs.Prelude.{◌≡◌, ◌⊎◌, ◌↔◌, ◌+◌, ◌-◌, ◌<◌, ◌^◌, ℕ, false, min, List, [], ◌∷◌, Option, None, Some, IsSome, option_map}
 use Rattle.toll_base.specs.Bytes.{Bytes}
 use Rattle.toll_keep.specs.Meaning.{Meaning}
 use Rattle.toll_office.specs.Faults.{fault_text}
 use Rattle.toll_office.specs.declared.office.OfficeFault.{OfficeFault}
 use Rattle.toll_office.specs.declared.session.Session.{Session}
 use Rattle.toll_parcels.specs.Messages.{IsToldBy}
-use Rattle.toll_peers.specs.Runs.{Event as Asking, Runs}
+use Rattle.toll_peers.specs.Runs.{Handed, Request, Task, ComesTo, Runs, Turn}
 use Rattle.toll_peers.specs.declared.door.Door.{Door}
 use Rattle.toll_peers.specs.declared.door.Door.TheVariants.{Owners, Plant}
+use Rattle.toll_peers.specs.declared.progress.Progress.{Progress}
+use Rattle.toll_peers.specs.declared.progress.Progress.TheVariants.{Told, Left}
+use Rattle.toll_plant.specs.UnderWay.{UnderWay}
 use Rattle.toll_programs.specs.Statuses.{code_of}
 use Rattle.toll_programs.specs.declared.status.Status.TheVariants.{Failed}
 use Rattle.toll_served.specs.declared.reply.Reply.{Reply}
-use Rattle.toll_served.specs.Doors.{IsServedIfRoom}
-use Rattle.toll_served.specs.Serving.{WereServed}
+use Rattle.toll_served.specs.Doors.{IsBrokenOff, IsToldSo}
+use Rattle.toll_served.specs.Serving.{AnswersOver, GoesOnOver, WereServed}
 use Rattle.toll_wire.specs.OutTexts.{out_bytes}
 use Rattle.toll_wire.specs.declared.outgoing.Out.TheVariants.{Unavailable}
 
@@ -30,6 +33,24 @@ IsRefusal Plant told = (fault : OfficeFault) × IsToldBy told (code_of Failed) [
 -- that, or nothing where there was no memory for it
 abbrev pub IsTurnedAway : Door → Bytes → Type 0
 IsTurnedAway door told = IsRefusal door told ⊎ (told ≡ [])
+
+-- what came of an import's records so far is told, and the line of a fault, with the exit status of a failure
+abbrev pub IsGivenUp : UnderWay → Bytes → Type 0
+IsGivenUp import told = (fault : OfficeFault) × IsBrokenOff import.lines (fault_text fault) told false
+
+-- what was handed over is told where no office could be asked: a request is turned away, and an import given up
+abbrev pub IsUnserved : Handed UnderWay → Bytes → Type 0
+IsUnserved (Request door asked) told = IsTurnedAway door told
+IsUnserved (Task import) told = IsGivenUp import told
+
+-- how many imports are under way, if a request begins one; and if one has ended
+abbrev pub begun : Progress UnderWay → ℕ → ℕ
+begun (Told told) imports = imports
+begun (Left import) imports = min (imports + 1) (2 ^ 64 - 1)
+
+abbrev pub ended : Progress UnderWay → ℕ → ℕ
+ended (Told told) imports = imports - 1
+ended (Left import) imports = imports
 
 module _ {K : Type 0} where
   -- none is open, and none was
@@ -57,52 +78,56 @@ module _ {K : Type 0} where
   abbrev pub standing_of : Session K → Standing K
   standing_of s = record { keep = option_map (λ o. o.keep) s.opened; openings = s.openings }
 
+  -- the lock of the file is kept while an import is under way, and no longer
+  abbrev pub IsLockKept : Session K → Type 0
+  IsLockKept s = IsSome s.lock ↔ (0 < s.imports)
+
 module _ {K : Type 0} (meaning : Meaning K) where
-  -- what came in was answered over this office, which stays open or is closed
-  pub record IsAnsweredFrom (first : K) (door : Door) (asked told : Bytes) (new : Standing K) : Type 0 where
+  -- what was handed over came to this over this office, which stays open or is closed
+  pub record IsTakenFrom (first : K) (handed : Handed UnderWay) (progress : Progress UnderWay) (new : Standing K) : Type 0 where
     pub last : K
-    pub served : IsServedIfRoom meaning first last door asked told
+    pub comes : ComesTo (AnswersOver meaning (λ keep. keep)) (GoesOnOver meaning (λ keep. keep)) first handed progress last
     pub ends : IsLeft last new
 
-  -- so it was by a session that has it
-  abbrev pub AnswersOver : K → Door → Bytes → Reply → Standing K → Type 0
-  AnswersOver first door asked reply new = IsAnsweredFrom first door asked reply.bytes.items new
-
 module _ {K : Type 0} (meaning : Meaning K) (is_opened : K → Type 0) where
-  -- what came in was answered over the office that stood open, or over one that was opened for it
-  pub record IsAnsweredOver (old : Standing K) (door : Door) (asked told : Bytes) (new : Standing K) : Type 0 where
+  -- what was handed over came to this over the office that stood open, or over one that was opened for it
+  pub record IsTakenOver (old : Standing K) (handed : Handed UnderWay) (progress : Progress UnderWay) (new : Standing K) : Type 0 where
     pub first : K
     pub begins : IsAtHand is_opened old new first
-    pub answered : IsAnsweredFrom meaning first door asked told new
+    pub taken : IsTakenFrom meaning first handed progress new
 
   -- so it was by a session
-  abbrev pub Answers : Session K → Door → Bytes → Reply → Session K → Type 0
-  Answers old door asked reply new = IsAnsweredOver (standing_of old) door asked reply.bytes.items (standing_of new)
+  abbrev pub Takes : Session K → Handed UnderWay → Reply → Session K → Type 0
+  Takes old handed reply new = IsTakenOver (standing_of old) handed reply.progress (standing_of new)
 
-  -- what came in was answered so, or no office could be asked, and it was turned away
-  abbrev pub IsToldOver : Standing K → Door → Bytes → Bytes → Standing K → Type 0
-  IsToldOver old door asked told new = IsAnsweredOver old door asked told new ⊎ (IsIdle old new × IsTurnedAway door told)
+  -- what was handed over came to this so, or no office could be asked, and that was told
+  abbrev pub IsToldOver : Standing K → Handed UnderWay → Progress UnderWay → Standing K → Type 0
+  IsToldOver old handed progress new = IsTakenOver old handed progress new ⊎ (IsIdle old new × IsToldSo progress (IsUnserved handed))
 
-  -- so it is by who has an office
-  abbrev pub TellsOver : {O : Type 0} → (O → Standing K) → O → Door → Bytes → Bytes → O → Type 0
-  TellsOver standing old door asked told new = IsToldOver (standing old) door asked told (standing new)
+  -- who has an office answers so
+  abbrev pub AnswersBy : {O : Type 0} → (O → Standing K) → O → Door → Bytes → Progress UnderWay → O → Type 0
+  AnswersBy standing old door asked progress new = IsToldOver (standing old) (Request door asked) progress (standing new)
 
--- those of what came in that an office was asked, in order; all others were turned away
-abbrev pub AreThoseAsked : List Asking → List Asking → Type 0
-AreThoseAsked [] asked = asked ≡ []
-AreThoseAsked (e ∷ events) asked =
-    (IsTurnedAway e.door e.told × AreThoseAsked events asked) ⊎ ((rest : List Asking) × (asked ≡ e ∷ rest) × AreThoseAsked events rest)
+  -- and goes on so with an import
+  abbrev pub GoesOnBy : {O : Type 0} → (O → Standing K) → O → UnderWay → Progress UnderWay → O → Type 0
+  GoesOnBy standing old import progress new = IsToldOver (standing old) (Task import) progress (standing new)
 
--- what came in while one office stood open was a run over it
-pub record IsSitting {K : Type 0} (meaning : Meaning K) (first : K) (events : List Asking) (new : Standing K) : Type 0 where
+-- those turns in which an office was asked, in order; in all others none could be, and that was told
+abbrev pub AreThoseTaken : List (Turn UnderWay) → List (Turn UnderWay) → Type 0
+AreThoseTaken [] taken = taken ≡ []
+AreThoseTaken (t ∷ turns) taken =
+    (IsToldSo t.progress (IsUnserved t.handed) × AreThoseTaken turns taken) ⊎ ((rest : List (Turn UnderWay)) × (taken ≡ t ∷ rest) × AreThoseTaken turns rest)
+
+-- the turns that were taken while one office stood open were a run over it
+pub record IsSitting {K : Type 0} (meaning : Meaning K) (first : K) (turns : List (Turn UnderWay)) (new : Standing K) : Type 0 where
   pub last : K
-  pub asked : List Asking
-  pub those : AreThoseAsked events asked
-  pub were : WereServed meaning first last asked
+  pub taken : List (Turn UnderWay)
+  pub those : AreThoseTaken turns taken
+  pub were : WereServed meaning first last taken
   pub left : IsLeft last new
 
 -- what is told by who has an office, while one office stands open and none is opened, is a run over it
 abbrev pub AreSittings : {K : Type 0} → Meaning K → (K → Type 0) → Type 0 → Type 0
 AreSittings {K} meaning is_opened O =
-    (standing : O → Standing K) (old new : O) (events : List Asking) (first : K) → Runs (TellsOver meaning is_opened standing) old events new
-    → IsOneOffice first (standing old) (standing new) → IsSitting meaning first events (standing new)
+    (standing : O → Standing K) (old new : O) (turns : List (Turn UnderWay)) (first : K) → Runs (AnswersBy meaning is_opened standing) (GoesOnBy meaning is_opened standing) old turns new
+    → IsOneOffice first (standing old) (standing new) → IsSitting meaning first turns (standing new)

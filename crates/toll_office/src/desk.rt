@@ -1,7 +1,7 @@
 //! The office in a file, as the peers of a server ask it.
 ghost use Rattle.std.specs.Prelude.{◌≡◌, []};
 ghost use Rattle.toll_office.specs.Faults.{fault_text};
-ghost use Rattle.toll_office.specs.Serving.{IsTurnedAway, IsUnopened, TellsOver, standing_of};
+ghost use Rattle.toll_office.specs.Serving.{AnswersBy, GoesOnBy, IsTurnedAway, IsUnopened, standing_of};
 ghost use Rattle.toll_programs.specs.Statuses.{code_of};
 ghost use Rattle.toll_programs.specs.declared.status.Status.{Status};
 
@@ -11,8 +11,9 @@ use crate::stored::Stored;
 use crate::watch::{ServingFault, Watch};
 use std::alloc::Global;
 use toll_parcels::Told;
-use toll_peers::{Door, Office};
+use toll_peers::{Door, Office, Progress};
 use toll_programs::Status;
+use toll_served::{Importing, Reply};
 use toll_wire::Out;
 
 /// An office that a server has open. What it is asked it answers by its session, and a fault that it meets
@@ -61,23 +62,52 @@ impl<'a, K: Stored> Desk<'a, K> {
     }
 }
 
+impl<K: Stored> Desk<'_, K> {
+    // What a turn of the session came to, of which the operator is told a fault.
+    fn noted(&mut self, reply: Reply) -> Progress<Importing>
+        ensures progress { result ≡ reply.progress }
+        ensures session { self.new.session ≡ self.old.session }
+    {
+        let fault = (!reply.goes_on).then_some(ServingFault::Unavailable);
+        self.watch.note(self.rt, fault);
+        reply.progress
+    }
+
+    // The operator is told of an office that can't be opened.
+    fn note_closed(&mut self, fault: OfficeFault)
+        ensures { self.new.session ≡ self.old.session }
+    {
+        self.watch.note(self.rt, Some(ServingFault::Office(fault)));
+    }
+}
+
 impl<K: Stored> Office for Desk<'_, K> {
-    ghost answers = { TellsOver K.Keep.meaning K.is_opened (λ desk. standing_of desk.session) };
+    type Task = Importing;
+
+    ghost answers = { AnswersBy K.Keep.meaning K.is_opened (λ desk. standing_of desk.session) };
+
+    ghost goes_on = { GoesOnBy K.Keep.meaning K.is_opened (λ desk. standing_of desk.session) };
 
     // Who came in at the plant's door and asked nothing only looked whether somebody is there.
-    fn answer(&mut self, alloc: Global, door: Door, asked: &[u8]) -> Vec<u8> {
+    fn answer(&mut self, alloc: Global, door: Door, asked: &[u8]) -> Progress<Importing> {
         if door == Door::Plant && asked.is_empty() {
-            return Vec::new(alloc);
+            return Progress::Told(Vec::new(alloc));
         }
         match self.session.answer(self.rt, self.path, door, asked) {
-            Ok(reply) => {
-                let fault = (!reply.goes_on).then_some(ServingFault::Unavailable);
-                self.watch.note(self.rt, fault);
-                reply.bytes
-            }
+            Ok(reply) => self.noted(reply),
             Err(fault) => {
-                self.watch.note(self.rt, Some(ServingFault::Office(fault)));
-                refusal(alloc, door, fault)
+                self.note_closed(fault);
+                Progress::Told(refusal(alloc, door, fault))
+            }
+        }
+    }
+
+    fn go_on(&mut self, alloc: Global, task: Importing) -> Progress<Importing> {
+        match self.session.go_on(self.rt, self.path, task) {
+            Ok(reply) => self.noted(reply),
+            Err(stuck) => {
+                self.note_closed(stuck.fault);
+                stuck.give_up(alloc)
             }
         }
     }

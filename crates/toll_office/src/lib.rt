@@ -18,6 +18,7 @@ mod socket_file;
 mod sockets;
 mod stored;
 mod stream;
+mod stuck;
 mod timed;
 mod version;
 mod watch;
