@@ -47,7 +47,8 @@ impl Importing {
     {
         self.import.go_on(alloc, keep);
         if self.import.is_over() {
-            let printout = Printout::of_import(alloc, Ok(self.import.into_report()));
+            let report = self.import.into_report();
+            let printout = Printout::of_import(alloc, Ok(report));
             printout.told(alloc, self.room)
         } else {
             Reply {

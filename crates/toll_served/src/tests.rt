@@ -76,11 +76,12 @@ const VISITS: &[Visit<'static>] = &[
 
 // What one more turn comes to, where an import is left.
 fn go_on<K: Keep>(alloc: Global, keep: &mut K, reply: Reply) -> Reply {
-    match reply.progress {
+    let Reply { progress, goes_on } = reply;
+    match progress {
         Progress::Left(importing) => importing.go_on(alloc, keep),
         Progress::Told(bytes) => Reply {
             progress: Progress::Told(bytes),
-            goes_on: reply.goes_on,
+            goes_on,
         },
     }
 }

@@ -63,9 +63,8 @@ impl<'l> World for Street<'l> {
     }
 
     fn take_next(&mut self, _key: usize) -> Result<Coming<Guest<'l>>, WorldFault> {
-        match self.coming.split_first() {
-            Some((visit, rest)) => {
-                self.coming = rest;
+        match self.coming.get(self.came) {
+            Some(visit) => {
                 self.came = self.came.saturating_add(1);
                 Ok(Coming::Came(visit.door, Guest::new(visit, self.log)))
             }

@@ -10,6 +10,6 @@ returns-then-is_over g c =
     record {
       now = c.go_on.new.self;
       went = subst (λ was. GoesOn K.meaning c.args.keep.now c.go_on.new.keep was c.go_on.new.self) c.self.view_is c.go_on.ensures;
-      comes = report_turn c.go_on.new.self c.told.result.progress c.told.result.goes_on c.into_report.result p.output.items p.error.items p.status (c.is_over.ensures.0 c.if-is_over.true) c.into_report.ensures.lines
-          c.into_report.ensures.numbered c.of_import-printout.ensures c.told.ensures;
+      comes = report_turn c.go_on.new.self c.told.result.progress c.told.result.goes_on c.into_report-report.result p.output.items p.error.items p.status (c.is_over.ensures.0 c.if-is_over.true) c.into_report-report.ensures.lines
+          c.into_report-report.ensures.numbered c.of_import-printout.ensures c.told.ensures;
     }
