@@ -11,7 +11,7 @@ pub use Rattle.toll_history.specs.Verdict.{IsLawful}
 pub use Rattle.toll_keep.specs.Content.{Content}
 pub use Rattle.toll_keep.specs.Meaning.{Meaning}
 pub use Rattle.toll_parcels.specs.Messages.{IsAskedBy}
-pub use Rattle.toll_peers.specs.Runs.{AreOwn, ComesTo, Handed, IsOwn, IsWholeRun, Request, Runs, Task, Tasks, Turn, after_turn}
+pub use Rattle.toll_peers.specs.Runs.{AreOwn, ComesTo, Handed, IsOwn, IsWholeRun, Request, Task, Tasks, Turn, after_turn}
 pub use Rattle.toll_peers.specs.declared.door.Door.{Door}
 pub use Rattle.toll_peers.specs.declared.door.Door.TheVariants.{Owners, Plant}
 pub use Rattle.toll_peers.specs.declared.progress.Progress.{Progress}

@@ -1,7 +1,7 @@
 -- What came in at the doors is a run of events.
 use Rattle.std.proofs.Common.{◌≡◌, ℕ, Bool, List, [], ◌∷◌, ◌++◌, Option, drop, Result, Ok, Err, refl, sym, subst, ap, ◌∙◌, inl, inr}
 use Rattle.std.specs.Prelude.{if◌then◌else◌, take}
-use Rattle.toll_served.proofs.Common.{list_any, append-nil, Bytes, PlantCmd, Content, Meaning, ComesTo as TurnComesTo, Handed, IsWholeRun, Request, Runs, Task, Turn, Door, Owners, Plant, Progress, Told, Left, EndWith, HasValidValues, outcomes_in, is_fault, HasActed, UnderWay, left_behind, GROUP_RECORDS, Outcome, Streams, AreServed, IsAnswered, Answer, Event}
+use Rattle.toll_served.proofs.Common.{list_any, append-nil, Bytes, PlantCmd, Content, Meaning, ComesTo as TurnComesTo, Handed, IsWholeRun, Request, Task, Turn, Door, Owners, Plant, Progress, Told, Left, EndWith, HasValidValues, outcomes_in, is_fault, HasActed, UnderWay, left_behind, GROUP_RECORDS, Outcome, Streams, AreServed, IsAnswered, Answer, Event}
 use Rattle.toll_desk.specs.Reads.{Over}
 use Rattle.toll_keep.specs.declared.fault.KeepFault.{KeepFault}
 use Rattle.toll_plant.proofs.GroupChains.{all_take, calm_group, faulty_group, group_honest}

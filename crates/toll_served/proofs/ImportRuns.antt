@@ -1,5 +1,5 @@
 -- The records of a file that is imported are events of a run.
-use Rattle.std.proofs.Common.{◌≡◌, Bool, true, false, List, [], ◌∷◌, Option, Some, None, Ok, Err, refl, sym, ap, subst, ◌∙◌}
+use Rattle.std.proofs.Common.{◌≡◌, Bool, true, false, List, [], ◌∷◌, Option, Some, None, Ok, refl, sym, ap, subst, ◌∙◌}
 use Rattle.toll_served.proofs.Common.{MatchBool, AllByRecursion, PlantCmd, PlantReply, History, Comes, HasValidValues, IsImport, is_fault, judged, outcome_of, Outcome, AllShow, PlantShows, http, Answer, Event}
 use Rattle.toll_answers.specs.PlantAnswers.{Judged, IsPlantAnswer, after_plant}
 use Rattle.toll_desk.specs.Asking.{asked_by, plant_told}

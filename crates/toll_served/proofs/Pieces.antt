@@ -1,5 +1,5 @@
 -- Runs behind runs.
-use Rattle.std.proofs.Common.{◌≡◌, List, [], ◌∷◌, ◌++◌, refl, sym, subst}
+use Rattle.std.proofs.Common.{List, [], ◌∷◌, ◌++◌, refl, subst}
 use Rattle.toll_served.proofs.Common.{History, IsLawful, Content, AllShow, IsRunOf, Answered, AreValid, Happening, IsRun, http, Answer, Event}
 use Rattle.toll_standing.specs.Standing.{StandsFor}
 use Rattle.toll_desk.specs.Outcome.{HoldsFor}

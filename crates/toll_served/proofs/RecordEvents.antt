@@ -1,7 +1,7 @@
 -- Events of records behind events of others.
 use Rattle.std.proofs.Common.{◌≡◌, Bool, true, false, ◌||◌, List, [], ◌∷◌, ◌++◌, Option, Some, None, refl, ap}
 use Rattle.toll_served.proofs.Common.{MatchBool, list_any, PlantCmd, is_fault, Outcome, Answer, Event}
-use Rattle.toll_served.specs.Events.{AreNone, AreRecordEvents}
+use Rattle.toll_served.specs.Events.{AreRecordEvents}
 use Rattle.toll_wire.specs.declared.event.Answer.TheVariants.{Bytes as Reply, Plant as CommandReply}
 use Rattle.toll_wire.specs.declared.event.Event.TheVariants.{Owner, Plant as Command}
 

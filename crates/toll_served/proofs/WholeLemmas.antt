@@ -1,5 +1,5 @@
 -- All turns of one request.
-use Rattle.std.proofs.Common.{◌≡◌, ℕ, Bool, true, false, cond, List, [], ◌∷◌, ◌++◌, Option, Some, None, drop, Ok, refl, sym, ap, subst, ◌∙◌, append_assoc, take-append-drop, inl, arith}
+use Rattle.std.proofs.Common.{◌≡◌, ℕ, Bool, true, false, cond, List, [], ◌∷◌, ◌++◌, Option, Some, drop, Ok, refl, sym, ap, subst, ◌∙◌, append_assoc, take-append-drop, inl, arith}
 use Rattle.std.specs.Prelude.{◌==◌, ◌≢◌, take}
 use Rattle.toll_served.proofs.Common.{Vec, list_any, append-nil, Bytes, PlantCmd, AreOwn, Handed, IsOwn, Request, Task, Tasks, after_turn, Door, Owners, Plant, Progress, Told, Left, AreNumbered, commands_in, outcomes_in, is_fault, UnderWay, GROUP_RECORDS, Outcome, ImportLine, Answer, Event}
 use Rattle.std.proofs.lemmas.Bool.Decides.{nat_tests}
@@ -8,8 +8,7 @@ use Rattle.toll_peers.specs.Stages.{left_by}
 use Rattle.toll_served.proofs.RecordEvents.{records_longer, records_then}
 use Rattle.toll_served.specs.Doors.{BeginsImport, IsReportTelling, lists_of}
 use Rattle.toll_served.specs.Events.{AreEventsOf, AreGroupEvents, AreParts, AreRecordEvents, AreTurnEvents, IsPrintedOf, Part, answers_of, events_of, turns_of}
-use Rattle.toll_served.specs.Wanted.{Imports}
-use Rattle.toll_served.specs.Whole.{BeginsWith, IsAllAsked, own_parts, told_or, told_to, up_to}
+use Rattle.toll_served.specs.Whole.{IsAllAsked, own_parts, told_or, told_to, up_to}
 
 abbrev Commands : Type 0
 Commands = List (Option PlantCmd)

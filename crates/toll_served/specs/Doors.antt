@@ -6,6 +6,7 @@ use Rattle.toll_plant.specs.ImportFaults.{IsRefusedFor}
 use Rattle.toll_plant.specs.ImportTexts.{import_text}
 use Rattle.toll_plant.specs.declared.report.ImportLine.{ImportLine}
 use Rattle.toll_programs.specs.Done.{IsCommandDone}
+use Rattle.toll_served.specs.declared.printout.Printout.{Printout}
 use Rattle.toll_served.specs.Unwritten.{unwritten}
 use Rattle.toll_served.specs.Wanted.{Wanted, Does, Imports, Unknown, wanted_of}
 use Rattle.toll_wire.specs.Steps.{IsAnswered}
@@ -21,6 +22,10 @@ list_of bytes = record { held = Some []; now_held = Some bytes; failed = None; n
 -- the same of two, for what goes to standard output and to standard error
 abbrev pub lists_of : (output error : Bytes) → Streams
 lists_of output error = record { output = list_of output; error = list_of error }
+
+-- all that is to be printed
+abbrev pub lists_in : Printout → Streams
+lists_in p = lists_of p.output.items p.error.items
 
 -- how commands are written goes to the error, and the program ends as for words that are none
 abbrev pub IsUsageTold : Streams → ℕ → Type 0

@@ -21,10 +21,14 @@ abbrev pub wanted_in : Option PlantCmd → Wanted
 wanted_in None = Unknown
 wanted_in (Some command) = Does command
 
+-- words without a file
+abbrev pub wanted_alone : List Bytes → Wanted
+wanted_alone words = wanted_in (command_of_words words)
+
 -- words of which the first is `import`, where a file came with them, ask for its import, and all others for a command or a question
 abbrev pub wanted_of : List Bytes → Option Bytes → Wanted
-wanted_of words None = wanted_in (command_of_words words)
-wanted_of words (Some file) = if is_import words then Imports file else wanted_in (command_of_words words)
+wanted_of words None = wanted_alone words
+wanted_of words (Some file) = if is_import words then Imports file else wanted_alone words
 
 -- what was read of a parcel asks for
 abbrev pub wanted_by : Asked → Wanted

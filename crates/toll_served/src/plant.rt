@@ -2,9 +2,8 @@
 ghost use Rattle.std.specs.Prelude.{◌≡◌, [], map, IfNone, IfOk, IfSome, OnErr};
 ghost use Rattle.toll_parcels.specs.Messages.{IsToldBy};
 ghost use Rattle.toll_peers.specs.declared.door.Door.{Door};
-ghost use Rattle.toll_plant.specs.Words.{command_of_words};
-ghost use Rattle.toll_served.specs.Doors.{BeginsOrTells, IsDone, IsServed, lists_of};
-ghost use Rattle.toll_served.specs.Wanted.{Imports, is_import, wanted_by, wanted_in};
+ghost use Rattle.toll_served.specs.Doors.{BeginsOrTells, IsDone, IsServed, lists_in};
+ghost use Rattle.toll_served.specs.Wanted.{Imports, is_import, wanted_alone, wanted_by};
 
 use crate::importing::Importing;
 use crate::printout::Printout;
@@ -41,7 +40,7 @@ pub fn answer_plant<K: Keep>(alloc: Global, keep: &mut K, asked: &[u8]) -> Resul
 // The file whose import is asked for.
 fn import_in<'a>(asked: &Asked<'a>) -> Option<&'a [u8]>
     ensures some { IfSome result (λ file. wanted_by asked.now ≡ Imports file.now) }
-    ensures none { IfNone result (wanted_by asked.now ≡ wanted_in (command_of_words (map (λ w. w.now) asked.now.words.items))) }
+    ensures none { IfNone result (wanted_by asked.now ≡ wanted_alone (map (λ w. w.now) asked.now.words.items)) }
 {
     match asked.file {
         Some(file) if is_import(&asked.words) => Some(file),
@@ -66,7 +65,7 @@ fn begin(alloc: Global, file: &[u8], room: Vec<u8>) -> Reply
 // Does what words ask for but an import, once they are read.
 fn print<K: Keep>(alloc: Global, keep: &mut K, words: &[&str]) -> Result<Printout, AllocError>
     ensures err { OnErr result (keep.new ≡ keep.old) }
-    ensures done { IfOk result (λ p. IsDone K.meaning keep.old keep.new (wanted_in (command_of_words (map (λ w. w.now) words.now))) (lists_of p.output.items p.error.items) p.status) }
+    ensures done { IfOk result (λ p. IsDone K.meaning keep.old keep.new (wanted_alone (map (λ w. w.now) words.now)) (lists_in p) p.status) }
 {
     match command_of(alloc, words) {
         Ok(command) => Ok(Printout::of_command(alloc, keep, &command)),

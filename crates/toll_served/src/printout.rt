@@ -6,7 +6,7 @@ ghost use Rattle.toll_programs.specs.Done.{IsCommandDone};
 ghost use Rattle.toll_programs.specs.Statuses.{code_of};
 ghost use Rattle.toll_programs.specs.Told.{IsImportTold};
 ghost use Rattle.toll_programs.specs.declared.status.Status.{Status};
-ghost use Rattle.toll_served.specs.Doors.{IsTellingIfRoom, IsTextIfRoom, IsToldSo, IsUsageTold, lists_of};
+ghost use Rattle.toll_served.specs.Doors.{IsTellingIfRoom, IsTextIfRoom, IsToldSo, IsUsageTold, lists_in};
 ghost use Rattle.toll_served.specs.Unwritten.{unwritten};
 
 use crate::reply::Reply;
@@ -30,7 +30,7 @@ pub struct Printout {
 impl Printout {
     /// A command or a question over a keep, as [`plant_line`] does it.
     pub fn of_command<K: Keep>(alloc: Global, keep: &mut K, command: &PlantCmd) -> Self
-        ensures { IsCommandDone K.meaning keep.old keep.new command.now (lists_of result.output.items result.error.items) result.status }
+        ensures { IsCommandDone K.meaning keep.old keep.new command.now (lists_in result) result.status }
     {
         let mut output = Vec::new(alloc);
         let mut error = Vec::new(alloc);
@@ -44,7 +44,7 @@ impl Printout {
 
     /// What came of an import, or why there was none, as [`plant_import`](toll_programs::plant_import) tells it.
     pub fn of_import(alloc: Global, imported: Result<ImportReport, ImportFault>) -> Self
-        ensures { IsImportTold (lists_of result.output.items result.error.items) imported result.status }
+        ensures { IsImportTold (lists_in result) imported result.status }
     {
         let mut output = Vec::new(alloc);
         let mut error = Vec::new(alloc);
@@ -80,7 +80,7 @@ impl Printout {
     /// How commands are written, for words that are none.
     pub fn of_usage(alloc: Global, usage: &[u8]) -> Self
         requires { 0 < length usage.now }
-        ensures { IsUsageTold (lists_of result.output.items result.error.items) result.status }
+        ensures { IsUsageTold (lists_in result) result.status }
     {
         let mut error = Vec::new(alloc);
         let status = warn(&mut error, usage, Status::Unread);

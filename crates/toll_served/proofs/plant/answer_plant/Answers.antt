@@ -1,8 +1,7 @@
 use Rattle.std.proofs.Common.{◌∙◌, ap, map, option_map, rules, subst, sym}
 use Rattle.toll_parcels.specs.Messages.{IsAskedBy}
-use Rattle.toll_plant.specs.Words.{command_of_words}
 use Rattle.toll_served.specs.Doors.{IsDone, lists_of}
-use Rattle.toll_served.specs.Wanted.{wanted_in}
+use Rattle.toll_served.specs.Wanted.{wanted_alone}
 use Rattle.toll_served.proofs.UnwrittenLemmas.{import_turn, plant_turn}
 use Rattle.toll_served.proofs.plant.answer_plant.Goals as goal
 
@@ -17,6 +16,6 @@ returns-clause-served g c =
     let read = c.in-Some.asked in
     let p = c.in_ok-printout-in-None.printout in
     let asks : IsAskedBy c.args.asked.now (map (λ word. word.now) read.words.items) (option_map (λ file. file.now) read.file) = search rules in
-    let wants = c.in-None.ensures.none ∙ ap (λ words. wanted_in (command_of_words (map (λ w. w.now) words))) (sym c.deref.ensures.value) in
+    let wants = c.in-None.ensures.none ∙ ap (λ words. wanted_alone (map (λ w. w.now) words)) (sym c.deref.ensures.value) in
     plant_turn g.K.Keep.meaning c.args.keep.now c.print.new.keep c.args.asked.now c.told.result.progress c.told.result.goes_on _ _ p.output.items p.error.items p.status asks
     (subst (λ wanted. IsDone g.K.Keep.meaning c.args.keep.now c.print.new.keep wanted (lists_of p.output.items p.error.items) p.status) (sym wants) c.in_ok-printout-in-None.ensures.done) c.told.ensures
