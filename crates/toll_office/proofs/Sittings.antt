@@ -1,5 +1,5 @@
 -- What came in while one office stood open.
-use Rattle.std.proofs.Common.{◌≡◌, ◌⊎◌, ◌∙◌, ◌+◌, ◌≤◌, ap, ℕ, List, [], ◌∷◌, Option, None, Some, refl, sym, subst, inl, inr, arith}
+use Rattle.std.proofs.Common.{◌≡◌, ◌⊎◌, ◌∙◌, ◌≤◌, ap, List, [], ◌∷◌, Option, None, Some, refl, sym, subst, inl, inr, arith}
 use Rattle.toll_keep.specs.Content.{Content}
 use Rattle.toll_keep.specs.Meaning.{Meaning}
 use Rattle.toll_office.specs.Serving.{AnswersBy, AreThoseTaken, GoesOnBy, IsAtHand, IsLeft, IsSitting, IsToldOver, Standing}

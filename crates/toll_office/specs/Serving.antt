@@ -116,7 +116,8 @@ module _ {K : Type 0} (meaning : Meaning K) (is_opened : K → Type 0) where
 abbrev pub AreThoseTaken : List (Turn UnderWay) → List (Turn UnderWay) → Type 0
 AreThoseTaken [] taken = taken ≡ []
 AreThoseTaken (t ∷ turns) taken =
-    (IsToldSo t.progress (IsUnserved t.handed) × AreThoseTaken turns taken) ⊎ ((rest : List (Turn UnderWay)) × (taken ≡ t ∷ rest) × AreThoseTaken turns rest)
+    (IsToldSo t.progress (IsUnserved t.handed) × AreThoseTaken turns taken)
+    ⊎ ((rest : List (Turn UnderWay)) × (taken ≡ t ∷ rest) × AreThoseTaken turns rest)
 
 -- the turns that were taken while one office stood open were a run over it
 pub record IsSitting {K : Type 0} (meaning : Meaning K) (first : K) (turns : List (Turn UnderWay)) (new : Standing K) : Type 0 where
@@ -129,5 +130,5 @@ pub record IsSitting {K : Type 0} (meaning : Meaning K) (first : K) (turns : Lis
 -- what is told by who has an office, while one office stands open and none is opened, is a run over it
 abbrev pub AreSittings : {K : Type 0} → Meaning K → (K → Type 0) → Type 0 → Type 0
 AreSittings {K} meaning is_opened O =
-    (standing : O → Standing K) (old new : O) (turns : List (Turn UnderWay)) (first : K) → Runs (AnswersBy meaning is_opened standing) (GoesOnBy meaning is_opened standing) old turns new
-    → IsOneOffice first (standing old) (standing new) → IsSitting meaning first turns (standing new)
+    (standing : O → Standing K) (old new : O) (turns : List (Turn UnderWay)) (first : K)
+    → Runs (AnswersBy meaning is_opened standing) (GoesOnBy meaning is_opened standing) old turns new → IsOneOffice first (standing old) (standing new) → IsSitting meaning first turns (standing new)

@@ -84,7 +84,8 @@ impl<K: Stored> Session<K> {
         ensures ok { IfOk result (λ reply. Takes K.Keep.meaning K.is_opened self.old (Task import) reply self.new) }
         ensures closed { IfOk result (λ reply. reply.goes_on ≡ false → self.new.opened ≡ None) }
         ensures imports { IfOk result (λ reply. self.new.imports ≡ ended reply.progress self.old.imports) }
-        ensures err { IfErr result (λ stuck. IsIdle (standing_of self.old) (standing_of self.new) × (stuck.import ≡ import) × (self.new.imports ≡ self.old.imports - 1)) }
+        ensures err { OnErr result (IsIdle (standing_of self.old) (standing_of self.new)) }
+        ensures stuck { IfErr result (λ stuck. (stuck.import ≡ import) × (self.new.imports ≡ self.old.imports - 1)) }
         ensures lock { IsLockKept self.old → IsLockKept self.new }
     {
         match self.take(rt, path) {
