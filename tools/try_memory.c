@@ -12,7 +12,7 @@
 extern void *__libc_malloc(size_t), *__libc_calloc(size_t, size_t), *__libc_realloc(void *, size_t), *__libc_memalign(size_t, size_t);
 
 static struct plan {
-    long from;         /* how many calls of accept there are before anything is counted */
+    long from;         /* how many connections are taken before anything is counted */
     long first, last;  /* the requests from first to last are refused */
     long requests, refused;
 } *plan;
@@ -57,6 +57,7 @@ void *mmap(void *at, size_t size, int rights, int flags, int file, off_t offset)
 }
 
 int accept4(int socket, struct sockaddr *peer, socklen_t *length, int flags) {
-    if (plan && plan->from > 0) plan->from--;
-    return syscall(SYS_accept4, socket, peer, length, flags);
+    int taken = syscall(SYS_accept4, socket, peer, length, flags);
+    if (taken >= 0 && plan && plan->from > 0) plan->from--;
+    return taken;
 }

@@ -14,9 +14,19 @@ use toll_programs::{
 /// How many standard streams there are.
 const STREAMS: usize = 3;
 
-/// Does what the program's words ask for, and gives the exit status.
+/// Does what the program's words ask for, and gives the exit status. Where there is no memory to hold the
+/// standard streams, nothing is done.
 pub fn run(rt: &HostRuntime) -> u64 {
-    let _held = hold_streams(rt);
+    match hold_streams(rt) {
+        Err(fault) if fault.kind() == ErrorKind::OutOfMemory => {
+            fail(rt, Status::Failed, "fault Memory")
+        }
+        _held => run_task(rt),
+    }
+}
+
+// What the words ask for, while the standard streams are held.
+fn run_task(rt: &HostRuntime) -> u64 {
     let words = match read_words(rt) {
         Ok(words) => words,
         Err(fault) if fault.kind() == ErrorKind::InvalidData => {
