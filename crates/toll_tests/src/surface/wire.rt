@@ -6,9 +6,9 @@ use toll_plant::{
     ImportFault, ImportLine, ImportReport, Outcome, WordsFault, command_of, import_actuals,
     import_text,
 };
+use toll_streams::{Sink, Source};
 use toll_wire::{
-    Answer, Event, Out, ReadFault, Sink, Source, WriteFault, answer, read_request, run_events,
-    write_reply,
+    Answer, Event, Out, ReadFault, WriteFault, answer, read_request, run_events, write_reply,
 };
 
 pub fn requests<R: Source>(alloc: Global, reader: &mut R) -> Result<Vec<u8>, ReadFault> {
