@@ -77,6 +77,10 @@ def questions(it):
             "`recall`": ["recall", HOUSE, WATER]}
 
 
+# Placed, or at the limits refused.
+PLACED = ("200 ", "409 ")
+
+
 def traces(it):
     """The traces that the owner asks for over HTTP: the lot and the way."""
     return {"GET trace forward": (it.first, "forward"), "GET trace back": (it.last, "back")}
@@ -92,7 +96,7 @@ def requests(it):
     forward = lines["GET trace forward"]
     yield [OPENING, *(asked for row, line in lines.items() for asked in twice(row, line))]
     yield [OPENING, *twice("GET stock", f"{GET} /stock"), *twice("GET trace forward after stock", forward),
-           *twice("GET an order", f"{GET} /orders/O-00001"), ("POST an order, first", place(1), "200 "), ("POST an order, again", place(2), "200 "),
+           *twice("GET an order", f"{GET} /orders/O-00001"), ("POST an order, first", place(1), PLACED), ("POST an order, again", place(2), PLACED),
            ("GET trace forward after an order", forward, "200 ")]
 
 
