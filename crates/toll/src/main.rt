@@ -5,10 +5,8 @@
 //! the office in a file.
 #![tactic(auto)]
 
-mod programs;
-
-use crate::programs::run;
 use std::process::ExitCode;
+use toll_office::run;
 
 fn main(rt: HostRuntime) -> ExitCode {
     ExitCode::from(u8::try_from(run(&rt)).unwrap_or(u8::MAX))

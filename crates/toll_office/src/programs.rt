@@ -1,10 +1,14 @@
 //! The programs.
+use crate::asking::ask_server;
+use crate::doing::{do_command, do_import, do_script};
+use crate::office::OfficeFault;
+use crate::serving::serve_all;
+use crate::sockets::Sockets;
 use std::alloc::{AllocError, Global};
 use std::fmt::Display;
 use std::fs::{File, OpenOptions};
 use std::io::ErrorKind;
 use std::{env, io};
-use toll_office::{OfficeFault, Sockets, ask_server, do_command, do_import, do_script, serve_all};
 use toll_peers::Served;
 use toll_plant::{MOST_FILE_BYTES, WordsFault, command_of};
 use toll_programs::{
