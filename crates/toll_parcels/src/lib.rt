@@ -8,8 +8,6 @@ mod greetings;
 mod laws;
 mod packing;
 mod parcel;
-#[cfg(test)]
-mod tests;
 mod told;
 mod words;
 

@@ -14,8 +14,6 @@ mod serving;
 mod socket;
 mod stage;
 mod step;
-#[cfg(test)]
-mod tests;
 mod world;
 
 pub use asking::Asking;

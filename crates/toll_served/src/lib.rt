@@ -11,8 +11,6 @@ mod printout;
 mod reply;
 mod room;
 mod serving;
-#[cfg(test)]
-mod tests;
 
 pub use answering::answer_at;
 pub use importing::Importing;

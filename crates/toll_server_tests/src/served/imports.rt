@@ -1,13 +1,13 @@
 //! Imports in turns, with others in between.
-use crate::tests::street::{Log, Street};
-use crate::tests::{ADD_OWNER, ADD_RECIPE, LIST, PLACE, Visit, go_on, is_told, tells};
-use crate::{KeptOffice, answer_at, serve_keep};
+use crate::served::street::{Log, Street};
+use crate::served::{ADD_OWNER, ADD_RECIPE, LIST, PLACE, Visit, go_on, is_told, tells};
 use std::alloc::{AllocError, Global};
 use std::test::Fail;
 use toll_keep::{Keep, MemKeep, Refused, Refusing};
 use toll_parcels::{Asked, PackFault, Told};
 use toll_peers::{Door, Served};
 use toll_plant::GROUP_RECORDS;
+use toll_served::{KeptOffice, answer_at, serve_keep};
 
 const HEADER: &str = "key,owner,order,batch,segment,use,material,lot_owner,lot,sublot,amount,day\n";
 

@@ -2,12 +2,12 @@
 mod imports;
 mod street;
 
-use crate::tests::street::{Log, Street};
-use crate::{KeptOffice, Reply, answer_at, serve_keep};
+use crate::served::street::{Log, Street};
 use std::alloc::{AllocError, Global};
 use toll_keep::{Keep, MemKeep, Refused, Refusing};
 use toll_parcels::Told;
 use toll_peers::{Door, Progress, Served};
+use toll_served::{KeptOffice, Reply, answer_at, serve_keep};
 
 /// Who comes to a door, what it asks, and what it is told.
 #[derive(Clone, Copy)]

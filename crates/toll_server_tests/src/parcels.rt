@@ -1,8 +1,8 @@
 //! Parcels that are whole, cut or damaged.
-use crate::{
+use std::alloc::Global;
+use toll_parcels::{
     Asked, MOST_ASKED_BYTES, MOST_TOLD_BYTES, Told, content_of, greeting, is_enough, is_greeting,
 };
-use std::alloc::Global;
 
 /// The words `stock ACME`, as the plant asks them.
 const STOCK: &[u8] = b"\0\0\0\x0f\0\0\0\x0bstock\0ACME\0";

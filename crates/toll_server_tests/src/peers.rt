@@ -2,10 +2,10 @@
 mod script;
 mod wire;
 
-use crate::tests::script::{Scribe, Script};
-use crate::tests::wire::{Ends, Log, Pace, Plan, Takes};
-use crate::{Door, Served, serve};
+use crate::peers::script::{Scribe, Script};
+use crate::peers::wire::{Ends, Log, Pace, Plan, Takes};
 use std::alloc::Global;
+use toll_peers::{Door, Served, serve};
 
 /// A request of the plant, in three pieces: the content `0`.
 const PLANT: Plan = Plan {

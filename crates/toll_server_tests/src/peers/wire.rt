@@ -1,8 +1,8 @@
 //! A connection of memory.
-use crate::{Door, Socket};
 use std::cell::Cell;
 use std::io;
 use std::io::{ErrorKind, Read, Write};
+use toll_peers::{Door, Socket};
 
 /// What stands behind the last piece.
 #[derive(Clone, Copy)]
