@@ -6,5 +6,7 @@ use Rattle.serde_json.specs.Events.{SendsValue}
 use Rattle.toll_base.specs.Bytes.{Bytes}
 
 -- a member of this name and this value
-abbrev pub SendsMember : Bytes → Data → Log → Log → Type 0
-SendsMember name value old new = (named : Log) × Logs old named (field_key name AsIs) × SendsValue value named new
+pub record SendsMember (name : Bytes) (value : Data) (old new : Log) : Type 0 where
+  pub named : Log
+  pub key : Logs old named (field_key name AsIs)
+  pub sent : SendsValue value named new

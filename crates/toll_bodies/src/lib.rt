@@ -10,15 +10,12 @@ mod lots;
 mod orders;
 mod rows;
 mod sent;
-mod stock;
 mod told;
-mod traces;
 mod values;
 
 pub use batches::batch_body;
 pub use body::{Placing, order_asked};
 pub use failures::{error_body, refusal_body};
+pub use listed::{orders_body, stock_body, trace_body};
 pub use lots::lot_body;
-pub use orders::{order_body, orders_body};
-pub use stock::stock_body;
-pub use traces::trace_body;
+pub use orders::order_body;

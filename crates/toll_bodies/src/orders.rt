@@ -1,21 +1,13 @@
-//! The bodies of an order and of orders.
+//! The body of an order.
 ghost use Rattle.std.specs.Prelude.{◌≡◌, IfOk, refl, string_bytes};
 ghost use Rattle.serde_json.specs.Written.{compact_text};
-ghost use Rattle.toll_bodies.specs.ReplyBodies.{order_data, orders_data};
+ghost use Rattle.toll_bodies.specs.ReplyBodies.{order_data};
 
-use crate::listed::list_text;
 use crate::sent::text_of;
 use crate::told::{Told, send_member};
 use serde::Serializer;
 use std::alloc::{AllocError, Global};
 use toll_base::OrderRow;
-
-/// The orders of an owner.
-pub fn orders_body(alloc: Global, rows: &[OrderRow]) -> Result<String, AllocError>
-    ensures { IfOk result (λ body. string_bytes body ≡ compact_text (orders_data rows.now)) }
-{
-    list_text(alloc, "orders", rows)
-}
 
 /// An order.
 pub fn order_body(alloc: Global, row: &OrderRow) -> Result<String, AllocError>
