@@ -1,6 +1,7 @@
 -- A plan that is carried out.
 use Rattle.std.proofs.Common.{◌≡◌, ◌==◌, Bool, true, false, List, [], ◌∷◌, length, Result, Ok, Err, OnOk, OnErr, IfOk, refl, sym, ap, subst, arith, ◌∙◌}
-use Rattle.toll_desk.proofs.Common.{History, Change, nat_eq-exact, Meaning, Content, after, Fits, Goes, KeepFault, goes_then, goes_as, goes_fault}
+use Rattle.toll_desk.proofs.Common.{on_ok_weaker, History, Change, nat_eq-exact, Meaning, Content, after, Fits, Goes, IsReading, KeepFault, goes_then, goes_as, goes_fault}
+use Rattle.toll_keep.specs.Meaning.{OverHeld, OverLive}
 use Rattle.toll_desk.specs.Outcome.{finished, IsDone}
 use Rattle.toll_desk.specs.Plans.{LeadsTo}
 
@@ -49,7 +50,7 @@ module _ {K : Type 0} (meaning : Meaning K) where
           crash = λ was. record { others = []; stand = tt; left = stop was };
         }))
 
-    pub carried_done : (planned : Result X KeepFault) → OnErr planned (changes ≡ []) → IfOk planned (λ x. IsTold x × LeadsTo c changes G) → OnOk planned (meaning.is_live old → meaning.is_live middle) → (meaning.is_live old → meaning.leaves middle (c ∷ [])) → Done (finished planned result)
+    carried_done : (planned : Result X KeepFault) → OnErr planned (changes ≡ []) → IfOk planned (λ x. IsTold x × LeadsTo c changes G) → OnOk planned (meaning.is_live old → meaning.is_live middle) → (meaning.is_live old → meaning.leaves middle (c ∷ [])) → Done (finished planned result)
     carried_done (Ok x) none plan live stop = done_by x result plan.0 plan.1 (carried.all plan.1.fits) carried.none live
     carried_done (Err fault) none plan live stop = undone_by fault none stop
 
@@ -62,7 +63,7 @@ module _ {K : Type 0} (meaning : Meaning K) where
       (carried_done old middle new result c G IsTold changes (subst (λ changes. IsCarried middle new changes c result) same carried) held planned none plan live stop)
 
   -- where nothing was granted, what was held is held
-  pub quiet_of : {X : Type 0} (middle new : K) (result : Result (Unit {0}) KeepFault) (c : Content) (changes made : List Change) → made ≡ changes → IsCarried middle new made c result → meaning.holds middle c →
+  quiet_of : {X : Type 0} (middle new : K) (result : Result (Unit {0}) KeepFault) (c : Content) (changes made : List Change) → made ≡ changes → IsCarried middle new made c result → meaning.holds middle c →
       (grants : Result X KeepFault → Bool) (planned : Result X KeepFault) → (grants planned ≡ false → changes ≡ []) → (outcome : Result X KeepFault) → outcome ≡ finished planned result → grants outcome ≡ false → meaning.holds new c
   quiet_of middle new (Ok done) c changes made same carried held grants planned quiet outcome is none =
       subst (λ k. meaning.holds k c) (sym (carried.idle (same ∙ quiet (ap grants (sym is) ∙ none))).0) held
@@ -80,3 +81,27 @@ module _ {K : Type 0} {X : Type 0} (meaning : Meaning K) (old middle new : K) wh
   goes_on (Ok x) (change ∷ changes) (Err fault) first none idle on =
       goes_fault meaning old new fault (goes_then meaning old middle new x (Err fault) first (on (λ e. (cc))))
   goes_on (Err fault) (change ∷ changes) r first none idle on = (cc)
+
+-- the same of a whole plan, where its changes are read through a reference, and the outcome is what another call makes of the two
+module _ {K : Type 0} {X : Type 0} (meaning : Meaning K) (old middle new : K) (planned outcome : Result X KeepFault) (changes made : List Change) (result : Result (Unit {0}) KeepFault)
+    (same : made ≡ changes) (is : outcome ≡ finished planned result) (none : OnErr planned (changes ≡ [])) (reads : IsReading meaning old middle planned) (idle : made ≡ [] → (new ≡ middle) × (result ≡ Ok tt)) where
+  pub goes_out : ((made ≡ [] → ⊥) → Goes meaning middle new result) → Goes meaning old new outcome
+  goes_out on =
+      subst (λ told. Goes meaning old new told) (sym is)
+      (goes_on meaning old middle new planned made result reads.goes (subst (λ changes. OnErr planned (changes ≡ [])) (sym same) none) idle on)
+
+  module _ (honest : meaning.is_honest new → meaning.is_honest middle) (all : OverHeld meaning middle new (λ c. Fits c made → OnOk result (meaning.holds new (after made c)))) (unmade : OverHeld meaning middle new (λ c. OnErr result (meaning.holds new c)))
+      (crash : OverLive meaning middle new (λ c. Fits c made → meaning.leaves new (c ∷ after made c ∷ []))) (now : meaning.is_honest new) (c : Content) (held : meaning.holds old c) where
+    between : meaning.holds middle c
+    between = (reads.keeps (honest now)).content c held
+
+    carried : IsCarried meaning middle new made c result
+    carried = record { idle = idle; all = all now c between; none = unmade now c between; crash = λ live. crash now live c between }
+
+    pub quiet_out : (grants : Result X KeepFault → Bool) → (grants planned ≡ false → changes ≡ []) → grants outcome ≡ false → meaning.holds new c
+    quiet_out grants quiet not = quiet_of meaning middle new result c changes made same carried between grants planned quiet outcome is not
+
+    pub done_out : (G : History) (IsTold : X → Type 0) → IfOk planned (λ x. IsTold x × LeadsTo c changes G) → IsDone (meaning.holds new) (meaning.is_live old) (meaning.leaves new) c G outcome IsTold
+    done_out G IsTold plan =
+        done_of meaning old middle new result c G IsTold changes made same carried between planned none plan
+        (on_ok_weaker planned (λ live was. live) (reads.goes.shown (honest now))) (λ live. (reads.keeps (honest now)).crash live c held) outcome is

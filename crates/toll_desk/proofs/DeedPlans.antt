@@ -1,7 +1,7 @@
 -- The plant's decisions over the content of a keep.
 use Rattle.std.specs.Prelude.{nat_le}
 use Rattle.std.proofs.Common.{◌≡◌, Bool, true, false, not, ◌&&◌, Option, Some, None, is_some, [], ◌∷◌, refl, sym, ap, subst, ◌∙◌}
-use Rattle.toll_desk.proofs.Common.{list_any, Bytes, bytes_cmp, same_bytes, house_name, where_so, row_at, Action, AddOwner, AddUnit, OpenBatch, Command, by, History, acts, adds_owner, owner_known, unit_known, count_units, Slice, IsRowsOf, Verdict, Accepted, Repeated, Refused, first_of, checks, needs_owner, verdict, grown, IsLawful, IsValid, changes_of, after_changes, changes_if, ChangesKeepRules, IsDecided, Decides, DecidesWith, DecisionKeepsRules, PutsOnly, OwnerRow, UnitRow, Owner, Unit as UnitAdded, Decision, Refuse, UnknownOwner, OwnerExists, UnitExists, LimitReached, same_bytes-refl, accepted_passes, PlantAsked, Does, Judged, Content, StandsFor, standing_knows, false≢true, option_map}
+use Rattle.toll_desk.proofs.Common.{list_any, Bytes, same_bytes, house_name, Action, AddOwner, AddUnit, OpenBatch, Command, by, History, acts, adds_owner, owner_known, unit_known, count_units, Slice, IsRowsOf, Verdict, Accepted, Repeated, Refused, first_of, Checks, checks, needs_owner, verdict, grown, IsLawful, IsValid, changes_of, after_changes, changes_if, ChangesKeepRules, IsDecided, Decides, DecidesWith, DecisionKeepsRules, PutsOnly, OwnerRow, UnitRow, Change, Owner, Unit as UnitAdded, Decision, Refuse, UnknownOwner, OwnerExists, UnitExists, LimitReached, same_bytes-refl, accepted_passes, PlantAsked, Does, Judged, Content, StandsFor, standing_knows, false≢true, option_map}
 use Rattle.toll_standing.proofs.UnitHolders.{same_holder}
 use Rattle.toll_keep.specs.Holding.{IsHolder}
 use Rattle.toll_standing.specs.Held.{on_unit}
@@ -13,7 +13,7 @@ use Rattle.toll_desk.specs.Plans.{LeadsTo, PutsShared, IsOwnDecision, IsPlantDec
 use Rattle.toll_desk.specs.Subjects.{IsDeed, IsOwn, concerned, is_shared}
 use Rattle.toll_desk.proofs.Lift.{adds_neither, same_grown, leads_on, leads_shared, leads_nowhere, first_of_either}
 use Rattle.toll_desk.proofs.OwnerAdded.{leads_to_owner}
-use Rattle.toll_desk.proofs.UnitAdded.{leads_to_unit}
+use Rattle.toll_desk.proofs.UnitAdded.{leads_to_unit, unit_known_alike}
 
 -- a command of an owner that is not known is refused
 unknown_refused : (H : History) (o : Bytes) (a : Action) → needs_owner a ≡ true → owner_known H o ≡ false → verdict H (by o a) ≡ Refused UnknownOwner
@@ -56,13 +56,6 @@ no_batch unit (Some h) false e = refl
 
 pub free_alike : (c : Content) (H : History) → StandsFor c H → IsLawful H → (unit : Bytes) (held : Option Holder) → IsHolder c unit held → (b : Bool) → is_some held ≡ not b → b ≡ not (is_some (holder H unit))
 free_alike c H stands lawful unit held is b none = no_batch unit held b none ∙ ap (λ x. not (is_some x)) (sym (same_holder H c unit held lawful stands is))
-
-known_there : (b : Bool) (x : UnitRow) → is_some (where_so b x) ≡ b
-known_there true x = refl
-known_there false x = refl
-
-pub unit_known_alike : (c : Content) (H : History) → StandsFor c H → (unit : Bytes) → is_some (row_at bytes_cmp (λ r. r.unit) c.units unit) ≡ unit_known H unit
-unit_known_alike c H stands unit = ap is_some (stands.units.each unit) ∙ known_there (unit_known H unit) (record { unit = unit })
 
 -- a decision that is right over every history is so over this one
 pub own_decision : (H : History) (s : Slice) (a : Action) (d : Decision) → IsLawful H → IsValid a → Decides (by s.owner a) s d → DecisionKeepsRules s d → PutsOnly s.owner (changes_of d) → IsOwnDecision H s a d
@@ -116,6 +109,20 @@ module _ (c : Content) (H : History) (stands : StandsFor c H) where
         }
     decided_both q s house d neither valid known is house_is decides rules house_rules own = absurd neither
 
+    -- what is decided by checks that say the verdict, and changes this where it is accepted
+    module _ (command : Command) (tests : Checks) (change : Change) (same : first_of tests ≡ verdict H command) (accepted : verdict H command ≡ Accepted → LeadsTo c (change ∷ []) (command ∷ H)) where
+      leads_by : (v : Verdict) → verdict H command ≡ v → LeadsTo c (changes_if v (change ∷ [])) (grown v H command)
+      leads_by Accepted is = accepted is
+      leads_by Repeated is = leads_nowhere c H stands
+      leads_by (Refused why) is = leads_nowhere c H stands
+
+      decided_by : (d : Decision) → IsDecided tests (change ∷ []) d → IsPlantDecision c H (Does command) d
+      decided_by d decided = record {
+        answer = ap Judged (decided.says ∙ same);
+        leads = subst (λ v. LeadsTo c (changes_of d) (grown v H command)) same
+            (subst (λ changes. LeadsTo c changes (grown (first_of tests) H command)) (sym decided.makes) (leads_by _ (sym same)));
+      }
+
     -- an owner's being added
     module _ (row : OwnerRow) where
       abbrev adding : Command
@@ -125,17 +132,9 @@ module _ (c : Content) (H : History) (stands : StandsFor c H) where
       unfolding checks
       owner_verdict i = first_of ((standing_knows H c stands row.owner i, Some OwnerExists) ∷ (nat_le 64 (stands.owners.all i), Some LimitReached) ∷ [])
 
-      leads_by : (v : Verdict) → verdict H adding ≡ v → LeadsTo c (changes_if v (Owner row ∷ [])) (grown v H adding)
-      leads_by Accepted is = leads_to_owner c H stands lawful row.owner row.key (accepted_passes H row.owner (AddOwner row.key) is 0) is
-      leads_by Repeated is = leads_nowhere c H stands
-      leads_by (Refused why) is = leads_nowhere c H stands
-
       pub decided_owner : (d : Decision) → IsDecided (owner_row_checks c.owners row) (Owner row ∷ []) d → IsPlantDecision c H (Does adding) d
-      decided_owner d decided = record {
-        answer = ap Judged (decided.says ∙ owner_verdict);
-        leads = subst (λ v. LeadsTo c (changes_of d) (grown v H adding)) owner_verdict
-            (subst (λ changes. LeadsTo c changes (grown (first_of (owner_row_checks c.owners row)) H adding)) (sym decided.makes) (leads_by _ (sym owner_verdict)));
-      }
+      decided_owner = decided_by adding (owner_row_checks c.owners row) (Owner row) owner_verdict
+          (λ is. leads_to_owner c H stands lawful row.owner row.key (accepted_passes H row.owner (AddOwner row.key) is 0) is)
 
     -- a unit's being added
     module _ (row : UnitRow) where
@@ -148,17 +147,9 @@ module _ (c : Content) (H : History) (stands : StandsFor c H) where
           (λ i. first_of ((unit_known_alike c H stands row.unit i, Some UnitExists) ∷ (nat_le 200 (stands.units.all i), Some LimitReached) ∷ []))
           ∙ sym (ap (λ known. first_of ((true && not known, Some UnknownOwner) ∷ (unit_known H row.unit, Some UnitExists) ∷ (nat_le 200 (count_units H), Some LimitReached) ∷ [])) (house_known H))
 
-      unit_leads_by : (v : Verdict) → verdict H adding_unit ≡ v → LeadsTo c (changes_if v (UnitAdded row ∷ [])) (grown v H adding_unit)
-      unit_leads_by Accepted is = leads_to_unit c H stands row.unit (accepted_passes H house_name (AddUnit row.unit) is 0)
-      unit_leads_by Repeated is = leads_nowhere c H stands
-      unit_leads_by (Refused why) is = leads_nowhere c H stands
-
       pub decided_unit : (d : Decision) → IsDecided (unit_row_checks c.units row) (UnitAdded row ∷ []) d → IsPlantDecision c H (Does adding_unit) d
-      decided_unit d decided = record {
-        answer = ap Judged (decided.says ∙ unit_verdict);
-        leads = subst (λ v. LeadsTo c (changes_of d) (grown v H adding_unit)) unit_verdict
-            (subst (λ changes. LeadsTo c changes (grown (first_of (unit_row_checks c.units row)) H adding_unit)) (sym decided.makes) (unit_leads_by _ (sym unit_verdict)));
-      }
+      decided_unit = decided_by adding_unit (unit_row_checks c.units row) (UnitAdded row) unit_verdict
+          (λ is. leads_to_unit c H stands row.unit (accepted_passes H house_name (AddUnit row.unit) is 0))
 
 -- ---- the opening of a batch
 

@@ -1,6 +1,6 @@
 -- A search among rows.
-use Rattle.std.proofs.Common.{◌≡◌, ℕ, zero, suc, ◌<◌, ◌≤◌, true, false, not, ◌&&◌, is_some, cond, Option, Some, None, List, [], ◌∷◌, length, get_or, drop, refl, sym, ap, ◌∙◌, arith}
-use Rattle.toll_desk.proofs.Common.{drop_all, false≢true, Bytes, bytes_cmp, same_bytes, house_name, is_some_where, where_so, row_at, OwnerRow, same_bytes-exact}
+use Rattle.std.proofs.Common.{◌≡◌, true, false, not, ◌&&◌, is_some, cond, Option, Some, List, [], ◌∷◌, find, refl, sym, ap, ◌∙◌}
+use Rattle.toll_desk.proofs.Common.{false≢true, nat_list_cmp_total, is_eq, Bytes, bytes_cmp, same_bytes, house_name, is_some_where, where_so, row_at, put_row, row_at-put_row, OwnerRow, same_bytes-exact, same_bytes-symm}
 use Rattle.toll_desk.specs.Admission.{is_admitted}
 
 module _ {R : Type 0} (key : R → Bytes) where
@@ -8,22 +8,18 @@ module _ {R : Type 0} (key : R → Bytes) where
   abbrev pub row_of : List R → Bytes → Option R
   row_of rows k = row_at bytes_cmp key rows k
 
-  -- from the i-th row on
-  row_from : (rows : List R) (k : Bytes) (i : ℕ) (d : R) → i < length rows → row_of (drop i rows) k ≡ cond (same_bytes k (key (get_or rows i d))) (Some (get_or rows i d)) (row_of (drop (suc i) rows) k)
+  -- it is the first row that has this key
+  pub found_by : (rows : List R) (k : Bytes) → find (λ row. same_bytes k (key row)) rows ≡ row_of rows k
   unfolding row_at
-  row_from [] k i d lt = absurd (omega arith)
-  row_from (x ∷ rows) k zero d lt = refl
-  row_from (x ∷ rows) k (suc i) d lt = row_from rows k i d (omega arith)
+  found_by [] k = refl
+  found_by (row ∷ rows) k = ap (cond (same_bytes k (key row)) (Some row)) (found_by rows k)
 
-  pub found_at : (rows : List R) (k : Bytes) (i : ℕ) (x : R) → i < length rows → x ≡ get_or rows i x → same_bytes k (key x) ≡ true → row_of (drop i rows) k ≡ Some x
-  found_at rows k i x lt is same = row_from rows k i x lt ∙ ap (λ y. cond (same_bytes k (key y)) (Some y) (row_of (drop (suc i) rows) k)) (sym is) ∙ ap (λ b. cond b (Some x) (row_of (drop (suc i) rows) k)) same
-
-  pub passed_at : (rows : List R) (k : Bytes) (i j : ℕ) (x : R) → j ≡ suc i → i < length rows → x ≡ get_or rows i x → same_bytes k (key x) ≡ false → row_of (drop i rows) k ≡ row_of (drop j rows) k
-  passed_at rows k i j x next lt is same = row_from rows k i x lt ∙ ap (λ y. cond (same_bytes k (key y)) (Some y) (row_of (drop (suc i) rows) k)) (sym is) ∙ ap (λ b. cond b (Some x) (row_of (drop (suc i) rows) k)) same ∙ ap (λ n. row_of (drop n rows) k) (sym next)
-
-  pub ended_at : (rows : List R) (k : Bytes) (i : ℕ) → length rows ≤ i → row_of (drop i rows) k ≡ None
-  unfolding row_at
-  ended_at rows k i le = ap (λ xs. row_of xs k) (drop_all i rows le)
+-- where a row was put, it is found by its key, and what is found by another is as it was
+pub put_found : {R : Type 0} (key : R → Bytes) (rows : List R) (row : R) (k : Bytes) (found : Option R) → row_at bytes_cmp key rows k ≡ found → row_at bytes_cmp key (put_row bytes_cmp key rows row) k ≡ cond (same_bytes (key row) k) (Some row) found
+put_found key rows row k found is =
+    row_at-put_row bytes_cmp nat_list_cmp_total key rows row k
+    ∙ ap (cond (is_eq (bytes_cmp k (key row))) (Some row)) is
+    ∙ ap (λ b. cond b (Some row) found) (same_bytes-symm k (key row))
 
 -- the owner of this name
 abbrev pub owner_at : List OwnerRow → Bytes → Option OwnerRow

@@ -1,9 +1,11 @@
 -- From what a decision owes to every slice to what a plan owes over the content of a keep.
-use Rattle.std.proofs.Common.{◌≡◌, ◌⊎◌, inl, inr, ℕ, ◌+◌, Bool, true, false, ◌&&◌, ◌||◌, cond, Option, None, is_some, List, [], ◌∷◌, refl, sym, ap, subst, ◌∙◌, arith}
-use Rattle.toll_desk.proofs.Common.{false≢true, list_any, option_map, Bytes, bytes_cmp, same_bytes, row_at, house_name, or_else, where_so, Action, AddOwner, AddUnit, by, History, acts, key_added, adds_owner, owner_key, owner_known, count_owners, unit_known, count_units, Slice, empty_slice, with_row, IsRowsOf, Verdict, Accepted, Repeated, Refused, verdict, grown, grow, IsLawful, after_change, after_changes, ChangesKeepRules, EachChange, is_put_of, is_put_in_house, PutsOnly, PutsOnlyWith, OwnerRow, UnitRow, Change, Owner, Unit as UnitAdded, Put, first_acts, any_acts, same_bytes-exact, same_bytes-refl, Content, knows, after_owners, after_units, PutsToKnown, StandsFor, AreOwnersOf, AreUnitsOf, standing_keeps_rules, standing_knows, owner-with_row}
+use Rattle.std.proofs.Common.{◌≡◌, ◌⊎◌, inl, inr, ℕ, ◌+◌, Bool, true, false, ◌&&◌, ◌||◌, cond, is_some, List, [], ◌∷◌, refl, sym, ap, subst, ◌∙◌, arith}
+use Rattle.toll_desk.proofs.Common.{false≢true, list_any, option_map, Bytes, bytes_cmp, same_bytes, row_at, house_name, where_so, Action, AddOwner, AddUnit, by, History, acts, key_added, adds_owner, owner_key, owner_known, count_owners, unit_known, count_units, Slice, empty_slice, with_row, IsRowsOf, Verdict, Accepted, Repeated, Refused, verdict, grown, grow, IsLawful, after_change, after_changes, ChangesKeepRules, EachChange, is_put_of, is_put_in_house, PutsOnly, PutsOnlyWith, OwnerRow, UnitRow, Change, Owner, Unit as UnitAdded, Put, first_acts, any_acts, same_bytes-exact, same_bytes-refl, Content, knows, after_owners, after_units, PutsToKnown, StandsFor, AreOwnersOf, AreUnitsOf, standing_keeps_rules, standing_knows}
 use Rattle.toll_base.specs.SliceRules.{KeepsRules}
 use Rattle.toll_base.specs.declared.rows.Row.{Row}
 use Rattle.toll_base.specs.declared.rows.Row.TheVariants.{Material, Test, Recipe, Requirement, Order, Batch, Lot, Sublot, Move, Result, Void}
+use Rattle.toll_keep.proofs.Changed.{own_after}
+use Rattle.toll_history.proofs.Options.{or_none}
 use Rattle.toll_standing.proofs.Fitting.{kept_rules_fit}
 use Rattle.toll_desk.specs.Plans.{LeadsTo, is_shared_put, PutsShared}
 
@@ -26,10 +28,6 @@ adds_neither (AddOwner key) = false
 adds_neither (AddUnit unit) = false
 adds_neither _ = true
 
-pub none_else : {X : Type 0} (b : Bool) (x : Option X) → or_else (cond b None None) x ≡ x
-none_else true x = refl
-none_else false x = refl
-
 pub idle : (b c : Bool) → ((b && false) || c) ≡ c
 idle true c = refl
 idle false c = refl
@@ -41,7 +39,7 @@ same_after : (H : History) (w : Bytes) (a : Action) → adds_neither a ≡ true 
 same_after H w (AddOwner key) none = absurd (false≢true none)
 same_after H w (AddUnit unit) none = absurd (false≢true none)
 same_after H w a none = record {
-  key = λ o. first_acts key_added o (by w a) H ∙ none_else (same_bytes w o) (owner_key (acts o H));
+  key = λ o. first_acts key_added o (by w a) H ∙ or_none (same_bytes w o) (owner_key (acts o H));
   known = λ o. ap (λ b. same_bytes o house_name || b) (any_acts adds_owner o (by w a) H ∙ idle (same_bytes w o) (list_any adds_owner (acts o H)));
   owners = none_more (count_owners H);
   unit = λ unit. refl;
@@ -142,14 +140,9 @@ units_stay o (Owner row ∷ changes) rows puts = absurd (false≢true puts.0)
 units_stay o (UnitAdded row ∷ changes) rows puts = absurd (false≢true puts.0)
 units_stay o (Put p row ∷ changes) rows puts = units_stay o changes rows puts.1
 
-owner_after : (change : Change) (s : Slice) → (after_change change s).owner ≡ s.owner
-owner_after (Owner row) s = refl
-owner_after (UnitAdded row) s = refl
-owner_after (Put o row) s = elim (same_bytes o s.owner) as (λ b. (cond b (with_row s row) s).owner ≡ s.owner) [ true ↦ owner-with_row s row | false ↦ refl ]
-
 pub owner_stays : (changes : List Change) (s : Slice) → (after_changes changes s).owner ≡ s.owner
 owner_stays [] s = refl
-owner_stays (change ∷ changes) s = owner_stays changes (after_change change s) ∙ owner_after change s
+owner_stays (change ∷ changes) s = owner_stays changes (after_change change s) ∙ own_after change s
 
 -- changes leave the rows of an owner that they miss
 module _ (such : Change → Bool) (s : Slice) (misses : Misses such s.owner) where

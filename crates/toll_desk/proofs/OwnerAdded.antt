@@ -1,8 +1,9 @@
 -- An owner that is added: the content with it stands for the history with it.
 use Rattle.std.proofs.Common.{◌≡◌, Bool, true, false, cond, ◌||◌, ◌&&◌, Option, Some, None, is_some, [], ◌∷◌, refl, sym, ap, subst, ◌∙◌, arith}
-use Rattle.toll_desk.proofs.Common.{false≢true, nat_list_cmp_total, list_any, option_map, is_eq, Bytes, bytes_cmp, same_bytes, house_name, or_else, row_at, put_row, AddOwner, Command, by, History, acts, key_added, adds_owner, owner_key, owner_known, stock, sublot_known, lot_made, count_lots, count_sublots, material_used, empty_slice, IsRowsOf, tables_given, Accepted, verdict, IsLawful, OwnerRow, Owner, first_acts, any_acts, tables-own, tables-others, row_at-put_row, put_row_ordered, part-own, length-new, same_bytes-exact, same_bytes-refl, same_bytes-symm, Content, StandsFor, AreOwnersOf, standing_knows, neither, nothing_of_unknown}
+use Rattle.toll_desk.proofs.Common.{false≢true, nat_list_cmp_total, list_any, option_map, Bytes, bytes_cmp, same_bytes, house_name, or_else, row_at, put_row, AddOwner, Command, by, History, acts, key_added, adds_owner, owner_key, owner_known, stock, sublot_known, lot_made, count_lots, count_sublots, material_used, empty_slice, IsRowsOf, tables_given, Accepted, verdict, IsLawful, OwnerRow, Owner, first_acts, any_acts, tables-own, tables-others, put_row_ordered, part-own, length-new, same_bytes-exact, same_bytes-refl, Content, StandsFor, AreOwnersOf, standing_knows, neither, nothing_of_unknown}
 use Rattle.toll_history.proofs.OwnTables.{tables-part}
 use Rattle.toll_desk.specs.Plans.{LeadsTo}
+use Rattle.toll_desk.proofs.Found.{put_found}
 
 -- an owner whose only command added it has no rows yet
 rows_of_new : (o key : Bytes) → IsRowsOf (by o (AddOwner key) ∷ []) (empty_slice o)
@@ -40,9 +41,7 @@ module _ (c : Content) (H : History) (stands : StandsFor c H) (lawful : IsLawful
   owners_of = record {
     ordered = put_row_ordered bytes_cmp nat_list_cmp_total (λ r. r.owner) c.owners row stands.owners.ordered;
     each = λ p.
-        row_at-put_row bytes_cmp nat_list_cmp_total (λ r. r.owner) c.owners row p
-        ∙ ap (cond (is_eq (bytes_cmp p o)) (Some row)) (stands.owners.each p)
-        ∙ ap (λ b. cond b (Some row) (option_map {T = Bytes} {U = OwnerRow} (λ k. record { owner = p; key = k }) (owner_key (acts p H)))) (same_bytes-symm p o)
+        put_found (λ (r : OwnerRow). r.owner) c.owners row p _ (stands.owners.each p)
         ∙ key_of_added o p key _ (owner_key (acts p H)) refl
         ∙ ap (option_map {T = Bytes} {U = OwnerRow} (λ k. record { owner = p; key = k })) (sym (first_acts key_added p command H));
     all = omega (arith, length-new bytes_cmp nat_list_cmp_total (λ r. r.owner) c.owners row new, stands.owners.all);

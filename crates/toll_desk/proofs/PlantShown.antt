@@ -1,13 +1,14 @@
 -- What the plant is shown, over rows and edges that a keep has.
 use Rattle.std.specs.Prelude.{ℕ, is_none}
 use Rattle.toll_desk.proofs.Common.{option_map, false≢true, list_any, Bytes, bytes_cmp, Slice, IsInKeyOrder, Edge, LotId, UnknownOwner, UnknownLot, UnknownOrder, UnknownBatch, BatchRow, OrderRow, Record, History, acts, owner_known, IsRowsOf, lot_row, tables_given, Checks, Refused, first_of, known_batch_checks, IsLawful, order_of, batch_of, unit_of, state_of, is_closed, AreEdges, Contains-none, IsOwnEdge, IsPlantEdge, WasDone, lots_owned, IsViewOver, BatchView, orders_text, batch_text, recall_text, IsRecall, RecallLine, PlantAsked, PlantTold, AsksOrders, AsksStock, AsksBatch, Judged, Shows, AreOrdersShown, IsBatchShownOr, IsCheckedOr, AsksRecall, IsPlantAnswer, owner_checks, lot_checks, acts_of_unknown, Content, slice_of, StandsFor}
-use Rattle.std.proofs.Common.{◌≡◌, ◌⊎◌, true, false, Option, Some, None, is_some, List, [], ◌∷◌, Result, Ok, Err, IfOk, IfErr, refl, sym, ap, subst, inl, inr, ◌∙◌, ◌&&◌, Bool}
+use Rattle.std.proofs.Common.{◌≡◌, ◌⊎◌, true, false, Option, Some, None, is_some, List, [], ◌∷◌, Result, Ok, Err, IfOk, IfErr, refl, sym, ap, subst, inl, inr, ◌∙◌, ◌&&◌}
 use Rattle.toll_desk.specs.Questions.{is_known_lot}
 use Rattle.toll_desk.specs.Subjects.{AsksRows, asked_of_rows, concerned}
 use Rattle.toll_desk.proofs.DeedPlans.{house_known}
 use Rattle.toll_desk.proofs.OwnTraces.{touches, joined_edge, joined_known, rows_read}
 use Rattle.toll_desk.proofs.OwnerPlans.{some_read}
 use Rattle.toll_history.specs.OverRows.{OverOwnRows}
+use Rattle.toll_base.proofs.Bools.{both}
 
 -- what is so of an answer, where it is this one
 pub told_ok : {X E : Type 0} (P : X → Type 0) (r : Result X E) (x : X) → r ≡ Ok x → IfOk r P → P x
@@ -131,9 +132,5 @@ lot_refused H lot X known unknown = lot_unknown H lot X known (sym (ap (λ b. b 
 
 pub recall_shown : (H : History) (lot : LotId) (lines : List RecallLine) (text : Bytes) → is_known_lot H lot ≡ true → IsRecall H lot lines → text ≡ recall_text lines → IsPlantAnswer H (AsksRecall lot) (Shows text)
 recall_shown H lot lines text known is text_is =
-    let both = both_so (owner_known H lot.owner) (is_some (lot_row H lot.owner lot.lot)) known in
-    checked_lot H lot _ _ both.0 both.1 (record { lines = lines; recalled = is; shown = ap Shows text_is })
-  where
-    both_so : (a b : Bool) → (a && b) ≡ true → (a ≡ true) × (b ≡ true)
-    both_so true b is = (refl, is)
-    both_so false b is = absurd (false≢true is)
+    let so = both (owner_known H lot.owner) (is_some (lot_row H lot.owner lot.lot)) known in
+    checked_lot H lot _ _ so.0 so.1 (record { lines = lines; recalled = is; shown = ap Shows text_is })

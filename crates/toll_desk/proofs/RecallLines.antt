@@ -5,6 +5,7 @@ use Rattle.std.proofs.Common.{Result, Ok, Err, IsErrAnd, ◌≡◌, ℕ, zero, s
 use Rattle.std.proofs.lemmas.Bool.Decides.{nat_tests}
 use Rattle.std.proofs.lemmas.List.Quantifiers.{position-Some}
 use Rattle.std.proofs.lemmas.List.Sums.{fails_before_first}
+use Rattle.toll_base.proofs.Bools.{both}
 use Rattle.toll_history.specs.Amounts.{on_hand, shipped}
 use Rattle.toll_stock.specs.declared.stock.Totals.{Totals}
 use Rattle.toll_desk.specs.Questions.{AreSlicesFor, IsLineOf, is_known_lot}
@@ -95,12 +96,8 @@ lines_recall H lot steps lines are traced =
 
 -- ---- lots of a trace are known
 
-both_known : (a b : Bool) → (a && b) ≡ true → (a ≡ true) × (b ≡ true)
-both_known true b is = (refl, is)
-both_known false b is = absurd (false≢true is)
-
 chain_known : (H : History) (lot : LotId) (n : ℕ) (b : LotId) → IsLawful H → is_known_lot H lot ≡ true → IsChain (IsPlantJoined H Forward) lot n b → (owner_known H b.owner ≡ true) × (is_some (lot_row H b.owner b.lot) ≡ true)
-chain_known H lot zero b lawful known is = both_known _ _ (ap (is_known_lot H) (sym is) ∙ known)
+chain_known H lot zero b lawful known is = both _ _ (ap (is_known_lot H) (sym is) ∙ known)
 chain_known H lot (suc n) b lawful known is =
     let o = is.2.0 in
     (end_owner H o b _ lawful is.2.1 (inr refl), joined_known H o b _ lawful is.2.1 (inr refl))

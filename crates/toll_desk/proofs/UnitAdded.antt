@@ -1,12 +1,17 @@
 -- A unit that is added: the content with it stands for the history with it.
 use Rattle.std.proofs.Common.{◌≡◌, Bool, true, false, cond, ◌||◌, Option, Some, is_some, [], ◌∷◌, refl, sym, ap, subst, ◌∙◌, arith}
-use Rattle.toll_desk.proofs.Common.{nat_list_cmp_total, list_any, option_map, is_eq, Bytes, bytes_cmp, same_bytes, house_name, where_so, row_at, put_row, AddUnit, Command, by, History, acts, key_added, adds_owner, owner_key, owner_known, unit_known, tables_given, OwnerRow, UnitRow, Unit as UnitAdded, first_acts, any_acts, tables-own, tables-others, row_at-put_row, put_row_ordered, length-new, same_bytes-exact, same_bytes-symm, Content, StandsFor, AreOwnersOf, AreUnitsOf}
+use Rattle.toll_desk.proofs.Common.{nat_list_cmp_total, list_any, option_map, Bytes, bytes_cmp, same_bytes, house_name, where_so, row_at, put_row, AddUnit, Command, by, History, acts, key_added, adds_owner, owner_key, owner_known, unit_known, tables_given, OwnerRow, UnitRow, Unit as UnitAdded, first_acts, any_acts, tables-own, tables-others, put_row_ordered, length-new, same_bytes-exact, Content, StandsFor, AreOwnersOf, AreUnitsOf}
+use Rattle.toll_history.proofs.Options.{or_none}
 use Rattle.toll_desk.specs.Plans.{LeadsTo}
-use Rattle.toll_desk.proofs.Lift.{none_else, idle, none_more}
+use Rattle.toll_desk.proofs.Found.{put_found}
+use Rattle.toll_desk.proofs.Lift.{idle, none_more}
 
 is_there : {X : Type 0} (b : Bool) (x : X) → is_some (where_so b x) ≡ b
 is_there true x = refl
 is_there false x = refl
+
+pub unit_known_alike : (c : Content) (H : History) → StandsFor c H → (unit : Bytes) → is_some (row_at bytes_cmp (λ r. r.unit) c.units unit) ≡ unit_known H unit
+unit_known_alike c H stands unit = ap is_some (stands.units.each unit) ∙ is_there (unit_known H unit) (record { unit = unit })
 
 abbrev unit_named : Bytes → Option UnitRow
 unit_named v = Some (record { unit = v })
@@ -27,23 +32,19 @@ module _ (c : Content) (H : History) (stands : StandsFor c H) (unit : Bytes) (ab
   G = command ∷ H
 
   new : is_some (row_at bytes_cmp (λ r. r.unit) c.units unit) ≡ false
-  new = ap is_some (stands.units.each unit) ∙ is_there (unit_known H unit) row ∙ absent
+  new = unit_known_alike c H stands unit ∙ absent
 
   units_of : AreUnitsOf G (put_row bytes_cmp (λ r. r.unit) c.units row)
   units_of = record {
     ordered = put_row_ordered bytes_cmp nat_list_cmp_total (λ r. r.unit) c.units row stands.units.ordered;
-    each = λ u.
-        row_at-put_row bytes_cmp nat_list_cmp_total (λ r. r.unit) c.units row u
-        ∙ ap (cond (is_eq (bytes_cmp u unit)) (Some row)) (stands.units.each u)
-        ∙ ap (λ b. cond b (Some row) (where_so {X = UnitRow} (unit_known H u) (record { unit = u }))) (same_bytes-symm u unit)
-        ∙ unit_of_added unit u (same_bytes unit u) (unit_known H u) refl;
+    each = λ u. put_found (λ (r : UnitRow). r.unit) c.units row u _ (stands.units.each u) ∙ unit_of_added unit u (same_bytes unit u) (unit_known H u) refl;
     all = omega (arith, length-new bytes_cmp nat_list_cmp_total (λ r. r.unit) c.units row new, stands.units.all);
   }
 
   owners_of : AreOwnersOf G c.owners
   owners_of = record {
     ordered = stands.owners.ordered;
-    each = λ p. stands.owners.each p ∙ ap (option_map {T = Bytes} {U = OwnerRow} (λ key. record { owner = p; key = key })) (sym (first_acts key_added p command H ∙ none_else (same_bytes house_name p) (owner_key (acts p H))));
+    each = λ p. stands.owners.each p ∙ ap (option_map {T = Bytes} {U = OwnerRow} (λ key. record { owner = p; key = key })) (sym (first_acts key_added p command H ∙ or_none (same_bytes house_name p) (owner_key (acts p H))));
     all = stands.owners.all ∙ sym (none_more _);
   }
 

@@ -32,12 +32,9 @@ pub fn is_house(owner: &[u8]) -> bool
 pub fn find_owner(rows: &[OwnerRow], owner: &[u8]) -> Option<OwnerRow>
     ensures { result ≡ row_at bytes_cmp (λ row. row.owner) rows.now owner.now }
 {
-    for row in rows {
-        if is_same(owner, row.owner.as_bytes()) {
-            return Some(*row);
-        }
-    }
-    None
+    rows.iter()
+        .find(|row| is_same(owner, row.owner.as_bytes()))
+        .copied()
 }
 
 // The owner with this key, among those that were added.

@@ -86,10 +86,7 @@ fn judge_unit(alloc: Global, rows: &[UnitRow], row: UnitRow) -> Result<Decision,
 pub fn find_unit(rows: &[UnitRow], unit: &[u8]) -> Option<UnitRow>
     ensures { result ≡ row_at bytes_cmp (λ row. row.unit) rows.now unit.now }
 {
-    for row in rows {
-        if is_same(unit, row.unit.as_bytes()) {
-            return Some(*row);
-        }
-    }
-    None
+    rows.iter()
+        .find(|row| is_same(unit, row.unit.as_bytes()))
+        .copied()
 }

@@ -2,7 +2,7 @@
 ghost use Rattle.std.specs.Prelude.{◌≡◌, true, false, is_some, [], IfOk, is_ok};
 ghost use Rattle.toll_base.specs.Slice.{order_at};
 ghost use Rattle.toll_history.specs.OverRows.{OverOwnRows};
-ghost use Rattle.toll_answers.specs.Told.{AskCancel, AskPlace, AskReject, AskRelease};
+ghost use Rattle.toll_answers.specs.Told.{AskCancel, AskPlace};
 ghost use Rattle.toll_keep.specs.Goes.{IsReading};
 ghost use Rattle.toll_keep.specs.Meaning.{OverHeld};
 ghost use Rattle.toll_desk.specs.Clauses.{IfPlacedAgain, IsDisposedOver, IsPlannedFor, IsPlannedOver, OverKnown};
@@ -49,8 +49,14 @@ fn write_over(alloc: Global, slice: &Slice, writing: &Writing) -> Result<Planned
             batches,
         } => plan_order(alloc, slice, order, recipe, batches),
         Writing::Cancel(order) => plan_cancelling(alloc, slice, order),
-        Writing::Release(lot) => plan_release(alloc, slice, lot),
-        Writing::Reject(lot) => plan_rejection(alloc, slice, lot),
+        Writing::Release(lot) => {
+            let decision = release(alloc, slice, lot)?;
+            disposed(alloc, slice, &lot, Disposition::Released, decision)
+        }
+        Writing::Reject(lot) => {
+            let decision = reject(alloc, slice, lot)?;
+            disposed(alloc, slice, &lot, Disposition::Rejected, decision)
+        }
     }
 }
 
@@ -110,28 +116,6 @@ fn plan_cancelling(alloc: Global, slice: &Slice, order: Name) -> Result<Planned,
 }
 
 // ---- lots
-
-fn plan_release(alloc: Global, slice: &Slice, lot: Name) -> Result<Planned, AllocError>
-    ensures told { IfOk result (λ planned. is_ok (told_of planned.reply) ≡ true) }
-    ensures quiet { IfOk result (λ planned. is_granted (told_of planned.reply) ≡ false → planned.changes.items ≡ []) }
-    ensures over { OverOwnRows slice.now (λ H. IsPlannedOver H slice.now (AskRelease lot) result) }
-{
-    match release(alloc, slice, lot) {
-        Ok(decision) => disposed(alloc, slice, &lot, Disposition::Released, decision),
-        Err(error) => Err(error),
-    }
-}
-
-fn plan_rejection(alloc: Global, slice: &Slice, lot: Name) -> Result<Planned, AllocError>
-    ensures told { IfOk result (λ planned. is_ok (told_of planned.reply) ≡ true) }
-    ensures quiet { IfOk result (λ planned. is_granted (told_of planned.reply) ≡ false → planned.changes.items ≡ []) }
-    ensures over { OverOwnRows slice.now (λ H. IsPlannedOver H slice.now (AskReject lot) result) }
-{
-    match reject(alloc, slice, lot) {
-        Ok(decision) => disposed(alloc, slice, &lot, Disposition::Rejected, decision),
-        Err(error) => Err(error),
-    }
-}
 
 // The lot as it stands once the decision gave it this disposition.
 fn disposed(

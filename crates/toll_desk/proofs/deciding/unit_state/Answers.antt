@@ -1,6 +1,6 @@
 use Rattle.std.proofs.Common.{ap, is_some, ◌∙◌}
 use Rattle.toll_desk.proofs.Common.{IfOk-weaker, bytes_cmp, row_at}
-use Rattle.toll_desk.proofs.DeedPlans.{unit_known_alike}
+use Rattle.toll_desk.proofs.UnitAdded.{unit_known_alike}
 use Rattle.toll_desk.proofs.deciding.unit_state.Goals as goal
 
 pub returns-in-Ok-clause-over : goal.returns-in-Ok-clause-over

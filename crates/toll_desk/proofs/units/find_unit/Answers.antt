@@ -1,13 +1,11 @@
-use Rattle.std.proofs.Common.{◌+◌, sym, ap, ◌∙◌, arith}
-use Rattle.toll_base.specs.Bytes.{same_bytes}
-use Rattle.toll_desk.proofs.Found.{found_at, passed_at, ended_at}
+use Rattle.std.proofs.Common.{◌∙◌, rules, tests}
+use Rattle.std.proofs.lemmas.Iterator.{YieldsList-from_slice}
+use Rattle.std.proofs.lemmas.Iterator.Search.{find_from_yields_List}
+use Rattle.toll_desk.proofs.Common.{UnitRow, same_bytes}
+use Rattle.toll_desk.proofs.Found.{found_by}
 use Rattle.toll_desk.proofs.units.find_unit.Goals as goal
 
-pub returns-then-is_same : goal.returns-then-is_same
-returns-then-is_same c = sym (sym c.loop-row.invariant ∙ found_at (λ row. row.unit) c.args.rows.now c.args.unit.now c.loop-row.row-index c.row-item.result (omega arith) c.row-item.is (ap (same_bytes c.args.unit.now) (sym c.as_bytes.ensures.bytes) ∙ sym c.is_same.ensures ∙ c.if-is_same.true))
-
-pub loop-row-preserved : goal.loop-row-preserved
-loop-row-preserved c = sym (passed_at (λ row. row.unit) c.args.rows.now c.args.unit.now c.loop-row.row-index (c.loop-row.row-index + 1) c.row-item.result (omega arith) (omega arith) c.row-item.is (ap (same_bytes c.args.unit.now) (sym c.as_bytes.ensures.bytes) ∙ sym c.is_same.ensures ∙ c.if-is_same.false)) ∙ c.loop-row.invariant
-
 pub returns : goal.returns
-returns c = sym (sym c.loop-row.invariant ∙ ended_at (λ row. row.unit) c.args.rows.now c.args.unit.now c.loop-row.row-index (omega arith))
+returns c =
+    c.copied.ensures ∙ find_from_yields_List (λ (row : UnitRow). same_bytes c.args.unit.now row.unit) _ _ c.find.result c.find.ensures.ran (YieldsList-from_slice _ c.iter.ensures.rest) (λ x b q k. search (rules, tests))
+    ∙ found_by (λ (row : UnitRow). row.unit) c.args.rows.now c.args.unit.now
