@@ -10,9 +10,9 @@ COMMANDS = ROOT / "docs" / "commands.md"
 def lines_of_code():
     """The names of the values of each command, in order."""
     source = (CRATES / "toll_plant" / "src" / "line.rt").read_text()
-    names = dict(re.findall(r'const (\w+): Argument<.*?> = Argument {\s+name: "(.*?)"', source))
-    lines = re.findall(r'name: "([a-z-]+)",\s+command: \S+,\s+values: &\[(.*?)\]', source, re.S)
-    return {name: [names[it] for it in re.findall(r"\w+", values)] for name, values in lines}
+    names = dict(re.findall(r'const (\w+): Argument<.*?> = argument!\("(.*?)"', source))
+    lines = re.findall(r'line_of!\(\s*"([a-z-]+)" => \w+, ([A-Z_ ]+)\s*\)', source)
+    return {name: [names[it] for it in values.split()] for name, values in lines}
 
 
 def lines_of_page():

@@ -2,6 +2,7 @@
 use Rattle.std.proofs.Common.{◌≡◌, Bool, true, false, cond, Option, Some, None, List, [], ◌∷◌, length, refl, ap, sym, subst, inl, inr}
 use Rattle.std.specs.Prelude.{◌==◌, IsSome, Result, Ok, Err}
 use Rattle.toll_plant.proofs.Common.{AllByRecursion, Refusal, IsValidDeed, asked_by, PlantCmd, looks_at_two}
+use Rattle.toll_base.proofs.Texts.{nat_eq-exact}
 use Rattle.toll_base.specs.Lots.{lot_id}
 use Rattle.toll_base.specs.declared.movement.Move.TheVariants as move
 use Rattle.toll_desk.specs.declared.plant_cmd.PlantCmd.TheVariants.{Actual, Unread}
@@ -13,7 +14,6 @@ use Rattle.toll_plant.specs.Words.{command_read, command_with, values_read}
 use Rattle.toll_plant.specs.declared.argument.Given.{Given}
 use Rattle.toll_plant.specs.Imports.{CanBeHeld, HasValidValues}
 use Rattle.toll_plant.proofs.ImportRuns.{IsDeed, IsDeedOrNone}
-use Rattle.toll_plant.proofs.OfficeLemmas.{same_number}
 use Rattle.toll_plant.proofs.TableLemmas.{actual_makes, made, values_have}
 
 -- as many fields as an actual has values give a command
@@ -41,32 +41,27 @@ deeds_made fields (Ok values) same e command is =
     e command is
 
 in_record : (fields : Fields) (b : Bool) → (length fields == length actual_line.values) ≡ b → (command : PlantCmd) → cond b (command_with actual_line fields) None ≡ Some command → IsDeedOfTwo command
-in_record fields true same command is = deeds_made fields (values_read actual_line.values fields) (same_number (length fields) (length actual_line.values) same) refl command is
+in_record fields true same command is = deeds_made fields (values_read actual_line.values fields) (nat_eq-exact (length fields) (length actual_line.values) same) refl command is
 in_record fields false same command is = absurd (cc is)
 
-deed_or_none : (command : Option PlantCmd) → ((c : PlantCmd) → command ≡ Some c → IsDeed (asked_by c)) → IsDeedOrNone command
-deed_or_none None deed = tt
-deed_or_none (Some c) deed = deed c refl
+-- what is so of each such deed, and where there is none, is so of what records give
+module _ (P : Option PlantCmd → Type 0) (none : P None) (so : (c : PlantCmd) → IsDeedOfTwo c → P (Some c)) where
+  so_or_none : (command : Option PlantCmd) → ((c : PlantCmd) → command ≡ Some c → IsDeedOfTwo c) → P command
+  so_or_none None deed = none
+  so_or_none (Some c) deed = so c (deed c refl)
+
+  all_so : (records : List Fields) → AllByRecursion P (commands_in records)
+  all_so [] = tt
+  all_so (fields ∷ records) = (so_or_none (command_in fields) (in_record fields (length fields == length actual_line.values) refl), all_so records)
 
 -- records give deeds or nothing
 pub all_deeds : (records : List Fields) → AllByRecursion IsDeedOrNone (commands_in records)
-all_deeds [] = tt
-all_deeds (fields ∷ records) = (deed_or_none (command_in fields) (λ command is. (in_record fields (length fields == length actual_line.values) refl command is).0), all_deeds records)
-
-held_or_none : (command : Option PlantCmd) → ((c : PlantCmd) → command ≡ Some c → looks_at_two (asked_by c) ≡ true) → CanBeHeld command
-held_or_none None held = tt
-held_or_none (Some c) held = held c refl
+all_deeds = all_so IsDeedOrNone tt (λ c deed. deed.0)
 
 -- and what they change can be held back
 pub all_held : (records : List Fields) → AllByRecursion CanBeHeld (commands_in records)
-all_held [] = tt
-all_held (fields ∷ records) = (held_or_none (command_in fields) (λ command is. (in_record fields (length fields == length actual_line.values) refl command is).1), all_held records)
-
-valid_or_none : (command : Option PlantCmd) → ((c : PlantCmd) → command ≡ Some c → IsValidDeed (asked_by c)) → HasValidValues command
-valid_or_none None valid = tt
-valid_or_none (Some c) valid = valid c refl
+all_held = all_so CanBeHeld tt (λ c deed. deed.1)
 
 -- and their values are within their bounds
 pub all_valid : (records : List Fields) → AllByRecursion HasValidValues (commands_in records)
-all_valid [] = tt
-all_valid (fields ∷ records) = (valid_or_none (command_in fields) (λ command is. (in_record fields (length fields == length actual_line.values) refl command is).2), all_valid records)
+all_valid = all_so HasValidValues tt (λ c deed. deed.2)

@@ -20,35 +20,26 @@ pub use Rattle.std.proofs.lemmas.Slice.Eq.{bytes_eq-Decides, slice_eq-Decides}
 pub use Rattle.std.specs.Bool.{Decides, MatchBool}
 unfoldable pub use Rattle.std.specs.Fmt.{char_count, padded_integral}
 pub use Rattle.std.specs.Fmt.{format_spec, styled_decimal}
-pub use Rattle.std.specs.List.{AllByRecursion, list_all, list_any, repeat}
+pub use Rattle.std.specs.List.{repeat}
 pub use Rattle.std.specs.Result.{is_ok}
-pub use Rattle.std.specs.Str.{bytes_eq}
-pub use Rattle.toll_answers.specs.PlantAnswers.{AsksBatch, AsksOrders, AsksRecall, AsksStock, AsksTrace, CannotRead, Does, IsPlantAnswer, Judged, PlantAsked, PlantTold, after_plant}
-pub use Rattle.toll_base.specs.Bytes.{Bytes, same_bytes}
+pub use Rattle.toll_answers.specs.PlantAnswers.{AsksBatch, AsksOrders, AsksRecall, AsksStock, AsksTrace, CannotRead}
 pub use Rattle.toll_base.specs.Values.{IsAmount, house_name, is_measure, is_name, is_owner_key, number_of}
-pub use Rattle.toll_base.specs.Words.{is_some_where, where_so}
 pub use Rattle.toll_base.specs.declared.decision.Change.{Change}
 pub use Rattle.toll_base.specs.declared.movement.MoveRow.{MoveRow}
-pub use Rattle.toll_base.specs.declared.refusal.Refusal.{Refusal}
-pub use Rattle.toll_base.specs.declared.refusal.Refusal.TheVariants.{BadAmount, BadName, KeyConflict, UnknownOwner, Voided}
+pub use Rattle.toll_base.specs.declared.refusal.Refusal.TheVariants.{KeyConflict, UnknownOwner, Voided}
 pub use Rattle.toll_base.specs.declared.role.Role.{Role}
-pub use Rattle.toll_desk.specs.Asking.{IsValidDeed, asked_by, is_accepted, plant_told}
+pub use Rattle.toll_desk.specs.Asking.{is_accepted, plant_told}
 pub use Rattle.toll_desk.specs.Plans.{LeadsTo}
 pub use Rattle.toll_desk.specs.PlantHeld.{IsPlantHeld, IsToldOver, IsUnasked, IsVerdictOrMemory, looks_at_two}
-pub use Rattle.toll_desk.specs.declared.plant_cmd.PlantCmd.{PlantCmd}
 pub use Rattle.toll_history.proofs.Acts.{any_acts, count_acts}
 pub use Rattle.toll_history.proofs.KeysOnce.{found_once, void_of_actual}
 pub use Rattle.toll_history.specs.Command.{Command, Record, by}
-pub use Rattle.toll_history.specs.History.{History, acts, adds_owner, owner_known}
+pub use Rattle.toll_history.specs.History.{adds_owner, owner_known}
 pub use Rattle.toll_history.specs.Movements.{has_key, movement_of, movements, voided_in, voids_key}
-pub use Rattle.toll_history.specs.Verdict.{Accepted, IsLawful, Refused, Repeated, Verdict, grown, verdict}
+pub use Rattle.toll_history.specs.Verdict.{grown, verdict}
 pub use Rattle.toll_keep.proofs.Calls.{Rests, goes_as, goes_fault, goes_memory, goes_then, read_fault, settles}
-pub use Rattle.toll_keep.specs.Content.{Content, after}
-pub use Rattle.toll_keep.specs.Goes.{Goes, IsReading, Settles}
-pub use Rattle.toll_keep.specs.Meaning.{Meaning}
 pub use Rattle.toll_keep.specs.Overlays.{IsOver, IsReadThrough, ReadsThrough}
 pub use Rattle.toll_keep.specs.Reads.{IsKept}
-pub use Rattle.toll_keep.specs.declared.fault.KeepFault.{KeepFault}
-pub use Rattle.toll_keep.specs.declared.fault.KeepFault.TheVariants.{Closed, Damaged, Disk, Memory}
-pub use Rattle.toll_standing.specs.Standing.{StandsFor}
+pub use Rattle.toll_keep.specs.declared.fault.KeepFault.TheVariants.{Closed, Disk}
+pub use Rattle.toll_plant.specs.Common.{Accepted, AllByRecursion, BadAmount, BadName, Bytes, Content, Damaged, Does, Goes, History, IsLawful, IsPlantAnswer, IsReading, IsValidDeed, Judged, KeepFault, Meaning, Memory, PlantAsked, PlantCmd, PlantTold, Refusal, Refused, Repeated, Settles, StandsFor, Verdict, acts, after, after_plant, asked_by, bytes_eq, is_some_where, list_all, list_any, same_bytes, where_so}
 pub use mathlib.Core.Bool.{false≢true}

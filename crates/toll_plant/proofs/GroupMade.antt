@@ -28,6 +28,14 @@ calm_of told end ends some =
 all_calm : (told : List Outcome) → EndWith (Ok tt) told → list_any is_fault told ≡ false
 all_calm told ends = ap (list_any is_fault) (ends.said ∙ append-nil ends.calm) ∙ ends.calmly
 
+-- what carries no change out is no fault: so where there is one, a record was accepted
+pub accepted_of : {A : Type 0} (told : List Outcome) (made : List Change) (r : End) (fault : KeepFault) → (list_any is_accepted told ≡ false → made ≡ []) → (made ≡ [] → A × (r ≡ Ok tt)) → r ≡ Err fault → list_any is_accepted told ≡ true
+accepted_of told made r fault quiet idle is = go (list_any is_accepted told) refl
+  where
+    go : (b : Bool) → list_any is_accepted told ≡ b → b ≡ true
+    go true some = refl
+    go false none = absurd (cc (sym is ∙ (idle (quiet none)).1))
+
 module _ {K : Type 0} (meaning : Meaning K) where
   -- ---- what was asked, and then another call
 
@@ -101,12 +109,8 @@ module _ {K : Type 0} (meaning : Meaning K) where
       some_changes : changes ≡ [] → ⊥
       some_changes none = cc (carried.idle none).1
 
-      some_accepted : (b : Bool) → list_any is_accepted told ≡ b → b ≡ true
-      some_accepted true is = refl
-      some_accepted false is = absurd (some_changes (are.quiet is))
-
       pub accepted_there : list_any is_accepted told ≡ true
-      accepted_there = some_accepted (list_any is_accepted told) refl
+      accepted_there = accepted_of told changes (Err fault) fault are.quiet carried.idle refl
 
       pub unmade_served : IsGroupServed meaning old new commands (refused_at fault told) (Err fault)
       unmade_served = record {
@@ -148,14 +152,6 @@ module _ {K : Type 0} (meaning : Meaning K) where
         crash = λ live. record { others = []; stand = tt; left = (are.failed.keeps honest).crash live c there };
       };
     }
-
--- what carries no change out is no fault: so where there is one, a record was accepted
-pub accepted_of : {A : Type 0} (told : List Outcome) (made : List Change) (r : End) (fault : KeepFault) → (list_any is_accepted told ≡ false → made ≡ []) → (made ≡ [] → A × (r ≡ Ok tt)) → r ≡ Err fault → list_any is_accepted told ≡ true
-accepted_of told made r fault quiet idle is = go (list_any is_accepted told) refl
-  where
-    go : (b : Bool) → list_any is_accepted told ≡ b → b ≡ true
-    go true some = refl
-    go false none = absurd (cc (sym is ∙ (idle (quiet none)).1))
 
 module _ {K : Type 0} (meaning : Meaning K) (old middle new : K) (commands : List (Option PlantCmd)) (told now : List Outcome) (held : Held) (are : AreHeld meaning old middle commands told (Ok held)) (result : End) where
   told_so : (answer : End) → AreCarried meaning middle new held.changes.items answer → TellsMade answer told held.end now result → IsGroupServed meaning old new commands now result

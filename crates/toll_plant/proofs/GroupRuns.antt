@@ -1,7 +1,9 @@
 -- Records of a group, one after another, and what is told where nothing of the group was made.
 use Rattle.std.proofs.Common.{◌≡◌, ◌<◌, ◌≤◌, ℕ, suc, Bool, true, false, ◌||◌, cond, Option, Some, None, List, [], ◌∷◌, ◌++◌, length, Result, Ok, Err, refl, sym, subst, ap, ◌∙◌, append_assoc, arith}
 use Rattle.std.specs.Prelude.{take}
+use mathlib.Core.Bool.{or-false}
 use Rattle.toll_plant.proofs.Common.{MatchBool, list_any, append-nil, list_any-append, Change, History, Verdict, Accepted, Repeated, Refused, IsLawful, grown, verdict, Content, after, KeepFault, StandsFor, CannotRead, Does, AsksOrders, AsksStock, AsksBatch, AsksTrace, AsksRecall, IsPlantAnswer, Judged, PlantAsked, after_plant, asked_by, LeadsTo, PlantCmd}
+use Rattle.toll_standing.proofs.Unknown.{neither}
 use Rattle.toll_keep.proofs.Overlays.{after_behind, fits_behind}
 use Rattle.toll_plant.specs.HeldRecords.{IsHeldFor, IsRecordOver}
 use Rattle.toll_plant.specs.Imports.{Comes, IsImport, after_record, after_records, before_accepted, last_outcome, refused_at}
@@ -10,10 +12,6 @@ use Rattle.toll_plant.specs.declared.outcome.Outcome.{Outcome}
 use Rattle.toll_plant.specs.declared.outcome.Outcome.TheVariants as came
 
 -- ---- the outcomes before the first record that was accepted
-
-neither : (a b : Bool) → (a || b) ≡ false → (a ≡ false) × (b ≡ false)
-neither true b none = absurd (cc none)
-neither false b none = (refl, none)
 
 pub none_in : (p : Outcome → Bool) (xs ys : List Outcome) → list_any p (xs ++ ys) ≡ false → (list_any p xs ≡ false) × (list_any p ys ≡ false)
 none_in p xs ys none = neither (list_any p xs) (list_any p ys) (sym (list_any-append p xs ys) ∙ none)
@@ -197,15 +195,11 @@ import_rest : (b : Bool) (old middle new : History) (command : Option PlantCmd) 
 import_rest true old middle new command commands more o told is comes rest ends = (middle, comes, subst (λ b. MatchBool b ((told ≡ []) × (new ≡ middle)) (IsImport middle (commands ++ more) told new)) (sym is) ends)
 import_rest false old middle new command commands more o told is comes rest so = calm_more old middle new command (commands ++ more) o told is comes (rest refl so)
 
-right_true : (a b : Bool) → a ≡ false → (a || b) ≡ true → b ≡ true
-right_true true b none some = absurd (cc none)
-right_true false b none some = some
-
 pub import_longer : (old new : History) (commands more : Commands) (told : List Outcome) → list_any is_fault told ≡ true → IsImport old commands told new → IsImport old (commands ++ more) told new
 import_longer old new [] more [] some import = absurd (cc some)
 import_longer old new (command ∷ commands) more (o ∷ told) some import =
     import_rest (is_fault o) old import.0 new command commands more o told refl import.1
-    (λ calm. import_longer import.0 new commands more told (right_true (is_fault o) (list_any is_fault told) calm some)) import.2
+    (λ calm. import_longer import.0 new commands more told (either_true (is_fault o) (list_any is_fault told) some calm)) import.2
 import_longer old new [] more (o ∷ told) some import = absurd import
 import_longer old new (command ∷ commands) more [] some import = absurd import
 
@@ -254,13 +248,9 @@ module _ (c : Content) (H : History) (commands left : Commands) (command : Optio
     refused_more true is some fault = subst (λ first. IsImport H commands (first ++ came.Fault fault ∷ []) H) (sym (before_behind told (o ∷ []) is)) (so_far.refused is fault)
     refused_more false is some fault =
         let both = sym (list_any-append is_accepted told (o ∷ [])) ∙ some in
-        let accepted : is_accepted o ≡ true = left_of (is_accepted o) (right_true (list_any is_accepted told) (list_any is_accepted (o ∷ [])) is both) in
+        let accepted : is_accepted o ≡ true = sym (or-false (is_accepted o)) ∙ either_true (list_any is_accepted told) (list_any is_accepted (o ∷ [])) both is in
         subst (λ first. IsImport H commands (first ++ came.Fault fault ∷ []) H) (sym (here accepted)) (subst (λ first. IsImport H commands (first ++ came.Fault fault ∷ []) H) (all_before told is) (refused_here fault (accepted_some so_far.now over.next command o accepted over.comes fault) is))
       where
-        left_of : (a : Bool) → (a || false) ≡ true → a ≡ true
-        left_of true e = refl
-        left_of false e = e
-
         here : is_accepted o ≡ true → before_accepted (told ++ o ∷ []) ≡ told
         here accepted = up_to told is accepted
           where

@@ -1,6 +1,7 @@
 -- The command of `clap`, as it grows.
 use Rattle.std.proofs.Common.{◌≡◌, ◌∙◌, ℕ, ◌+◌, ◌<◌, ◌≤◌, List, [], ◌∷◌, ◌++◌, length, map, take, get_or, refl, sym, ap, arith, append_assoc}
 use Rattle.std.specs.Prelude.{fold}
+use Rattle.std.proofs.lemmas.List.{map_push}
 use Rattle.toll_plant.proofs.Common.{append-nil, map_more, take_all, length-map, Rule, Text, App, Shape, new_shape, with_rule, with_subcommand}
 use Rattle.toll_plant.specs.Lines.{Argument, Line}
 use Rattle.toll_plant.specs.ClapWords.{line_shape, office, start, value_rule}
@@ -11,13 +12,9 @@ use Rattle.toll_plant.specs.ClapWords.{line_shape, office, start, value_rule}
 abbrev pub with_values : Text → List Argument → App
 with_values name arguments = record { top = record (new_shape name) { rules = map value_rule arguments }; subs = [] }
 
-map_append : {A B : Type 0} (f : A → B) (xs : List A) (x : A) → map f (xs ++ x ∷ []) ≡ map f xs ++ f x ∷ []
-map_append f [] x = refl
-map_append f (y ∷ ys) x = ap (λ rest. f y ∷ rest) (map_append f ys x)
-
 one_more : (name : Text) (arguments : List Argument) (a : Argument) → with_rule (with_values name arguments) (value_rule a) ≡ with_values name (arguments ++ a ∷ [])
 one_more name arguments a =
-    ap (λ rules. let app : App = record { top = record (new_shape name) { rules = rules }; subs = [] } in app) (sym (map_append value_rule arguments a))
+    ap (λ rules. let app : App = record { top = record (new_shape name) { rules = rules }; subs = [] } in app) (sym (map_push value_rule arguments a))
 
 pub value_added : {A : Type 0} (h : A → Argument) (name : Text) (xs : List A) (i : ℕ) (d : A) (old new : App) (r : Rule) → i < length xs
     → old ≡ with_values name (map h (take i xs)) → r ≡ value_rule (h (get_or xs i d)) → new ≡ with_rule old r

@@ -1,6 +1,7 @@
 -- Records that are held back, one by one.
 use Rattle.std.proofs.Common.{◌≡◌, ◌+◌, ◌<◌, ℕ, zero, suc, Bool, true, false, ◌||◌, Option, Some, None, List, [], ◌∷◌, ◌++◌, length, get_or, drop, Result, Ok, Err, refl, sym, subst, ap, ◌∙◌, inl, inr, append_assoc, arith}
 use Rattle.std.specs.Prelude.{◌⊎◌, take, IsOk, IsSome}
+use mathlib.Core.Bool.{or-false}
 use Rattle.toll_plant.proofs.Common.{AllByRecursion, list_any, append-nil, take_more, list_any-append, false≢true, Verdict, Accepted, Repeated, Refused, History, IsLawful, Content, after, IsReading, Meaning, IsOver, IsReadThrough, ReadsThrough, IsKept, KeepFault, Memory, read_fault, StandsFor, CannotRead, Does, AsksOrders, AsksStock, AsksBatch, AsksTrace, AsksRecall, IsPlantAnswer, Judged, PlantAsked, PlantTold, after_plant, IsPlantHeld, IsToldOver, IsUnasked, IsVerdictOrMemory, IsValidDeed, asked_by, is_accepted as is_granted, plant_told, LeadsTo, Change, PlantCmd}
 use Rattle.toll_keep.specs.declared.overlay.Overlay.{Overlay}
 use Rattle.toll_answers.proofs.OwnReplies.{lawful-grow}
@@ -201,8 +202,4 @@ some_comes H (Some command) fault some = refl
 pub quiet_next : (told : List Outcome) (o : Outcome) (before made now : List Change) → now ≡ before ++ made → (list_any is_accepted told ≡ false → before ≡ []) → (is_accepted o ≡ false → made ≡ []) → list_any is_accepted (told ++ o ∷ []) ≡ false → now ≡ []
 quiet_next told o before made now is first one none =
     let both = none_in is_accepted told (o ∷ []) none in
-    is ∙ ap (λ changes. changes ++ made) (first both.0) ∙ one (none_one (is_accepted o) both.1)
-  where
-    none_one : (a : Bool) → (a || false) ≡ false → a ≡ false
-    none_one true e = e
-    none_one false e = refl
+    is ∙ ap (λ changes. changes ++ made) (first both.0) ∙ one (sym (or-false (is_accepted o)) ∙ both.1)

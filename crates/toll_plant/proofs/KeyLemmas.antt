@@ -2,12 +2,13 @@
 use Rattle.std.proofs.Common.{◌≡◌, ◌+◌, ◌≤◌, ℕ, Bool, true, false, ◌&&◌, cond, Option, Some, None, is_some, List, [], ◌∷◌, ◌++◌, refl, sym, ap, subst, ◌∙◌, arith}
 use Rattle.toll_plant.proofs.Common.{MatchBool, Bytes, same_bytes, Command, History, acts, movement_of, Verdict, Accepted, Repeated, Refused, IsLawful, grown, verdict, count_acts, found_once, PlantAsked, Does, AsksOrders, AsksStock, AsksBatch, AsksTrace, AsksRecall, CannotRead, Judged, IsPlantAnswer, after_plant, asked_by, PlantCmd}
 use Rattle.toll_history.specs.Laws.{has_this_key}
-use Rattle.toll_plant.specs.Outcomes.{judged, is_fault}
+use Rattle.toll_plant.specs.Outcomes.{is_fault}
 use Rattle.toll_plant.specs.Imports.{Comes, IsImport, commands_in}
 use Rattle.toll_plant.specs.Outcomes.{is_accepted}
 use Rattle.toll_plant.specs.ImportLaws.{AreImports, Imported, all_accepted, count_accepted, count_keyed, is_keyed, records_keyed}
 use Rattle.toll_plant.specs.declared.outcome.Outcome.{Outcome}
 use Rattle.toll_plant.specs.declared.outcome.Outcome.TheVariants as came
+use Rattle.toll_plant.proofs.StandingLemmas.{accepted_of}
 
 -- ---- a history keeps its movements
 
@@ -38,11 +39,6 @@ module _ (o key : Bytes) where
 
   -- ---- one record
 
-  accepted_alone : (v : Verdict) → came.Accepted ≡ judged v → v ≡ Accepted
-  accepted_alone Accepted is = refl
-  accepted_alone Repeated is = cc is
-  accepted_alone (Refused why) is = cc is
-
   -- an accepted record is one more
   accepted_adds : (asked : PlantAsked) (H : History) (v : Verdict) → IsPlantAnswer H asked (Judged v) → v ≡ Accepted → cond (records_keyed o key asked) 1 0 + keyed H ≤ keyed (after_plant H asked)
   accepted_adds (Does c) H v answer accepted =
@@ -67,7 +63,7 @@ module _ (o key : Bytes) where
       subst (λ H. counted None outcome + keyed old ≤ keyed H) (sym comes.1) (subst (λ x. counted None x + keyed old ≤ keyed old) (sym comes.0) (omega arith))
   comes_counted old new (Some command) (came.Fault fault) comes = no_more old old new comes (omega arith)
   comes_counted old new (Some command) came.Accepted comes =
-      subst (λ H. cond (records_keyed o key (asked_by command)) 1 0 + keyed old ≤ keyed H) (sym comes.3) (accepted_adds (asked_by command) old comes.0 comes.1 (accepted_alone comes.0 comes.2))
+      subst (λ H. cond (records_keyed o key (asked_by command)) 1 0 + keyed old ≤ keyed H) (sym comes.3) (accepted_adds (asked_by command) old comes.0 comes.1 (accepted_of comes.0 comes.2))
   comes_counted old new (Some command) came.Repeated comes = no_more old (after_plant old (asked_by command)) new comes.3 (kept_after (asked_by command) old)
   comes_counted old new (Some command) (came.Refused why) comes = no_more old (after_plant old (asked_by command)) new comes.3 (kept_after (asked_by command) old)
   comes_counted old new (Some command) came.BadRecord comes = no_more old (after_plant old (asked_by command)) new comes.3 (kept_after (asked_by command) old)

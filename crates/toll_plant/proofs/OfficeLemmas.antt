@@ -9,7 +9,10 @@ use Rattle.toll_plant.specs.declared.line.Line.{Line as CodeLine}
 use Rattle.toll_plant.specs.Shown.{shown, shown_argument}
 use Rattle.toll_plant.specs.Lines.{Argument, Line, is_plain, line_named, line_of, takes_values}
 use Rattle.toll_plant.specs.ClapWords.{are_new, are_sound, is_sound, line_shape, office, value_rule}
-use Rattle.toll_plant.proofs.RuleLemmas.{both, is_false, or_false, or_true, no_defaults, rules_are, rules_free, rules_in_order, rules_simple, the_rules}
+use mathlib.Core.Bool.{or-false, or-true}
+use Rattle.toll_base.proofs.Bools.{both}
+use Rattle.toll_base.proofs.Texts.{nat_eq-exact}
+use Rattle.toll_plant.proofs.RuleLemmas.{is_false, no_defaults, rules_are, rules_free, rules_in_order, rules_simple, the_rules}
 use Rattle.toll_plant.proofs.ValueLemmas.{AreUndashed, Fitting, Walked, all_found, all_given, all_there, all_walked, given_where_there, kept_by_defaults, value_rows}
 
 -- ---- the command, as `clap` builds it
@@ -69,7 +72,7 @@ found_on l x y false e = e
 found : (lines : List Line) (name : Text) → find (λ s. answers_to name (label_of s)) (map ready lines)
     ≡ option_map ready (line_named lines name)
 found [] name = refl
-found (l ∷ ls) name = rw (or_false (bytes_eq l.name name)) (found_on l _ _ (bytes_eq l.name name) (found ls name))
+found (l ∷ ls) name = rw (or-false (bytes_eq l.name name)) (found_on l _ _ (bytes_eq l.name name) (found ls name))
 
 abbrev label : Line → Text × List Text
 label l = (l.name, [])
@@ -82,7 +85,7 @@ named_on l x y false e = e
 named : (lines : List Line) (name : Text) → find (answers_to name) (map label_of (map ready lines))
     ≡ option_map label (line_named lines name)
 named [] name = refl
-named (l ∷ ls) name = rw (or_false (bytes_eq l.name name)) (named_on l _ _ (bytes_eq l.name name) (named ls name))
+named (l ∷ ls) name = rw (or-false (bytes_eq l.name name)) (named_on l _ _ (bytes_eq l.name name) (named ls name))
 
 -- a line that was found has the name, and is sound as all are
 record IsFound (l : Line) (name : Text) : Type 0 where
@@ -141,7 +144,7 @@ top_passes : (lines : List Line) (name : Text) (values : List Text) (l : Line) �
     → walk_passes top (heads lines) (walk_from nothing_held) (name ∷ values) ≡ true
 unfolding walk_passes walked
 top_passes lines name values l e =
-    rw (named lines name, e, or_true) (rest_passes top (heads lines) l.name [] values)
+    rw (named lines name, e, or-true) (rest_passes top (heads lines) l.name [] values)
 
 here : (lines : List Line) (name : Text) (l : Line) → IsFound l name → line_named lines name ≡ Some l
     → find (λ s. answers_to l.name (label_of s)) (map ready lines) ≡ Some (ready l)
@@ -156,15 +159,12 @@ undashed ((b ∷ word) ∷ words) plain =
     let parts = both (is_plain (b ∷ word)) (list_all is_plain words) plain in
     (is_false (b == 45) (both (not (b == 45)) _ parts.0).0, undashed words parts.1)
 
-pub same_number : (m n : ℕ) → (m == n) ≡ true → m ≡ n
-same_number m n e = grind (arith, nat_tests)
-
 fitting : (l : Line) (words : List Text) → is_sound l ≡ true → takes_values l words ≡ true → Fitting (ready l).rules l.values words
 fitting l words sound takes =
     let parts = both (length words == length l.values) (list_all is_plain words) takes in
     record {
       numbered = ready_rules l sound;
-      same = same_number (length words) (length l.values) parts.0;
+      same = nat_eq-exact (length words) (length l.values) parts.0;
       new = (both (are_new [] (map (λ a. a.name) l.values)) (nat_lt (length l.values) 100) sound).0;
       plain = undashed words parts.1;
       few = few_values l sound;

@@ -5,6 +5,8 @@ use Rattle.toll_plant.proofs.Common.{list_all, list_any, bytes_eq, append-nil, n
 use Rattle.std.specs.Option.{option_map_or}
 use Rattle.clap.specs.declared.builder.value_parser.Reading.TheVariants.{AsWritten}
 use Rattle.clap.specs.declared.parser.matches.ValueSource.TheVariants.{CommandLine}
+use Rattle.toll_base.proofs.Bools.{both}
+use Rattle.toll_standing.proofs.Unknown.{neither}
 use Rattle.toll_plant.specs.Lines.{Argument}
 use Rattle.toll_plant.specs.ClapWords.{are_new, value_rule}
 
@@ -13,22 +15,6 @@ use Rattle.toll_plant.specs.ClapWords.{are_new, value_rule}
 pub and_false : (b : Bool) → (b && false) ≡ false
 and_false true = refl
 and_false false = refl
-
-pub or_false : (b : Bool) → (b || false) ≡ b
-or_false true = refl
-or_false false = refl
-
-pub or_true : (b : Bool) → (b || true) ≡ true
-or_true true = refl
-or_true false = refl
-
-pub both : (a b : Bool) → (a && b) ≡ true → (a ≡ true) × (b ≡ true)
-both true b e = (refl, e)
-both false b e = absurd (cc e)
-
-pub neither : (a b : Bool) → (a || b) ≡ false → (a ≡ false) × (b ≡ false)
-neither true b e = absurd (cc e)
-neither false b e = (refl, e)
 
 pub is_false : (b : Bool) → not b ≡ true → b ≡ false
 is_false true e = absurd (cc e)
@@ -129,7 +115,7 @@ ids_append (q ∷ rules) r = ap (λ rest. q.id ∷ rest) (ids_append rules r)
 no_number : (i k : ℕ) → i + 1 ≤ k → (i == k) ≡ false
 no_number i k h = grind (arith, nat_tests)
 
-this_number : (i : ℕ) → (i == i) ≡ true
+pub this_number : (i : ℕ) → (i == i) ≡ true
 this_number i = grind (arith, nat_tests)
 
 known_behind : (front : List Rule) (i : ℕ) (arguments : List Argument) → Below front i

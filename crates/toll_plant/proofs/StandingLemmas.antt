@@ -1,14 +1,14 @@
 -- What stands is repeated, and what was accepted or repeated stands.
-use Rattle.std.proofs.Common.{◌≡◌, ℕ, Bool, true, false, ◌&&◌, ◌||◌, not, cond, Option, Some, None, is_some, List, [], ◌∷◌, refl, sym, ap, subst, ◌∙◌, inl, inr, arith}
-use Rattle.std.specs.Prelude.{◌==◌, option_map}
-use Rattle.toll_plant.proofs.Common.{MatchBool, AllByRecursion, list_any, not-false, nat_tests, false≢true, Bytes, same_bytes, house_name, is_some_where, MoveRow, Refusal, UnknownOwner, KeyConflict, Voided, Role, Record, Command, by, History, acts, adds_owner, owner_known, has_key, movement_of, movements, voided_in, voids_key, any_acts, void_of_actual, PlantAsked, Does, Judged, IsPlantAnswer, after_plant, asked_by, PlantCmd}
+use Rattle.std.proofs.Common.{◌≡◌, ℕ, Bool, true, false, ◌&&◌, ◌||◌, not, cond, Option, Some, None, is_some, List, [], ◌∷◌, refl, sym, ap, subst, ◌∙◌, inl, inr}
+use Rattle.std.specs.Prelude.{option_map}
+use Rattle.toll_plant.proofs.Common.{MatchBool, AllByRecursion, list_any, not-false, false≢true, Bytes, same_bytes, house_name, is_some_where, MoveRow, Refusal, UnknownOwner, KeyConflict, Voided, Record, Command, by, History, acts, adds_owner, owner_known, has_key, movement_of, movements, voided_in, voids_key, any_acts, void_of_actual, PlantAsked, Does, Judged, IsPlantAnswer, after_plant, asked_by, PlantCmd}
 use Rattle.toll_base.specs.Moves.{same_movement, same_what}
-use Rattle.toll_base.specs.Roles.{same_role}
 use Rattle.toll_base.specs.declared.movement.Move.{Move}
 use Rattle.toll_base.specs.declared.movement.Move.TheVariants.{Receive, Split, Ship, Scrap, Actual}
 use Rattle.toll_base.specs.declared.role.Role.TheVariants.{Consumed, Produced}
 use Rattle.toll_base.proofs.Bools.{and_is, both}
 use Rattle.toll_base.proofs.Texts.{same_bytes-exact, same_bytes-refl}
+use Rattle.toll_trace.proofs.Drawn.{same_role-refl}
 use Rattle.toll_history.specs.Tables.{Tables, tables_given}
 use Rattle.toll_history.specs.Verdict.{Verdict, Accepted, Repeated, Refused, Checks, IsLawful, checks, first_of, grown, is_actual, movement_checks, verdict}
 use Rattle.toll_history.proofs.Accepted.{none_applies}
@@ -20,6 +20,7 @@ use Rattle.toll_plant.specs.ImportLaws.{IsKept, IsRepeatedOrFault, IsStanding}
 use Rattle.toll_plant.specs.declared.outcome.Outcome.{Outcome}
 use Rattle.toll_plant.specs.declared.outcome.Outcome.TheVariants as came
 use Rattle.toll_plant.proofs.ImportRuns.{IsDeed, IsDeedOrNone}
+use Rattle.toll_plant.proofs.RuleLemmas.{this_number}
 
 -- ---- the owners of movements are known
 
@@ -41,22 +42,15 @@ all_known = each_move (λ H m. owner_known H m.0 ≡ true) (λ H o row lawful va
 
 -- ---- a movement equals itself
 
-same_number-refl : (n : ℕ) → (n == n) ≡ true
-same_number-refl n = grind (arith, nat_tests)
-
-same_role-refl : (r : Role) → same_role r r ≡ true
-same_role-refl Consumed = refl
-same_role-refl Produced = refl
-
 same_what-refl : (what : Move) → same_what what what ≡ true
 same_what-refl (Receive m l s) = rw (same_bytes-refl m, same_bytes-refl l, same_bytes-refl s) refl
 same_what-refl (Split l s t) = rw (same_bytes-refl l, same_bytes-refl s, same_bytes-refl t) refl
 same_what-refl (Ship l s) = rw (same_bytes-refl l, same_bytes-refl s) refl
 same_what-refl (Scrap l s) = rw (same_bytes-refl l, same_bytes-refl s) refl
-same_what-refl (Actual o n g r m l s) = rw (same_bytes-refl o, same_number-refl n, same_number-refl g, same_role-refl r, same_bytes-refl m, same_bytes-refl l.owner, same_bytes-refl l.lot, same_bytes-refl s) refl
+same_what-refl (Actual o n g r m l s) = rw (same_bytes-refl o, this_number n, this_number g, same_role-refl r, same_bytes-refl m, same_bytes-refl l.owner, same_bytes-refl l.lot, same_bytes-refl s) refl
 
 same_movement-refl : (row : MoveRow) → same_movement row row ≡ true
-same_movement-refl row = rw (same_bytes-refl row.key, same_what-refl row.what, same_number-refl row.amount, same_number-refl row.day) refl
+same_movement-refl row = rw (same_bytes-refl row.key, same_what-refl row.what, this_number row.amount, this_number row.day) refl
 
 -- ---- so what stands is repeated
 
@@ -213,7 +207,7 @@ verdict_alone H asked v w (inr unread) answer is never =
     let so : v ≡ Refused unread.0 = cc told in
     absurd (never unread.0 (sym is ∙ so))
 
-accepted_of : (v : Verdict) → came.Accepted ≡ judged v → v ≡ Accepted
+pub accepted_of : (v : Verdict) → came.Accepted ≡ judged v → v ≡ Accepted
 accepted_of Accepted is = refl
 accepted_of Repeated is = cc is
 accepted_of (Refused why) is = cc is

@@ -10,8 +10,9 @@ use Rattle.toll_plant.specs.Lines.{Argument, Line, line_named, line_of}
 use Rattle.toll_plant.specs.Readings.{number_within, or_refused, read_as, role_of, value_of, way_of}
 use Rattle.toll_plant.specs.Table.{actual_line, plant_lines}
 use Rattle.toll_plant.specs.Words.{command_read, command_with, in_front, values_read}
-use Rattle.toll_plant.proofs.OfficeLemmas.{line_taken, same_number}
-use Rattle.toll_plant.proofs.RuleLemmas.{both}
+use Rattle.toll_plant.proofs.OfficeLemmas.{line_taken}
+use Rattle.toll_base.proofs.Bools.{both}
+use Rattle.toll_base.proofs.Texts.{nat_eq-exact}
 use Rattle.toll_plant.specs.declared.argument.Given.{Given}
 use Rattle.toll_plant.specs.declared.argument.Given.TheVariants as given
 use Rattle.toll_plant.specs.declared.argument.Reading.{Reading}
@@ -148,5 +149,5 @@ pub asks : (words : List Bytes) (l : Line) → line_of plant_lines words ≡ Som
 asks [] l e = absurd (cc e)
 asks (name ∷ values) l e =
     let t = line_taken (line_named plant_lines name) values l e in
-    let same = same_number (length values) (length l.values) (both (length values == length l.values) _ t.1).0 in
+    let same = nat_eq-exact (length values) (length l.values) (both (length values == length l.values) _ t.1).0 in
     made l values (values_read l.values values) (found_has Makes (λ m. bytes_eq m.name name) plant_lines l every_line t.0) same refl

@@ -4,7 +4,10 @@ use Rattle.std.specs.Prelude.{◌||◌, ◌==◌, not, fold}
 use Rattle.toll_plant.proofs.Common.{list_all, list_any, bytes_eq, usize_max, Row, Rule, Text, Walk, arg_by_id, arg_by_index, first_of, has_row, nothing_held, settled, walk, walk_from, walked, with_default, Shape, is_given, settle_passes, walk_passes}
 use Rattle.toll_plant.specs.Lines.{Argument}
 use Rattle.toll_plant.specs.ClapWords.{are_new}
-use Rattle.toll_plant.proofs.RuleLemmas.{Knows, known, and_false, below_most, both, is_false, neither, or_true, same_text, the_rule, the_rules, used_first, value_row}
+use mathlib.Core.Bool.{or-true}
+use Rattle.toll_base.proofs.Bools.{both}
+use Rattle.toll_standing.proofs.Unknown.{neither}
+use Rattle.toll_plant.proofs.RuleLemmas.{Knows, known, and_false, below_most, is_false, same_text, the_rule, the_rules, used_first, value_row}
 
 -- no word begins with a dash or is empty
 abbrev pub AreUndashed : List Text → Type 0
@@ -135,7 +138,7 @@ walk_through s i rows a w (next ∷ rest) ((b ∷ word) ∷ words) knows new sam
 
 has_behind : (front : List Row) (name word : Text) (rows : List Row) → has_row name (front ++ value_row name word ∷ rows) ≡ true
 has_behind [] name word rows = rw (same_text name) refl
-has_behind (r ∷ front) name word rows = rw (has_behind front name word rows) (or_true (bytes_eq r.id name))
+has_behind (r ∷ front) name word rows = rw (has_behind front name word rows) (or-true (bytes_eq r.id name))
 
 pub all_there : (i : ℕ) (front : List Row) (arguments : List Argument) (words : List Text) → length words ≡ length arguments
     → list_all (λ (r : Rule). has_row r.id (front ++ value_rows arguments words)) (the_rules i arguments) ≡ true

@@ -3,7 +3,7 @@ ghost use Rattle.std.specs.Prelude.{◌≡◌};
 ghost use Rattle.toll_plant.specs.Commands.{command_from, limits_of, test_add};
 ghost use Rattle.toll_plant.specs.declared.command.CommandName.TheVariants as called;
 
-use crate::argument::Given;
+use crate::argument::{Given, from_values};
 use toll_base::{Limits, Name, RequirementRow, Value};
 use toll_desk::PlantCmd;
 
@@ -11,54 +11,31 @@ use toll_desk::PlantCmd;
 pub fn owner_add(values: &[Given]) -> Option<PlantCmd>
     ensures { result ≡ command_from called.OwnerAdd values.now }
 {
-    match *values {
-        [Given::Name(owner), Given::OwnerKey(key)] => Some(PlantCmd::OwnerAdd { owner, key }),
-        _ => None,
-    }
+    from_values!(values => OwnerAdd { owner: Name, key: OwnerKey })
 }
 
 /// A unit.
 pub fn unit_add(values: &[Given]) -> Option<PlantCmd>
     ensures { result ≡ command_from called.UnitAdd values.now }
 {
-    match *values {
-        [Given::Name(unit)] => Some(PlantCmd::UnitAdd { unit }),
-        _ => None,
-    }
+    from_values!(values => UnitAdd { unit: Name })
 }
 
 /// A material of an owner, with its measure.
 pub fn material_add(values: &[Given]) -> Option<PlantCmd>
     ensures { result ≡ command_from called.MaterialAdd values.now }
 {
-    match *values {
-        [
-            Given::Name(owner),
-            Given::Name(material),
-            Given::Measure(measure),
-        ] => Some(PlantCmd::MaterialAdd {
-            owner,
-            material,
-            measure,
-        }),
-        _ => None,
-    }
+    from_values!(values => MaterialAdd { owner: Name, material: Name, measure: Measure })
 }
 
 /// A test of a material: [`PlantCmd::Unread`] where the low limit is above the high one.
 pub fn test_add(values: &[Given]) -> Option<PlantCmd>
     ensures { result ≡ command_from called.TestAdd values.now }
 {
-    match *values {
-        [
-            Given::Name(owner),
-            Given::Name(material),
-            Given::Name(test),
-            Given::Value(low),
-            Given::Value(high),
-        ] => Some(test_within(owner, material, test, low, high)),
-        _ => None,
-    }
+    from_values!(
+        values, [owner: Name, material: Name, test: Name, low: Value, high: Value]
+            => test_within(owner, material, test, low, high)
+    )
 }
 
 // The test with these limits, or why they are none.
@@ -80,44 +57,18 @@ fn test_within(owner: Name, material: Name, test: Name, low: Value, high: Value)
 pub fn recipe_add(values: &[Given]) -> Option<PlantCmd>
     ensures { result ≡ command_from called.RecipeAdd values.now }
 {
-    match *values {
-        [
-            Given::Name(owner),
-            Given::Name(recipe),
-            Given::Segment(segments),
-        ] => Some(PlantCmd::RecipeAdd {
-            owner,
-            recipe,
-            segments,
-        }),
-        _ => None,
-    }
+    from_values!(values => RecipeAdd { owner: Name, recipe: Name, segments: Segment })
 }
 
 /// A requirement of a recipe.
 pub fn require(values: &[Given]) -> Option<PlantCmd>
     ensures { result ≡ command_from called.Require values.now }
 {
-    match *values {
-        [
-            Given::Name(owner),
-            Given::Name(recipe),
-            Given::Segment(segment),
-            Given::Role(role),
-            Given::Name(source),
-            Given::Name(material),
-            Given::Amount(amount),
-        ] => Some(PlantCmd::Require {
-            owner,
-            row: RequirementRow {
-                recipe,
-                segment,
-                role,
-                source,
-                material,
-                amount,
-            },
-        }),
-        _ => None,
-    }
+    from_values!(
+        values, [
+            owner: Name, recipe: Name, segment: Segment, role: Role, source: Name, material: Name, amount: Amount
+        ] => PlantCmd::Require {
+            owner, row: RequirementRow { recipe, segment, role, source, material, amount }
+        }
+    )
 }

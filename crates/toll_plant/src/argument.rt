@@ -49,6 +49,21 @@ pub enum Given {
     Value(Value),
 }
 
+// What these values make: `None` where they aren't values of these kinds, in this order.
+macro_rules! from_values {
+    ($values:expr, [$($value:ident: $kind:ident),*] => $made:expr) => {
+        match *$values {
+            [$($crate::argument::Given::$kind($value)),*] => Some($made),
+            _ => None,
+        }
+    };
+    ($values:expr => $command:ident { $($value:ident: $kind:ident),* }) => {
+        from_values!($values, [$($value: $kind),*] => toll_desk::PlantCmd::$command { $($value),* })
+    };
+}
+
+pub(crate) use from_values;
+
 // The greatest size of a value of a test.
 const MOST_SIZE: u64 = 1_000_000_000;
 

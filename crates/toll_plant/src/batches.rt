@@ -3,85 +3,40 @@ ghost use Rattle.std.specs.Prelude.{◌≡◌};
 ghost use Rattle.toll_plant.specs.Commands.{command_from};
 ghost use Rattle.toll_plant.specs.declared.command.CommandName.TheVariants as called;
 
-use crate::argument::Given;
+use crate::argument::{Given, from_values};
 use toll_desk::PlantCmd;
 
 /// An order of HOUSE.
 pub fn order(values: &[Given]) -> Option<PlantCmd>
     ensures { result ≡ command_from called.Order values.now }
 {
-    match *values {
-        [
-            Given::Name(order),
-            Given::Name(recipe),
-            Given::BatchNo(batches),
-        ] => Some(PlantCmd::Order {
-            order,
-            recipe,
-            batches,
-        }),
-        _ => None,
-    }
+    from_values!(values => Order { order: Name, recipe: Name, batches: BatchNo })
 }
 
 /// An order that is cancelled.
 pub fn cancel(values: &[Given]) -> Option<PlantCmd>
     ensures { result ≡ command_from called.Cancel values.now }
 {
-    match *values {
-        [Given::Name(order)] => Some(PlantCmd::Cancel { order }),
-        _ => None,
-    }
+    from_values!(values => Cancel { order: Name })
 }
 
 /// The next batch of an order, on a unit.
 pub fn open(values: &[Given]) -> Option<PlantCmd>
     ensures { result ≡ command_from called.Open values.now }
 {
-    match *values {
-        [Given::Name(owner), Given::Name(order), Given::Name(unit)] => Some(PlantCmd::Open {
-            owner,
-            order,
-            unit,
-        }),
-        _ => None,
-    }
+    from_values!(values => Open { owner: Name, order: Name, unit: Name })
 }
 
 /// A command to a batch.
 pub fn do_batch(values: &[Given]) -> Option<PlantCmd>
     ensures { result ≡ command_from called.Do values.now }
 {
-    match *values {
-        [
-            Given::Name(owner),
-            Given::Name(order),
-            Given::BatchNo(number),
-            Given::StateCommand(command),
-        ] => Some(PlantCmd::Do {
-            owner,
-            order,
-            number,
-            command,
-        }),
-        _ => None,
-    }
+    from_values!(values => Do { owner: Name, order: Name, number: BatchNo, command: StateCommand })
 }
 
 /// A batch that is closed.
 pub fn close(values: &[Given]) -> Option<PlantCmd>
     ensures { result ≡ command_from called.Close values.now }
 {
-    match *values {
-        [
-            Given::Name(owner),
-            Given::Name(order),
-            Given::BatchNo(number),
-        ] => Some(PlantCmd::Close {
-            owner,
-            order,
-            number,
-        }),
-        _ => None,
-    }
+    from_values!(values => Close { owner: Name, order: Name, number: BatchNo })
 }

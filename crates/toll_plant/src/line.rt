@@ -10,266 +10,109 @@ pub struct Line<'a> {
     pub values: &'a [Argument<'a>],
 }
 
-const OWNER: Argument<'static> = Argument {
-    name: "OWNER",
-    reading: Reading::Name,
-};
+// A value of this name, which is read so.
+macro_rules! argument {
+    ($name:literal, $reading:ident) => {
+        Argument {
+            name: $name,
+            reading: Reading::$reading,
+        }
+    };
+}
 
-const OWNER_KEY: Argument<'static> = Argument {
-    name: "KEY",
-    reading: Reading::OwnerKey,
-};
+// The words of this command.
+macro_rules! line_of {
+    ($name:literal => $command:ident, $($value:ident)*) => {
+        Line {
+            name: $name,
+            command: CommandName::$command,
+            values: &[$($value),*],
+        }
+    };
+}
 
-const UNIT: Argument<'static> = Argument {
-    name: "UNIT",
-    reading: Reading::Name,
-};
+const OWNER: Argument<'static> = argument!("OWNER", Name);
 
-const MATERIAL: Argument<'static> = Argument {
-    name: "MATERIAL",
-    reading: Reading::Name,
-};
+const OWNER_KEY: Argument<'static> = argument!("KEY", OwnerKey);
 
-const MEASURE: Argument<'static> = Argument {
-    name: "MEASURE",
-    reading: Reading::Measure,
-};
+const UNIT: Argument<'static> = argument!("UNIT", Name);
 
-const TEST: Argument<'static> = Argument {
-    name: "TEST",
-    reading: Reading::Name,
-};
+const MATERIAL: Argument<'static> = argument!("MATERIAL", Name);
 
-const LOW: Argument<'static> = Argument {
-    name: "LOW",
-    reading: Reading::Value,
-};
+const MEASURE: Argument<'static> = argument!("MEASURE", Measure);
 
-const HIGH: Argument<'static> = Argument {
-    name: "HIGH",
-    reading: Reading::Value,
-};
+const TEST: Argument<'static> = argument!("TEST", Name);
 
-const RECIPE: Argument<'static> = Argument {
-    name: "RECIPE",
-    reading: Reading::Name,
-};
+const LOW: Argument<'static> = argument!("LOW", Value);
 
-const SEGMENTS: Argument<'static> = Argument {
-    name: "SEGMENTS",
-    reading: Reading::Segment,
-};
+const HIGH: Argument<'static> = argument!("HIGH", Value);
 
-const SEGMENT: Argument<'static> = Argument {
-    name: "SEGMENT",
-    reading: Reading::Segment,
-};
+const RECIPE: Argument<'static> = argument!("RECIPE", Name);
 
-const USE: Argument<'static> = Argument {
-    name: "USE",
-    reading: Reading::Role,
-};
+const SEGMENTS: Argument<'static> = argument!("SEGMENTS", Segment);
 
-const SOURCE: Argument<'static> = Argument {
-    name: "SOURCE",
-    reading: Reading::Name,
-};
+const SEGMENT: Argument<'static> = argument!("SEGMENT", Segment);
 
-const AMOUNT: Argument<'static> = Argument {
-    name: "AMOUNT",
-    reading: Reading::Amount,
-};
+const USE: Argument<'static> = argument!("USE", Role);
 
-const ORDER: Argument<'static> = Argument {
-    name: "ORDER",
-    reading: Reading::Name,
-};
+const SOURCE: Argument<'static> = argument!("SOURCE", Name);
 
-const BATCHES: Argument<'static> = Argument {
-    name: "BATCHES",
-    reading: Reading::BatchNo,
-};
+const AMOUNT: Argument<'static> = argument!("AMOUNT", Amount);
 
-const BATCH: Argument<'static> = Argument {
-    name: "BATCH",
-    reading: Reading::BatchNo,
-};
+const ORDER: Argument<'static> = argument!("ORDER", Name);
 
-const COMMAND: Argument<'static> = Argument {
-    name: "COMMAND",
-    reading: Reading::StateCommand,
-};
+const BATCHES: Argument<'static> = argument!("BATCHES", BatchNo);
 
-const KEY: Argument<'static> = Argument {
-    name: "KEY",
-    reading: Reading::Name,
-};
+const BATCH: Argument<'static> = argument!("BATCH", BatchNo);
 
-const LOT: Argument<'static> = Argument {
-    name: "LOT",
-    reading: Reading::Name,
-};
+const COMMAND: Argument<'static> = argument!("COMMAND", StateCommand);
 
-const SUBLOT: Argument<'static> = Argument {
-    name: "SUBLOT",
-    reading: Reading::Name,
-};
+const KEY: Argument<'static> = argument!("KEY", Name);
 
-const TARGET: Argument<'static> = Argument {
-    name: "TARGET",
-    reading: Reading::Name,
-};
+const LOT: Argument<'static> = argument!("LOT", Name);
 
-const DAY: Argument<'static> = Argument {
-    name: "DAY",
-    reading: Reading::Day,
-};
+const SUBLOT: Argument<'static> = argument!("SUBLOT", Name);
 
-const VALUE: Argument<'static> = Argument {
-    name: "VALUE",
-    reading: Reading::Value,
-};
+const TARGET: Argument<'static> = argument!("TARGET", Name);
 
-const LOT_OWNER: Argument<'static> = Argument {
-    name: "LOT-OWNER",
-    reading: Reading::Name,
-};
+const DAY: Argument<'static> = argument!("DAY", Day);
 
-const WAY: Argument<'static> = Argument {
-    name: "WAY",
-    reading: Reading::Way,
-};
+const VALUE: Argument<'static> = argument!("VALUE", Value);
+
+const LOT_OWNER: Argument<'static> = argument!("LOT-OWNER", Name);
+
+const WAY: Argument<'static> = argument!("WAY", Way);
 
 /// An actual of a batch.
-pub const ACTUAL: Line<'static> = Line {
-    name: "actual",
-    command: CommandName::Actual,
-    values: &[
-        KEY, OWNER, ORDER, BATCH, SEGMENT, USE, MATERIAL, LOT_OWNER, LOT, SUBLOT, AMOUNT, DAY,
-    ],
-};
+pub const ACTUAL: Line<'static> = line_of!(
+    "actual" => Actual, KEY OWNER ORDER BATCH SEGMENT USE MATERIAL LOT_OWNER LOT SUBLOT AMOUNT DAY
+);
 
 /// Every command of the plant.
 pub static LINES: [Line<'static>; 25] = [
-    Line {
-        name: "owner-add",
-        command: CommandName::OwnerAdd,
-        values: &[OWNER, OWNER_KEY],
-    },
-    Line {
-        name: "unit-add",
-        command: CommandName::UnitAdd,
-        values: &[UNIT],
-    },
-    Line {
-        name: "material-add",
-        command: CommandName::MaterialAdd,
-        values: &[OWNER, MATERIAL, MEASURE],
-    },
-    Line {
-        name: "test-add",
-        command: CommandName::TestAdd,
-        values: &[OWNER, MATERIAL, TEST, LOW, HIGH],
-    },
-    Line {
-        name: "recipe-add",
-        command: CommandName::RecipeAdd,
-        values: &[OWNER, RECIPE, SEGMENTS],
-    },
-    Line {
-        name: "require",
-        command: CommandName::Require,
-        values: &[OWNER, RECIPE, SEGMENT, USE, SOURCE, MATERIAL, AMOUNT],
-    },
-    Line {
-        name: "order",
-        command: CommandName::Order,
-        values: &[ORDER, RECIPE, BATCHES],
-    },
-    Line {
-        name: "cancel",
-        command: CommandName::Cancel,
-        values: &[ORDER],
-    },
-    Line {
-        name: "open",
-        command: CommandName::Open,
-        values: &[OWNER, ORDER, UNIT],
-    },
-    Line {
-        name: "do",
-        command: CommandName::Do,
-        values: &[OWNER, ORDER, BATCH, COMMAND],
-    },
-    Line {
-        name: "close",
-        command: CommandName::Close,
-        values: &[OWNER, ORDER, BATCH],
-    },
-    Line {
-        name: "receive",
-        command: CommandName::Receive,
-        values: &[OWNER, KEY, MATERIAL, LOT, SUBLOT, AMOUNT, DAY],
-    },
-    Line {
-        name: "split",
-        command: CommandName::Split,
-        values: &[OWNER, KEY, LOT, SUBLOT, TARGET, AMOUNT, DAY],
-    },
-    Line {
-        name: "ship",
-        command: CommandName::Ship,
-        values: &[OWNER, KEY, LOT, SUBLOT, AMOUNT, DAY],
-    },
-    Line {
-        name: "scrap",
-        command: CommandName::Scrap,
-        values: &[OWNER, KEY, LOT, SUBLOT, AMOUNT, DAY],
-    },
-    Line {
-        name: "result",
-        command: CommandName::Result,
-        values: &[OWNER, LOT, TEST, VALUE, DAY],
-    },
-    Line {
-        name: "release",
-        command: CommandName::Release,
-        values: &[LOT],
-    },
-    Line {
-        name: "reject",
-        command: CommandName::Reject,
-        values: &[LOT],
-    },
+    line_of!("owner-add" => OwnerAdd, OWNER OWNER_KEY),
+    line_of!("unit-add" => UnitAdd, UNIT),
+    line_of!("material-add" => MaterialAdd, OWNER MATERIAL MEASURE),
+    line_of!("test-add" => TestAdd, OWNER MATERIAL TEST LOW HIGH),
+    line_of!("recipe-add" => RecipeAdd, OWNER RECIPE SEGMENTS),
+    line_of!("require" => Require, OWNER RECIPE SEGMENT USE SOURCE MATERIAL AMOUNT),
+    line_of!("order" => Order, ORDER RECIPE BATCHES),
+    line_of!("cancel" => Cancel, ORDER),
+    line_of!("open" => Open, OWNER ORDER UNIT),
+    line_of!("do" => Do, OWNER ORDER BATCH COMMAND),
+    line_of!("close" => Close, OWNER ORDER BATCH),
+    line_of!("receive" => Receive, OWNER KEY MATERIAL LOT SUBLOT AMOUNT DAY),
+    line_of!("split" => Split, OWNER KEY LOT SUBLOT TARGET AMOUNT DAY),
+    line_of!("ship" => Ship, OWNER KEY LOT SUBLOT AMOUNT DAY),
+    line_of!("scrap" => Scrap, OWNER KEY LOT SUBLOT AMOUNT DAY),
+    line_of!("result" => Result, OWNER LOT TEST VALUE DAY),
+    line_of!("release" => Release, LOT),
+    line_of!("reject" => Reject, LOT),
     ACTUAL,
-    Line {
-        name: "void",
-        command: CommandName::Void,
-        values: &[OWNER, KEY],
-    },
-    Line {
-        name: "orders",
-        command: CommandName::Orders,
-        values: &[OWNER],
-    },
-    Line {
-        name: "stock",
-        command: CommandName::Stock,
-        values: &[OWNER],
-    },
-    Line {
-        name: "batch",
-        command: CommandName::Batch,
-        values: &[OWNER, ORDER, BATCH],
-    },
-    Line {
-        name: "trace",
-        command: CommandName::Trace,
-        values: &[OWNER, LOT, WAY],
-    },
-    Line {
-        name: "recall",
-        command: CommandName::Recall,
-        values: &[OWNER, LOT],
-    },
+    line_of!("void" => Void, OWNER KEY),
+    line_of!("orders" => Orders, OWNER),
+    line_of!("stock" => Stock, OWNER),
+    line_of!("batch" => Batch, OWNER ORDER BATCH),
+    line_of!("trace" => Trace, OWNER LOT WAY),
+    line_of!("recall" => Recall, OWNER LOT),
 ];

@@ -3,7 +3,7 @@ ghost use Rattle.std.specs.Prelude.{◌≡◌};
 ghost use Rattle.toll_plant.specs.Commands.{command_from};
 ghost use Rattle.toll_plant.specs.declared.command.CommandName.TheVariants as called;
 
-use crate::argument::Given;
+use crate::argument::{Given, from_values};
 use crate::taken::Taken;
 use toll_desk::PlantCmd;
 
@@ -11,100 +11,36 @@ use toll_desk::PlantCmd;
 pub fn receive(values: &[Given]) -> Option<PlantCmd>
     ensures { result ≡ command_from called.Receive values.now }
 {
-    match *values {
-        [
-            Given::Name(owner),
-            Given::Name(key),
-            Given::Name(material),
-            Given::Name(lot),
-            Given::Name(sublot),
-            Given::Amount(amount),
-            Given::Day(day),
-        ] => Some(PlantCmd::Receive {
-            owner,
-            key,
-            material,
-            lot,
-            sublot,
-            amount,
-            day,
-        }),
-        _ => None,
-    }
+    from_values!(values => Receive {
+        owner: Name, key: Name, material: Name, lot: Name, sublot: Name, amount: Amount, day: Day
+    })
 }
 
 /// Material put into another sublot.
 pub fn split(values: &[Given]) -> Option<PlantCmd>
     ensures { result ≡ command_from called.Split values.now }
 {
-    match *values {
-        [
-            Given::Name(owner),
-            Given::Name(key),
-            Given::Name(lot),
-            Given::Name(sublot),
-            Given::Name(target),
-            Given::Amount(amount),
-            Given::Day(day),
-        ] => Some(PlantCmd::Split {
-            owner,
-            key,
-            lot,
-            sublot,
-            target,
-            amount,
-            day,
-        }),
-        _ => None,
-    }
+    from_values!(values => Split {
+        owner: Name, key: Name, lot: Name, sublot: Name, target: Name, amount: Amount, day: Day
+    })
 }
 
 /// Material shipped out of a sublot.
 pub fn ship(values: &[Given]) -> Option<PlantCmd>
     ensures { result ≡ command_from called.Ship values.now }
 {
-    match *values {
-        [
-            Given::Name(owner),
-            Given::Name(key),
-            Given::Name(lot),
-            Given::Name(sublot),
-            Given::Amount(amount),
-            Given::Day(day),
-        ] => Some(PlantCmd::Ship {
-            owner,
-            key,
-            lot,
-            sublot,
-            amount,
-            day,
-        }),
-        _ => None,
-    }
+    from_values!(values => Ship {
+        owner: Name, key: Name, lot: Name, sublot: Name, amount: Amount, day: Day
+    })
 }
 
 /// Material scrapped out of a sublot.
 pub fn scrap(values: &[Given]) -> Option<PlantCmd>
     ensures { result ≡ command_from called.Scrap values.now }
 {
-    match *values {
-        [
-            Given::Name(owner),
-            Given::Name(key),
-            Given::Name(lot),
-            Given::Name(sublot),
-            Given::Amount(amount),
-            Given::Day(day),
-        ] => Some(PlantCmd::Scrap {
-            owner,
-            key,
-            lot,
-            sublot,
-            amount,
-            day,
-        }),
-        _ => None,
-    }
+    from_values!(values => Scrap {
+        owner: Name, key: Name, lot: Name, sublot: Name, amount: Amount, day: Day
+    })
 }
 
 /// An actual of a batch.
@@ -143,8 +79,5 @@ pub fn actual(values: &[Given]) -> Option<PlantCmd>
 pub fn void(values: &[Given]) -> Option<PlantCmd>
     ensures { result ≡ command_from called.Void values.now }
 {
-    match *values {
-        [Given::Name(owner), Given::Name(key)] => Some(PlantCmd::Void { owner, key }),
-        _ => None,
-    }
+    from_values!(values => Void { owner: Name, key: Name })
 }

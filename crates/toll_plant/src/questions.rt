@@ -3,7 +3,7 @@ ghost use Rattle.std.specs.Prelude.{◌≡◌};
 ghost use Rattle.toll_plant.specs.Commands.{command_from};
 ghost use Rattle.toll_plant.specs.declared.command.CommandName.TheVariants as called;
 
-use crate::argument::Given;
+use crate::argument::{Given, from_values};
 use toll_base::LotId;
 use toll_desk::PlantCmd;
 
@@ -11,61 +11,35 @@ use toll_desk::PlantCmd;
 pub fn orders(values: &[Given]) -> Option<PlantCmd>
     ensures { result ≡ command_from called.Orders values.now }
 {
-    match *values {
-        [Given::Name(owner)] => Some(PlantCmd::Orders { owner }),
-        _ => None,
-    }
+    from_values!(values => Orders { owner: Name })
 }
 
 /// What an owner has in stock.
 pub fn stock(values: &[Given]) -> Option<PlantCmd>
     ensures { result ≡ command_from called.Stock values.now }
 {
-    match *values {
-        [Given::Name(owner)] => Some(PlantCmd::Stock { owner }),
-        _ => None,
-    }
+    from_values!(values => Stock { owner: Name })
 }
 
 /// A batch of an order.
 pub fn batch(values: &[Given]) -> Option<PlantCmd>
     ensures { result ≡ command_from called.Batch values.now }
 {
-    match *values {
-        [
-            Given::Name(owner),
-            Given::Name(order),
-            Given::BatchNo(number),
-        ] => Some(PlantCmd::Batch {
-            owner,
-            order,
-            number,
-        }),
-        _ => None,
-    }
+    from_values!(values => Batch { owner: Name, order: Name, number: BatchNo })
 }
 
 /// The lots that a lot is joined to.
 pub fn trace(values: &[Given]) -> Option<PlantCmd>
     ensures { result ≡ command_from called.Trace values.now }
 {
-    match *values {
-        [Given::Name(owner), Given::Name(lot), Given::Way(way)] => Some(PlantCmd::Trace {
-            lot: LotId { owner, lot },
-            way,
-        }),
-        _ => None,
-    }
+    from_values!(
+        values, [owner: Name, lot: Name, way: Way] => PlantCmd::Trace { lot: LotId { owner, lot }, way }
+    )
 }
 
 /// The lots that a lot went into.
 pub fn recall(values: &[Given]) -> Option<PlantCmd>
     ensures { result ≡ command_from called.Recall values.now }
 {
-    match *values {
-        [Given::Name(owner), Given::Name(lot)] => Some(PlantCmd::Recall {
-            lot: LotId { owner, lot },
-        }),
-        _ => None,
-    }
+    from_values!(values, [owner: Name, lot: Name] => PlantCmd::Recall { lot: LotId { owner, lot } })
 }

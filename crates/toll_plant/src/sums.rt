@@ -7,6 +7,16 @@ use crate::outcome::Outcome;
 use crate::report::ImportLine;
 use std::fmt;
 
+// How many of the lines tell such an outcome.
+macro_rules! count {
+    ($lines:expr, $outcome:pat) => {
+        $lines
+            .iter()
+            .filter(|line| matches!(line.outcome, $outcome))
+            .count()
+    };
+}
+
 /// How many of some lines tell each outcome.
 #[derive(Clone, Copy)]
 pub struct Sums {
@@ -60,44 +70,29 @@ impl fmt::Display for Sums {
 fn accepted(lines: &[ImportLine]) -> usize
     ensures { result ≡ count_by (λ l. is_accepted l.outcome) lines.now }
 {
-    lines
-        .iter()
-        .filter(|l| matches!(l.outcome, Outcome::Accepted))
-        .count()
+    count!(lines, Outcome::Accepted)
 }
 
 fn repeated(lines: &[ImportLine]) -> usize
     ensures { result ≡ count_by (λ l. is_repeated l.outcome) lines.now }
 {
-    lines
-        .iter()
-        .filter(|l| matches!(l.outcome, Outcome::Repeated))
-        .count()
+    count!(lines, Outcome::Repeated)
 }
 
 fn refused(lines: &[ImportLine]) -> usize
     ensures { result ≡ count_by (λ l. is_refused l.outcome) lines.now }
 {
-    lines
-        .iter()
-        .filter(|l| matches!(l.outcome, Outcome::Refused(_)))
-        .count()
+    count!(lines, Outcome::Refused(_))
 }
 
 fn bad(lines: &[ImportLine]) -> usize
     ensures { result ≡ count_by (λ l. is_bad l.outcome) lines.now }
 {
-    lines
-        .iter()
-        .filter(|l| matches!(l.outcome, Outcome::BadRecord))
-        .count()
+    count!(lines, Outcome::BadRecord)
 }
 
 fn faults(lines: &[ImportLine]) -> usize
     ensures { result ≡ count_by (λ l. is_fault l.outcome) lines.now }
 {
-    lines
-        .iter()
-        .filter(|l| matches!(l.outcome, Outcome::Fault(_)))
-        .count()
+    count!(lines, Outcome::Fault(_))
 }

@@ -2,7 +2,7 @@
 ghost use Rattle.std.specs.Prelude.{◌≡◌};
 ghost use Rattle.toll_plant.specs.Commands.{taken_from};
 
-use crate::argument::Given;
+use crate::argument::{Given, from_values};
 use toll_base::{Amount, Day, LotId, Name, Role};
 
 /// What was used or made in a segment of a batch, and when.
@@ -21,24 +21,10 @@ impl Taken {
     pub fn from_values(values: &[Given]) -> Option<Self>
         ensures { result ≡ taken_from values.now }
     {
-        match *values {
-            [
-                Given::Role(role),
-                Given::Name(material),
-                Given::Name(owner),
-                Given::Name(lot),
-                Given::Name(sublot),
-                Given::Amount(amount),
-                Given::Day(day),
-            ] => Some(Taken {
-                role,
-                material,
-                lot: LotId { owner, lot },
-                sublot,
-                amount,
-                day,
-            }),
-            _ => None,
-        }
+        from_values!(
+            values, [
+                role: Role, material: Name, owner: Name, lot: Name, sublot: Name, amount: Amount, day: Day
+            ] => Taken { role, material, lot: LotId { owner, lot }, sublot, amount, day }
+        )
     }
 }
