@@ -1,40 +1,23 @@
 -- Words that several proofs here use.
-pub use Rattle.std.proofs.lemmas.Bool.{and_right, false_from_ne_true, leb-true, or_left, or_parts, or_right}
+pub use Rattle.std.proofs.lemmas.Bool.{leb-true}
 pub use Rattle.std.proofs.lemmas.Cmp.{tied_itself}
 pub use Rattle.std.proofs.lemmas.List.{at_drop_all, at_drop_more}
-pub use Rattle.std.specs.Cmp.Lexicographic.{nat_list_cmp_total}
-pub use Rattle.std.specs.List.{AllByRecursion, count_by, list_any}
+pub use Rattle.std.specs.List.{count_by}
 unfoldable pub use Rattle.std.specs.List.Sorted.{IsStrictlySortedBy}
 pub use Rattle.std.specs.List.Sorted.{IsSortedByKey}
-pub use Rattle.std.specs.Option.{option_map, option_map_or, unwrap_or}
-pub use Rattle.std.specs.Ordering.{is_eq, is_gt, is_lt, nat_cmp, ordering_reverse, ordering_then}
+pub use Rattle.std.specs.Ordering.{is_gt, is_lt, ordering_reverse}
 pub use Rattle.std.specs.declared.cmp.Ordering.{Ordering}
 pub use Rattle.std.specs.declared.cmp.Ordering.TheVariants.{Equal, Greater, Less}
-pub use Rattle.toll_base.proofs.Bools.{and_is, both}
-pub use Rattle.toll_base.proofs.KeyOrder.{row_at-put_row}
-pub use Rattle.toll_base.proofs.PutTables.{any-known, any-new, count-new, length-known, length-new}
-pub use Rattle.toll_base.proofs.Texts.{is_eq-nat_cmp, is_eq-then, nat_eq-exact, pair_cmp_total, result_cmp_total, same_bytes-exact, same_bytes-refl, same_bytes-symm}
-pub use Rattle.toll_base.specs.Bytes.{Bytes, bytes_cmp, same_bytes}
-pub use Rattle.toll_base.specs.Keys.{pair_cmp, result_cmp}
-pub use Rattle.toll_base.specs.Lots.{lot_id, same_lot}
-pub use Rattle.toll_base.specs.Slice.{Slice, lot_at, material_at, move_at, result_at, sublot_at, test_at, with_row}
-pub use Rattle.toll_base.specs.SliceRules.{KeepsRules, batch_has_room, row_fits}
+pub use Rattle.toll_base.proofs.PutTables.{length-known}
+pub use Rattle.toll_base.proofs.Texts.{is_eq-nat_cmp, result_cmp_total}
+pub use Rattle.toll_base.specs.Keys.{result_cmp}
+pub use Rattle.toll_base.specs.Slice.{result_at, test_at}
 unfoldable pub use Rattle.toll_base.specs.Table.{row_at}
-pub use Rattle.toll_base.specs.Table.{IsInKeyOrder}
-pub use Rattle.toll_base.specs.Words.{count, is_some_where, none_or, or_else, total, where_so}
-pub use Rattle.toll_base.specs.declared.decision.Change.TheVariants.{Put}
-pub use Rattle.toll_base.specs.declared.decision.Decision.{Decision}
-pub use Rattle.toll_base.specs.declared.lot.Disposition.{Disposition}
-pub use Rattle.toll_base.specs.declared.lot.Disposition.TheVariants.{Quarantined, Rejected, Released}
-pub use Rattle.toll_base.specs.declared.lot.Origin.TheVariants.{Receipts}
-pub use Rattle.toll_base.specs.declared.movement.Move.TheVariants.{Actual, Receive, Scrap, Ship, Split}
-pub use Rattle.toll_base.specs.declared.movement.MoveRow.{MoveRow}
-pub use Rattle.toll_base.specs.declared.rows.LotRow.{LotRow}
+pub use Rattle.toll_base.specs.Words.{none_or}
 pub use Rattle.toll_base.specs.declared.rows.ResultRow.{ResultRow}
-pub use Rattle.toll_base.specs.declared.rows.Row.{Row}
-pub use Rattle.toll_base.specs.declared.rows.Row.TheVariants.{Lot, Material, Move, Result, Sublot, Test}
-pub use Rattle.toll_base.specs.declared.rows.SublotRow.{SublotRow}
+pub use Rattle.toll_base.specs.declared.rows.Row.TheVariants.{Material, Move, Test}
 pub use Rattle.toll_history.proofs.Accepted.{none_applies, refused_first, rest_accept}
+pub use Rattle.toll_history.proofs.Common.{Actual, AllByRecursion, Decision, Put, Receipts, Receive, Rejected, Released, Row, Scrap, Ship, Split, SublotRow, and_is, and_right, any-known, any-new, batch_has_room, both, count, count-new, false_from_ne_true, is_eq, is_eq-then, length-new, material_at, move_at, nat_cmp, nat_eq-exact, nat_list_cmp_total, option_map_or, or_else, or_left, or_parts, or_right, ordering_then, pair_cmp_total, row_at-put_row, row_fits, same_bytes-exact, same_bytes-refl, same_bytes-symm, same_lot, with_row}
 pub use Rattle.toll_history.proofs.Decided.{Grows, LeavesOthers, RowsFit, decides, keeps_rules, less_of, put_rows, verdict_is}
 pub use Rattle.toll_history.proofs.Grown.{put_first, tables-others, tables-own, tables_after}
 pub use Rattle.toll_history.proofs.Options.{known_passes, some_where}
@@ -49,12 +32,12 @@ pub use Rattle.toll_history.proofs.Within.{bounded_owes}
 unfoldable pub use Rattle.toll_history.specs.Amounts.{on_hand, shipped}
 pub use Rattle.toll_history.specs.Amounts.{adds_to, amounts, ships_from, uses_up}
 pub use Rattle.toll_history.specs.Bounds.{sublot_bounds}
-pub use Rattle.toll_history.specs.Command.{Action, AddMaterial, AddTest, Record, RecordResult, Reject, Release, Void, by}
-pub use Rattle.toll_history.specs.Decision.{Decides, DecisionKeepsRules, IsDecided}
-pub use Rattle.toll_history.specs.Dispositions.{count_results_of, disposition_of, is_bad, is_outside, latest_value, rejects, result_of, result_row, stays_released}
-pub use Rattle.toll_history.specs.History.{History, acts}
+pub use Rattle.toll_history.specs.Command.{Action, Record, Void}
+pub use Rattle.toll_history.specs.Dispositions.{count_results_of, disposition_of, is_bad, latest_value, rejects, result_of, result_row, stays_released}
+pub use Rattle.toll_history.specs.History.{acts}
 unfoldable pub use Rattle.toll_history.specs.Movements.{stock}
-pub use Rattle.toll_history.specs.Movements.{Made, Movement, brings_into, brought, has_key, lot_brought, lot_made, made_by, makes_lot, makes_sublot, material_used, moved_by, movement_of, movements, standing, standing_after, sublot_known, taken, takes_from, voided_in}
-pub use Rattle.toll_history.specs.Tables.{IsRowsOf, Tables, count_results_in, latest_in, lot_row, sublot_row, tables_given, tables_of}
-pub use Rattle.toll_history.specs.Verdict.{Accepted, Checks, IsLawful, IsValid, amount_in, first_of, is_actual, is_quarantined, is_released, key_checks, material_checks, movement_checks, receive_checks, reject_checks, release_checks, result_checks, scrap_checks, ship_checks, split_checks, test_checks, verdict}
+pub use Rattle.toll_history.specs.Movements.{Made, Movement, brings_into, brought, has_key, lot_brought, made_by, makes_lot, makes_sublot, material_used, moved_by, movement_of, movements, standing, standing_after, taken, takes_from, voided_in}
+pub use Rattle.toll_history.specs.Tables.{lot_row, sublot_row, tables_given}
+pub use Rattle.toll_history.specs.Verdict.{Accepted, IsValid, is_actual, is_quarantined, movement_checks, verdict}
+pub use Rattle.toll_stock.specs.Common.{AddMaterial, AddTest, Bytes, Checks, Decides, DecisionKeepsRules, Disposition, History, IsDecided, IsInKeyOrder, IsLawful, IsRowsOf, KeepsRules, Lot, LotRow, MoveRow, Quarantined, RecordResult, Reject, Release, Result, Slice, Sublot, Tables, amount_in, by, bytes_cmp, count_results_in, first_of, is_outside, is_released, is_some_where, key_checks, latest_in, list_any, lot_at, lot_id, lot_made, material_checks, option_map, pair_cmp, receive_checks, reject_checks, release_checks, result_checks, same_bytes, scrap_checks, ship_checks, split_checks, sublot_at, sublot_known, tables_of, test_checks, total, unwrap_or, where_so}
 pub use mathlib.Core.Bool.{false≢true}

@@ -1,7 +1,8 @@
 -- What is in the sublots of a slice, over a history whose rows it has.
-use Rattle.std.proofs.Common.{◌≡◌, ◌<◌, ◌≤◌, ◌^◌, ℕ, Bool, true, false, cond, nat_le, refl, sym, ap, ◌∙◌, arith}
+use Rattle.std.proofs.Common.{◌≡◌, ◌<◌, ◌^◌, Bool, true, false, cond, nat_le, refl, sym, ap, ◌∙◌, arith}
 use Rattle.toll_stock.proofs.Common.{leb-true, option_map, Bytes, same_bytes, pair_cmp, IsInKeyOrder, KeepsRules, where_so, none_or, History, lot_id, sublot_known, stock, Slice, sublot_at, Tables, IsRowsOf, SublotRow, pair_cmp_total}
 use Rattle.toll_stock.specs.LotTotals.{on_hand_in}
+use Rattle.toll_stock.proofs.ShippedLots.{amount_small}
 use Rattle.toll_stock.proofs.Sums.{along, each_found, total_bounded}
 
 map_where : {X Y : Type 0} (f : X → Y) (b : Bool) (x : X) → option_map f (where_so b x) ≡ where_so b (f x)
@@ -14,15 +15,11 @@ stock_at H s there lot sublot =
     ap (λ (t : Tables). option_map (λ (row : SublotRow). row.amount) (t.sublot (lot, sublot))) there
     ∙ map_where (λ (row : SublotRow). row.amount) (sublot_known H (lot_id s.owner lot) sublot) (record { lot = lot; sublot = sublot; amount = stock H (lot_id s.owner lot) sublot })
 
-counted_small : (b : Bool) (n most : ℕ) → n ≤ most → cond b n 0 ≤ most
-counted_small true n most le = le
-counted_small false n most le = omega arith
-
 -- what is in the sublots of a lot fits 64 bits
 pub on_hand_small : (s : Slice) → KeepsRules s → IsInKeyOrder pair_cmp (λ row. (row.lot, row.sublot)) s.sublots → (lot : Bytes) → on_hand_in s lot < 2 ^ 64
 on_hand_small s keeps ordered lot =
     let sum = total_bounded (λ row. cond (same_bytes row.lot lot) row.amount 0) 20000000000000 s.sublots
-    (along _ _ (λ row found. counted_small (same_bytes row.lot lot) row.amount 20000000000000
+    (along _ _ (λ row found. amount_small (same_bytes row.lot lot) row.amount 20000000000000
     (leb-true row.amount 20000000000000 (ap (none_or (λ (r : SublotRow). nat_le r.amount 20000000000000)) (sym found) ∙ keeps.amounts (row.lot, row.sublot))))
     s.sublots (each_found pair_cmp pair_cmp_total (λ row. (row.lot, row.sublot)) s.sublots ordered)) in
     let rows = keeps.sublots in

@@ -1,7 +1,7 @@
 -- Sums over lists, and over rows in the order of their keys.
 use Rattle.std.proofs.Common.{◌≡◌, ℕ, suc, ◌+◌, ◌*◌, ◌<◌, ◌≤◌, Bool, true, false, ◌&&◌, cond, Some, List, [], ◌∷◌, length, map, filter, drop, drop-cons, get_or, refl, sym, ap, ◌∙◌, arith}
-use Rattle.toll_stock.proofs.Common.{false≢true, AllByRecursion, IsStrictlySortedBy, option_map_or, is_eq, ordering_reverse, Ordering, Less, Equal, Greater, tied_itself, IsInKeyOrder, row_at, total, count, total-alike, total-kept}
-use Rattle.std.specs.Cmp.{IsTotalOrder}
+use Rattle.toll_stock.proofs.Common.{AllByRecursion, IsStrictlySortedBy, option_map_or, is_eq, ordering_reverse, Ordering, Less, Equal, tied_itself, IsInKeyOrder, row_at, total, count, total-alike, total-kept}
+use Rattle.std.specs.Cmp.{IsTotalOrder, Equal-is}
 
 -- ---- sums
 
@@ -56,11 +56,6 @@ along P Q f (x ∷ xs) h = (f x h.0, along P Q f xs h.1)
 
 -- ---- rows in the order of their keys
 
-is_equal : (r : Ordering) → is_eq r ≡ true → r ≡ Equal
-is_equal Less h = absurd (false≢true h)
-is_equal Equal h = refl
-is_equal Greater h = absurd (false≢true h)
-
 module _ {K R : Type 0} (cmp : K → K → Ordering) (o : IsTotalOrder cmp) (key : R → K) where
   later_differs : (a b : K) → cmp a b ≡ Less → is_eq (cmp b a) ≡ false
   later_differs a b less = ap is_eq (o.antisymm b a ∙ ap ordering_reverse less)
@@ -89,6 +84,6 @@ module _ {K R : Type 0} (cmp : K → K → Ordering) (o : IsTotalOrder cmp) (key
   total_at f [] k ordered = refl
   total_at f (x ∷ xs) k ordered =
       elim (is_eq (cmp k (key x))) as (λ b. is_eq (cmp k (key x)) ≡ b → cond b (f x) 0 + total (λ r. cond (is_eq (cmp k (key r))) (f r) 0) xs ≡ option_map_or f (cond b (Some x) (row_at cmp key xs k)) 0) [
-        | true ↦ λ tied. omega (arith, none_later f k (key x) xs (is_equal _ tied) ordered.0)
+        | true ↦ λ tied. omega (arith, none_later f k (key x) xs ((Equal-is _).0 tied) ordered.0)
         | false ↦ λ apart. omega (arith, total_at f xs k ordered.1)
       ] refl

@@ -4,14 +4,15 @@ use Rattle.toll_stock.proofs.Common.{option_map, Bytes, where_so, History, lot_i
 use Rattle.toll_stock.specs.LotTotals.{totals_given}
 use Rattle.toll_stock.specs.declared.stock.Totals.{Totals}
 
-is_mapped : {X Y : Type 0} (f : X → Y) (x : Option X) → is_some (option_map f x) ≡ is_some x
-is_mapped f None = refl
-is_mapped f (Some x) = refl
+-- what is there stays so under a function
+pub some_mapped : {X Y : Type 0} (f : X → Y) (x : Option X) → is_some (option_map f x) ≡ is_some x
+some_mapped f None = refl
+some_mapped f (Some x) = refl
 
 module _ (H : History) (s : Slice) (there : IsRowsOf H s) (lot : Bytes) where
   -- the slice has the lots that were made
   is_known : is_some (lot_made H (lot_id s.owner lot)) ≡ is_some (lot_at s lot)
-  is_known = sym (ap (λ (t : Tables). is_some (t.lot lot)) there ∙ is_mapped _ (lot_made H (lot_id s.owner lot)))
+  is_known = sym (ap (λ (t : Tables). is_some (t.lot lot)) there ∙ some_mapped _ (lot_made H (lot_id s.owner lot)))
 
   abbrev totals : Totals
   totals = record { on_hand = on_hand H (lot_id s.owner lot); shipped = shipped H (lot_id s.owner lot) }

@@ -1,3 +1,4 @@
+pub mod Common
 pub mod LotRows
 pub mod LotTotals
 pub mod Plans

@@ -1,15 +1,7 @@
 -- The rows that a decision on a lot puts.
 use Rattle.std.specs.Prelude.{ℕ, ◌+◌, ℤ, ◌&&◌, if◌then◌else◌, Option, Some, None, List, [], ◌∷◌}
-use Rattle.toll_base.specs.Bytes.{Bytes}
-use Rattle.toll_history.specs.Dispositions.{is_outside}
-use Rattle.toll_history.specs.Tables.{Tables}
-use Rattle.toll_history.specs.Verdict.{is_released}
-use Rattle.toll_base.specs.Words.{is_some_where}
-use Rattle.toll_base.specs.declared.lot.Disposition.{Disposition}
-use Rattle.toll_base.specs.declared.lot.Disposition.TheVariants.{Quarantined}
-use Rattle.toll_base.specs.declared.rows.LotRow.{LotRow}
+use Rattle.toll_stock.specs.Common.{Bytes, is_outside, Tables, is_released, is_some_where, Disposition, Quarantined, LotRow, Lot, Result}
 use Rattle.toll_base.specs.declared.rows.Row.{Row}
-use Rattle.toll_base.specs.declared.rows.Row.TheVariants.{Lot, Result}
 
 -- the row of a lot that is there, with another disposition
 abbrev pub given_disposition : (LotRow → Disposition) → Option LotRow → List Row

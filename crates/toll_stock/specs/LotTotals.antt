@@ -1,17 +1,10 @@
 -- How much of a lot is on hand, and how much was shipped.
 use Rattle.std.specs.Prelude.{◌≡◌, ℕ, Bool, if◌then◌else◌, Option, Some, None, is_some, List}
 use Rattle.std.specs.BTreeMap.{get}
-use Rattle.std.specs.Option.{unwrap_or}
-use Rattle.toll_base.specs.Bytes.{Bytes, bytes_cmp, same_bytes}
-use Rattle.toll_base.specs.Words.{total, is_some_where, where_so}
-use Rattle.toll_history.specs.Amounts.{on_hand, shipped}
-use Rattle.toll_history.specs.History.{History}
-use Rattle.toll_history.specs.Movements.{lot_made, sublot_known, stock}
-use Rattle.toll_base.specs.Slice.{Slice, lot_at}
+use Rattle.toll_stock.specs.Common.{unwrap_or, Bytes, bytes_cmp, same_bytes, total, is_some_where, where_so, on_hand, shipped, History, lot_made, sublot_known, stock, Slice, lot_at, MoveRow}
 use Rattle.toll_base.specs.declared.lot.LotId.{LotId}
 use Rattle.toll_base.specs.declared.movement.Move.{Move}
 use Rattle.toll_base.specs.declared.movement.Move.TheVariants.{Ship}
-use Rattle.toll_base.specs.declared.movement.MoveRow.{MoveRow}
 use Rattle.toll_base.specs.declared.rows.SublotRow.{SublotRow}
 use Rattle.toll_stock.specs.declared.shipped.Shipped.{Shipped}
 use Rattle.toll_stock.specs.declared.stock.Totals.{Totals}

@@ -1,25 +1,14 @@
 -- The plan of each decision on lots: its checks, and the rows that it puts where none applies.
 use Rattle.std.specs.Prelude.{ℕ, ℤ, ◌++◌, ◌&&◌, Bool, not, nat_lt, if◌then◌else◌, Some, [], ◌∷◌}
-use Rattle.toll_base.specs.Bytes.{Bytes, same_bytes}
-use Rattle.toll_base.specs.Slice.{Slice}
-use Rattle.toll_base.specs.Words.{is_some_where}
+use Rattle.toll_stock.specs.Common.{Bytes, same_bytes, Slice, is_some_where, Disposition, Quarantined, MoveRow, LotRow, Lot, Sublot, IsDecided, is_outside, puts, gained, lost, Tables, tables_of, latest_in, Checks, amount_in, is_released, key_checks, movements_full, receive_checks, result_checks, split_checks}
 use Rattle.toll_base.specs.declared.decision.Change.TheVariants.{Put}
 use Rattle.toll_base.specs.declared.decision.Decision.{Decision}
 use Rattle.toll_base.specs.declared.limits.Limits.{Limits}
-use Rattle.toll_base.specs.declared.lot.Disposition.{Disposition}
-use Rattle.toll_base.specs.declared.lot.Disposition.TheVariants.{Quarantined}
 use Rattle.toll_base.specs.declared.lot.Origin.TheVariants.{Receipts}
-use Rattle.toll_base.specs.declared.movement.MoveRow.{MoveRow}
 use Rattle.toll_base.specs.declared.refusal.Refusal.TheVariants.{LimitReached, NotEnough}
-use Rattle.toll_base.specs.declared.rows.LotRow.{LotRow}
-use Rattle.toll_base.specs.declared.rows.Row.TheVariants.{Lot, Move, Sublot}
+use Rattle.toll_base.specs.declared.rows.Row.TheVariants.{Move}
 use Rattle.toll_base.specs.declared.rows.TestRow.{TestRow}
 use Rattle.toll_history.specs.Bounds.{sublot_bounds}
-use Rattle.toll_history.specs.Decision.{IsDecided}
-use Rattle.toll_history.specs.Dispositions.{is_outside}
-use Rattle.toll_history.specs.Puts.{puts, gained, lost}
-use Rattle.toll_history.specs.Tables.{Tables, tables_of, latest_in}
-use Rattle.toll_history.specs.Verdict.{Checks, amount_in, is_released, key_checks, movements_full, receive_checks, result_checks, split_checks}
 use Rattle.toll_stock.specs.LotRows.{given_disposition, result_rows}
 
 -- the material is the owner's, the lot takes it, and there is room

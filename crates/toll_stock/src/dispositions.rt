@@ -1,16 +1,7 @@
 //! Dispositions of lots.
-ghost use Rattle.std.specs.List.{list_any};
 ghost use Rattle.std.specs.Prelude.{◌≡◌, not, ◌&&◌, map, Some, [], IfOk};
-ghost use Rattle.toll_base.specs.Changes.{changes_of};
-ghost use Rattle.toll_base.specs.SliceRules.{KeepsRules};
-ghost use Rattle.toll_base.specs.Words.{is_some_where};
+ghost use Rattle.toll_stock.specs.Common.{list_any, changes_of, KeepsRules, is_some_where, Release, Reject, by, IsDecided, Decides, DecisionKeepsRules, is_outside, PutsOnly, tables_of, latest_in, release_checks, reject_checks, tests_open};
 ghost use Rattle.toll_base.specs.declared.decision.Change.TheVariants as Change;
-ghost use Rattle.toll_history.specs.Command.{Release, Reject, by};
-ghost use Rattle.toll_history.specs.Decision.{IsDecided, Decides, DecisionKeepsRules};
-ghost use Rattle.toll_history.specs.Dispositions.{is_outside};
-ghost use Rattle.toll_history.specs.OwnChanges.{PutsOnly};
-ghost use Rattle.toll_history.specs.Tables.{tables_of, latest_in};
-ghost use Rattle.toll_history.specs.Verdict.{release_checks, reject_checks, tests_open};
 ghost use Rattle.toll_stock.specs.LotRows.{given_disposition};
 ghost use Rattle.toll_stock.specs.Plans.{IsDispositionPlan, is_open_test};
 

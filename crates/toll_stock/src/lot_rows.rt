@@ -1,9 +1,7 @@
 //! The rows of one lot, which stand together where rows are in the order of their keys.
 ghost use Rattle.std.specs.Prelude.{◌≡◌, filter};
 ghost use Rattle.std.specs.List.Sorted.{IsSortedByKey};
-ghost use Rattle.toll_base.specs.Bytes.{Bytes, bytes_cmp, same_bytes};
-ghost use Rattle.toll_base.specs.Keys.{pair_cmp};
-ghost use Rattle.toll_base.specs.Table.{IsInKeyOrder};
+ghost use Rattle.toll_stock.specs.Common.{Bytes, bytes_cmp, same_bytes, pair_cmp, IsInKeyOrder};
 
 use toll_base::{Name, ResultRow, Slice, SublotRow};
 

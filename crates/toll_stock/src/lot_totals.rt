@@ -1,10 +1,6 @@
 //! The totals of an owner's lots.
 ghost use Rattle.std.specs.Prelude.{◌≡◌, IfOk};
-ghost use Rattle.toll_base.specs.Lots.{lot_id};
-ghost use Rattle.toll_history.specs.Amounts.{shipped};
-ghost use Rattle.toll_history.specs.History.{History};
-ghost use Rattle.toll_history.specs.Tables.{IsRowsOf};
-ghost use Rattle.toll_history.specs.Verdict.{IsLawful};
+ghost use Rattle.toll_stock.specs.Common.{lot_id, shipped, History, IsRowsOf, IsLawful};
 ghost use Rattle.toll_stock.specs.LotTotals.{totals_in, totals_given, shipped_in};
 
 use crate::shipped::Shipped;

@@ -1,16 +1,8 @@
 //! Tests of materials.
 ghost use Rattle.std.specs.Prelude.{◌≡◌, [], ◌∷◌, IfOk};
-ghost use Rattle.std.specs.List.{list_any};
-ghost use Rattle.toll_base.specs.Bytes.{same_bytes};
-ghost use Rattle.toll_base.specs.Changes.{changes_of};
-ghost use Rattle.toll_base.specs.SliceRules.{KeepsRules};
+ghost use Rattle.toll_stock.specs.Common.{list_any, same_bytes, changes_of, KeepsRules, AddTest, by, IsDecided, Decides, DecisionKeepsRules, PutsOnly, tables_of, test_checks};
 ghost use Rattle.toll_base.specs.declared.decision.Change.TheVariants as Change;
 ghost use Rattle.toll_base.specs.declared.rows.Row.TheVariants as Row;
-ghost use Rattle.toll_history.specs.Command.{AddTest, by};
-ghost use Rattle.toll_history.specs.Decision.{IsDecided, Decides, DecisionKeepsRules};
-ghost use Rattle.toll_history.specs.OwnChanges.{PutsOnly};
-ghost use Rattle.toll_history.specs.Tables.{tables_of};
-ghost use Rattle.toll_history.specs.Verdict.{test_checks};
 
 use std::alloc::{AllocError, Global};
 use toll_base::{Change, Decision, Limits, MOST_TESTS, Name, Refusal, Row, Slice, TestRow};

@@ -1,14 +1,8 @@
 //! Materials.
 ghost use Rattle.std.specs.Prelude.{◌≡◌, [], ◌∷◌, IfOk};
-ghost use Rattle.toll_base.specs.Changes.{changes_of};
-ghost use Rattle.toll_base.specs.SliceRules.{KeepsRules};
+ghost use Rattle.toll_stock.specs.Common.{changes_of, KeepsRules, AddMaterial, by, IsDecided, Decides, DecisionKeepsRules, PutsOnly, tables_of, material_checks};
 ghost use Rattle.toll_base.specs.declared.decision.Change.TheVariants as Change;
 ghost use Rattle.toll_base.specs.declared.rows.Row.TheVariants as Row;
-ghost use Rattle.toll_history.specs.Command.{AddMaterial, by};
-ghost use Rattle.toll_history.specs.Decision.{IsDecided, Decides, DecisionKeepsRules};
-ghost use Rattle.toll_history.specs.OwnChanges.{PutsOnly};
-ghost use Rattle.toll_history.specs.Tables.{tables_of};
-ghost use Rattle.toll_history.specs.Verdict.{material_checks};
 
 use std::alloc::{AllocError, Global};
 use toll_base::{

@@ -1,9 +1,6 @@
 //! What the decisions on movements have in common.
 ghost use Rattle.std.specs.Prelude.{◌≡◌, ◌-◌, ◌++◌, Some, IfOk};
-ghost use Rattle.toll_history.specs.Decision.{IsDecided, said};
-ghost use Rattle.toll_history.specs.Puts.{lost};
-ghost use Rattle.toll_history.specs.Tables.{tables_of};
-ghost use Rattle.toll_history.specs.Verdict.{Checks, first_of, key_checks, scrap_checks};
+ghost use Rattle.toll_stock.specs.Common.{IsDecided, said, lost, tables_of, Checks, first_of, key_checks, scrap_checks};
 ghost use Rattle.toll_stock.specs.Plans.{enough_checks};
 
 use std::alloc::{AllocError, Global};

@@ -1,14 +1,8 @@
 //! Results of tests.
 ghost use Rattle.std.specs.Prelude.{◌≡◌, ◌≤◌, ◌&&◌, if◌then◌else◌, [], ◌∷◌, length, IfOk};
-ghost use Rattle.toll_base.specs.Changes.{changes_of};
-ghost use Rattle.toll_base.specs.SliceRules.{KeepsRules};
+ghost use Rattle.toll_stock.specs.Common.{changes_of, KeepsRules, RecordResult, by, IsDecided, Decides, DecisionKeepsRules, is_outside, PutsOnly, count_results_in};
 ghost use Rattle.toll_base.specs.declared.decision.Change.TheVariants as Change;
 ghost use Rattle.toll_base.specs.declared.rows.Row.TheVariants as Row;
-ghost use Rattle.toll_history.specs.Command.{RecordResult, by};
-ghost use Rattle.toll_history.specs.Decision.{IsDecided, Decides, DecisionKeepsRules};
-ghost use Rattle.toll_history.specs.Dispositions.{is_outside};
-ghost use Rattle.toll_history.specs.OwnChanges.{PutsOnly};
-ghost use Rattle.toll_history.specs.Tables.{count_results_in};
 ghost use Rattle.toll_stock.specs.Plans.{IsResultPlan, lot_after};
 
 use crate::lot_rows::results_of;

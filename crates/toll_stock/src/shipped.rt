@@ -1,6 +1,6 @@
 //! What was shipped of each lot.
 ghost use Rattle.std.specs.Prelude.{◌≡◌, ◌+◌, ◌<◌, ◌^◌, if◌then◌else◌, IfOk, OnOk};
-ghost use Rattle.toll_base.specs.Bytes.{Bytes};
+ghost use Rattle.toll_stock.specs.Common.{Bytes};
 ghost use Rattle.toll_stock.specs.LotTotals.{AreShippedIn, amount_of, is_shipment_of, lot_shipped};
 
 use std::alloc::{AllocError, Global};

@@ -1,15 +1,6 @@
 //! What is on hand.
-ghost use Rattle.std.specs.Option.{option_map};
 ghost use Rattle.std.specs.Prelude.{◌≡◌};
-ghost use Rattle.toll_base.specs.Keys.{pair_cmp};
-ghost use Rattle.toll_base.specs.Lots.{lot_id};
-ghost use Rattle.toll_base.specs.Slice.{sublot_at};
-ghost use Rattle.toll_base.specs.Table.{IsInKeyOrder};
-ghost use Rattle.toll_history.specs.Amounts.{on_hand};
-ghost use Rattle.toll_history.specs.History.{History};
-ghost use Rattle.toll_history.specs.Movements.{stock};
-ghost use Rattle.toll_history.specs.Tables.{IsRowsOf};
-ghost use Rattle.toll_history.specs.Verdict.{IsLawful};
+ghost use Rattle.toll_stock.specs.Common.{option_map, pair_cmp, lot_id, sublot_at, IsInKeyOrder, on_hand, History, stock, IsRowsOf, IsLawful};
 ghost use Rattle.toll_stock.specs.LotTotals.{stock_given, on_hand_in};
 
 use crate::lot_rows::sublots_of;

@@ -1,13 +1,7 @@
 //! Shipments and scrapping.
 ghost use Rattle.std.specs.Prelude.{◌≡◌, ◌-◌, IfOk};
-ghost use Rattle.toll_base.specs.Changes.{changes_of};
-ghost use Rattle.toll_base.specs.SliceRules.{KeepsRules};
+ghost use Rattle.toll_stock.specs.Common.{changes_of, KeepsRules, moves, Decides, DecisionKeepsRules, said, PutsOnly, tables_of, Checks, first_of, ship_checks};
 ghost use Rattle.toll_base.specs.declared.movement.Move.TheVariants as Move;
-ghost use Rattle.toll_history.specs.Command.{moves};
-ghost use Rattle.toll_history.specs.Decision.{Decides, DecisionKeepsRules, said};
-ghost use Rattle.toll_history.specs.OwnChanges.{PutsOnly};
-ghost use Rattle.toll_history.specs.Tables.{tables_of};
-ghost use Rattle.toll_history.specs.Verdict.{Checks, first_of, ship_checks};
 ghost use Rattle.toll_stock.specs.Plans.{IsWithdrawalPlan};
 
 use crate::movements::{check_enough, check_taking, decide_movement, taken_from};

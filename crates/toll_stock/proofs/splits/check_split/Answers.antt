@@ -1,4 +1,4 @@
-use Rattle.std.proofs.Common.{[], ◌∷◌, Some, ap, ◌∙◌}
+use Rattle.std.proofs.Common.{◌∷◌, Some, ap, ◌∙◌}
 use Rattle.toll_base.specs.declared.refusal.Refusal.TheVariants.{SameSublot}
 use Rattle.toll_stock.proofs.Common.{sublot_bounds, tables_of, first_of, scrap_checks, split_checks, refused_first}
 use Rattle.toll_stock.proofs.splits.check_split.Goals as goal
