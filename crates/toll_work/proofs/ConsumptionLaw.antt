@@ -1,7 +1,11 @@
 -- What a consumption owes, of a lot of the batch's owner or of HOUSE.
 use Rattle.std.proofs.Common.{◌≡◌, ℕ, ◌-◌, true, false, ◌&&◌, cond, is_some, is_none, List, [], ◌∷◌, ◌++◌, refl, sym, ap, subst, ◌∙◌}
-use Rattle.toll_work.proofs.Common.{or_parts, or_left, Bytes, same_bytes, house_name, Record, by, History, lot_id, takes_from, Slice, with_row, KeepsRules, row_fits, count_actuals, Tables, tables_of, tables_given, sublot_row, IsRowsOf, after_changes, changes_of, IsDecided, ChangesKeepRules, DecidesWith, DecisionKeepsRules, PutsOnlyWith, Accepted, Checks, first_of, key_checks, actual_checks, consumed_checks, tables_for, amount_in, verdict, IsLawful, IsValid, Change, Put, Decision, LotId, Role, Consumed, MoveRow, Actual, SublotRow, Sublot, Move, applies, none_applies, verdict_is, right_over, rules_by, taken_in, left_out, keeps_put, keeps_skip, less_of, tables_for_are, accepted_passes, move_fits, with_move, with_sublot, is_at, put_move, put_sublot, put_went, went_out, moved_elsewhere, taken_from_other, tables-untaken, move_room, less_fit, same_bytes-exact, same_bytes-refl, same_bytes-symm}
+use Rattle.toll_work.proofs.Common.{or_parts, or_left, Bytes, same_bytes, house_name, Record, by, History, lot_id, takes_from, Slice, with_row, KeepsRules, row_fits, count_actuals, Tables, tables_of, tables_given, sublot_row, IsRowsOf, after_changes, changes_of, IsDecided, DecidesWith, DecisionKeepsRules, PutsOnlyWith, Accepted, Checks, first_of, key_checks, actual_checks, consumed_checks, tables_for, amount_in, verdict, IsLawful, IsValid, Change, Put, Decision, LotId, Role, Consumed, MoveRow, Actual, SublotRow, Sublot, Move, applies, none_applies, verdict_is, right_over, rules_by, keeps_put, keeps_skip, less_of, tables_for_are, accepted_passes, move_fits, with_move, with_sublot, is_at, put_move, put_sublot, put_went, went_out, moved_elsewhere, taken_from_other, tables-untaken, move_room, less_fit, same_bytes-exact, same_bytes-refl, same_bytes-symm, sublot_named}
+use Rattle.toll_work.specs.ActualPlans.{IsConsumptionPlan}
+use Rattle.toll_work.specs.declared.actuals.Use.{Use}
 use Rattle.toll_work.proofs.MadeChanges.{each_accepted, puts_consumed}
+use Rattle.toll_work.proofs.OwedWith.{Owes}
+use Rattle.toll_work.proofs.TwoPuts.{after_both, keeps_one, tables_of_other}
 
 module _ (key order : Bytes) (number segment : ℕ) (material : Bytes) (lot : LotId) (sublot : Bytes) (amount day : ℕ) where
   abbrev consumption : MoveRow
@@ -37,55 +41,42 @@ module _ (key order : Bytes) (number segment : ℕ) (material : Bytes) (lot : Lo
 
     -- what is left in the sublot, over tables that are the history's
     module _ (u : Tables) (is : u ≡ tables_given H lot.owner) (s : Slice) (there : IsRowsOf H s) where
-      abbrev Done : Type 0
-      Done = IsRowsOf (by o (Record consumption) ∷ H) (after_changes (changes o u) s)
+      abbrev Done : Slice → Type 0
+      Done = IsRowsOf (by o (Record consumption) ∷ H)
 
-      own_and_its : same_bytes o s.owner ≡ true → same_bytes lot.owner s.owner ≡ true → Done
+      own_and_its : same_bytes o s.owner ≡ true → same_bytes lot.owner s.owner ≡ true → Done (with_row (with_row s (Move consumption)) (Sublot (left u)))
       own_and_its own its =
           let e = same_bytes-exact o s.owner own in
           let mine : lot.owner ≡ o = same_bytes-exact lot.owner s.owner its ∙ sym e in
-          subst (IsRowsOf (by o (Record consumption) ∷ H))
-          (sym (taken_in o (Move consumption) (Put lot.owner (Sublot (left u)) ∷ []) s own ∙ taken_in lot.owner (Sublot (left u)) [] (with_row s (Move consumption)) its))
-          (put_went s consumption (left u) (key_new s (sym e) there)
+          put_went s consumption (left u) (key_new s (sym e) there)
           ∙ (λ i. with_sublot (left ((is ∙ ap (tables_given H) mine) i)) (with_move consumption ((there ∙ ap (tables_given H) (sym e)) i)))
           ∙ sym (went_out H o consumption lawful valid accepted lot.lot sublot ((λ l. refl), refl, refl) refl
           (ap (λ w. is_none (sublot_row H w (lot.lot, sublot))) (sym mine) ∙ sublot_there)
           (λ k. refl) (λ k. takes o o k (ap (same_bytes o) mine ∙ same_bytes-refl o)))
-          ∙ ap (tables_given (by o (Record consumption) ∷ H)) e)
+          ∙ ap (tables_given (by o (Record consumption) ∷ H)) e
 
-      own_alone : same_bytes o s.owner ≡ true → same_bytes lot.owner s.owner ≡ false → Done
+      own_alone : same_bytes o s.owner ≡ true → same_bytes lot.owner s.owner ≡ false → Done (with_row s (Move consumption))
       own_alone own its =
           let e = same_bytes-exact o s.owner own in
-          subst (IsRowsOf (by o (Record consumption) ∷ H))
-          (sym (taken_in o (Move consumption) (Put lot.owner (Sublot (left u)) ∷ []) s own ∙ left_out lot.owner (Sublot (left u)) [] (with_row s (Move consumption)) its))
-          (put_move s consumption (key_new s (sym e) there)
+          put_move s consumption (key_new s (sym e) there)
           ∙ (λ i. with_move consumption ((there ∙ ap (tables_given H) (sym e)) i))
           ∙ sym (moved_elsewhere H o consumption lawful valid accepted ((λ l. refl), refl, refl) refl (λ k. refl) (λ k. takes_none o o k (same_bytes-symm o lot.owner ∙ ap (same_bytes lot.owner) e ∙ its)))
-          ∙ ap (tables_given (by o (Record consumption) ∷ H)) e)
+          ∙ ap (tables_given (by o (Record consumption) ∷ H)) e
 
-      its_alone : same_bytes o s.owner ≡ false → same_bytes lot.owner s.owner ≡ true → Done
+      its_alone : same_bytes o s.owner ≡ false → same_bytes lot.owner s.owner ≡ true → Done (with_row s (Sublot (left u)))
       its_alone other its =
           let mine = same_bytes-exact lot.owner s.owner its in
-          subst (IsRowsOf (by o (Record consumption) ∷ H))
-          (sym (left_out o (Move consumption) (Put lot.owner (Sublot (left u)) ∷ []) s other ∙ taken_in lot.owner (Sublot (left u)) [] s its))
-          (put_sublot s (left u)
+          put_sublot s (left u)
           ∙ (λ i. with_sublot (left ((is ∙ ap (tables_given H) mine) i)) (there i))
           ∙ sym (taken_from_other H o consumption lawful valid accepted s.owner lot.lot sublot other
           (ap (λ w. is_none (sublot_row H w (lot.lot, sublot))) (sym mine) ∙ sublot_there)
-          (λ k. refl) (λ k. takes o s.owner k (same_bytes-symm s.owner lot.owner ∙ its))))
+          (λ k. refl) (λ k. takes o s.owner k (same_bytes-symm s.owner lot.owner ∙ its)))
 
-      neither : same_bytes o s.owner ≡ false → same_bytes lot.owner s.owner ≡ false → Done
-      neither other its =
-          subst (IsRowsOf (by o (Record consumption) ∷ H))
-          (sym (left_out o (Move consumption) (Put lot.owner (Sublot (left u)) ∷ []) s other ∙ left_out lot.owner (Sublot (left u)) [] s its))
-          (there ∙ sym (tables-untaken H o consumption lawful valid accepted s.owner other (λ k. takes_none o s.owner k (same_bytes-symm s.owner lot.owner ∙ its))))
+      neither : same_bytes o s.owner ≡ false → same_bytes lot.owner s.owner ≡ false → Done s
+      neither other its = there ∙ sym (tables-untaken H o consumption lawful valid accepted s.owner other (λ k. takes_none o s.owner k (same_bytes-symm s.owner lot.owner ∙ its)))
 
-      rows_after : Done
-      rows_after =
-          elim (same_bytes o s.owner) as (λ b. same_bytes o s.owner ≡ b → Done) [
-            | true ↦ λ own. elim (same_bytes lot.owner s.owner) as (λ b. same_bytes lot.owner s.owner ≡ b → Done) [ true ↦ own_and_its own | false ↦ own_alone own ] refl
-            | false ↦ λ other. elim (same_bytes lot.owner s.owner) as (λ b. same_bytes lot.owner s.owner ≡ b → Done) [ true ↦ its_alone other | false ↦ neither other ] refl
-          ] refl
+      rows_after : Done (after_changes (changes o u) s)
+      rows_after = after_both o lot.owner (Move consumption) (Sublot (left u)) Done s own_and_its own_alone its_alone neither
 
   -- ---- the decision
 
@@ -94,7 +85,7 @@ module _ (key order : Bytes) (number segment : ℕ) (material : Bytes) (lot : Lo
     source = tables_for own.owner (tables_of own) (tables_of house) lot.owner
 
     module _ (decided : IsDecided (checks own.owner (tables_of own) (tables_of house)) (changes own.owner source) d) where
-      pub consumption_decided : DecidesWith (by own.owner (Record consumption)) own house d
+      consumption_decided : DecidesWith (by own.owner (Record consumption)) own house d
       unfolding DecidesWith
       consumption_decided H lawful valid known there house_there is_house =
           let houses : tables_of house ≡ tables_given H house_name = house_there ∙ ap (tables_given H) is_house in
@@ -112,64 +103,46 @@ module _ (key order : Bytes) (number segment : ℕ) (material : Bytes) (lot : Lo
             let full = or_parts _ _ (passed 15) in
             move_room own consumption full.0 (or_left _ _ (less_of 200 (count_actuals order number own.moves) full.1))
 
-      pub consumption_keeps : KeepsRules own → DecisionKeepsRules own d
+        -- in a slice with the tables of the lot's owner
+        left_fits : (s : Slice) → KeepsRules s → source ≡ tables_of s → row_fits s (Sublot (left source)) ≡ true
+        left_fits s keeps e =
+            ap (λ u. row_fits s (Sublot (left u))) e
+            ∙ less_fit s lot.lot sublot amount keeps
+            (ap (λ (u : Tables). is_none (u.lot lot.lot)) (sym e) ∙ passed 10)
+            (ap (λ (u : Tables). is_none (u.sublot (lot.lot, sublot))) (sym e) ∙ passed 13)
+
+      consumption_keeps : KeepsRules own → DecisionKeepsRules own d
       consumption_keeps keeps =
           rules_by own (changes own.owner source) d _ decided keeps
           (λ accepted.
           keeps_put own.owner (Move consumption) (Put lot.owner (Sublot (left source)) ∷ []) own (same_bytes-refl own.owner) keeps (move_fits_own accepted)
-          (λ kept.
-          elim (same_bytes lot.owner own.owner) as (λ b. same_bytes lot.owner own.owner ≡ b → ChangesKeepRules (Put lot.owner (Sublot (left source)) ∷ []) (with_row own (Move consumption))) [
-            | true ↦ λ its.
-                let e : source ≡ tables_of own = ap (λ b. cond b (tables_of own) (tables_of house)) its in
-                keeps_put lot.owner (Sublot (left source)) [] (with_row own (Move consumption)) its kept
-                (ap (λ u. row_fits (with_row own (Move consumption)) (Sublot (left u))) e
-                ∙ less_fit (with_row own (Move consumption)) lot.lot sublot amount kept
-                (ap (λ (u : Tables). is_none (u.lot lot.lot)) (sym e) ∙ passed accepted 10)
-                (ap (λ (u : Tables). is_none (u.sublot (lot.lot, sublot))) (sym e) ∙ passed accepted 13))
-                (λ kept. tt)
-            | false ↦ λ its. keeps_skip lot.owner (Sublot (left source)) [] (with_row own (Move consumption)) its kept tt
-          ] refl))
+          (λ kept. keeps_one lot.owner (Sublot (left source)) (with_row own (Move consumption)) kept
+          (λ its. left_fits accepted own keeps (ap (λ b. cond b (tables_of own) (tables_of house)) its))))
 
       -- its changes put rows of the owner, or the sublot of HOUSE that it names
-      pub consumption_puts : PutsOnlyWith own.owner (lot.lot, sublot) (changes_of d)
+      consumption_puts : PutsOnlyWith own.owner (lot.lot, sublot) (changes_of d)
       consumption_puts =
           each_accepted _ _ (changes own.owner source) d
           (λ accepted. (or_left _ _ (same_bytes-refl own.owner), puts_consumed own.owner lot sublot (left source).amount (passed accepted 8)))
           decided
 
-      pub consumption_keeps_house : same_bytes own.owner house.owner ≡ false → KeepsRules house → DecisionKeepsRules house d
+      consumption_keeps_house : same_bytes own.owner house.owner ≡ false → KeepsRules house → DecisionKeepsRules house d
       consumption_keeps_house other keeps =
           rules_by house (changes own.owner source) d _ decided keeps
           (λ accepted.
           keeps_skip own.owner (Move consumption) (Put lot.owner (Sublot (left source)) ∷ []) house other keeps
-          (elim (same_bytes lot.owner house.owner) as (λ b. same_bytes lot.owner house.owner ≡ b → ChangesKeepRules (Put lot.owner (Sublot (left source)) ∷ []) house) [
-            | true ↦ λ its.
-                let not_own : same_bytes lot.owner own.owner ≡ false = ap (λ w. same_bytes w own.owner) (same_bytes-exact lot.owner house.owner its) ∙ same_bytes-symm house.owner own.owner ∙ other in
-                let e : source ≡ tables_of house = ap (λ b. cond b (tables_of own) (tables_of house)) not_own in
-                keeps_put lot.owner (Sublot (left source)) [] house its keeps
-                (ap (λ u. row_fits house (Sublot (left u))) e
-                ∙ less_fit house lot.lot sublot amount keeps
-                (ap (λ (u : Tables). is_none (u.lot lot.lot)) (sym e) ∙ passed accepted 10)
-                (ap (λ (u : Tables). is_none (u.sublot (lot.lot, sublot))) (sym e) ∙ passed accepted 13))
-                (λ kept. tt)
-            | false ↦ λ its. keeps_skip lot.owner (Sublot (left source)) [] house its keeps tt
-          ] refl))
+          (keeps_one lot.owner (Sublot (left source)) house keeps (λ its. left_fits accepted house keeps (tables_of_other own house lot.owner other its))))
+
+      consumption_owes : Owes (Record consumption) (lot.lot, sublot) own house d
+      consumption_owes = record { decides = consumption_decided; rules = consumption_keeps; house_rules = consumption_keeps_house; puts = consumption_puts }
 
 -- a movement that is a consumption, as it says itself
-module _ (row : MoveRow) (order : Bytes) (number segment : ℕ) (role : Role) (material : Bytes) (lot : LotId) (sublot : Bytes) (is : row.what ≡ Actual order number segment role material lot sublot) (consumes : role ≡ Consumed) where
-  as_consumption : row ≡ consumption row.key order number segment material lot sublot row.amount row.day
-  as_consumption i = record { key = row.key; what = (is ∙ ap (λ r. Actual order number segment r material lot sublot) consumes) i; amount = row.amount; day = row.day }
+module _ (row : MoveRow) (used : Use) (role : Role) (is : row.what ≡ Actual used.order used.number used.segment role used.material used.lot used.sublot) (consumes : role ≡ Consumed) where
+  as_consumption : row ≡ consumption row.key used.order used.number used.segment used.material used.lot used.sublot row.amount row.day
+  as_consumption i = record { key = row.key; what = (is ∙ ap (λ r. Actual used.order used.number used.segment r used.material used.lot used.sublot) consumes) i; amount = row.amount; day = row.day }
 
-  -- what follows from its decision follows for the movement
-  pub of_consumption : (own house : Slice) (d : Decision) (X : MoveRow → Type 0) →
-      (IsDecided (checks row.key order number segment material lot sublot row.amount row.day own.owner (tables_of own) (tables_of house))
-      (changes row.key order number segment material lot sublot row.amount row.day own.owner (tables_for own.owner (tables_of own) (tables_of house) lot.owner)) d → X (consumption row.key order number segment material lot sublot row.amount row.day)) →
-      IsDecided (key_checks (tables_of own) row ++ actual_checks own.owner (tables_of own) order number segment Consumed material lot ++ consumed_checks (tables_of own) (tables_for own.owner (tables_of own) (tables_of house) lot.owner) order number material lot.lot sublot row.amount)
-      (Put own.owner (Move row) ∷ Put lot.owner (Sublot (record { lot = lot.lot; sublot = sublot; amount = amount_in (tables_for own.owner (tables_of own) (tables_of house) lot.owner) lot.lot sublot - row.amount })) ∷ []) d → X row
-  of_consumption own house d X =
-      subst (λ (r : MoveRow).
-      (IsDecided (checks row.key order number segment material lot sublot row.amount row.day own.owner (tables_of own) (tables_of house))
-      (changes row.key order number segment material lot sublot row.amount row.day own.owner (tables_for own.owner (tables_of own) (tables_of house) lot.owner)) d → X (consumption row.key order number segment material lot sublot row.amount row.day)) →
-      IsDecided (key_checks (tables_of own) r ++ actual_checks own.owner (tables_of own) order number segment Consumed material lot ++ consumed_checks (tables_of own) (tables_for own.owner (tables_of own) (tables_of house) lot.owner) order number material lot.lot sublot r.amount)
-      (Put own.owner (Move r) ∷ Put lot.owner (Sublot (record { lot = lot.lot; sublot = sublot; amount = amount_in (tables_for own.owner (tables_of own) (tables_of house) lot.owner) lot.lot sublot - r.amount })) ∷ []) d → X r)
-      (sym as_consumption) (λ follows. follows)
+  -- what its decision owes
+  pub consuming_owes : (own house : Slice) (d : Decision) → IsConsumptionPlan own house row used d → Owes (Record row) (sublot_named row.what) own house d
+  consuming_owes own house d =
+      subst (λ (r : MoveRow). IsConsumptionPlan own house r used d → Owes (Record r) (sublot_named r.what) own house d) (sym as_consumption)
+      (consumption_owes row.key used.order used.number used.segment used.material used.lot used.sublot row.amount row.day own house d)

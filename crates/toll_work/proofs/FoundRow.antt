@@ -1,5 +1,5 @@
 -- Rows that are found.
-use Rattle.std.proofs.Common.{◌≡◌, Bool, true, false, cond, Option, Some, None, is_none, List, [], ◌∷◌, refl, sym, ap, ◌∙◌}
+use Rattle.std.proofs.Common.{◌≡◌, Bool, true, false, cond, Option, Some, None, is_some, is_none, List, [], ◌∷◌, refl, sym, ap, ◌∙◌}
 use Rattle.toll_work.proofs.Common.{false≢true, option_map, option_map_or, is_eq, Ordering, row_at}
 
 -- a row that is found has the key
@@ -11,6 +11,10 @@ row_at-key cmp key (x ∷ xs) k row found =
       | true ↦ λ hit is. let same : x ≡ row = (cc) in ap (λ r. is_eq (cmp k (key r))) (sym same) ∙ hit
       | false ↦ λ miss is. row_at-key cmp key xs k row is
     ] refl found
+
+pub known_not_none : {X : Type 0} (x : Option X) → is_some x ≡ true → is_none x ≡ false
+known_not_none (Some x) h = refl
+known_not_none None h = sym h
 
 -- what holds of the rows that are made of a known row holds of those made of one that is not unknown
 pub of_known : {R Y : Type 0} (x : Option R) (make : R → List Y) (P : List Y → Type 0) → is_none x ≡ false → ((row : R) → x ≡ Some row → P (make row)) → P (option_map_or make x [])

@@ -1,17 +1,12 @@
 -- Rows in key order, some of them taken out by their keys.
 use Rattle.std.proofs.Common.{◌≡◌, ℕ, ◌+◌, Bool, true, false, not, cond, Option, Some, None, List, [], ◌∷◌, map, filter, refl, sym, ap, subst, ◌∙◌, arith}
-use Rattle.toll_work.proofs.Common.{false≢true, AllByRecursion, option_map, option_and_then, is_eq, Ordering, row_at, IsInKeyOrder, total, where_so}
-use Rattle.std.specs.Cmp.{IsTotalOrder}
+use Rattle.toll_work.proofs.Common.{AllByRecursion, option_map, option_and_then, is_eq, Ordering, row_at, IsInKeyOrder, total, where_so}
+use Rattle.std.specs.Cmp.{IsTotalOrder, Equal-is}
 use Rattle.std.specs.List.Sorted.{IsStrictlySortedBy}
-use Rattle.std.specs.declared.cmp.Ordering.TheVariants.{Less, Equal, Greater}
+use Rattle.std.specs.declared.cmp.Ordering.TheVariants.{Less, Equal}
 use Rattle.std.proofs.lemmas.Cmp.{tied_itself}
 use Rattle.std.proofs.lemmas.List.Kept.{IsStrictlySortedBy-filter}
 use Rattle.toll_work.proofs.FoundRow.{row_at-key}
-
-equal_of : (r : Ordering) → is_eq r ≡ true → r ≡ Equal
-equal_of Less h = absurd (false≢true h)
-equal_of Equal h = refl
-equal_of Greater h = absurd (false≢true h)
 
 cond_none : {X : Type 0} (b : Bool) → ◌≡◌ {A = Option X} (cond b None None) None
 cond_none true = refl
@@ -106,6 +101,6 @@ module _ {K R : Type 0} (cmp : K → K → Ordering) (key : R → K) where
     total_taken f [] k row ordered found = (cc)
     total_taken f (x ∷ xs) k row ordered found =
         elim (is_eq (cmp k (key x))) as (λ b. is_eq (cmp k (key x)) ≡ b → cond b (Some x) (row_at cmp key xs k) ≡ Some row → f x + total f xs ≡ f row + total f (cond (not b) (x ∷ filter (λ r. not (is_eq (cmp k (key r)))) xs) (filter (λ r. not (is_eq (cmp k (key r)))) xs))) [
-          | true ↦ λ tied is. let same : x ≡ row = (cc) in λ i. f (same i) + total f (sym (none_taken k x xs (equal_of _ tied) ordered.0) i)
+          | true ↦ λ tied is. let same : x ≡ row = (cc) in λ i. f (same i) + total f (sym (none_taken k x xs ((Equal-is _).0 tied) ordered.0) i)
           | false ↦ λ apart is. omega (arith, total_taken f xs k row ordered.1 is)
         ] refl found

@@ -1,4 +1,6 @@
 pub mod Common
+pub mod OwedWith
+pub mod TwoPuts
 pub mod VoidLaw
 pub mod ConsumptionLaw
 pub mod ProductionLaw

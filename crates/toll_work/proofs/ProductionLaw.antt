@@ -1,12 +1,16 @@
 -- What a production owes.
-use Rattle.std.proofs.Common.{◌≡◌, ℕ, ◌+◌, true, false, not, ◌&&◌, cond, Option, Some, None, is_some, is_none, List, [], ◌∷◌, ◌++◌, refl, sym, ap, subst, ◌∙◌}
-use Rattle.toll_work.proofs.Common.{or_parts, or_left, not-false, lot_bounds, sublot_bounds, Bytes, same_bytes, Record, by, History, acts, lot_id, first_made, sublot_in, movements, Slice, lot_at, KeepsRules, count_actuals, where_so, is_some_where, material_of, Tables, tables_of, tables_given, changes_of, PutsOnlyWith, IsDecided, DecidesWith, DecisionKeepsRules, Accepted, Checks, first_of, stopped, key_checks, actual_checks, produced_checks, recipe_of_order, amount_in, verdict, IsLawful, IsValid, Put, Decision, LotId, LimitReached, Role, Produced, MoveRow, Actual, SublotRow, Row, Lot, Sublot, Move, none_applies, verdict_is, Grows, LeavesOthers, decides_with, keeps_rules, rules_by, keeps_skip, less_of, some_of, known_passes, accepted_passes, move_fits, with_move, with_lot, with_sublot, put_came, came_in, tables-untaken, each_decided, sublot_room, came_fit, same_bytes-exact, same_bytes-refl, same_bytes-symm}
+use Rattle.std.proofs.Common.{◌≡◌, ℕ, ◌+◌, true, false, not, ◌&&◌, cond, Some, is_some, is_none, List, [], ◌∷◌, ◌++◌, refl, sym, ap, subst, ◌∙◌}
+use Rattle.toll_work.proofs.Common.{or_parts, or_left, not-false, lot_bounds, sublot_bounds, Bytes, same_bytes, Record, by, History, acts, lot_id, first_made, sublot_in, movements, Slice, lot_at, KeepsRules, count_actuals, where_so, is_some_where, material_of, Tables, tables_of, tables_given, changes_of, PutsOnlyWith, IsDecided, DecidesWith, DecisionKeepsRules, Accepted, Checks, first_of, stopped, key_checks, actual_checks, produced_checks, recipe_of_order, amount_in, verdict, IsLawful, IsValid, Put, Decision, LotId, LimitReached, Role, Produced, MoveRow, Actual, SublotRow, Row, Lot, Sublot, Move, none_applies, verdict_is, Grows, LeavesOthers, decides_with, keeps_rules, rules_by, keeps_skip, less_of, some_of, known_passes, accepted_passes, move_fits, with_move, with_lot, with_sublot, put_came, came_in, tables-untaken, each_decided, sublot_room, came_fit, same_bytes-exact, same_bytes-refl, same_bytes-symm, sublot_named}
 use Rattle.toll_base.specs.declared.lot.Disposition.TheVariants.{Quarantined}
 use Rattle.toll_base.specs.declared.lot.Origin.TheVariants.{Batch}
 use Rattle.toll_base.specs.declared.rows.LotRow.{LotRow}
 use Rattle.toll_history.proofs.LotMaterials.{source_material}
 use Rattle.toll_history.proofs.Within.{within_bounds}
+use Rattle.toll_work.specs.ActualPlans.{IsProductionPlan}
+use Rattle.toll_work.specs.declared.actuals.Use.{Use}
+use Rattle.toll_work.proofs.FoundRow.{known_not_none}
 use Rattle.toll_work.proofs.MadeChanges.{puts_with}
+use Rattle.toll_work.proofs.OwedWith.{Owes}
 
 module _ (key order : Bytes) (number segment : ℕ) (material : Bytes) (lot : LotId) (sublot : Bytes) (amount day : ℕ) where
   abbrev production : MoveRow
@@ -57,22 +61,18 @@ module _ (key order : Bytes) (number segment : ℕ) (material : Bytes) (lot : Lo
       ∙ sublot_room H o production lawful valid accepted (or_parts _ _ (or_parts _ _ (move_fits H o production accepted 10)).0).0 lot.lot sublot
       (λ i. (mine i && same_bytes-refl lot.lot i) && same_bytes-refl sublot i) refl
     where
-      none_is : {X : Type 0} (x : Option X) → is_some x ≡ true → is_none x ≡ false
-      none_is (Some x) h = refl
-      none_is None h = sym h
-
       there : same_bytes o lot.owner ≡ true → is_none (material_of (acts o H) material) ≡ false
-      there mine = none_is _ (ap (λ w. is_some (material_of (acts w H) material)) (same_bytes-exact o lot.owner mine)
+      there mine = known_not_none _ (ap (λ w. is_some (material_of (acts w H) material)) (same_bytes-exact o lot.owner mine)
           ∙ source_material H o (recipe_of_order (tables_given H o) order, segment, Produced, lot.owner, material) lawful (some_of _ (move_fits H o production accepted 6)))
 
   module _ (own house : Slice) (d : Decision) (decided : IsDecided (checks own.owner (tables_of own) ++ lot_bounds (tables_of own) material lot.lot sublot amount) (Put own.owner (Move production) ∷ Put own.owner (Lot produced) ∷ Put own.owner (Sublot (holding (tables_of own))) ∷ []) d) where
-    pub production_decided : DecidesWith (by own.owner (Record production)) own house d
+    production_decided : DecidesWith (by own.owner (Record production)) own house d
     production_decided =
         decides_with (Record production) rows grows leaves own house d _ decided
         (λ H lawful valid known there houses.
         within_bounds (Record production) (λ t. lot_bounds t material lot.lot sublot amount) has_room H own (checks own.owner (tables_of own)) lawful valid there (verdict_is H own.owner (Record production) (tables_of own) (tables_of house) known there houses))
 
-    pub production_keeps : KeepsRules own → DecisionKeepsRules own d
+    production_keeps : KeepsRules own → DecisionKeepsRules own d
     production_keeps keeps =
         keeps_rules own (rows (tables_of own)) d _ decided keeps
         (λ accepted.
@@ -81,12 +81,12 @@ module _ (key order : Bytes) (number segment : ℕ) (material : Bytes) (lot : Lo
         let moves = or_parts _ _ full.0 in
         came_fit own production produced (holding (tables_of own)) refl moves.0 (or_left _ _ (less_of 200 (count_actuals order number own.moves) moves.1)) full.1 (pass 14) (pass 15) (pass 16))
 
-    pub production_puts : PutsOnlyWith own.owner (lot.lot, sublot) (changes_of d)
+    production_puts : PutsOnlyWith own.owner (lot.lot, sublot) (changes_of d)
     production_puts =
         let mine = same_bytes-refl own.owner in
         puts_with own.owner _ (changes_of d) (each_decided _ _ (Put own.owner (Move production) ∷ Put own.owner (Lot produced) ∷ Put own.owner (Sublot (holding (tables_of own))) ∷ []) d (mine, (mine, (mine, tt))) decided)
 
-    pub production_keeps_house : same_bytes own.owner house.owner ≡ false → KeepsRules house → DecisionKeepsRules house d
+    production_keeps_house : same_bytes own.owner house.owner ≡ false → KeepsRules house → DecisionKeepsRules house d
     production_keeps_house other keeps =
         rules_by house (Put own.owner (Move production) ∷ Put own.owner (Lot produced) ∷ Put own.owner (Sublot (holding (tables_of own))) ∷ []) d _ decided keeps
         (λ accepted.
@@ -94,21 +94,16 @@ module _ (key order : Bytes) (number segment : ℕ) (material : Bytes) (lot : Lo
         (keeps_skip own.owner (Lot produced) (Put own.owner (Sublot (holding (tables_of own))) ∷ []) house other keeps
         (keeps_skip own.owner (Sublot (holding (tables_of own))) [] house other keeps tt)))
 
--- a movement that is a production, as it says itself
-module _ (row : MoveRow) (order : Bytes) (number segment : ℕ) (role : Role) (material : Bytes) (lot : LotId) (sublot : Bytes) (is : row.what ≡ Actual order number segment role material lot sublot) (produces : role ≡ Produced) where
-  pub as_production : row ≡ production row.key order number segment material lot sublot row.amount row.day
-  as_production i = record { key = row.key; what = (is ∙ ap (λ r. Actual order number segment r material lot sublot) produces) i; amount = row.amount; day = row.day }
+    production_owes : Owes (Record production) (lot.lot, sublot) own house d
+    production_owes = record { decides = production_decided; rules = production_keeps; house_rules = production_keeps_house; puts = production_puts }
 
-  -- what follows from its decision follows for the movement
-  pub of_production : (own : Slice) (d : Decision) (X : MoveRow → Type 0) →
-      (IsDecided (checks row.key order number segment material lot sublot row.amount row.day own.owner (tables_of own) ++ lot_bounds (tables_of own) material lot.lot sublot row.amount)
-      (Put own.owner (Move (production row.key order number segment material lot sublot row.amount row.day)) ∷ Put own.owner (Lot (produced row.key order number segment material lot sublot row.amount row.day)) ∷ Put own.owner (Sublot (holding row.key order number segment material lot sublot row.amount row.day (tables_of own))) ∷ []) d → X (production row.key order number segment material lot sublot row.amount row.day)) →
-      IsDecided (key_checks (tables_of own) row ++ actual_checks own.owner (tables_of own) order number segment Produced material lot ++ produced_checks (tables_of own) order number material lot.lot ++ lot_bounds (tables_of own) material lot.lot sublot row.amount)
-      (Put own.owner (Move row) ∷ Put own.owner (Lot (record { lot = lot.lot; material = material; origin = Batch order number; disposition = Quarantined })) ∷ Put own.owner (Sublot (record { lot = lot.lot; sublot = sublot; amount = amount_in (tables_of own) lot.lot sublot + row.amount })) ∷ []) d → X row
-  of_production own d X =
-      subst (λ (r : MoveRow).
-      (IsDecided (checks row.key order number segment material lot sublot row.amount row.day own.owner (tables_of own) ++ lot_bounds (tables_of own) material lot.lot sublot row.amount)
-      (Put own.owner (Move (production row.key order number segment material lot sublot row.amount row.day)) ∷ Put own.owner (Lot (produced row.key order number segment material lot sublot row.amount row.day)) ∷ Put own.owner (Sublot (holding row.key order number segment material lot sublot row.amount row.day (tables_of own))) ∷ []) d → X (production row.key order number segment material lot sublot row.amount row.day)) →
-      IsDecided (key_checks (tables_of own) r ++ actual_checks own.owner (tables_of own) order number segment Produced material lot ++ produced_checks (tables_of own) order number material lot.lot ++ lot_bounds (tables_of own) material lot.lot sublot r.amount)
-      (Put own.owner (Move r) ∷ Put own.owner (Lot (record { lot = lot.lot; material = material; origin = Batch order number; disposition = Quarantined })) ∷ Put own.owner (Sublot (record { lot = lot.lot; sublot = sublot; amount = amount_in (tables_of own) lot.lot sublot + r.amount })) ∷ []) d → X r)
-      (sym as_production) (λ follows. follows)
+-- a movement that is a production, as it says itself
+module _ (row : MoveRow) (used : Use) (role : Role) (is : row.what ≡ Actual used.order used.number used.segment role used.material used.lot used.sublot) (produces : role ≡ Produced) where
+  as_production : row ≡ production row.key used.order used.number used.segment used.material used.lot used.sublot row.amount row.day
+  as_production i = record { key = row.key; what = (is ∙ ap (λ r. Actual used.order used.number used.segment r used.material used.lot used.sublot) produces) i; amount = row.amount; day = row.day }
+
+  -- what its decision owes
+  pub producing_owes : (own house : Slice) (d : Decision) → IsProductionPlan own row used d → Owes (Record row) (sublot_named row.what) own house d
+  producing_owes own house d =
+      subst (λ (r : MoveRow). IsProductionPlan own r used d → Owes (Record r) (sublot_named r.what) own house d) (sym as_production)
+      (production_owes row.key used.order used.number used.segment used.material used.lot used.sublot row.amount row.day own house d)

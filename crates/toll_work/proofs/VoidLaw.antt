@@ -1,7 +1,6 @@
 -- What a void owes.
 use Rattle.std.proofs.Common.{◌≡◌, ℕ, ◌+◌, ◌-◌, ◌≤◌, Bool, true, false, not, ◌&&◌, ◌||◌, cond, nat_le, nat_lt, Option, Some, None, is_some, is_none, List, [], ◌∷◌, ◌++◌, length, refl, sym, ap, subst, ◌∙◌, arith}
-use Rattle.toll_work.proofs.Common.{false≢true, or_left, IfOk-weaker, nat_tests, Bytes, same_bytes, bytes_cmp, pair_cmp, house_name, History, acts, owner_known, lot_id, same_lot, movement_of, voided_in, brings_into, takes_from, sublot_known, stock, Slice, with_row, lot_at, sublot_at, move_at, KeepsRules, row_fits, Tables, tables_of, tables_given, sublot_row, IsRowsOf, where_so, is_some_where, none_or, after_changes, changes_of, IsDecided, ChangesKeepRules, DecidesWith, DecisionKeepsRules, PutsOnlyWith, Accepted, Refused, Checks, first_of, is_actual, is_of_closed, takes_too_much, tables_for, amount_in, verdict, IsLawful, IsValid, BringsOwn, TakesKnown, Change, Put, Decision, LotId, UnknownKey, Voided, BatchClosed, NotEnough, LimitReached, Role, Consumed, Produced, MoveRow, Actual, SublotRow, Sublot, Void as VoidPut, both, tables_for_are, held_is, none_applies, unbounded, sublot_room_in, less_fit, verdict_is, right_over, taken_in, left_out, rules_by, keeps_put, keeps_skip, accepted_passes, each_decided, with_sublot, with_void, is_at, put_sublot, put_void, same_bytes-exact, same_bytes-refl, same_bytes-symm, is_eq-then, more}
-use Rattle.std.specs.Prelude.{Result, IfOk}
+use Rattle.toll_work.proofs.Common.{false≢true, or_left, nat_tests, Bytes, same_bytes, bytes_cmp, pair_cmp, house_name, History, acts, owner_known, lot_id, same_lot, movement_of, voided_in, brings_into, takes_from, sublot_known, stock, Slice, with_row, lot_at, sublot_at, move_at, KeepsRules, row_fits, Tables, tables_of, tables_given, sublot_row, IsRowsOf, where_so, is_some_where, none_or, after_changes, changes_of, IsDecided, DecidesWith, DecisionKeepsRules, PutsOnlyWith, Accepted, Refused, Checks, first_of, is_actual, is_of_closed, takes_too_much, tables_for, amount_in, verdict, IsLawful, IsValid, BringsOwn, TakesKnown, Change, Put, Decision, LotId, UnknownKey, Voided, BatchClosed, NotEnough, LimitReached, Role, Consumed, Produced, MoveRow, Actual, SublotRow, Sublot, Void as VoidPut, both, tables_for_are, held_is, none_applies, unbounded, sublot_room_in, less_fit, verdict_is, right_over, rules_by, keeps_put, keeps_skip, accepted_passes, each_decided, with_sublot, with_void, is_at, put_sublot, put_void, same_bytes-exact, same_bytes-refl, same_bytes-symm, is_eq-then, more}
 use Rattle.toll_history.specs.Command.{Void, by}
 use Rattle.toll_work.specs.Voiding.{open_checks, giving_bounds, actual_sublot}
 use Rattle.toll_base.specs.declared.decision.Decision.TheVariants.{Refuse}
@@ -9,8 +8,10 @@ use Rattle.toll_history.proofs.EachMove.{of_found}
 use Rattle.toll_history.proofs.Owned.{all_bring_own, all_take_known}
 use Rattle.toll_history.proofs.Stock.{stock_bounded}
 use Rattle.toll_history.proofs.StockChanges.{stock-voided}
-use Rattle.toll_work.proofs.FoundRow.{row_at-key}
+use Rattle.toll_work.proofs.FoundRow.{row_at-key, known_not_none}
 use Rattle.toll_work.proofs.MadeChanges.{each_accepted, puts_with, puts_consumed}
+use Rattle.toll_work.proofs.OwedWith.{Owes}
+use Rattle.toll_work.proofs.TwoPuts.{after_both, keeps_one, tables_of_other}
 use Rattle.toll_work.proofs.Voided.{own_but_sublots, others_but_sublots, given_back, taken_out, stayed_at}
 
 -- ---- the rows of all, where the void changes one sublot of this owner
@@ -33,48 +34,36 @@ module _ (H : History) (o key : Bytes) (row : MoveRow) (lawful : IsLawful H) (va
   }
 
   module _ (s : Slice) (rows : IsRowsOf H s) where
-    abbrev Done : Type 0
-    Done = IsRowsOf (by o (Void key) ∷ H) (after_changes changes s)
+    abbrev Done : Slice → Type 0
+    Done = IsRowsOf (by o (Void key) ∷ H)
 
-    own_and_its : same_bytes o s.owner ≡ true → same_bytes w s.owner ≡ true → Done
+    own_and_its : same_bytes o s.owner ≡ true → same_bytes w s.owner ≡ true → Done (with_row (with_row s (VoidPut (record { key = key }))) (Sublot q))
     own_and_its own mine =
         let e = same_bytes-exact o s.owner own in
-        subst (IsRowsOf (by o (Void key) ∷ H))
-        (sym (taken_in o (VoidPut (record { key = key })) (Put w (Sublot q) ∷ []) s own ∙ taken_in w (Sublot q) [] (with_row s (VoidPut (record { key = key }))) mine))
-        (put_sublot (with_row s (VoidPut (record { key = key }))) q
+        put_sublot (with_row s (VoidPut (record { key = key }))) q
         ∙ ap (with_sublot q) (put_void s (record { key = key }) ∙ ap (with_void key) (rows ∙ ap (tables_given H) (sym e)))
         ∙ sym (own_but_sublots H o key row lawful valid accepted found stays ∙ with_it o (with_void key (tables_given H o)) refl (ap (same_bytes w) e ∙ mine))
-        ∙ ap (tables_given (by o (Void key) ∷ H)) e)
+        ∙ ap (tables_given (by o (Void key) ∷ H)) e
 
-    own_alone : same_bytes o s.owner ≡ true → same_bytes w s.owner ≡ false → Done
+    own_alone : same_bytes o s.owner ≡ true → same_bytes w s.owner ≡ false → Done (with_row s (VoidPut (record { key = key })))
     own_alone own other =
         let e = same_bytes-exact o s.owner own in
-        subst (IsRowsOf (by o (Void key) ∷ H))
-        (sym (taken_in o (VoidPut (record { key = key })) (Put w (Sublot q) ∷ []) s own ∙ left_out w (Sublot q) [] (with_row s (VoidPut (record { key = key }))) other))
-        (put_void s (record { key = key })
+        put_void s (record { key = key })
         ∙ ap (with_void key) (rows ∙ ap (tables_given H) (sym e))
         ∙ sym (own_but_sublots H o key row lawful valid accepted found stays ∙ (λ i. record (with_void key (tables_given H o)) { sublot = λ k. others o (ap (same_bytes w) e ∙ other) k i }))
-        ∙ ap (tables_given (by o (Void key) ∷ H)) e)
+        ∙ ap (tables_given (by o (Void key) ∷ H)) e
 
-    its_alone : same_bytes o s.owner ≡ false → same_bytes w s.owner ≡ true → Done
+    its_alone : same_bytes o s.owner ≡ false → same_bytes w s.owner ≡ true → Done (with_row s (Sublot q))
     its_alone other mine =
-        subst (IsRowsOf (by o (Void key) ∷ H))
-        (sym (left_out o (VoidPut (record { key = key })) (Put w (Sublot q) ∷ []) s other ∙ taken_in w (Sublot q) [] s mine))
-        (put_sublot s q ∙ ap (with_sublot q) rows
-        ∙ sym (others_but_sublots H o key row lawful valid accepted found stays s.owner other ∙ with_it s.owner (tables_given H s.owner) refl mine))
+        put_sublot s q ∙ ap (with_sublot q) rows
+        ∙ sym (others_but_sublots H o key row lawful valid accepted found stays s.owner other ∙ with_it s.owner (tables_given H s.owner) refl mine)
 
-    neither : same_bytes o s.owner ≡ false → same_bytes w s.owner ≡ false → Done
+    neither : same_bytes o s.owner ≡ false → same_bytes w s.owner ≡ false → Done s
     neither other apart =
-        subst (IsRowsOf (by o (Void key) ∷ H))
-        (sym (left_out o (VoidPut (record { key = key })) (Put w (Sublot q) ∷ []) s other ∙ left_out w (Sublot q) [] s apart))
-        (rows ∙ sym (others_but_sublots H o key row lawful valid accepted found stays s.owner other ∙ (λ i. record (tables_given H s.owner) { sublot = λ k. others s.owner apart k i })))
+        rows ∙ sym (others_but_sublots H o key row lawful valid accepted found stays s.owner other ∙ (λ i. record (tables_given H s.owner) { sublot = λ k. others s.owner apart k i }))
 
-    pub rows_after : Done
-    rows_after =
-        elim (same_bytes o s.owner) as (λ b. same_bytes o s.owner ≡ b → Done) [
-          | true ↦ λ own. elim (same_bytes w s.owner) as (λ b. same_bytes w s.owner ≡ b → Done) [ true ↦ own_and_its own | false ↦ own_alone own ] refl
-          | false ↦ λ other. elim (same_bytes w s.owner) as (λ b. same_bytes w s.owner ≡ b → Done) [ true ↦ its_alone other | false ↦ neither other ] refl
-        ] refl
+    pub rows_after : Done (after_changes changes s)
+    rows_after = after_both o w (VoidPut (record { key = key })) (Sublot q) Done s own_and_its own_alone its_alone neither
 
 -- ---- what the verdict on a void is
 
@@ -112,28 +101,6 @@ pub record IsUnknown (own house : Slice) (key : Bytes) : Type 0 where
 pub unknown_owes : (own house : Slice) (key : Bytes) → is_some_where (λ (r : MoveRow). is_actual r.what) (move_at own key) ≡ false → IsUnknown own house key
 unknown_owes own house key none = record { decides = unknown_decided own house key none; rules = refused_keeps own; house_rules = refused_keeps house }
 
--- what a decision owes that voids an actual
-pub record Owes (own house : Slice) (key : Bytes) (d : Decision) : Type 0 where
-  pub decides : DecidesWith (by own.owner (Void key)) own house d
-  pub rules : KeepsRules own → DecisionKeepsRules own d
-  pub house_rules : same_bytes own.owner house.owner ≡ false → KeepsRules house → DecisionKeepsRules house d
-  pub puts : PutsOnlyWith own.owner (actual_sublot (move_at own key)) (changes_of d)
-
--- where there is one, over rows that keep the rules
-pub record Owed {E : Type 0} (s house : Slice) (key : Bytes) (r : Result Decision E) : Type 0 where
-  pub decides : IfOk r (DecidesWith (by s.owner (Void key)) s house)
-  pub rules : IfOk r (DecisionKeepsRules s)
-  pub house_rules : same_bytes s.owner house.owner ≡ false → IfOk r (DecisionKeepsRules house)
-  pub own : IfOk r (λ d. PutsOnlyWith s.owner (actual_sublot (move_at s key)) (changes_of d))
-
-pub owed : {E : Type 0} {s house : Slice} {key : Bytes} {P : Decision → Type 0} {r : Result Decision E} → IfOk r P → ((d : Decision) → P d → Owes s house key d) → KeepsRules s → KeepsRules house → Owed s house key r
-owed {r = r} plan owes kept house_kept = record {
-  decides = IfOk-weaker r _ _ (λ d p. (owes d p).decides) plan;
-  rules = IfOk-weaker r _ _ (λ d p. (owes d p).rules kept) plan;
-  house_rules = λ other. IfOk-weaker r _ _ (λ d p. (owes d p).house_rules other house_kept) plan;
-  own = IfOk-weaker r _ _ (λ d p. (owes d p).puts) plan;
-}
-
 -- a known sublot is of a lot that is there
 lot_of_known : (s : Slice) → KeepsRules s → (lot sub : Bytes) → is_none (sublot_at s (lot, sub)) ≡ false → is_some (lot_at s lot) ≡ true
 lot_of_known s keeps lot sub known =
@@ -144,10 +111,6 @@ lot_of_known s keeps lot sub known =
           let e : lot ≡ row.lot = same_bytes-exact lot row.lot (both (same_bytes lot row.lot) (same_bytes sub row.sublot) (sym (is_eq-then (bytes_cmp lot row.lot) (bytes_cmp sub row.sublot)) ∙ same)).0 in
           ap (λ k. is_some (lot_at s k)) e ∙ ap (none_or (λ (r : SublotRow). is_some (lot_at s r.lot))) (sym is) ∙ keeps.sublot_lots (lot, sub)
     ] refl known
-
-none_is : {X : Type 0} (x : Option X) → is_some x ≡ true → is_none x ≡ false
-none_is (Some x) h = refl
-none_is None h = sym h
 
 -- a known sublot with an amount that may be there fits
 known_fits : (s : Slice) → KeepsRules s → (q : SublotRow) → is_none (sublot_at s (q.lot, q.sublot)) ≡ false → nat_lt 20000000000000 q.amount ≡ false → row_fits s (Sublot q) ≡ true
@@ -167,6 +130,10 @@ module _ (own house : Slice) (key : Bytes) (row : MoveRow) (found_in : move_at o
   at_key : move_at own key ≡ Some said_so
   at_key = found_in ∙ ap Some as_said
 
+  -- what it is by its role
+  its_what : {r : Role} → role ≡ r → said_so.what ≡ Actual order number segment r material lot sublot
+  its_what is = ap (λ r. Actual order number segment r material lot sublot) is
+
   module _ (H : History) (there : IsRowsOf H own) where
     found : movement_of (acts own.owner H) key ≡ Some said_so
     found = ap (λ (t : Tables). t.movement key) (sym there) ∙ at_key
@@ -175,10 +142,12 @@ module _ (own house : Slice) (key : Bytes) (row : MoveRow) (found_in : move_at o
     stays accepted = accepted_passes H own.owner (Void key) accepted 1
 
     -- the verdict, by what is known of the movement
-    verdict_at : owner_known H own.owner ≡ true → (u : Tables) → u ≡ tables_given H house_name → first_of (checks_at (tables_of own) key (Some said_so)) ≡ verdict H (by own.owner (Void key))
-    verdict_at known u houses =
-        ap (λ m. first_of (checks_at (tables_of own) key m)) (sym at_key)
-        ∙ verdict_is H own.owner (Void key) (tables_of own) u known there houses
+    verdict_at : {r : Role} → role ≡ r → owner_known H own.owner ≡ true → tables_of house ≡ tables_given H house_name →
+        first_of (checks_at (tables_of own) key (Some (record { key = row.key; what = Actual order number segment r material lot sublot; amount = row.amount; day = row.day }))) ≡ verdict H (by own.owner (Void key))
+    verdict_at is known houses =
+        ap (λ w. first_of (checks_at (tables_of own) key (Some (record { key = row.key; what = w; amount = row.amount; day = row.day })))) (sym (its_what is))
+        ∙ ap (λ m. first_of (checks_at (tables_of own) key m)) (sym at_key)
+        ∙ verdict_is H own.owner (Void key) (tables_of own) (tables_of house) known there houses
 
     its_place : (same_lot lot lot && same_bytes sublot sublot) ≡ true
     its_place i = (same_bytes-refl lot.owner i && same_bytes-refl lot.lot i) && same_bytes-refl sublot i
@@ -190,10 +159,7 @@ module _ (own house : Slice) (key : Bytes) (row : MoveRow) (found_in : move_at o
   small : (n amount after m : ℕ) → after ≡ m + amount - 0 → n ≡ m → after ≤ 20000000000000 → nat_lt 20000000000000 (n + amount) ≡ false
   small n amount after m is same le = let h : n + amount ≤ 20000000000000 = omega arith in grind (arith, nat_tests)
 
-  -- what it is by its role, and so what it takes and brings
-  its_what : {r : Role} → role ≡ r → said_so.what ≡ Actual order number segment r material lot sublot
-  its_what is = ap (λ r. Actual order number segment r material lot sublot) is
-
+  -- and so what it takes and brings
   abbrev Touches : Role → Bytes → Bytes × Bytes → Type 0
   Touches r p k = (takes_from (lot_id p k.0) k.1 own.owner said_so.what ≡ takes_from (lot_id p k.0) k.1 own.owner (Actual order number segment r material lot sublot))
       × (brings_into (lot_id p k.0) k.1 own.owner said_so.what ≡ brings_into (lot_id p k.0) k.1 own.owner (Actual order number segment r material lot sublot))
@@ -252,17 +218,12 @@ module _ (own house : Slice) (key : Bytes) (row : MoveRow) (found_in : move_at o
           stayed_at H own.owner key said_so lawful tt accepted (found H there) (stays H there accepted) p k ((touches consumes p k).1)
           ((touches consumes p k).0 ∙ ap (λ b. (b && same_bytes k.0 lot.lot) && same_bytes k.1 sublot) (same_bytes-symm p lot.owner ∙ apart)))
 
-      says : owner_known H own.owner ≡ true → tables_of house ≡ tables_given H house_name → first_of (open_checks (tables_of own) key order number) ≡ verdict H (by own.owner (Void key))
-      says known houses =
-          ap (λ w. first_of (checks_at (tables_of own) key (Some (record { key = row.key; what = w; amount = row.amount; day = row.day })))) (sym (its_what consumes))
-          ∙ verdict_at H there known (tables_of house) houses
-
     module _ (d : Decision) (decided : IsDecided (open_checks (tables_of own) key order number ++ giving_bounds own.owner source lot sublot row.amount) (Put own.owner (VoidPut (record { key = key })) ∷ Put lot.owner (Sublot (more_in source)) ∷ []) d) where
       giving_decided : DecidesWith (by own.owner (Void key)) own house d
       unfolding DecidesWith
       giving_decided H lawful valid known there house_there is_house =
           let houses = house_there ∙ ap (tables_given H) is_house in
-          let is = says H lawful there known houses in
+          let is : first_of (open_checks (tables_of own) key order number) ≡ verdict H (by own.owner (Void key)) = verdict_at H there consumes known houses in
           right_over H (by own.owner (Void key)) d _ _ decided.says decided.makes
           (unbounded (open_checks (tables_of own) key order number) (giving_bounds own.owner source lot sublot row.amount) (λ passed. room H lawful there houses (sym is ∙ passed)) ∙ is)
           (λ accepted. all_rows H lawful there houses accepted)
@@ -276,14 +237,8 @@ module _ (own house : Slice) (key : Bytes) (row : MoveRow) (found_in : move_at o
           (λ accepted.
           let pass = none_applies (open_checks (tables_of own) key order number ++ giving_bounds own.owner source lot sublot row.amount) accepted in
           keeps_put own.owner (VoidPut (record { key = key })) (Put lot.owner (Sublot (more_in source)) ∷ []) own (same_bytes-refl own.owner) keeps refl
-          (λ kept.
-          elim (same_bytes lot.owner own.owner) as (λ b. same_bytes lot.owner own.owner ≡ b → ChangesKeepRules (Put lot.owner (Sublot (more_in source)) ∷ []) (with_row own (VoidPut (record { key = key })))) [
-            | true ↦ λ its.
-                keeps_put lot.owner (Sublot (more_in source)) [] (with_row own (VoidPut (record { key = key }))) its kept
-                (source_of own keeps source (ap (λ b. cond b (tables_of own) (tables_of house)) its) (pass 2) (pass 4))
-                (λ kept. tt)
-            | false ↦ λ its. keeps_skip lot.owner (Sublot (more_in source)) [] (with_row own (VoidPut (record { key = key }))) its kept tt
-          ] refl))
+          (λ kept. keeps_one lot.owner (Sublot (more_in source)) (with_row own (VoidPut (record { key = key }))) kept
+          (λ its. source_of own keeps source (ap (λ b. cond b (tables_of own) (tables_of house)) its) (pass 2) (pass 4))))
 
       -- its changes put rows of the owner, or the sublot of HOUSE that the actual names
       giving_puts : PutsOnlyWith own.owner (actual_sublot (move_at own key)) (changes_of d)
@@ -300,16 +255,10 @@ module _ (own house : Slice) (key : Bytes) (row : MoveRow) (found_in : move_at o
           (λ accepted.
           let pass = none_applies (open_checks (tables_of own) key order number ++ giving_bounds own.owner source lot sublot row.amount) accepted in
           keeps_skip own.owner (VoidPut (record { key = key })) (Put lot.owner (Sublot (more_in source)) ∷ []) house other keeps
-          (elim (same_bytes lot.owner house.owner) as (λ b. same_bytes lot.owner house.owner ≡ b → ChangesKeepRules (Put lot.owner (Sublot (more_in source)) ∷ []) house) [
-            | true ↦ λ its.
-                let not_own : same_bytes lot.owner own.owner ≡ false = ap (λ w. same_bytes w own.owner) (same_bytes-exact lot.owner house.owner its) ∙ same_bytes-symm house.owner own.owner ∙ other in
-                keeps_put lot.owner (Sublot (more_in source)) [] house its keeps
-                (source_of house keeps source (ap (λ b. cond b (tables_of own) (tables_of house)) not_own) (pass 2) (pass 4))
-                (λ kept. tt)
-            | false ↦ λ its. keeps_skip lot.owner (Sublot (more_in source)) [] house its keeps tt
-          ] refl))
+          (keeps_one lot.owner (Sublot (more_in source)) house keeps
+          (λ its. source_of house keeps source (tables_of_other own house lot.owner other its) (pass 2) (pass 4))))
 
-      pub giving_owes : Owes own house key d
+      pub giving_owes : Owes (Void key) (actual_sublot (move_at own key)) own house d
       giving_owes = record { decides = giving_decided; rules = giving_keeps; house_rules = giving_keeps_house; puts = giving_puts }
 
   -- ---- of a production
@@ -350,11 +299,6 @@ module _ (own house : Slice) (key : Bytes) (row : MoveRow) (found_in : move_at o
           ((touches produces p k).1 ∙ ap (λ b. (b && same_bytes k.0 lot.lot) && same_bytes k.1 sublot) (its_owner p ∙ same_bytes-symm p own.owner ∙ apart))
           ((touches produces p k).0))
 
-      own_says : owner_known H own.owner ≡ true → tables_of house ≡ tables_given H house_name → first_of own_checks ≡ verdict H (by own.owner (Void key))
-      own_says known houses =
-          ap (λ w. first_of (checks_at (tables_of own) key (Some (record { key = row.key; what = w; amount = row.amount; day = row.day })))) (sym (its_what produces))
-          ∙ verdict_at H there known (tables_of house) houses
-
       own_room : first_of own_bounds ≡ Accepted
       own_room = ap (λ b. cond b (Refused LimitReached) Accepted) (ap (λ (t : Tables). is_none (t.sublot (lot.lot, sublot))) there ∙ there_own)
 
@@ -363,7 +307,7 @@ module _ (own house : Slice) (key : Bytes) (row : MoveRow) (found_in : move_at o
       unfolding DecidesWith
       taking_decided H lawful valid known there house_there is_house =
           right_over H (by own.owner (Void key)) d _ _ decided.says decided.makes
-          (unbounded own_checks own_bounds (λ passed. own_room H lawful there) ∙ own_says H lawful there known (house_there ∙ ap (tables_given H) is_house))
+          (unbounded own_checks own_bounds (λ passed. own_room H lawful there) ∙ verdict_at H there produces known (house_there ∙ ap (tables_given H) is_house))
           (λ accepted. rows_of_all H lawful there accepted)
 
       taking_keeps : KeepsRules own → DecisionKeepsRules own d
@@ -374,7 +318,7 @@ module _ (own house : Slice) (key : Bytes) (row : MoveRow) (found_in : move_at o
           keeps_put own.owner (VoidPut (record { key = key })) (Put own.owner (Sublot (less_in (tables_of own))) ∷ []) own (same_bytes-refl own.owner) keeps refl
           (λ kept.
           keeps_put own.owner (Sublot (less_in (tables_of own))) [] (with_row own (VoidPut (record { key = key }))) (same_bytes-refl own.owner) kept
-          (less_fit own lot.lot sublot row.amount keeps (none_is (lot_at own lot.lot) (lot_of_known own keeps lot.lot sublot sub_there)) sub_there)
+          (less_fit own lot.lot sublot row.amount keeps (known_not_none (lot_at own lot.lot) (lot_of_known own keeps lot.lot sublot sub_there)) sub_there)
           (λ kept. tt)))
 
       taking_puts : PutsOnlyWith own.owner (actual_sublot (move_at own key)) (changes_of d)
@@ -389,5 +333,5 @@ module _ (own house : Slice) (key : Bytes) (row : MoveRow) (found_in : move_at o
           keeps_skip own.owner (VoidPut (record { key = key })) (Put own.owner (Sublot (less_in (tables_of own))) ∷ []) house other keeps
           (keeps_skip own.owner (Sublot (less_in (tables_of own))) [] house other keeps tt))
 
-      pub taking_owes : Owes own house key d
+      pub taking_owes : Owes (Void key) (actual_sublot (move_at own key)) own house d
       taking_owes = record { decides = taking_decided; rules = taking_keeps; house_rules = taking_keeps_house; puts = taking_puts }

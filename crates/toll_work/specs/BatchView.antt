@@ -1,11 +1,8 @@
 -- What is told of a batch: its row, and each requirement of its order's recipe with what the batch did of it.
 use Rattle.std.specs.Prelude.{◌≡◌, ℕ, not, ◌&&◌, if◌then◌else◌, Option, Some, None, is_some, List, map, filter}
-use Rattle.toll_work.specs.Common.{option_and_then, Bytes, same_bytes, total, where_so, History, acts, IsRowsOf, IsLawful, Slice, order_at, batch_at, void_at, BatchRow, OrderRow, RequirementRow, MoveRow}
-use Rattle.toll_base.specs.Keys.{RequirementKey, requirement_cmp}
-use Rattle.toll_base.specs.Table.{AreRowsGiven}
+use Rattle.toll_work.specs.Common.{option_and_then, Bytes, same_bytes, total, where_so, History, acts, IsRowsOf, IsLawful, Slice, order_at, batch_at, void_at, BatchRow, OrderRow, RequirementRow, MoveRow, RequirementKey, requirement_cmp, AreRowsGiven, is_actual_of}
 use Rattle.toll_history.specs.Amounts.{meets, actual_of}
 use Rattle.toll_history.specs.Work.{requirement_of, order_of, batch_of}
-use Rattle.toll_base.specs.SliceRules.{is_actual_of}
 use Rattle.toll_work.specs.declared.views.BatchView.{BatchView}
 use Rattle.toll_work.specs.declared.views.RequirementLine.{RequirementLine}
 

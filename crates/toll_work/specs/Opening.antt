@@ -1,7 +1,6 @@
 -- What the decision on the opening of a batch owes. Who decides sees one owner's rows, and is told of the unit.
 use Rattle.std.specs.Prelude.{◌≡◌, Bool, true, not, is_some}
-use Rattle.toll_work.specs.Common.{Bytes, History, owner_known, unit_known, Slice, IsRowsOf, IsLawful, IsRightOver, Decision}
-use Rattle.toll_history.specs.Command.{OpenBatch, by}
+use Rattle.toll_work.specs.Common.{Bytes, History, owner_known, unit_known, Slice, IsRowsOf, IsLawful, IsRightOver, Decision, OpenBatch, by}
 use Rattle.toll_history.specs.Holders.{holder}
 
 -- what was told of the unit is so: whether it is known, and whether no batch holds it

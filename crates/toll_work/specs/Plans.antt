@@ -1,10 +1,10 @@
 -- The rows that an accepted command puts, as the owner's tables make them, and the plans that put them.
 use Rattle.std.specs.Prelude.{ℕ, ◌+◌, Bool, true, false, not, List, [], ◌∷◌}
-use Rattle.toll_work.specs.Common.{option_map_or, Bytes, followed, Slice, Decision, RequirementRow, IsDecided, puts, Tables, tables_of, batch_command_checks, cancel_checks, close_checks, open_checks, order_checks, requirement_checks, tables_for, OrderRow, BatchRow}
+use Rattle.toll_work.specs.Common.{option_map_or, Bytes, followed, Slice, Decision, RequirementRow, IsDecided, puts, Tables, tables_of, batch_command_checks, cancel_checks, close_checks, open_checks, order_checks, requirement_checks, tables_for, OrderRow, BatchRow, Order, Requirement}
 use Rattle.toll_base.specs.declared.state.State.TheVariants.{Idle}
 use Rattle.toll_base.specs.declared.state_command.StateCommand.{StateCommand}
 use Rattle.toll_base.specs.declared.rows.Row.{Row}
-use Rattle.toll_base.specs.declared.rows.Row.TheVariants.{Batch, Order, Requirement}
+use Rattle.toll_base.specs.declared.rows.Row.TheVariants.{Batch}
 
 -- the order, cancelled
 abbrev pub cancelled_row : OrderRow → OrderRow

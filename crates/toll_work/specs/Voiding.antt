@@ -1,7 +1,6 @@
 -- What a void of an actual checks, and which sublot it changes.
 use Rattle.std.specs.Prelude.{ℕ, Option, Some, [], ◌∷◌, ◌++◌}
-use Rattle.toll_work.specs.Common.{option_map_or, Bytes, returning_bounds, Tables, Checks, crosses, is_some_where, MoveRow, BatchClosed, LimitReached, Voided, Consumed}
-use Rattle.toll_history.specs.OwnChanges.{sublot_named}
+use Rattle.toll_work.specs.Common.{option_map_or, Bytes, returning_bounds, Tables, Checks, crosses, is_some_where, MoveRow, BatchClosed, LimitReached, Voided, Consumed, sublot_named}
 use Rattle.toll_base.specs.declared.lot.LotId.{LotId}
 
 -- the key isn't voided, and the batch isn't closed

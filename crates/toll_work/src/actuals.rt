@@ -1,17 +1,8 @@
 //! Actuals.
 ghost use Rattle.std.specs.Prelude.{◌≡◌, ◌+◌, ◌-◌, true, false, ◌++◌, nat_lt, Some, None, IfOk, IfSome};
-ghost use Rattle.toll_base.specs.Bytes.{same_bytes};
-ghost use Rattle.toll_base.specs.Changes.{changes_of};
-ghost use Rattle.toll_base.specs.Slice.{recipe_at};
-ghost use Rattle.toll_base.specs.SliceRules.{KeepsRules};
-ghost use Rattle.toll_base.specs.Words.{is_some_where};
+ghost use Rattle.toll_work.specs.Common.{same_bytes, changes_of, recipe_at, KeepsRules, is_some_where, Record, by, DecidesWith, DecisionKeepsRules, said, sublot_named, PutsOnlyWith, tables_of, first_of, recipe_of_order, tables_for, actuals_full, is_actual};
 ghost use Rattle.toll_base.specs.declared.movement.Move.TheVariants as Move;
 ghost use Rattle.toll_base.specs.declared.role.Role.TheVariants as Role;
-ghost use Rattle.toll_history.specs.Command.{Record, by};
-ghost use Rattle.toll_history.specs.Decision.{DecidesWith, DecisionKeepsRules, said};
-ghost use Rattle.toll_history.specs.OwnChanges.{sublot_named, PutsOnlyWith};
-ghost use Rattle.toll_history.specs.Tables.{tables_of};
-ghost use Rattle.toll_history.specs.Verdict.{first_of, recipe_of_order, tables_for, actuals_full, is_actual};
 ghost use Rattle.toll_history.specs.Verdict as verdict;
 ghost use Rattle.toll_work.specs.ActualPlans.{IsConsumptionPlan, IsProductionPlan, recipe_checks_of, running_checks, source_checks, target_checks, use_checks};
 

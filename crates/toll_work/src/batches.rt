@@ -1,14 +1,7 @@
 //! Batches.
 ghost use Rattle.std.specs.Prelude.{◌≡◌, ◌+◌, nat_le, Some, None, if◌then◌else◌, IfOk};
-ghost use Rattle.toll_base.specs.Changes.{changes_of};
-ghost use Rattle.toll_base.specs.Slice.{batch_at};
-ghost use Rattle.toll_base.specs.SliceRules.{KeepsRules};
+ghost use Rattle.toll_work.specs.Common.{changes_of, batch_at, KeepsRules, CommandBatch, CloseBatch, by, Decides, DecisionKeepsRules, said, PutsOnly, tables_of, first_of, open_batch_checks};
 ghost use Rattle.toll_base.specs.States as states;
-ghost use Rattle.toll_history.specs.Command.{CommandBatch, CloseBatch, by};
-ghost use Rattle.toll_history.specs.Decision.{Decides, DecisionKeepsRules, said};
-ghost use Rattle.toll_history.specs.OwnChanges.{PutsOnly};
-ghost use Rattle.toll_history.specs.Tables.{tables_of};
-ghost use Rattle.toll_history.specs.Verdict.{first_of, open_batch_checks};
 ghost use Rattle.toll_work.specs.Opening.{DecidesOpening};
 ghost use Rattle.toll_work.specs.Plans.{IsClosingPlan, IsCommandPlan, IsOpeningPlan};
 

@@ -1,13 +1,6 @@
 //! Orders.
 ghost use Rattle.std.specs.Prelude.{◌≡◌, true, is_some, Some, [], IfOk};
-ghost use Rattle.toll_base.specs.Changes.{changes_of};
-ghost use Rattle.toll_base.specs.Slice.{order_at};
-ghost use Rattle.toll_base.specs.SliceRules.{KeepsRules};
-ghost use Rattle.toll_history.specs.Command.{PlaceOrder, CancelOrder, by};
-ghost use Rattle.toll_history.specs.Decision.{Decides, DecisionKeepsRules, said};
-ghost use Rattle.toll_history.specs.OwnChanges.{PutsOnly};
-ghost use Rattle.toll_history.specs.Tables.{tables_of};
-ghost use Rattle.toll_history.specs.Verdict.{first_of, standing_order_checks};
+ghost use Rattle.toll_work.specs.Common.{changes_of, order_at, KeepsRules, PlaceOrder, CancelOrder, by, Decides, DecisionKeepsRules, said, PutsOnly, tables_of, first_of, standing_order_checks};
 ghost use Rattle.toll_work.specs.Plans.{IsCancelPlan, IsOrderPlan};
 
 use std::alloc::{AllocError, Global};

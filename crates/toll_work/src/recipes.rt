@@ -1,14 +1,8 @@
 //! Recipes.
 ghost use Rattle.std.specs.Prelude.{◌≡◌, is_some, [], ◌∷◌, IfOk};
-ghost use Rattle.toll_base.specs.Changes.{changes_of};
-ghost use Rattle.toll_base.specs.SliceRules.{KeepsRules};
+ghost use Rattle.toll_work.specs.Common.{changes_of, KeepsRules, AddRecipe, Require, by, IsDecided, Decides, DecidesWith, DecisionKeepsRules, PutsOnly, tables_of, recipe_checks, tables_for};
 ghost use Rattle.toll_base.specs.declared.decision.Change.TheVariants as Change;
 ghost use Rattle.toll_base.specs.declared.rows.Row.TheVariants as Row;
-ghost use Rattle.toll_history.specs.Command.{AddRecipe, Require, by};
-ghost use Rattle.toll_history.specs.Decision.{IsDecided, Decides, DecidesWith, DecisionKeepsRules};
-ghost use Rattle.toll_history.specs.OwnChanges.{PutsOnly};
-ghost use Rattle.toll_history.specs.Tables.{tables_of};
-ghost use Rattle.toll_history.specs.Verdict.{recipe_checks, tables_for};
 ghost use Rattle.toll_work.specs.Plans.{IsRequirementPlan};
 
 use crate::crossing::crosses;

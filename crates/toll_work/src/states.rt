@@ -1,6 +1,6 @@
 //! The states of batches: their words, and which command leads from which to which.
 ghost use Rattle.std.specs.Prelude.{◌≡◌};
-ghost use Rattle.toll_base.specs.States.{next_state, word_of_state};
+ghost use Rattle.toll_work.specs.Common.{next_state, word_of_state};
 
 use toll_base::State::{
     Aborted, Aborting, Complete, Held, Holding, Idle, Paused, Pausing, Restarting, Running,

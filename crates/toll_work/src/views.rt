@@ -1,10 +1,7 @@
 //! What is told of a batch.
 ghost use Rattle.std.specs.Prelude.{◌≡◌, ◌≤◌, length, IfOk, if◌then◌else◌};
-ghost use Rattle.toll_base.specs.Bytes.{bytes_cmp};
-ghost use Rattle.toll_base.specs.Keys.{requirement_cmp};
-ghost use Rattle.toll_base.specs.Table.{IsInKeyOrder};
+ghost use Rattle.toll_work.specs.Common.{bytes_cmp, requirement_cmp, IsInKeyOrder, requirement_key};
 ghost use Rattle.toll_history.specs.Amounts as amount;
-ghost use Rattle.toll_history.specs.Verdict.{requirement_key};
 ghost use Rattle.toll_work.specs.BatchView as told;
 
 use std::alloc::{AllocError, Global};

@@ -1,13 +1,7 @@
 //! Voids.
 ghost use Rattle.std.specs.Prelude.{◌≡◌, ◌+◌, ◌-◌, false, Some, IfOk};
-ghost use Rattle.toll_base.specs.Bytes.{same_bytes};
-ghost use Rattle.toll_base.specs.Changes.{changes_of};
-ghost use Rattle.toll_base.specs.Slice.{move_at};
-ghost use Rattle.toll_history.specs.Command.{Void, by};
-ghost use Rattle.toll_history.specs.Decision.{DecidesWith, DecisionKeepsRules, said};
-ghost use Rattle.toll_history.specs.OwnChanges.{PutsOnlyWith};
-ghost use Rattle.toll_history.specs.Tables.{tables_of};
-ghost use Rattle.toll_history.specs.Verdict.{first_of};
+ghost use Rattle.toll_work.specs.Common.{same_bytes, changes_of, move_at, by, DecidesWith, DecisionKeepsRules, said, PutsOnlyWith, tables_of, first_of};
+ghost use Rattle.toll_history.specs.Command.{Void};
 ghost use Rattle.toll_work.specs.ActualPlans.{IsGivingPlan, IsTakingPlan};
 ghost use Rattle.toll_work.specs.Voiding.{open_checks, actual_sublot};
 

@@ -1,6 +1,7 @@
 use Rattle.std.proofs.Common.{◌∙◌, sym, ap}
 use Rattle.toll_work.proofs.Common.{is_actual, is_some_where, MoveRow}
-use Rattle.toll_work.proofs.VoidLaw.{unknown_owes, owed, giving_owes, taking_owes}
+use Rattle.toll_work.proofs.OwedWith.{owed_with}
+use Rattle.toll_work.proofs.VoidLaw.{unknown_owes, giving_owes, taking_owes}
 use Rattle.toll_work.proofs.voids.void_actual.Goals as goal
 
 pub returns-in_default : goal.returns-in_default
@@ -17,10 +18,10 @@ pub returns-in-Some-Consumed-default : goal.returns-in-Some-Consumed-default
 returns-in-Some-Consumed-default c =
     let u = c.in-Some-Consumed-default in let used = u.used in
     let owes = giving_owes c.args.own.now c.args.house.now c.args.key c.in-Some.row (sym c.movement.ensures ∙ c.in-Some.is) used.order used.number used.segment u.field-0-0 used.material used.lot used.sublot u.ensures.actual u.field-0-0-is in
-    let o = owed c.give_back.ensures.plan owes c.owner-own.ensures.kept c.owner-house.ensures.kept in record { decides = o.decides; rules = o.rules; house_rules = o.house_rules; own = o.own }
+    let o = owed_with c.give_back.ensures.plan owes c.owner-own.ensures.kept c.owner-house.ensures.kept in record { decides = o.decides; rules = o.rules; house_rules = o.house_rules; own = o.own }
 
 pub returns-in-Some-Produced-default : goal.returns-in-Some-Produced-default
 returns-in-Some-Produced-default c =
     let u = c.in-Some-Produced-default in let used = u.used in
     let owes = taking_owes c.args.own.now c.args.house.now c.args.key c.in-Some.row (sym c.movement.ensures ∙ c.in-Some.is) used.order used.number used.segment u.field-0-0 used.material used.lot used.sublot u.ensures.actual u.field-0-0-is in
-    let o = owed c.take_out.ensures.plan owes c.owner-own.ensures.kept c.owner-house.ensures.kept in record { decides = o.decides; rules = o.rules; house_rules = o.house_rules; own = o.own }
+    let o = owed_with c.take_out.ensures.plan owes c.owner-own.ensures.kept c.owner-house.ensures.kept in record { decides = o.decides; rules = o.rules; house_rules = o.house_rules; own = o.own }
