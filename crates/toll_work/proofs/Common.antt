@@ -41,5 +41,5 @@ pub use Rattle.toll_history.specs.OwnChanges.{EachChange, is_put_in_house, is_pu
 pub use Rattle.toll_history.specs.Tables.{sublot_row, tables_given}
 pub use Rattle.toll_history.specs.Verdict.{Accepted, IsValid, Refused, Repeated, Verdict, is_of_closed, stopped, takes_too_much, verdict}
 pub use Rattle.toll_history.specs.Work.{batch_of, cancels, count_opened, is_closed, material_of, opens, order_of, order_placed, requirement_of, same_requirement, state_of, unit_of, unit_opened}
-pub use Rattle.toll_work.specs.Common.{AddRecipe, AreRowsGiven, BadSegment, BatchClosed, BatchIdle, BatchRow, Bytes, CancelOrder, Checks, CloseBatch, CommandBatch, Consumed, CrossOwner, Decides, Decision, History, IsDecided, IsInKeyOrder, IsLawful, IsRightOver, IsRowsOf, KeepsRules, LimitReached, Lot, Move, MoveRow, NotEnough, NotInRecipe, OpenBatch, Order, OrderRow, PlaceOrder, Produced, PutsOnly, PutsOnlyWith, Record, Require, Requirement, RequirementKey, RequirementRow, Slice, Sublot, Tables, Void, Voided, actual_checks, amount_in, batch_at, batch_command_checks, by, bytes_cmp, cancel_checks, changes_of, close_checks, consumed_checks, crosses, first_of, followed, is_actual, is_actual_of, is_idle, is_some_where, key_checks, lot_bounds, move_at, next_state, open_batch_checks, open_checks, option_and_then, option_map_or, order_at, order_checks, owner_known, produced_checks, recipe_at, recipe_checks, recipe_of_order, requirement_at, requirement_checks, requirement_cmp, requirement_key, same_bytes, sublot_named, tables_for, tables_of, total, unit_known, void_at, where_so}
+pub use Rattle.toll_work.specs.Common.{AddRecipe, AreRowsGiven, BadSegment, BatchClosed, BatchIdle, BatchRow, Bytes, CancelOrder, Checks, CloseBatch, CommandBatch, Consumed, CrossOwner, Decides, Decision, History, IsDecided, IsInKeyOrder, IsLawful, IsRightOver, IsRowsOf, KeepsRules, LimitReached, Lot, Move, MoveRow, NotEnough, NotInRecipe, OpenBatch, Order, OrderRow, PlaceOrder, Produced, PutsOnly, PutsOnlyWith, Record, Require, Requirement, RequirementKey, RequirementRow, Slice, Sublot, Tables, Void, Voided, actual_checks, amount_in, batch_at, batch_command_checks, by, bytes_cmp, cancel_checks, changes_of, close_checks, consumed_checks, crosses, first_of, followed, is_actual, is_actual_of, is_idle, is_some_where, key_checks, lot_bounds, move_at, next_state, open_batch_checks, open_checks, option_and_then, option_map_or, order_at, order_checks, owner_known, produced_checks, recipe_at, recipe_checks, recipe_of_order, requirement_at, requirement_checks, requirement_cmp, requirement_key, said, same_bytes, sublot_named, tables_for, tables_of, total, unit_known, void_at, where_so}
 pub use mathlib.Core.Bool.{false≢true}

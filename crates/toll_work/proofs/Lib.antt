@@ -13,7 +13,6 @@ pub mod OpenLaw
 pub mod OrderLaw
 pub mod RecipeLaw
 pub mod RequirementLaw
-pub mod RightWhere
 pub mod StandingSums
 pub mod Sums
 pub mod ViewLaw

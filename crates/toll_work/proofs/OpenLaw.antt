@@ -1,12 +1,11 @@
 -- What the opening of a batch owes.
 use Rattle.std.proofs.Common.{◌≡◌, ℕ, suc, ◌+◌, ◌<◌, Bool, true, false, not, ◌&&◌, ◌||◌, ◌==◌, cond, Option, Some, None, is_some, is_none, List, [], ◌∷◌, map, refl, sym, ap, ◌∙◌, arith}
-use Rattle.toll_work.proofs.Common.{false≢true, option_map, is_eq, nat_tests, Bytes, same_bytes, or_else, batch_cmp, Action, OpenBatch, CommandBatch, CloseBatch, by, History, acts, unit_known, Slice, batch_at, with_row, KeepsRules, followed, opens, count_opened, unit_opened, unit_of, state_of, is_closed, batch_of, Tables, tables_of, tables_given, IsDecided, DecisionKeepsRules, Accepted, first_of, verdict, open_checks, IsLawful, IsValid, State, Put, Decision, BatchRow, Batch, along_acts, map_none, accepted_passes, verdict_is, Grows, keeps_rules, tables-own, tables-others, row_at-put_row, count-new, same_bytes-exact, same_bytes-symm, nat_eq-exact, batch_cmp_total, same_batch}
+use Rattle.toll_work.proofs.Common.{false≢true, option_map, is_eq, nat_tests, Bytes, same_bytes, or_else, batch_cmp, Action, OpenBatch, CommandBatch, CloseBatch, by, History, acts, unit_known, Slice, batch_at, with_row, KeepsRules, followed, opens, count_opened, unit_opened, unit_of, state_of, is_closed, batch_of, Tables, tables_of, tables_given, IsDecided, DecisionKeepsRules, Accepted, first_of, verdict, open_checks, IsLawful, IsValid, State, Put, Decision, BatchRow, Batch, along_acts, map_none, accepted_passes, verdict_is, Grows, keeps_rules, tables-own, tables-others, row_at-put_row, count-new, same_bytes-exact, same_bytes-symm, nat_eq-exact, batch_cmp_total, same_batch, right_over, grown_rows}
 use Rattle.toll_history.specs.Holders.{holder}
 use Rattle.toll_base.specs.declared.state.State.TheVariants.{Idle}
 use Rattle.toll_work.specs.Opening.{DecidesOpening}
 use Rattle.toll_work.specs.Plans.{opened_row, opened_rows}
 use Rattle.toll_work.proofs.BatchLaw.{batch_key, batch_row, same_batch-exact, nat_eq-symm}
-use Rattle.toll_work.proofs.RightWhere.{right_where}
 
 -- ---- the tables
 
@@ -140,10 +139,11 @@ module _ (own : Slice) (order unit : Bytes) (known free : Bool) (d : Decision) (
   unfolding DecidesOpening
   opening_decided H lawful known_owner there told =
       let a = OpenBatch order unit in
-      right_where a (opened_rows order unit) (grows order unit) (λ H o p lawful valid accepted other. tables-others H o a refl p other) H own lawful tt there d _ decided
+      right_over H (by own.owner a) d _ _ decided.says decided.makes
       ((λ i. first_of (open_checks (tables_of own) order (told.known i) (not (told.free i))))
       ∙ ap (λ b. first_of (open_checks (tables_of own) order (unit_known H unit) b)) (not_not (is_some (holder H unit)))
       ∙ verdict_is H own.owner a (tables_of own) _ known_owner there refl)
+      (λ accepted s. grown_rows a (opened_rows order unit) (grows order unit) (λ H o p lawful valid accepted other. tables-others H o a refl p other) H own.owner (tables_of own) there lawful tt accepted s)
     where
       not_not : (b : Bool) → not (not b) ≡ b
       not_not true = refl

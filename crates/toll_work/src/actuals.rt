@@ -172,29 +172,23 @@ pub fn slice_for<'a>(own: &'a Slice, house: &'a Slice, owner: &Name) -> &'a Slic
 fn check_consumption(own: &Slice, source: &Slice, used: &Use, amount: Amount) -> Result<(), Refusal>
     ensures { said result ≡ first_of (use_checks own.now used.now Role.Consumed ++ source_checks own.now (tables_of source.now) used.now amount) }
 {
-    match check_use(own, used, Role::Consumed) {
-        Err(why) => Err(why),
-        Ok(()) => check_source(own, source, used, amount),
-    }
+    check_use(own, used, Role::Consumed)?;
+    check_source(own, source, used, amount)
 }
 
 fn check_production(own: &Slice, used: &Use, amount: Amount) -> Result<(), Refusal>
     ensures { said result ≡ first_of (use_checks own.now used.now Role.Produced ++ target_checks own.now used.now amount) }
 {
-    match check_use(own, used, Role::Produced) {
-        Err(why) => Err(why),
-        Ok(()) => check_target(own, used, amount),
-    }
+    check_use(own, used, Role::Produced)?;
+    check_target(own, used, amount)
 }
 
 // Whether the batch takes actuals, and its recipe this one.
 fn check_use(own: &Slice, used: &Use, role: Role) -> Result<(), Refusal>
     ensures { said result ≡ first_of (use_checks own.now used.now role) }
 {
-    match check_running(own, &used.order, used.number) {
-        Err(why) => Err(why),
-        Ok(recipe) => check_in_recipe(own, &recipe, used, role),
-    }
+    let recipe = check_running(own, &used.order, used.number)?;
+    check_in_recipe(own, &recipe, used, role)
 }
 
 // The recipe of the batch, where it takes actuals.
