@@ -4,14 +4,10 @@ use Rattle.toll_genealogy.proofs.Common.{option_map, Bytes, same_bytes, house_na
 use Rattle.toll_base.proofs.Bools.{and_is}
 use Rattle.toll_history.proofs.Lots.{sublot_lot}
 use Rattle.toll_history.proofs.Owned.{all_bring_own, all_take_known}
+pub use Rattle.toll_stock.proofs.TotalsLaw.{some_mapped}
 use Rattle.toll_genealogy.specs.Edges.{IsOwnEdge}
 use Rattle.toll_genealogy.proofs.OwnEdges.{edge_end, edge_start}
 use Rattle.toll_genealogy.proofs.Standing.{recorded_moved}
-
--- what is there stays so under a function
-pub some_mapped : {X Y : Type 0} (f : X → Y) (x : Option X) → is_some (option_map f x) ≡ is_some x
-some_mapped f None = refl
-some_mapped f (Some x) = refl
 
 -- a sublot of a lot is the one that its names say
 same_sublot : (lot : LotId) (sublot : Bytes) → (same_lot lot lot && same_bytes sublot sublot) ≡ true

@@ -1,9 +1,6 @@
 -- Genealogy over a history.
 use Rattle.std.specs.Prelude.{◌≡◌, false, List, Contains}
-use Rattle.toll_genealogy.specs.Common.{Bytes, History, acts, Action, Record, LotId, Edge, Way, edge_of}
-use Rattle.toll_history.specs.Movements.{voided_in}
-use Rattle.toll_base.specs.declared.movement.MoveRow.{MoveRow}
-use Rattle.toll_trace.specs.Edges.{AreEdges, IsDrawn}
+use Rattle.toll_genealogy.specs.Common.{Bytes, History, acts, Action, Record, LotId, Edge, Way, edge_of, voided_in, MoveRow, AreEdges, IsDrawn}
 
 -- of an owner's own actions: the movement was recorded, and its key isn't voided
 pub record WasDone (own : List Action) (row : MoveRow) : Type 0 where

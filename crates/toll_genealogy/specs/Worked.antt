@@ -1,8 +1,7 @@
 -- Histories that worked examples of genealogy begin with.
 use Rattle.std.specs.Prelude.{List, [], ◌∷◌, codes}
-use Rattle.toll_genealogy.specs.Common.{Bytes, house_name, AddOwner, AddUnit, AddRecipe, PlaceOrder, OpenBatch, CommandBatch, Release, Command, by, moves, History, Edge, LotId}
+use Rattle.toll_genealogy.specs.Common.{Bytes, house_name, AddOwner, AddUnit, AddRecipe, PlaceOrder, OpenBatch, CommandBatch, Release, Command, by, moves, History, Edge, LotId, after, acme, material, require, receives}
 use Rattle.toll_base.specs.Lots.{lot_id}
-use Rattle.toll_history.specs.Worked.{after, acme, material, require, receives}
 use Rattle.toll_base.specs.declared.role.Role.TheVariants.{Consumed, Produced}
 use Rattle.toll_base.specs.declared.movement.Move.TheVariants.{Actual}
 use Rattle.toll_base.specs.declared.state_command.StateCommand.TheVariants.{Start}

@@ -1,10 +1,6 @@
 //! Recalls.
 ghost use Rattle.std.specs.Prelude.{◌≡◌, false};
-ghost use Rattle.toll_base.specs.Bytes.{Bytes, same_bytes};
-ghost use Rattle.toll_base.specs.Values.{house_name};
-ghost use Rattle.toll_base.specs.declared.lot.LotId.{LotId};
-ghost use Rattle.toll_history.specs.History.{History};
-ghost use Rattle.toll_history.specs.Verdict.{IsLawful};
+ghost use Rattle.toll_genealogy.specs.Common.{Bytes, same_bytes, house_name, LotId, History, IsLawful};
 ghost use Rattle.toll_genealogy.specs.Agreement.{IfPartsAgree, IsRecallOfJoints, RecallsAgree};
 ghost use Rattle.toll_genealogy.specs.declared.recall.RecallLine.{RecallLine};
 

@@ -1,16 +1,7 @@
 //! Genealogy of an owner, and of the plant, cut to one owner's lots.
 ghost use Rattle.std.specs.Prelude.{◌≡◌, ◌↔◌, List, Contains};
-ghost use Rattle.toll_base.specs.Bytes.{Bytes};
+ghost use Rattle.toll_genealogy.specs.Common.{Bytes, Edge, LotId, MoveRow, History, acts, standing, IsRowsOf, IsLawful, AreEdges, IsEdge, Way};
 ghost use Rattle.toll_base.specs.Slice.{Slice};
-ghost use Rattle.toll_base.specs.declared.lot.Edge.{Edge};
-ghost use Rattle.toll_base.specs.declared.lot.LotId.{LotId};
-ghost use Rattle.toll_base.specs.declared.movement.MoveRow.{MoveRow};
-ghost use Rattle.toll_history.specs.History.{History, acts};
-ghost use Rattle.toll_history.specs.Movements.{standing};
-ghost use Rattle.toll_history.specs.Tables.{IsRowsOf};
-ghost use Rattle.toll_history.specs.Verdict.{IsLawful};
-ghost use Rattle.toll_trace.specs.Edges.{AreEdges, IsEdge};
-ghost use Rattle.toll_trace.specs.declared.way.Way.{Way};
 ghost use Rattle.toll_genealogy.specs.Agreement.{AreKnown, IsWithin, TracesAgree};
 ghost use Rattle.toll_genealogy.specs.Edges.{WasDone, IsOwnEdge};
 

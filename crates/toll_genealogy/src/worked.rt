@@ -1,11 +1,7 @@
 //! Worked examples of genealogy: what the definitions say of them, computed.
 ghost use Rattle.std.specs.Prelude.{◌≡◌, [], ◌∷◌};
-ghost use Rattle.toll_base.specs.Values.{house_name};
-ghost use Rattle.toll_history.specs.History.{acts};
-ghost use Rattle.toll_history.specs.Worked.{verdicts, all_accepted, acme, one_product};
-ghost use Rattle.toll_trace.specs.Edges.{AreEdges};
+ghost use Rattle.toll_genealogy.specs.Common.{house_name, acts, verdicts, all_accepted, acme, one_product, AreEdges, Back, Forward};
 ghost use Rattle.toll_trace.specs.Search.{step_at};
-ghost use Rattle.toll_trace.specs.declared.way.Way.TheVariants.{Back, Forward};
 ghost use Rattle.toll_genealogy.specs.Agreement.{IsOwnTrace};
 ghost use Rattle.toll_genealogy.specs.Edges.{IsOwnEdge};
 ghost use Rattle.toll_genealogy.specs.Worked.{a, circle, consumed_in_a_circle, h1, h2, house_material, into, made_of_house_material, p1, q1};
