@@ -1,6 +1,6 @@
 -- One call of a keep after another, and the same under another answer.
 use Rattle.std.proofs.Common.{◌≡◌, [], ◌∷◌, Result, Ok, Err, inl, inr, refl, subst, ◌∙◌}
-use Rattle.std.specs.Prelude.{◌≢◌, IsTrue}
+use Rattle.std.specs.Prelude.{◌≢◌, ◌↔◌, IsTrue, OnOk}
 use mathlib.Core.Bool.{false≢true}
 use Rattle.toll_keep.specs.Meaning.{Meaning}
 use Rattle.toll_keep.specs.Content.{Content, ContentKeepsRules}
@@ -8,18 +8,19 @@ use Rattle.toll_keep.specs.Goes.{Goes, Keeps, IsReading, Settles, closes}
 use Rattle.toll_keep.specs.declared.fault.KeepFault.{KeepFault}
 use Rattle.toll_keep.specs.declared.fault.KeepFault.TheVariants.{Memory, Disk, Damaged, Closed}
 
+-- that a call was answered, and that it failed
+abbrev pub answered : {X : Type 0} → X → Result X KeepFault
+answered x = Ok x
+
+abbrev pub failed : {X : Type 0} → KeepFault → Result X KeepFault
+failed fault = Err fault
+
 module _ {K : Type 0} (meaning : Meaning K) where
   abbrev GoesTo : {X : Type 0} → K → K → Result X KeepFault → Type 0
   GoesTo old new r = Goes meaning old new r
 
   abbrev ReadsTo : {X : Type 0} → K → K → Result X KeepFault → Type 0
   ReadsTo old new r = IsReading meaning old new r
-
-  abbrev answered : {X : Type 0} → X → Result X KeepFault
-  answered x = Ok x
-
-  abbrev failed : {X : Type 0} → KeepFault → Result X KeepFault
-  failed fault = Err fault
 
   -- a call that answered was of a keep that was not closed
   open_before : {X : Type 0} (old new : K) (x : X) → GoesTo old new (answered x) → IsTrue (meaning.is_closed old) → ⊥
@@ -61,54 +62,36 @@ module _ {K : Type 0} (meaning : Meaning K) where
     whole = λ now c held rules. second.whole now c ((first.keeps (second.goes.honest now)).content c held) rules;
   }
 
-  -- what is so of a call is so under another answer, where that is a fault just where it was, or a want of memory where it was none
-  pub goes_as : {X Y : Type 0} (old new : K) (x : X) (y : Y) → GoesTo old new (answered x) → GoesTo old new (answered y)
-  goes_as old new x y goes = record {
+  -- what is so of a call is so under another answer, which is the same fault, or none or a want of memory where it was none
+  goes_under : {X Y : Type 0} (old new : K) (was : Result X KeepFault) (told : Result Y KeepFault) →
+      ((told ≡ Err Closed) ↔ (was ≡ Err Closed)) → closes was ≡ closes told → (OnOk was (meaning.is_live new) → OnOk told (meaning.is_live new)) → (told ≡ Err Disk → was ≡ Err Disk) → GoesTo old new was → GoesTo old new told
+  goes_under old new was told shut_out alike shows fails goes = record {
     honest = goes.honest;
-    closed = (λ is. (cc), λ was. absurd (open_before old new x goes was));
-    closes = goes.closes;
+    closed = (λ is. goes.closed.0 (shut_out.0 is), λ closed. shut_out.1 (goes.closed.1 closed));
+    closes = goes.closes ∙ alike;
     live = goes.live;
-    shown = goes.shown;
+    shown = λ now. shows (goes.shown now);
     lasts = goes.lasts;
-    cause = λ now is. (cc);
+    cause = λ now is. goes.cause now (fails is);
     since = goes.since;
     stays = goes.stays;
     shut = goes.shut;
   }
 
+  pub goes_as : {X Y : Type 0} (old new : K) (x : X) (y : Y) → GoesTo old new (answered x) → GoesTo old new (answered y)
+  goes_as old new x y = goes_under old new (answered x) (answered y) (λ is. (cc), λ is. (cc)) refl (λ live. live) (λ is. (cc))
+
+  pub goes_memory : {X Y : Type 0} (old new : K) (x : X) → GoesTo old new (answered x) → GoesTo {X = Y} old new (failed Memory)
+  goes_memory {X} {Y} old new x = goes_under {X = X} {Y = Y} old new (answered x) (failed Memory) (λ is. (cc), λ is. (cc)) refl (λ live. tt) (λ is. (cc))
+
   pub goes_fault : {X Y : Type 0} (old new : K) (fault : KeepFault) → GoesTo {X = X} old new (failed fault) → GoesTo {X = Y} old new (failed fault)
-  goes_fault {X} {Y} old new fault goes = record {
-    honest = goes.honest;
-    closed = (λ is. goes.closed.0 (cc), λ was. let e : failed {X = X} fault ≡ Err Closed = goes.closed.1 was in (cc));
-    closes = goes.closes ∙ closes_alike fault;
-    live = goes.live;
-    shown = λ now. tt;
-    lasts = goes.lasts;
-    cause = λ now is. goes.cause now (cc);
-    since = goes.since;
-    stays = goes.stays;
-    shut = goes.shut;
-  }
+  goes_fault {X} {Y} old new fault = goes_under {X = X} {Y = Y} old new (failed fault) (failed fault) (λ is. (cc), λ is. (cc)) (closes_alike fault) (λ live. live) (λ is. (cc))
     where
       closes_alike : (fault : KeepFault) → closes {X = X} (Err fault) ≡ closes {X = Y} (Err fault)
       closes_alike Memory = refl
       closes_alike Disk = refl
       closes_alike Damaged = refl
       closes_alike Closed = refl
-
-  pub goes_memory : {X Y : Type 0} (old new : K) (x : X) → GoesTo old new (answered x) → GoesTo {X = Y} old new (failed Memory)
-  goes_memory old new x goes = record {
-    honest = goes.honest;
-    closed = (λ is. (cc), λ was. absurd (open_before old new x goes was));
-    closes = goes.closes;
-    live = goes.live;
-    shown = λ now. tt;
-    lasts = goes.lasts;
-    cause = λ now is. (cc);
-    since = goes.since;
-    stays = goes.stays;
-    shut = goes.shut;
-  }
 
   abbrev KeepsTo : K → K → Type 0
   KeepsTo old new = meaning.is_honest new → Keeps meaning old new

@@ -22,8 +22,8 @@ of_known : (known : Bool) (rows s : Slice) → cond known (Some rows) None ≡ S
 of_known true rows s e = (refl, cc)
 of_known false rows s e = absurd (cc e)
 
-pub rows_there : (c : Content) (o : Bytes) (s : Slice) → slice_of c o ≡ Some s → c.rows o ≡ s
-rows_there c o s e = (of_known (knows c o) (c.rows o) s e).1
+pub edges_there : (c : Content) (o : Bytes) (s : Slice) (edges : List Edge) → slice_of c o ≡ Some s → AreEdges (IsEdge s) edges → AreEdges (IsEdge (c.rows o)) edges
+edges_there c o s edges there = subst (λ t. AreEdges (IsEdge t) edges) (sym (of_known (knows c o) (c.rows o) s there).1)
 
 -- ---- added
 

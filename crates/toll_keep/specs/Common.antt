@@ -1,8 +1,9 @@
--- Words of other crates that several definitions here are said in.
+-- Words of other crates that several definitions and contracts here are said in.
 pub use Rattle.std.specs.Global.{Global, Vec}
 pub use Rattle.std.specs.List.{AllByRecursion, list_any}
 pub use Rattle.toll_base.specs.Bytes.{Bytes, bytes_cmp, same_bytes}
-pub use Rattle.toll_base.specs.Changes.{after_changes}
+pub use Rattle.toll_base.specs.Changes.{after_change, after_changes}
+pub use Rattle.toll_base.specs.Former.{TakesBack, is_there}
 pub use Rattle.toll_base.specs.Slice.{Slice, batch_at, empty_slice, with_row}
 pub use Rattle.toll_base.specs.SliceRules.{KeepsRules}
 pub use Rattle.toll_base.specs.Table.{put_row, remove_row, row_at}
@@ -10,3 +11,4 @@ pub use Rattle.toll_base.specs.declared.decision.Change.{Change}
 pub use Rattle.toll_base.specs.declared.decision.Change.TheVariants.{Owner, Put, Unit}
 pub use Rattle.toll_base.specs.declared.rows.OwnerRow.{OwnerRow}
 pub use Rattle.toll_base.specs.declared.rows.UnitRow.{UnitRow}
+pub use Rattle.toll_trace.specs.Edges.{AreEdges, IsEdge}

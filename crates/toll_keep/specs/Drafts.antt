@@ -1,8 +1,8 @@
 -- Changes that are made in place, and what takes them back.
 use Rattle.std.specs.Prelude.{◌≡◌, ℕ, ◌<◌, Bool, true, Option, Some, None, is_some, List, [], ◌∷◌, ◌++◌, length, slice_set, slice_index_or}
 use Rattle.std.specs.declared.cmp.Ordering.{Ordering}
-use Rattle.toll_keep.specs.Common.{Bytes, bytes_cmp, row_at, put_row, remove_row, Slice, empty_slice, KeepsRules, after_changes, Change}
-use Rattle.toll_base.specs.Former.{is_there, taken_back as row_taken_back}
+use Rattle.toll_keep.specs.Common.{Bytes, bytes_cmp, row_at, put_row, remove_row, Slice, empty_slice, KeepsRules, after_changes, Change, is_there}
+use Rattle.toll_base.specs.Former.{taken_back as row_taken_back}
 use Rattle.toll_base.specs.declared.former.Former.{Former}
 use Rattle.toll_keep.specs.Content.{after_owners, after_units}
 use Rattle.toll_keep.specs.Slices.{Kept, rows_in}

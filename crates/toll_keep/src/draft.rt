@@ -1,8 +1,6 @@
 //! Changes that are made in place, all of them or none.
 ghost use Rattle.std.specs.Prelude.{◌≡◌, [], ◌∷◌, true, IfOk, OnOk, OnErr, IsOkUnless, position};
-ghost use Rattle.toll_base.specs.Former.{TakesBack};
-ghost use Rattle.toll_base.specs.Slice.{with_row};
-ghost use Rattle.toll_base.specs.Table.{put_row};
+ghost use Rattle.toll_keep.specs.Common.{TakesBack, with_row, put_row};
 ghost use Rattle.toll_keep.specs.Drafts.{kept_of, restored, is_restorable, taken_back, all_taken_back, CanTakeBack, CanTakeAllBack, Undoes, IsAfter};
 ghost use Rattle.toll_keep.specs.Slices.{is_of};
 

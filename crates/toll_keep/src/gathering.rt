@@ -1,6 +1,6 @@
 //! The edges of all owners, by their slices.
 ghost use Rattle.std.specs.Prelude.{◌≡◌, IfOk, OnOk};
-ghost use Rattle.toll_trace.specs.Edges.{AreEdges, IsEdge};
+ghost use Rattle.toll_keep.specs.Common.{AreEdges, IsEdge};
 ghost use Rattle.toll_keep.specs.Goes.{IsReading};
 ghost use Rattle.toll_keep.specs.Holding.{AreMore, TellsAllEdges};
 ghost use Rattle.toll_keep.specs.Meaning.{OverHeld};
@@ -69,10 +69,7 @@ fn add_edges<K: Keep>(
     ensures added { OverHeld K.meaning keep.old keep.new (λ c. IfOf c slices.old.items (OnOk result (AreMore (c.rows owner.now) edges.old.items edges.new.items))) }
 {
     match own_edges(alloc, keep, slices, owner) {
-        Ok(own) => match edges.extend_from_slice(&own) {
-            Ok(()) => Ok(()),
-            Err(_) => Err(KeepFault::Memory),
-        },
+        Ok(own) => Ok(edges.extend_from_slice(&own)?),
         Err(fault) => Err(fault),
     }
 }
@@ -90,10 +87,7 @@ fn own_edges<K: Keep>(
     ensures told { OverHeld K.meaning keep.old keep.new (λ c. IfOf c slices.old.items (IfOk result (λ edges. AreEdges (IsEdge (c.rows owner.now)) edges.items))) }
 {
     match remembered_edges(alloc, slices, owner) {
-        Some(told) => match told {
-            Ok(edges) => Ok(edges),
-            Err(_) => Err(KeepFault::Memory),
-        },
+        Some(told) => Ok(told?),
         None => edges_once(alloc, keep, owner),
     }
 }
@@ -104,10 +98,7 @@ fn edges_once<K: Keep>(alloc: Global, keep: &mut K, owner: &Name) -> Result<Vec<
     ensures reads { OverHeld K.meaning keep.old keep.new (λ c. OnlyKnownHaveRows c → IfOk result (λ edges. AreEdges (IsEdge (c.rows owner.now)) edges.items)) }
 {
     match keep.slice(alloc, owner) {
-        Ok(Some(slice)) => match edges_in(alloc, slice) {
-            Ok(edges) => Ok(edges),
-            Err(_) => Err(KeepFault::Memory),
-        },
+        Ok(Some(slice)) => Ok(edges_in(alloc, slice)?),
         Ok(None) => Ok(Vec::new(alloc)),
         Err(fault) => Err(fault),
     }

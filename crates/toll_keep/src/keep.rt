@@ -1,6 +1,6 @@
 //! What keeps the rows of the office.
 ghost use Rattle.std.specs.Prelude.{◌≡◌, ◌≢◌, Err, List, [], ◌∷◌, ◌++◌, IfOk, OnOk, OnErr};
-ghost use Rattle.toll_trace.specs.Edges.{AreEdges, IsEdge};
+ghost use Rattle.toll_keep.specs.Common.{AreEdges, IsEdge};
 ghost use Rattle.toll_keep.specs.Content.{Content, slice_of, after, Fits, ContentKeepsRules};
 ghost use Rattle.toll_keep.specs.Goes.{Goes, IsReading};
 ghost use Rattle.toll_keep.specs.Holding.{IsHolder, IsEdgeOfSome};

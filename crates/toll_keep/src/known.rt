@@ -1,7 +1,6 @@
 //! A slice that is remembered, with its edges.
 ghost use Rattle.std.specs.Prelude.{◌≡◌, IfOk, OnOk};
-ghost use Rattle.toll_base.specs.Slice.{with_row};
-ghost use Rattle.toll_trace.specs.Edges.{AreEdges, IsEdge};
+ghost use Rattle.toll_keep.specs.Common.{with_row, AreEdges, IsEdge};
 
 use std::alloc::{AllocError, Global};
 use std::marker::Model;

@@ -1,6 +1,6 @@
 //! A keep of lists in memory.
 ghost use Rattle.std.specs.Prelude.{◌≡◌, false, ⊤, IfOk, OnOk, OnErr, IsOkUnless};
-ghost use Rattle.toll_trace.specs.Edges.{AreEdges, IsEdge};
+ghost use Rattle.toll_keep.specs.Common.{AreEdges, IsEdge};
 ghost use Rattle.toll_keep.specs.Content.{nothing, knows, slice_of, after};
 ghost use Rattle.toll_keep.specs.Goes.{IsAmong};
 ghost use Rattle.toll_keep.specs.Holding.{IsEdgeOfSome};

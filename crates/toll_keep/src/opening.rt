@@ -1,6 +1,6 @@
 //! The rows that changes are about to touch, taken out of a list of slices.
 ghost use Rattle.std.specs.Prelude.{◌≡◌, ◌+◌, ◌≤◌, ◌++◌, true, All, IfOk, OnOk, OnErr, IsOkUnless, length, vec_len, vec_capacity};
-ghost use Rattle.toll_base.specs.Bytes.{Bytes};
+ghost use Rattle.toll_keep.specs.Common.{Bytes};
 ghost use Rattle.toll_keep.specs.Slices.{rows_in, has_slice, IsOneEach, IsTouched, MovesOne};
 
 use crate::draft::place_of_open;

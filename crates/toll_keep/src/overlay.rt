@@ -1,6 +1,6 @@
 //! Changes that are held back from a keep.
 ghost use Rattle.std.specs.Prelude.{◌≡◌, ◌++◌, [], IfOk, OnErr, OnOk};
-ghost use Rattle.toll_base.specs.Changes.{after_changes};
+ghost use Rattle.toll_keep.specs.Common.{after_changes};
 ghost use Rattle.toll_keep.specs.Content.{Content, slice_of};
 ghost use Rattle.toll_keep.specs.Meaning.{OverHeld};
 ghost use Rattle.toll_keep.specs.Overlays.{IsOver, IsReadOf, OverLaid, ReadsThrough};
@@ -59,10 +59,7 @@ impl Overlay {
         ensures changes { self.new.changes.items ≡ self.old.changes.items }
     {
         if let Some(known) = remembered(&self.slices, owner) {
-            return match known.copy(alloc) {
-                Ok(copied) => Ok(Some(copied)),
-                Err(_) => Err(KeepFault::Memory),
-            };
+            return Ok(Some(known.copy(alloc)?));
         }
         match keep.slice(alloc, owner) {
             Ok(Some(read)) => match self.lay(alloc, owner, read) {

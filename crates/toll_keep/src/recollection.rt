@@ -1,6 +1,6 @@
 //! What is remembered of a keep.
 ghost use Rattle.std.specs.Prelude.{◌≡◌, OnOk};
-ghost use Rattle.std.specs.List.{list_any};
+ghost use Rattle.toll_keep.specs.Common.{list_any};
 ghost use Rattle.toll_keep.specs.Content.{Content, after};
 ghost use Rattle.toll_keep.specs.Remembered.{IsNothing, IsOf, is_addition};
 

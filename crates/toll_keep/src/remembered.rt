@@ -1,7 +1,6 @@
 //! Slices that are remembered, each with rows that its copies share.
 ghost use Rattle.std.specs.Prelude.{◌≡◌, ◌≢◌, [], Some, OnOk, IfOk, IfSome, is_some, map, position};
-ghost use Rattle.toll_base.specs.Changes.{after_change, after_changes};
-ghost use Rattle.toll_trace.specs.Edges.{AreEdges, IsEdge};
+ghost use Rattle.toll_keep.specs.Common.{after_change, after_changes, AreEdges, IsEdge};
 ghost use Rattle.toll_keep.specs.Content.{Content, slice_of};
 ghost use Rattle.toll_keep.specs.Remembered.{AreOf};
 ghost use Rattle.toll_keep.specs.Slices.{is_of};

@@ -1,7 +1,6 @@
 //! Slices in a list.
 ghost use Rattle.std.specs.Prelude.{◌≡◌, ◌+◌, ◌<◌, ◌≤◌, IfOk, OnOk, OnErr, vec_len, vec_capacity, position};
-ghost use Rattle.toll_base.specs.Bytes.{Bytes};
-ghost use Rattle.toll_base.specs.Slice.{empty_slice};
+ghost use Rattle.toll_keep.specs.Common.{Bytes, empty_slice};
 ghost use Rattle.toll_keep.specs.Slices.{is_of, rows_in, put_slice, put_slices, IsOneEach};
 
 use std::alloc::{AllocError, Global};

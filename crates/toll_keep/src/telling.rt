@@ -1,6 +1,6 @@
 //! What is told from what is remembered, or read of a keep and then remembered.
 ghost use Rattle.std.specs.Prelude.{◌≡◌, ◌≢◌, [], IfOk, IsSome};
-ghost use Rattle.toll_trace.specs.Edges.{AreEdges, IsEdge};
+ghost use Rattle.toll_keep.specs.Common.{AreEdges, IsEdge};
 ghost use Rattle.toll_keep.specs.Content.{slice_of};
 ghost use Rattle.toll_keep.specs.Goes.{IsReading};
 ghost use Rattle.toll_keep.specs.Meaning.{OverHeld};
@@ -27,15 +27,10 @@ pub fn tell_slice<K: Keep>(
     ensures own { OverHeld K.meaning keep.old keep.new (λ c. AreOf c slices.old.items → AreOf c slices.new.items) }
 {
     if let Some(known) = remembered(slices, owner) {
-        return match known.copy(alloc) {
-            Ok(copied) => Ok(Some(copied)),
-            Err(_) => Err(KeepFault::Memory),
-        };
+        return Ok(Some(known.copy(alloc)?));
     }
-    match keep.slice(alloc, owner) {
-        Ok(read) => Ok(remember(alloc, slices, owner, read)),
-        Err(fault) => Err(fault),
-    }
+    let read = keep.slice(alloc, owner)?;
+    Ok(remember(alloc, slices, owner, read))
 }
 
 /// The edges of the owner, by its slice: none of one that is not known.
@@ -50,10 +45,7 @@ pub fn tell_edges<K: Keep>(
     ensures own { OverHeld K.meaning keep.old keep.new (λ c. AreOf c slices.old.items → AreOf c slices.new.items) }
 {
     match remembered_edges(alloc, slices, owner) {
-        Some(told) => match told {
-            Ok(edges) => Ok(edges),
-            Err(_) => Err(KeepFault::Memory),
-        },
+        Some(told) => Ok(told?),
         None => read_edges(alloc, keep, slices, owner),
     }
 }
@@ -70,10 +62,7 @@ fn read_edges<K: Keep>(
     ensures own { OverHeld K.meaning keep.old keep.new (λ c. AreOf c slices.old.items → AreOf c slices.new.items) }
 {
     match keep.slice(alloc, owner) {
-        Ok(Some(slice)) => match remember_edges(alloc, slices, owner, slice) {
-            Ok(edges) => Ok(edges),
-            Err(_) => Err(KeepFault::Memory),
-        },
+        Ok(Some(slice)) => Ok(remember_edges(alloc, slices, owner, slice)?),
         Ok(None) => Ok(Vec::new(alloc)),
         Err(fault) => Err(fault),
     }
@@ -91,16 +80,9 @@ pub fn tell_rows<R: PlantRow, K: Keep>(
     ensures kept { IsKept K.meaning keep.old keep.new }
 {
     if let Some(rows) = &*known {
-        return match Vec::from_slice(alloc, rows) {
-            Ok(copied) => Ok(copied),
-            Err(_) => Err(KeepFault::Memory),
-        };
+        return Ok(Vec::from_slice(alloc, rows)?);
     }
-    match R::read(alloc, keep) {
-        Ok(rows) => {
-            *known = Vec::from_slice(alloc, &rows).ok();
-            Ok(rows)
-        }
-        Err(fault) => Err(fault),
-    }
+    let rows = R::read(alloc, keep)?;
+    *known = Vec::from_slice(alloc, &rows).ok();
+    Ok(rows)
 }

@@ -1,11 +1,11 @@
-use Rattle.std.proofs.Common.{sym, subst, ◌∙◌}
-use Rattle.toll_trace.specs.Edges.{AreEdges, IsEdge}
-use Rattle.toll_keep.proofs.RememberedLemmas.{rows_there, no_edges_there}
+use Rattle.std.proofs.Common.{sym, ◌∙◌}
+use Rattle.toll_keep.proofs.RememberedLemmas.{edges_there, no_edges_there}
 use Rattle.toll_keep.proofs.gathering.edges_once.Goals as goal
 
-pub returns-in-Ok-clause-reads : goal.returns-in-Ok-clause-reads
-returns-in-Ok-clause-reads g c = λ honest content held only.
-    subst (λ s. AreEdges (IsEdge s) c.in-Ok.edges.items) (sym (rows_there content c.args.owner.now c.in-Ok-Some.slice (sym (c.in-Ok-Some.ensures.reads honest content held) ∙ c.in-Ok-Some.field-0-is))) c.in-Ok.ensures
+pub returns-in_ok-edges_in-in-Ok-Some-clause-reads : goal.returns-in_ok-edges_in-in-Ok-Some-clause-reads
+returns-in_ok-edges_in-in-Ok-Some-clause-reads g c = λ honest content held only.
+    let read = c.in-Ok-Some in
+    edges_there content c.args.owner.now read.slice c.in_ok-edges_in-in-Ok-Some.field-0.items (sym (read.ensures.reads honest content held) ∙ read.field-0-is) c.in_ok-edges_in-in-Ok-Some.ensures
 
 pub returns-in-Ok-None-clause-reads : goal.returns-in-Ok-None-clause-reads
 returns-in-Ok-None-clause-reads g c = λ honest content held only.

@@ -1,8 +1,8 @@
-use Rattle.std.proofs.Common.{◌≡◌, Some, sym, ap, subst, ◌∙◌}
+use Rattle.std.proofs.Common.{◌≡◌, Some, sym, ap, ◌∙◌}
 use Rattle.std.specs.Prelude.{position}
 use Rattle.toll_keep.proofs.Common.{IfOk-weaker, AreEdges, IsEdge}
 use Rattle.toll_keep.specs.Slices.{is_of}
-use Rattle.toll_keep.proofs.RememberedLemmas.{remembered_there, rows_there}
+use Rattle.toll_keep.proofs.RememberedLemmas.{remembered_there, edges_there}
 use Rattle.toll_keep.proofs.remembered.remembered_edges.Goals as goal
 
 pub returns-clause-own : goal.returns-clause-own
@@ -12,6 +12,5 @@ returns-clause-own c =
     let there : position (is_of o) c.args.slices.now.items ≡ Some c.in_ok-at.at = ap (position (is_of o)) (sym c.deref.ensures.value) ∙ sym c.in_ok-at.ensures in
     IfOk-weaker c.edges.result (λ edges. AreEdges (IsEdge s) edges.items) _
     (λ edges are content all.
-    let is = remembered_there content c.args.slices.now.items o c.in_ok-at.at s there all ∙ ap (λ t. Some t) (sym c.index_mut.ensures.value) in
-    subst (λ t. AreEdges (IsEdge t) edges.items) (sym (rows_there content o s is)) are)
+    edges_there content o s edges.items (remembered_there content c.args.slices.now.items o c.in_ok-at.at s there all ∙ ap (λ t. Some t) (sym c.index_mut.ensures.value)) are)
     c.edges.ensures.edges
