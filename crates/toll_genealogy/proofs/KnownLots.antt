@@ -1,6 +1,6 @@
 -- The lots that an edge joins are known, and whose they are.
-use Rattle.std.proofs.Common.{◌≡◌, ◌⊎◌, true, ◌&&◌, Option, Some, None, is_some, refl, sym, subst, ◌∙◌}
-use Rattle.toll_genealogy.proofs.Common.{option_map, Bytes, same_bytes, house_name, lot_id, same_lot, History, acts, BringsOwn, TakesKnown, lot_made, brings_into, takes_from, lot_row, IsLawful, Edge, LotId, same_bytes-refl, member_of_all}
+use Rattle.std.proofs.Common.{◌≡◌, ◌⊎◌, true, ◌&&◌, is_some, sym, subst, ◌∙◌}
+use Rattle.toll_genealogy.proofs.Common.{Bytes, same_bytes, house_name, lot_id, same_lot, History, acts, BringsOwn, TakesKnown, lot_made, brings_into, takes_from, lot_row, IsLawful, Edge, LotId, same_bytes-refl, member_of_all}
 use Rattle.toll_base.proofs.Bools.{and_is}
 use Rattle.toll_history.proofs.Lots.{sublot_lot}
 use Rattle.toll_history.proofs.Owned.{all_bring_own, all_take_known}

@@ -8,14 +8,14 @@ pub use Rattle.toll_base.specs.Keys.{batch_cmp}
 pub use Rattle.toll_base.specs.SliceRules.{count_actuals}
 unfoldable pub use Rattle.toll_base.specs.Table.{row_at}
 pub use Rattle.toll_base.specs.Words.{none_or}
-pub use Rattle.toll_base.specs.declared.refusal.Refusal.TheVariants.{BadState, UnknownKey}
+pub use Rattle.toll_base.specs.declared.refusal.Refusal.TheVariants.{UnknownKey}
 pub use Rattle.toll_base.specs.declared.rows.Row.TheVariants.{Batch, Recipe}
 pub use Rattle.toll_base.specs.declared.state.State.{State}
 pub use Rattle.toll_history.proofs.Accepted.{accepted_first, applies, none_applies, refused_first}
 pub use Rattle.toll_history.proofs.Acts.{acts-cons, along_acts}
 pub use Rattle.toll_history.proofs.Adding.{adding_decided, adding_decided_with, adding_keeps}
 pub use Rattle.toll_history.proofs.Common.{Actual, AllByRecursion, Change, LotId, Put, Role, Row, SublotRow, after_changes, and_is, any-known, any-new, both, count-new, first_some, house_name, is_eq, is_eq-then, length-new, list_any, lot_at, lot_id, nat_eq-exact, nat_list_cmp_total, nat_tests, not-false, option_map, or_else, or_left, or_parts, or_right, ordering_then, pair_cmp, row_at-put_row, row_fits, same_bytes-exact, same_bytes-refl, same_bytes-symm, same_lot, sublot_at, with_row}
-pub use Rattle.toll_history.proofs.Decided.{Grows, LeavesOthers, RowsFit, decides, decides_with, grown_rows, keeps_put, keeps_rules, keeps_skip, left_out, less_of, put_rows, put_rows_owner, refused_decides, right_over, rules_by, taken_in, verdict_is}
+pub use Rattle.toll_history.proofs.Decided.{Grows, LeavesOthers, RowsFit, decides, decides_with, grown_rows, keeps_put, keeps_rules, keeps_skip, less_of, put_rows, put_rows_owner, refused_decides, right_over, rules_by, verdict_is}
 pub use Rattle.toll_history.proofs.Grown.{after_is, more, put_first, tables-others, tables-own, tables_after, tables_from}
 pub use Rattle.toll_history.proofs.Moving.{held_is, tables_for_are}
 pub use Rattle.toll_history.proofs.Options.{known_passes, map_none, none_of, some_of, true_where}
@@ -41,5 +41,5 @@ pub use Rattle.toll_history.specs.OwnChanges.{EachChange, is_put_in_house, is_pu
 pub use Rattle.toll_history.specs.Tables.{sublot_row, tables_given}
 pub use Rattle.toll_history.specs.Verdict.{Accepted, IsValid, Refused, Repeated, Verdict, is_of_closed, stopped, takes_too_much, verdict}
 pub use Rattle.toll_history.specs.Work.{batch_of, cancels, count_opened, is_closed, material_of, opens, order_of, order_placed, requirement_of, same_requirement, state_of, unit_of, unit_opened}
-pub use Rattle.toll_work.specs.Common.{AddRecipe, AreRowsGiven, BadSegment, BatchClosed, BatchIdle, BatchRow, Bytes, CancelOrder, Checks, CloseBatch, CommandBatch, Consumed, CrossOwner, Decides, Decision, History, IsDecided, IsInKeyOrder, IsLawful, IsRightOver, IsRowsOf, KeepsRules, LimitReached, Lot, Move, MoveRow, NotEnough, NotInRecipe, OpenBatch, Order, OrderRow, PlaceOrder, Produced, PutsOnly, PutsOnlyWith, Record, Require, Requirement, RequirementKey, RequirementRow, Slice, Sublot, Tables, Void, Voided, actual_checks, amount_in, batch_at, batch_command_checks, by, bytes_cmp, cancel_checks, changes_of, close_checks, consumed_checks, crosses, first_of, followed, is_actual, is_actual_of, is_idle, is_some_where, key_checks, lot_bounds, move_at, next_state, open_batch_checks, open_checks, option_and_then, option_map_or, order_at, order_checks, owner_known, produced_checks, recipe_at, recipe_checks, recipe_of_order, requirement_at, requirement_checks, requirement_cmp, requirement_key, said, same_bytes, sublot_named, tables_for, tables_of, total, unit_known, void_at, where_so}
+pub use Rattle.toll_work.specs.Common.{AddRecipe, AreRowsGiven, BatchClosed, BatchRow, Bytes, CancelOrder, Checks, CloseBatch, CommandBatch, Consumed, Decides, Decision, History, IsDecided, IsInKeyOrder, IsLawful, IsRowsOf, KeepsRules, LimitReached, Lot, Move, MoveRow, NotEnough, OpenBatch, Order, OrderRow, PlaceOrder, Produced, PutsOnly, PutsOnlyWith, Record, Require, Requirement, RequirementKey, RequirementRow, Slice, Sublot, Tables, Void, Voided, actual_checks, amount_in, batch_at, batch_command_checks, by, bytes_cmp, cancel_checks, changes_of, close_checks, consumed_checks, crosses, first_of, followed, is_actual, is_actual_of, is_some_where, key_checks, lot_bounds, move_at, open_batch_checks, open_checks, option_and_then, option_map_or, order_at, order_checks, owner_known, produced_checks, recipe_checks, recipe_of_order, requirement_at, requirement_checks, requirement_cmp, requirement_key, said, same_bytes, sublot_named, tables_for, tables_of, total, unit_known, void_at, where_so}
 pub use mathlib.Core.Bool.{false≢true}
