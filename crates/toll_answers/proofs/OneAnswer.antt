@@ -6,17 +6,10 @@ use Rattle.toll_answers.specs.PlantAnswers.{PlantAsked, Does, AsksOrders, AsksSt
 use Rattle.toll_genealogy.specs.Recall.{recall_line, IsRecall}
 use Rattle.toll_genealogy.specs.declared.recall.RecallLine.{RecallLine}
 use Rattle.toll_print.specs.Texts.{orders_text, stock_text, shown_over, IsStockText, batch_text, trace_text, recall_text}
-use Rattle.toll_answers.proofs.OneReply.{one_list}
+use Rattle.toll_answers.proofs.OneReply.{IsOne, one_value, one_list}
 
--- a fact of what the plant is told that one answer at most meets
-abbrev IsOneShown : (PlantTold → Type 0) → Type 0
-IsOneShown P = (r r' : PlantTold) → P r → P r' → r ≡ r'
-
-one_shown : (x : PlantTold) → IsOneShown (λ r. r ≡ x)
-one_shown x r r' is is' = is ∙ sym is'
-
-one_checked_or : (v : Verdict) (shown : PlantTold → Type 0) → IsOneShown shown → IsOneShown (λ r. IsCheckedOr v (shown r) r)
-one_checked_or (Refused why) shown one = one_shown _
+one_checked_or : (v : Verdict) (shown : PlantTold → Type 0) → IsOne shown → IsOne (λ r. IsCheckedOr v (shown r) r)
+one_checked_or (Refused why) shown one = one_value _
 one_checked_or Accepted shown one = one
 one_checked_or Repeated shown one = one
 
@@ -40,38 +33,38 @@ module _ (H : History) where
       somes_one lines lines'
       (a.each ∙ map_twice (recall_line H) (λ line. line.step) lines ∙ ap (map (recall_line H)) steps ∙ sym (map_twice (recall_line H) (λ line. line.step) lines') ∙ sym b.each)
 
-  one_orders_shown : (o : Bytes) → IsOneShown (AreOrdersShown H o)
+  one_orders_shown : (o : Bytes) → IsOne (AreOrdersShown H o)
   one_orders_shown o r r' a b = a.shown ∙ ap (λ rows. Shows (orders_text rows)) (one_list bytes_cmp nat_list_cmp_total (λ row. row.order) (order_of (acts o H)) a.orders b.orders a.given b.given) ∙ sym b.shown
 
   one_stock_text : (o : Bytes) (x y : Bytes) → IsStockText H o x → IsStockText H o y → x ≡ y
   one_stock_text o x y a b = a.is ∙ ap stock_text (one_list pair_cmp pair_cmp_total (λ shown. (shown.row.lot, shown.row.sublot)) (shown_over H o) a.shown b.shown a.given b.given) ∙ sym b.is
 
-  one_stock_shown : (o : Bytes) → IsOneShown (IsStockShown H o)
+  one_stock_shown : (o : Bytes) → IsOne (IsStockShown H o)
   one_stock_shown o r r' a b = a.shown ∙ ap Shows (one_stock_text o a.text b.text a.is b.is) ∙ sym b.shown
 
-  one_batch_shown : (given : RequirementKey → Option RequirementLine) (batch : BatchRow) → IsOneShown (IsBatchShown given batch)
+  one_batch_shown : (given : RequirementKey → Option RequirementLine) (batch : BatchRow) → IsOne (IsBatchShown given batch)
   one_batch_shown given batch r r' a b = a.shown ∙ ap (λ lines. Shows (batch_text batch lines)) (one_list requirement_cmp requirement_cmp_total line_key given a.lines b.lines a.are_given b.are_given) ∙ sym b.shown
 
-  one_batch_or : (o : Bytes) (order : Option OrderRow) (batch : Option BatchRow) (v : Verdict) → IsOneShown (IsBatchShownOr H o order batch v)
+  one_batch_or : (o : Bytes) (order : Option OrderRow) (batch : Option BatchRow) (v : Verdict) → IsOne (IsBatchShownOr H o order batch v)
   one_batch_or o (Some order) (Some batch) v = one_batch_shown _ batch
-  one_batch_or o None batch (Refused why) = one_shown _
+  one_batch_or o None batch (Refused why) = one_value _
   one_batch_or o None batch Accepted = λ r r' a b. absurd a
   one_batch_or o None batch Repeated = λ r r' a b. absurd a
-  one_batch_or o (Some order) None (Refused why) = one_shown _
+  one_batch_or o (Some order) None (Refused why) = one_value _
   one_batch_or o (Some order) None Accepted = λ r r' a b. absurd a
   one_batch_or o (Some order) None Repeated = λ r r' a b. absurd a
 
-  one_trace_shown : (lot : LotId) (way : Way) → IsOneShown (IsTraceShown H lot way)
+  one_trace_shown : (lot : LotId) (way : Way) → IsOne (IsTraceShown H lot way)
   one_trace_shown lot way r r' a b = a.shown ∙ ap (λ trace. Shows (trace_text trace)) (trace_unique (IsPlantJoined H way) lot a.trace b.trace a.traced b.traced) ∙ sym b.shown
 
-  one_recall_shown : (lot : LotId) → IsOneShown (IsRecallShown H lot)
+  one_recall_shown : (lot : LotId) → IsOne (IsRecallShown H lot)
   one_recall_shown lot r r' a b = a.shown ∙ ap (λ lines. Shows (recall_text lines)) (one_recall lot a.lines b.lines a.recalled b.recalled) ∙ sym b.shown
 
-  pub one_plant_answer : (asked : PlantAsked) → IsOneShown (IsPlantAnswer H asked)
-  one_plant_answer (Does c) = one_shown _
+  pub one_plant_answer : (asked : PlantAsked) → IsOne (IsPlantAnswer H asked)
+  one_plant_answer (Does c) = one_value _
   one_plant_answer (AsksOrders o) = one_checked_or (first_of (owner_checks H o)) _ (one_orders_shown o)
   one_plant_answer (AsksStock o) = one_checked_or (first_of (owner_checks H o)) _ (one_stock_shown o)
   one_plant_answer (AsksBatch o order number) = one_checked_or (first_of (owner_checks H o)) _ (one_batch_or o _ _ _)
   one_plant_answer (AsksTrace lot way) = one_checked_or (first_of (lot_checks H lot)) _ (one_trace_shown lot way)
   one_plant_answer (AsksRecall lot) = one_checked_or (first_of (lot_checks H lot)) _ (one_recall_shown lot)
-  one_plant_answer (CannotRead why) = one_shown _
+  one_plant_answer (CannotRead why) = one_value _

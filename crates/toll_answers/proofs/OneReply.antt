@@ -8,11 +8,11 @@ use Rattle.toll_views.specs.declared.stock.StockLine.{StockLine}
 use Rattle.toll_answers.specs.Told.{Asked, AskOrders, AskOrder, AskPlace, AskCancel, AskBatch, AskStock, AskLot, AskRelease, AskReject, AskBack, AskForward, AskHouseForward, Told, TellOrders, TellBatch, TellStock, TellLot, TellTrace}
 use Rattle.toll_answers.specs.Replies.{has_key, AreOrdersTold, IsStockTold, IsBatchTold, IsLotTold, IsTraceTold, IsOrderOr, IsLotOr, IsBatchOr, IsTraceOr, IsWritten, IsAnswer, IsReply}
 
--- a fact of replies that one reply at most meets
-abbrev pub IsOne : (Told → Type 0) → Type 0
-IsOne P = (r r' : Told) → P r → P r' → r ≡ r'
+-- a fact of what is told that one such at most meets
+abbrev pub IsOne : {X : Type 0} → (X → Type 0) → Type 0
+IsOne {X} P = (r r' : X) → P r → P r' → r ≡ r'
 
-one_value : (x : Told) → IsOne (λ r. r ≡ x)
+pub one_value : {X : Type 0} (x : X) → IsOne (λ r. r ≡ x)
 one_value x r r' is is' = is ∙ sym is'
 
 pub one_list : {K R : Type 0} (cmp : K → K → Ordering) → IsTotalOrder cmp → (key : R → K) (given : K → Option R) (xs ys : List R) → AreRowsGiven cmp key given xs → AreRowsGiven cmp key given ys → xs ≡ ys

@@ -4,7 +4,7 @@ use Rattle.toll_answers.proofs.Common.{IsTotalOrder, AllByRecursion, Ordering, I
 use Rattle.std.specs.List.Sorted.{IsStrictlySortedBy}
 use Rattle.std.specs.Ordering.{is_eq, ordering_reverse}
 use Rattle.std.specs.declared.cmp.Ordering.TheVariants.{Less, Equal, Greater}
-use Rattle.std.proofs.lemmas.Cmp.{tied_itself}
+use Rattle.toll_work.proofs.KeyedRows.{head_found}
 
 none_is_not : {X : Type 0} {x : X} → None ≡ Some x → ⊥
 none_is_not h = (cc)
@@ -27,21 +27,17 @@ module _ {K R : Type 0} (cmp : K → K → Ordering) (o : IsTotalOrder cmp) (key
   all_below a b [] lt all = tt
   all_below a b (k ∷ ks) lt all = (o.trans a b k lt all.0, all_below a b ks lt all.1)
 
-  head_found : (x : R) (xs : List R) → row_at cmp key (x ∷ xs) (key x) ≡ Some x
-  unfolding row_at
-  head_found x xs = rw (tied_itself o (key x)) refl
-
   -- the heads are one
   same_head : (x y : R) (xs ys : List R) → AllByRecursion (λ k. cmp (key x) k ≡ Less) (map key xs) → AllByRecursion (λ k. cmp (key y) k ≡ Less) (map key ys) →
       ((k : K) → row_at cmp key (x ∷ xs) k ≡ row_at cmp key (y ∷ ys) k) → x ≡ y
   unfolding row_at
   same_head x y xs ys above_x above_y same =
       elim (cmp (key x) (key y)) as (λ r. cmp (key x) (key y) ≡ r → x ≡ y) [
-        | Less ↦ λ lt. absurd (none_is_not (sym (none_below (y ∷ ys) (key x) (lt, all_below (key x) (key y) (map key ys) lt above_y)) ∙ sym (same (key x)) ∙ head_found x xs))
-        | Equal ↦ λ e. some_is (sym (head_found x xs) ∙ same (key x) ∙ ap (λ r. cond (is_eq r) (Some y) (row_at cmp key ys (key x))) e)
+        | Less ↦ λ lt. absurd (none_is_not (sym (none_below (y ∷ ys) (key x) (lt, all_below (key x) (key y) (map key ys) lt above_y)) ∙ sym (same (key x)) ∙ head_found cmp key o x xs))
+        | Equal ↦ λ e. some_is (sym (head_found cmp key o x xs) ∙ same (key x) ∙ ap (λ r. cond (is_eq r) (Some y) (row_at cmp key ys (key x))) e)
         | Greater ↦ λ gt.
             let lt : cmp (key y) (key x) ≡ Less = o.antisymm (key y) (key x) ∙ ap ordering_reverse gt in
-            absurd (none_is_not (sym (none_below (x ∷ xs) (key y) (lt, all_below (key y) (key x) (map key xs) lt above_x)) ∙ same (key y) ∙ head_found y ys))
+            absurd (none_is_not (sym (none_below (x ∷ xs) (key y) (lt, all_below (key y) (key x) (map key xs) lt above_x)) ∙ same (key y) ∙ head_found cmp key o y ys))
       ] refl
 
   -- beside one head, the tails have the same
@@ -58,8 +54,8 @@ module _ {K R : Type 0} (cmp : K → K → Ordering) (o : IsTotalOrder cmp) (key
   pub same_rows : (xs ys : List R) → IsInKeyOrder cmp key xs → IsInKeyOrder cmp key ys → ((k : K) → row_at cmp key xs k ≡ row_at cmp key ys k) → xs ≡ ys
   unfolding row_at IsStrictlySortedBy
   same_rows [] [] ordered_xs ordered_ys same = refl
-  same_rows [] (y ∷ ys) ordered_xs ordered_ys same = absurd (none_is_not (same (key y) ∙ head_found y ys))
-  same_rows (x ∷ xs) [] ordered_xs ordered_ys same = absurd (none_is_not (sym (same (key x)) ∙ head_found x xs))
+  same_rows [] (y ∷ ys) ordered_xs ordered_ys same = absurd (none_is_not (same (key y) ∙ head_found cmp key o y ys))
+  same_rows (x ∷ xs) [] ordered_xs ordered_ys same = absurd (none_is_not (sym (same (key x)) ∙ head_found cmp key o x xs))
   same_rows (x ∷ xs) (y ∷ ys) ordered_xs ordered_ys same =
       let head = same_head x y xs ys ordered_xs.0 ordered_ys.0 same in
       let above = subst (λ z. AllByRecursion (λ k. cmp (key z) k ≡ Less) (map key ys)) (sym head) ordered_ys.0 in

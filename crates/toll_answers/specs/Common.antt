@@ -1,20 +1,15 @@
--- Words of other crates that several definitions here are said in.
-pub use Rattle.toll_base.specs.Bytes.{Bytes, bytes_cmp, same_bytes}
-pub use Rattle.toll_base.specs.Keys.{RequirementKey, pair_cmp, requirement_cmp, result_cmp}
+-- Words of other crates that several definitions and contracts here are said in.
+pub use Rattle.toll_base.specs.Bytes.{bytes_cmp}
+pub use Rattle.toll_base.specs.Keys.{pair_cmp, result_cmp}
 pub use Rattle.toll_base.specs.Table.{AreRowsGiven}
-pub use Rattle.toll_base.specs.declared.lot.LotId.{LotId}
-pub use Rattle.toll_base.specs.declared.refusal.Refusal.{Refusal}
 pub use Rattle.toll_base.specs.declared.refusal.Refusal.TheVariants.{UnknownLot, UnknownOrder, UnknownOwner}
-pub use Rattle.toll_base.specs.declared.rows.BatchRow.{BatchRow}
 pub use Rattle.toll_base.specs.declared.rows.LotRow.{LotRow}
-pub use Rattle.toll_base.specs.declared.rows.OrderRow.{OrderRow}
-pub use Rattle.toll_base.specs.declared.rows.ResultRow.{ResultRow}
-pub use Rattle.toll_base.specs.declared.rows.SublotRow.{SublotRow}
 pub use Rattle.toll_genealogy.specs.Edges.{IsOwnJoined, IsPlantJoined}
 pub use Rattle.toll_history.specs.Command.{Action, CancelOrder, Command, PlaceOrder, Reject, Release, by}
+pub use Rattle.toll_history.specs.Common.{BatchRow, Bytes, LotId, OrderRow, Refusal, RequirementKey, ResultRow, SublotRow, house_name, requirement_cmp, same_bytes}
 pub use Rattle.toll_history.specs.History.{History, acts, owner_key, owner_known, part}
 pub use Rattle.toll_history.specs.Tables.{lot_row, tables_given}
-pub use Rattle.toll_history.specs.Verdict.{Checks, IsValid, Refused, Verdict, first_of, grow, known_batch_checks, verdict}
+pub use Rattle.toll_history.specs.Verdict.{Checks, IsLawful, IsValid, Refused, Verdict, first_of, grow, known_batch_checks, verdict}
 pub use Rattle.toll_history.specs.Work.{batch_of, measure_of, order_of}
 pub use Rattle.toll_trace.specs.Trace.{IsTrace}
 pub use Rattle.toll_trace.specs.declared.step.Step.{Step}

@@ -1,9 +1,6 @@
 //! What an owner is told comes from the owner's own commands.
 ghost use Rattle.std.specs.Prelude.{◌≡◌, false};
-ghost use Rattle.toll_base.specs.Bytes.{Bytes, same_bytes};
-ghost use Rattle.toll_base.specs.Values.{house_name};
-ghost use Rattle.toll_history.specs.History.{History, part};
-ghost use Rattle.toll_history.specs.Verdict.{IsLawful};
+ghost use Rattle.toll_answers.specs.Common.{Bytes, same_bytes, house_name, History, part, IsLawful};
 ghost use Rattle.toll_answers.specs.Replies.{IsOwnGrowth, IsOwnReply};
 ghost use Rattle.toll_answers.specs.Told.{Asked, Told};
 

@@ -1,12 +1,6 @@
 -- An owner's rows as they are shown, over a slice.
 use Rattle.std.specs.Prelude.{◌≡◌, Bool, not, ◌&&◌, Option, Some, None, is_some, [], filter}
-use Rattle.std.specs.List.{list_any}
-use Rattle.std.specs.Option.{option_map_or}
-use Rattle.toll_base.specs.Bytes.{Bytes, same_bytes}
-use Rattle.toll_base.specs.Slice.{Slice, material_at, void_at}
-use Rattle.toll_base.specs.declared.lot.LotId.{LotId}
-use Rattle.toll_base.specs.declared.rows.LotRow.{LotRow}
-use Rattle.toll_stock.specs.LotTotals.{on_hand_in}
+use Rattle.toll_views.specs.Common.{list_any, option_map_or, Bytes, same_bytes, Slice, material_at, void_at, LotId, LotRow, on_hand_in}
 use Rattle.toll_views.specs.Views.{consumes_lot}
 use Rattle.toll_views.specs.declared.lot.LotView.{LotView}
 use Rattle.toll_views.specs.declared.stock.StockLine.{StockLine}

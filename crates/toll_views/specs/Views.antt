@@ -1,24 +1,16 @@
 -- An owner's rows as they are shown, over a history.
 use Rattle.std.specs.Prelude.{◌≡◌, ℕ, Bool, false, not, ◌&&◌, if◌then◌else◌, Option, Some, None, List}
-use Rattle.std.specs.List.{list_any}
-use Rattle.std.specs.Option.{option_map}
-use Rattle.toll_base.specs.Bytes.{Bytes, bytes_cmp, same_bytes}
-use Rattle.toll_base.specs.Keys.{result_cmp, pair_cmp}
+use Rattle.toll_views.specs.Common.{list_any, option_map, Bytes, bytes_cmp, same_bytes, result_cmp, pair_cmp, AreRowsGiven, History, acts, lot_row, sublot_row, LotId, LotRow}
 use Rattle.toll_base.specs.Lots.{lot_id, same_lot}
-use Rattle.toll_base.specs.Table.{AreRowsGiven}
 use Rattle.toll_base.specs.Words.{is_some_where}
 use Rattle.toll_history.specs.Amounts.{on_hand}
 use Rattle.toll_history.specs.Command.{Action}
 use Rattle.toll_history.specs.Dispositions.{result_of}
-use Rattle.toll_history.specs.History.{History, acts}
 use Rattle.toll_history.specs.Movements.{movement_recorded, voided_in}
-use Rattle.toll_history.specs.Tables.{lot_row, sublot_row}
 use Rattle.toll_history.specs.Work.{measure_of}
-use Rattle.toll_base.specs.declared.lot.LotId.{LotId}
 use Rattle.toll_base.specs.declared.movement.Move.{Move}
 use Rattle.toll_base.specs.declared.movement.Move.TheVariants.{Actual}
 use Rattle.toll_base.specs.declared.role.Role.TheVariants.{Consumed}
-use Rattle.toll_base.specs.declared.rows.LotRow.{LotRow}
 use Rattle.toll_base.specs.declared.rows.ResultRow.{ResultRow}
 use Rattle.toll_base.specs.declared.rows.SublotRow.{SublotRow}
 use Rattle.toll_views.specs.declared.lot.LotView.{LotView}

@@ -1,10 +1,6 @@
 //! What was consumed.
 ghost use Rattle.std.specs.Prelude.{◌≡◌};
-ghost use Rattle.toll_base.specs.Bytes.{bytes_cmp};
-ghost use Rattle.toll_base.specs.Table.{IsInKeyOrder};
-ghost use Rattle.toll_history.specs.History.{History, acts};
-ghost use Rattle.toll_history.specs.Tables.{IsRowsOf};
-ghost use Rattle.toll_history.specs.Verdict.{IsLawful};
+ghost use Rattle.toll_views.specs.Common.{bytes_cmp, IsInKeyOrder, History, acts, IsRowsOf, IsLawful};
 ghost use Rattle.toll_views.specs.InSlice.{has_consumed_in};
 ghost use Rattle.toll_views.specs.Views as told;
 

@@ -1,11 +1,6 @@
 //! A lot with all that is known of it.
 ghost use Rattle.std.specs.Prelude.{◌≡◌, true, is_some, IfOk};
-ghost use Rattle.toll_base.specs.Keys.{pair_cmp, result_cmp};
-ghost use Rattle.toll_base.specs.Slice.{lot_at, material_at};
-ghost use Rattle.toll_base.specs.Table.{IsInKeyOrder};
-ghost use Rattle.toll_history.specs.History.{History};
-ghost use Rattle.toll_history.specs.Tables.{IsRowsOf, lot_row};
-ghost use Rattle.toll_history.specs.Verdict.{IsLawful};
+ghost use Rattle.toll_views.specs.Common.{pair_cmp, result_cmp, lot_at, material_at, IsInKeyOrder, History, IsRowsOf, lot_row, IsLawful};
 ghost use Rattle.toll_views.specs.InSlice.{measure_in, IsLotViewIn};
 ghost use Rattle.toll_views.specs.Views.{IsLotViewOf};
 

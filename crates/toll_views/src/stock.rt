@@ -1,11 +1,8 @@
 //! What is in stock.
 ghost use Rattle.std.specs.Prelude.{◌≡◌, ◌<◌, ◌^◌, map, IfOk};
 ghost use Rattle.std.specs.declared.cmp.Ordering.TheVariants.{Less};
-ghost use Rattle.toll_base.specs.Bytes.{Bytes, bytes_cmp};
-ghost use Rattle.toll_base.specs.Keys.{pair_cmp};
-ghost use Rattle.toll_base.specs.Table.{IsInKeyOrder};
+ghost use Rattle.toll_views.specs.Common.{Bytes, bytes_cmp, pair_cmp, IsInKeyOrder, held_in};
 ghost use Rattle.toll_history.specs.OverRows.{OverRows};
-ghost use Rattle.toll_stock.specs.LotTotals.{held_in};
 ghost use Rattle.toll_views.specs.InSlice.{line_in};
 ghost use Rattle.toll_views.specs.Views.{AreStockLines};
 
