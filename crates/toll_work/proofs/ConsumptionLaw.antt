@@ -1,11 +1,11 @@
 -- What a consumption owes, of a lot of the batch's owner or of HOUSE.
-use Rattle.std.proofs.Common.{◌≡◌, ℕ, ◌-◌, true, false, ◌&&◌, cond, is_some, is_none, List, [], ◌∷◌, ◌++◌, refl, sym, ap, subst, ◌∙◌}
-use Rattle.toll_work.proofs.Common.{or_parts, or_left, Bytes, same_bytes, house_name, Record, by, History, lot_id, takes_from, Slice, with_row, KeepsRules, row_fits, count_actuals, Tables, tables_of, tables_given, sublot_row, IsRowsOf, after_changes, changes_of, IsDecided, DecidesWith, DecisionKeepsRules, PutsOnlyWith, Accepted, Checks, first_of, key_checks, actual_checks, consumed_checks, tables_for, amount_in, verdict, IsLawful, IsValid, Change, Put, Decision, LotId, Role, Consumed, MoveRow, Actual, SublotRow, Sublot, Move, applies, none_applies, verdict_is, right_over, rules_by, keeps_put, keeps_skip, less_of, tables_for_are, accepted_passes, move_fits, with_move, with_sublot, is_at, put_move, put_sublot, put_went, went_out, moved_elsewhere, taken_from_other, tables-untaken, move_room, less_fit, same_bytes-exact, same_bytes-refl, same_bytes-symm, sublot_named}
+use Rattle.std.proofs.Common.{◌≡◌, ℕ, ◌-◌, true, false, ◌&&◌, is_some, is_none, List, [], ◌∷◌, ◌++◌, refl, sym, ap, subst, ◌∙◌}
+use Rattle.toll_work.proofs.Common.{or_parts, or_left, Bytes, same_bytes, house_name, Record, by, History, lot_id, takes_from, Slice, with_row, KeepsRules, row_fits, count_actuals, Tables, tables_of, tables_given, sublot_row, IsRowsOf, after_changes, changes_of, IsDecided, DecidesWith, DecisionKeepsRules, PutsOnlyWith, Accepted, Checks, first_of, key_checks, actual_checks, consumed_checks, tables_for, amount_in, verdict, IsLawful, IsValid, Change, Put, Decision, LotId, Role, Consumed, MoveRow, Actual, SublotRow, Sublot, Move, applies, none_applies, verdict_is, right_over, less_of, tables_for_are, accepted_passes, move_fits, with_move, with_sublot, is_at, put_move, put_sublot, put_went, went_out, moved_elsewhere, taken_from_other, tables-untaken, move_room, less_fit, same_bytes-exact, same_bytes-refl, same_bytes-symm, sublot_named}
 use Rattle.toll_work.specs.ActualPlans.{IsConsumptionPlan}
 use Rattle.toll_work.specs.declared.actuals.Use.{Use}
 use Rattle.toll_work.proofs.MadeChanges.{each_accepted, puts_consumed}
 use Rattle.toll_work.proofs.OwedWith.{Owes}
-use Rattle.toll_work.proofs.TwoPuts.{after_both, keeps_one, tables_of_other}
+use Rattle.toll_work.proofs.TwoPuts.{after_both, both_keep, second_keeps}
 
 module _ (key order : Bytes) (number segment : ℕ) (material : Bytes) (lot : LotId) (sublot : Bytes) (amount day : ℕ) where
   abbrev consumption : MoveRow
@@ -112,12 +112,7 @@ module _ (key order : Bytes) (number segment : ℕ) (material : Bytes) (lot : Lo
             (ap (λ (u : Tables). is_none (u.sublot (lot.lot, sublot))) (sym e) ∙ passed 13)
 
       consumption_keeps : KeepsRules own → DecisionKeepsRules own d
-      consumption_keeps keeps =
-          rules_by own (changes own.owner source) d _ decided keeps
-          (λ accepted.
-          keeps_put own.owner (Move consumption) (Put lot.owner (Sublot (left source)) ∷ []) own (same_bytes-refl own.owner) keeps (move_fits_own accepted)
-          (λ kept. keeps_one lot.owner (Sublot (left source)) (with_row own (Move consumption)) kept
-          (λ its. left_fits accepted own keeps (ap (λ b. cond b (tables_of own) (tables_of house)) its))))
+      consumption_keeps = both_keep own house lot.owner (Move consumption) (Sublot (left source)) _ d decided move_fits_own (λ accepted. left_fits accepted own)
 
       -- its changes put rows of the owner, or the sublot of HOUSE that it names
       consumption_puts : PutsOnlyWith own.owner (lot.lot, sublot) (changes_of d)
@@ -127,11 +122,7 @@ module _ (key order : Bytes) (number segment : ℕ) (material : Bytes) (lot : Lo
           decided
 
       consumption_keeps_house : same_bytes own.owner house.owner ≡ false → KeepsRules house → DecisionKeepsRules house d
-      consumption_keeps_house other keeps =
-          rules_by house (changes own.owner source) d _ decided keeps
-          (λ accepted.
-          keeps_skip own.owner (Move consumption) (Put lot.owner (Sublot (left source)) ∷ []) house other keeps
-          (keeps_one lot.owner (Sublot (left source)) house keeps (λ its. left_fits accepted house keeps (tables_of_other own house lot.owner other its))))
+      consumption_keeps_house = second_keeps own house lot.owner (Move consumption) (Sublot (left source)) _ d decided (λ accepted. left_fits accepted house)
 
       consumption_owes : Owes (Record consumption) (lot.lot, sublot) own house d
       consumption_owes = record { decides = consumption_decided; rules = consumption_keeps; house_rules = consumption_keeps_house; puts = consumption_puts }

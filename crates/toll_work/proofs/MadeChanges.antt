@@ -1,6 +1,6 @@
 -- Which changes a decision makes: none where a check applies, else rows of its owner, or a sublot of HOUSE.
-use Rattle.std.proofs.Common.{◌≡◌, ℕ, Bool, true, false, not, ◌&&◌, ◌||◌, List, [], ◌∷◌, sym, subst, ◌∙◌, refl}
-use Rattle.toll_work.proofs.Common.{false≢true, or_left, Bytes, same_bytes, changes_of, house_name, Change, Put, Decision, LotId, Consumed, Sublot, and_is, same_bytes-refl, IsDecided, changes_if, is_put_of, is_put_in_house, EachChange, PutsOnly, PutsOnlyWith, Verdict, Checks, Accepted, Repeated, Refused, first_of, crosses, applies, none_applies}
+use Rattle.std.proofs.Common.{◌≡◌, ℕ, Bool, true, false, not, ◌&&◌, ◌||◌, List, [], ◌∷◌, map, sym, subst, ◌∙◌, refl}
+use Rattle.toll_work.proofs.Common.{false≢true, or_left, Bytes, same_bytes, changes_of, house_name, Change, Put, Decision, LotId, Consumed, Sublot, and_is, same_bytes-refl, IsDecided, changes_if, is_put_of, is_put_in_house, EachChange, PutsOnly, PutsOnlyWith, Verdict, Checks, Accepted, Repeated, Refused, first_of, crosses, applies, none_applies, Slice, KeepsRules, Row, DecisionKeepsRules, ChangesKeepRules, rules_by, keeps_skip}
 
 each_if : (such : Change → Bool) (v : Verdict) (changes : List Change) → (v ≡ Accepted → EachChange such changes) → EachChange such (changes_if v changes)
 each_if such Accepted changes each = each refl
@@ -33,3 +33,11 @@ its_own_or_house false false x y crossed hx hy = absurd (false≢true (sym cross
 -- a sublot of a lot that the owner may consume
 pub puts_consumed : (o : Bytes) (lot : LotId) (sublot : Bytes) (amount : ℕ) → crosses o Consumed lot.owner ≡ false → PutsOnlyWith o (lot.lot, sublot) (Put lot.owner (Sublot (record { lot = lot.lot; sublot = sublot; amount = amount })) ∷ [])
 puts_consumed o lot sublot amount stays = (its_own_or_house (same_bytes lot.owner o) (same_bytes lot.owner house_name) _ _ stays (same_bytes-refl lot.lot) (same_bytes-refl sublot), tt)
+
+-- rows of its owner leave the rules of another's slice as they are
+pub others_keep : (o : Bytes) (rows : List Row) (s : Slice) (d : Decision) (checks : Checks) → IsDecided checks (map (Put o) rows) d → same_bytes o s.owner ≡ false → KeepsRules s → DecisionKeepsRules s d
+others_keep o rows s d checks decided other keeps = rules_by s (map (Put o) rows) d checks decided keeps (λ accepted. skipped rows)
+  where
+    skipped : (rows : List Row) → ChangesKeepRules (map (Put o) rows) s
+    skipped [] = tt
+    skipped (row ∷ rows) = keeps_skip o row (map (Put o) rows) s other keeps (skipped rows)

@@ -1,6 +1,6 @@
 -- What a production owes.
 use Rattle.std.proofs.Common.{◌≡◌, ℕ, ◌+◌, true, false, not, ◌&&◌, cond, Some, is_some, is_none, List, [], ◌∷◌, ◌++◌, refl, sym, ap, subst, ◌∙◌}
-use Rattle.toll_work.proofs.Common.{or_parts, or_left, not-false, lot_bounds, sublot_bounds, Bytes, same_bytes, Record, by, History, acts, lot_id, first_made, sublot_in, movements, Slice, lot_at, KeepsRules, count_actuals, where_so, is_some_where, material_of, Tables, tables_of, tables_given, changes_of, PutsOnlyWith, IsDecided, DecidesWith, DecisionKeepsRules, Accepted, Checks, first_of, stopped, key_checks, actual_checks, produced_checks, recipe_of_order, amount_in, verdict, IsLawful, IsValid, Put, Decision, LotId, LimitReached, Role, Produced, MoveRow, Actual, SublotRow, Row, Lot, Sublot, Move, none_applies, verdict_is, Grows, LeavesOthers, decides_with, keeps_rules, rules_by, keeps_skip, less_of, some_of, known_passes, accepted_passes, move_fits, with_move, with_lot, with_sublot, put_came, came_in, tables-untaken, each_decided, sublot_room, came_fit, same_bytes-exact, same_bytes-refl, same_bytes-symm, sublot_named}
+use Rattle.toll_work.proofs.Common.{or_parts, or_left, not-false, lot_bounds, sublot_bounds, Bytes, same_bytes, Record, by, History, acts, lot_id, first_made, sublot_in, movements, Slice, lot_at, KeepsRules, count_actuals, where_so, is_some_where, material_of, Tables, tables_of, tables_given, changes_of, PutsOnlyWith, IsDecided, DecidesWith, DecisionKeepsRules, Accepted, Checks, first_of, stopped, key_checks, actual_checks, produced_checks, recipe_of_order, amount_in, verdict, IsLawful, IsValid, Put, Decision, LotId, LimitReached, Role, Produced, MoveRow, Actual, SublotRow, Row, Lot, Sublot, Move, none_applies, verdict_is, Grows, LeavesOthers, decides_with, keeps_rules, less_of, some_of, known_passes, accepted_passes, move_fits, with_move, with_lot, with_sublot, put_came, came_in, tables-untaken, each_decided, sublot_room, came_fit, same_bytes-exact, same_bytes-refl, same_bytes-symm, sublot_named}
 use Rattle.toll_base.specs.declared.lot.Disposition.TheVariants.{Quarantined}
 use Rattle.toll_base.specs.declared.lot.Origin.TheVariants.{Batch}
 use Rattle.toll_base.specs.declared.rows.LotRow.{LotRow}
@@ -9,7 +9,7 @@ use Rattle.toll_history.proofs.Within.{within_bounds}
 use Rattle.toll_work.specs.ActualPlans.{IsProductionPlan}
 use Rattle.toll_work.specs.declared.actuals.Use.{Use}
 use Rattle.toll_work.proofs.FoundRow.{known_not_none}
-use Rattle.toll_work.proofs.MadeChanges.{puts_with}
+use Rattle.toll_work.proofs.MadeChanges.{puts_with, others_keep}
 use Rattle.toll_work.proofs.OwedWith.{Owes}
 
 module _ (key order : Bytes) (number segment : ℕ) (material : Bytes) (lot : LotId) (sublot : Bytes) (amount day : ℕ) where
@@ -87,12 +87,7 @@ module _ (key order : Bytes) (number segment : ℕ) (material : Bytes) (lot : Lo
         puts_with own.owner _ (changes_of d) (each_decided _ _ (Put own.owner (Move production) ∷ Put own.owner (Lot produced) ∷ Put own.owner (Sublot (holding (tables_of own))) ∷ []) d (mine, (mine, (mine, tt))) decided)
 
     production_keeps_house : same_bytes own.owner house.owner ≡ false → KeepsRules house → DecisionKeepsRules house d
-    production_keeps_house other keeps =
-        rules_by house (Put own.owner (Move production) ∷ Put own.owner (Lot produced) ∷ Put own.owner (Sublot (holding (tables_of own))) ∷ []) d _ decided keeps
-        (λ accepted.
-        keeps_skip own.owner (Move production) (Put own.owner (Lot produced) ∷ Put own.owner (Sublot (holding (tables_of own))) ∷ []) house other keeps
-        (keeps_skip own.owner (Lot produced) (Put own.owner (Sublot (holding (tables_of own))) ∷ []) house other keeps
-        (keeps_skip own.owner (Sublot (holding (tables_of own))) [] house other keeps tt)))
+    production_keeps_house = others_keep own.owner (rows (tables_of own)) house d _ decided
 
     production_owes : Owes (Record production) (lot.lot, sublot) own house d
     production_owes = record { decides = production_decided; rules = production_keeps; house_rules = production_keeps_house; puts = production_puts }

@@ -1,6 +1,6 @@
 -- What a void owes.
 use Rattle.std.proofs.Common.{◌≡◌, ℕ, ◌+◌, ◌-◌, ◌≤◌, Bool, true, false, not, ◌&&◌, ◌||◌, cond, nat_le, nat_lt, Option, Some, None, is_some, is_none, List, [], ◌∷◌, ◌++◌, length, refl, sym, ap, subst, ◌∙◌, arith}
-use Rattle.toll_work.proofs.Common.{false≢true, or_left, nat_tests, Bytes, same_bytes, bytes_cmp, pair_cmp, house_name, History, acts, owner_known, lot_id, same_lot, movement_of, voided_in, brings_into, takes_from, sublot_known, stock, Slice, with_row, lot_at, sublot_at, move_at, KeepsRules, row_fits, Tables, tables_of, tables_given, sublot_row, IsRowsOf, where_so, is_some_where, none_or, after_changes, changes_of, IsDecided, DecidesWith, DecisionKeepsRules, PutsOnlyWith, Accepted, Refused, Checks, first_of, is_actual, is_of_closed, takes_too_much, tables_for, amount_in, verdict, IsLawful, IsValid, BringsOwn, TakesKnown, Change, Put, Decision, LotId, UnknownKey, Voided, BatchClosed, NotEnough, LimitReached, Role, Consumed, Produced, MoveRow, Actual, SublotRow, Sublot, Void as VoidPut, both, tables_for_are, held_is, none_applies, unbounded, sublot_room_in, less_fit, verdict_is, right_over, rules_by, keeps_put, keeps_skip, accepted_passes, each_decided, with_sublot, with_void, is_at, put_sublot, put_void, same_bytes-exact, same_bytes-refl, same_bytes-symm, is_eq-then, more}
+use Rattle.toll_work.proofs.Common.{false≢true, or_left, nat_tests, Bytes, same_bytes, bytes_cmp, pair_cmp, house_name, History, acts, owner_known, lot_id, same_lot, movement_of, voided_in, brings_into, takes_from, sublot_known, stock, Slice, with_row, lot_at, sublot_at, move_at, KeepsRules, row_fits, Tables, tables_of, tables_given, sublot_row, IsRowsOf, where_so, is_some_where, none_or, after_changes, changes_of, IsDecided, DecidesWith, DecisionKeepsRules, PutsOnlyWith, Accepted, Refused, Checks, first_of, is_actual, is_of_closed, takes_too_much, tables_for, amount_in, verdict, IsLawful, IsValid, BringsOwn, TakesKnown, Change, Put, Decision, LotId, UnknownKey, Voided, BatchClosed, NotEnough, LimitReached, Role, Consumed, Produced, MoveRow, Actual, SublotRow, Sublot, Void as VoidPut, both, tables_for_are, held_is, none_applies, unbounded, sublot_room_in, less_fit, verdict_is, right_over, rules_by, keeps_put, accepted_passes, each_decided, with_sublot, with_void, is_at, put_sublot, put_void, same_bytes-exact, same_bytes-refl, same_bytes-symm, is_eq-then, more}
 use Rattle.toll_history.specs.Command.{Void, by}
 use Rattle.toll_work.specs.Voiding.{open_checks, giving_bounds, actual_sublot}
 use Rattle.toll_base.specs.declared.decision.Decision.TheVariants.{Refuse}
@@ -9,9 +9,9 @@ use Rattle.toll_history.proofs.Owned.{all_bring_own, all_take_known}
 use Rattle.toll_history.proofs.Stock.{stock_bounded}
 use Rattle.toll_history.proofs.StockChanges.{stock-voided}
 use Rattle.toll_work.proofs.FoundRow.{row_at-key, known_not_none}
-use Rattle.toll_work.proofs.MadeChanges.{each_accepted, puts_with, puts_consumed}
+use Rattle.toll_work.proofs.MadeChanges.{each_accepted, puts_with, puts_consumed, others_keep}
 use Rattle.toll_work.proofs.OwedWith.{Owes}
-use Rattle.toll_work.proofs.TwoPuts.{after_both, keeps_one, tables_of_other}
+use Rattle.toll_work.proofs.TwoPuts.{after_both, both_keep, second_keeps}
 use Rattle.toll_work.proofs.Voided.{own_but_sublots, others_but_sublots, given_back, taken_out, stayed_at}
 
 -- ---- the rows of all, where the void changes one sublot of this owner
@@ -228,17 +228,13 @@ module _ (own house : Slice) (key : Bytes) (row : MoveRow) (found_in : move_at o
           (unbounded (open_checks (tables_of own) key order number) (giving_bounds own.owner source lot sublot row.amount) (λ passed. room H lawful there houses (sym is ∙ passed)) ∙ is)
           (λ accepted. all_rows H lawful there houses accepted)
 
-      source_of : (s : Slice) → KeepsRules s → (u : Tables) → u ≡ tables_of s → is_none (u.sublot (lot.lot, sublot)) ≡ false → nat_lt 20000000000000 (amount_in u lot.lot sublot + row.amount) ≡ false → row_fits s (Sublot (more_in u)) ≡ true
-      source_of s keeps u e sub_there amount = known_fits s keeps (more_in u) (ap (λ (t : Tables). is_none (t.sublot (lot.lot, sublot))) (sym e) ∙ sub_there) amount
+      more_fits : first_of (open_checks (tables_of own) key order number ++ giving_bounds own.owner source lot sublot row.amount) ≡ Accepted → (s : Slice) → KeepsRules s → source ≡ tables_of s → row_fits s (Sublot (more_in source)) ≡ true
+      more_fits accepted s keeps e =
+          let pass = none_applies (open_checks (tables_of own) key order number ++ giving_bounds own.owner source lot sublot row.amount) accepted in
+          known_fits s keeps (more_in source) (ap (λ (t : Tables). is_none (t.sublot (lot.lot, sublot))) (sym e) ∙ pass 2) (pass 4)
 
       giving_keeps : KeepsRules own → DecisionKeepsRules own d
-      giving_keeps keeps =
-          rules_by own (Put own.owner (VoidPut (record { key = key })) ∷ Put lot.owner (Sublot (more_in source)) ∷ []) d _ decided keeps
-          (λ accepted.
-          let pass = none_applies (open_checks (tables_of own) key order number ++ giving_bounds own.owner source lot sublot row.amount) accepted in
-          keeps_put own.owner (VoidPut (record { key = key })) (Put lot.owner (Sublot (more_in source)) ∷ []) own (same_bytes-refl own.owner) keeps refl
-          (λ kept. keeps_one lot.owner (Sublot (more_in source)) (with_row own (VoidPut (record { key = key }))) kept
-          (λ its. source_of own keeps source (ap (λ b. cond b (tables_of own) (tables_of house)) its) (pass 2) (pass 4))))
+      giving_keeps = both_keep own house lot.owner (VoidPut (record { key = key })) (Sublot (more_in source)) _ d decided (λ accepted. refl) (λ accepted. more_fits accepted own)
 
       -- its changes put rows of the owner, or the sublot of HOUSE that the actual names
       giving_puts : PutsOnlyWith own.owner (actual_sublot (move_at own key)) (changes_of d)
@@ -250,13 +246,7 @@ module _ (own house : Slice) (key : Bytes) (row : MoveRow) (found_in : move_at o
           decided)
 
       giving_keeps_house : same_bytes own.owner house.owner ≡ false → KeepsRules house → DecisionKeepsRules house d
-      giving_keeps_house other keeps =
-          rules_by house (Put own.owner (VoidPut (record { key = key })) ∷ Put lot.owner (Sublot (more_in source)) ∷ []) d _ decided keeps
-          (λ accepted.
-          let pass = none_applies (open_checks (tables_of own) key order number ++ giving_bounds own.owner source lot sublot row.amount) accepted in
-          keeps_skip own.owner (VoidPut (record { key = key })) (Put lot.owner (Sublot (more_in source)) ∷ []) house other keeps
-          (keeps_one lot.owner (Sublot (more_in source)) house keeps
-          (λ its. source_of house keeps source (tables_of_other own house lot.owner other its) (pass 2) (pass 4))))
+      giving_keeps_house = second_keeps own house lot.owner (VoidPut (record { key = key })) (Sublot (more_in source)) _ d decided (λ accepted. more_fits accepted house)
 
       pub giving_owes : Owes (Void key) (actual_sublot (move_at own key)) own house d
       giving_owes = record { decides = giving_decided; rules = giving_keeps; house_rules = giving_keeps_house; puts = giving_puts }
@@ -327,11 +317,7 @@ module _ (own house : Slice) (key : Bytes) (row : MoveRow) (found_in : move_at o
           puts_with own.owner _ (changes_of d) (each_decided _ _ (Put own.owner (VoidPut (record { key = key })) ∷ Put own.owner (Sublot (less_in (tables_of own))) ∷ []) d (mine, (mine, tt)) decided)
 
       taking_keeps_house : same_bytes own.owner house.owner ≡ false → KeepsRules house → DecisionKeepsRules house d
-      taking_keeps_house other keeps =
-          rules_by house (Put own.owner (VoidPut (record { key = key })) ∷ Put own.owner (Sublot (less_in (tables_of own))) ∷ []) d _ decided keeps
-          (λ accepted.
-          keeps_skip own.owner (VoidPut (record { key = key })) (Put own.owner (Sublot (less_in (tables_of own))) ∷ []) house other keeps
-          (keeps_skip own.owner (Sublot (less_in (tables_of own))) [] house other keeps tt))
+      taking_keeps_house = others_keep own.owner (VoidPut (record { key = key }) ∷ Sublot (less_in (tables_of own)) ∷ []) house d _ decided
 
       pub taking_owes : Owes (Void key) (actual_sublot (move_at own key)) own house d
       taking_owes = record { decides = taking_decided; rules = taking_keeps; house_rules = taking_keeps_house; puts = taking_puts }
