@@ -68,10 +68,8 @@ fn add_edges<K: Keep>(
     ensures same { slices.new.items ≡ slices.old.items }
     ensures added { OverHeld K.meaning keep.old keep.new (λ c. IfOf c slices.old.items (OnOk result (AreMore (c.rows owner.now) edges.old.items edges.new.items))) }
 {
-    match own_edges(alloc, keep, slices, owner) {
-        Ok(own) => Ok(edges.extend_from_slice(&own)?),
-        Err(fault) => Err(fault),
-    }
+    let own = own_edges(alloc, keep, slices, owner)?;
+    Ok(edges.extend_from_slice(&own)?)
 }
 
 // The edges of the owner.
@@ -97,10 +95,9 @@ fn edges_once<K: Keep>(alloc: Global, keep: &mut K, owner: &Name) -> Result<Vec<
     ensures reading { IsReading K.meaning keep.old keep.new result }
     ensures reads { OverHeld K.meaning keep.old keep.new (λ c. OnlyKnownHaveRows c → IfOk result (λ edges. AreEdges (IsEdge (c.rows owner.now)) edges.items)) }
 {
-    match keep.slice(alloc, owner) {
-        Ok(Some(slice)) => Ok(edges_in(alloc, slice)?),
-        Ok(None) => Ok(Vec::new(alloc)),
-        Err(fault) => Err(fault),
+    match keep.slice(alloc, owner)? {
+        Some(slice) => Ok(edges_in(alloc, slice)?),
+        None => Ok(Vec::new(alloc)),
     }
 }
 

@@ -61,10 +61,9 @@ fn read_edges<K: Keep>(
     ensures reads { OverHeld K.meaning keep.old keep.new (λ c. OnlyKnownHaveRows c → IfOk result (λ edges. AreEdges (IsEdge (c.rows owner.now)) edges.items)) }
     ensures own { OverHeld K.meaning keep.old keep.new (λ c. AreOf c slices.old.items → AreOf c slices.new.items) }
 {
-    match keep.slice(alloc, owner) {
-        Ok(Some(slice)) => Ok(remember_edges(alloc, slices, owner, slice)?),
-        Ok(None) => Ok(Vec::new(alloc)),
-        Err(fault) => Err(fault),
+    match keep.slice(alloc, owner)? {
+        Some(slice) => Ok(remember_edges(alloc, slices, owner, slice)?),
+        None => Ok(Vec::new(alloc)),
     }
 }
 

@@ -2,11 +2,11 @@ use Rattle.std.proofs.Common.{sym, ◌∙◌}
 use Rattle.toll_keep.proofs.RememberedLemmas.{edges_there, no_edges_there}
 use Rattle.toll_keep.proofs.gathering.edges_once.Goals as goal
 
-pub returns-in_ok-edges_in-in-Ok-Some-clause-reads : goal.returns-in_ok-edges_in-in-Ok-Some-clause-reads
-returns-in_ok-edges_in-in-Ok-Some-clause-reads g c = λ honest content held only.
-    let read = c.in-Ok-Some in
-    edges_there content c.args.owner.now read.slice c.in_ok-edges_in-in-Ok-Some.field-0.items (sym (read.ensures.reads honest content held) ∙ read.field-0-is) c.in_ok-edges_in-in-Ok-Some.ensures
+pub returns-in_ok-edges_in-in-Some-clause-reads : goal.returns-in_ok-edges_in-in-Some-clause-reads
+returns-in_ok-edges_in-in-Some-clause-reads g c = λ honest content held only.
+    let read = c.in_ok-slice.ensures.reads honest content held in
+    edges_there content c.args.owner.now c.in-Some.slice c.in_ok-edges_in-in-Some.field-0.items (sym read ∙ c.in-Some.is) c.in_ok-edges_in-in-Some.ensures
 
-pub returns-in-Ok-None-clause-reads : goal.returns-in-Ok-None-clause-reads
-returns-in-Ok-None-clause-reads g c = λ honest content held only.
-    no_edges_there content c.args.owner.now c.new.result.items only (sym (c.in-Ok-None.ensures.reads honest content held) ∙ c.in-Ok-None.field-0-is) c.new.ensures.items
+pub returns-in-None-clause-reads : goal.returns-in-None-clause-reads
+returns-in-None-clause-reads g c = λ honest content held only.
+    no_edges_there content c.args.owner.now c.new.result.items only (sym (c.in_ok-slice.ensures.reads honest content held) ∙ c.in-None.is) c.new.ensures.items
