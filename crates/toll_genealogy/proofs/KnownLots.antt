@@ -4,7 +4,7 @@ use Rattle.toll_genealogy.proofs.Common.{Bytes, same_bytes, house_name, lot_id, 
 use Rattle.toll_base.proofs.Bools.{and_is}
 use Rattle.toll_history.proofs.Lots.{sublot_lot}
 use Rattle.toll_history.proofs.Owned.{all_bring_own, all_take_known}
-pub use Rattle.toll_stock.proofs.TotalsLaw.{some_mapped}
+pub use Rattle.toll_stock.proofs.Mapped.{some_mapped}
 use Rattle.toll_genealogy.specs.Edges.{IsOwnEdge}
 use Rattle.toll_genealogy.proofs.OwnEdges.{edge_end, edge_start}
 use Rattle.toll_genealogy.proofs.Standing.{recorded_moved}

@@ -1,5 +1,6 @@
 pub mod Common
 pub mod LotOrder
+pub mod Mapped
 pub mod MaterialLaw
 pub mod ReceiptLaw
 pub mod SplitLaw

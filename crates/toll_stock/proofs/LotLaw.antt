@@ -4,6 +4,7 @@ use Rattle.toll_stock.proofs.Common.{false≢true, nat_list_cmp_total, list_any,
 use Rattle.toll_history.proofs.Moving.{lot_row_none}
 use Rattle.toll_history.proofs.OneOrigin.{at_made}
 use Rattle.toll_stock.specs.LotRows.{given_disposition}
+use Rattle.toll_stock.proofs.Mapped.{mapped_alike}
 
 -- tables with this row of a lot
 abbrev pub with_lot : LotRow → Tables → Tables
@@ -45,9 +46,9 @@ rows_fit s lot f (Some row) keeps is =
 
 -- ---- in the history
 
--- the row of a lot that was made so
-abbrev pub row_made : History → Bytes → Bytes → Made → LotRow
-row_made H o l made = record { lot = l; material = made.material; origin = made.origin; disposition = disposition_of (acts o H) made.material l }
+-- the row of a lot that was made so, after these actions of its owner
+abbrev pub row_by : List Action → Bytes → Made → LotRow
+row_by own l made = record { lot = l; material = made.material; origin = made.origin; disposition = disposition_of own made.material l }
 
 -- a lot that the tables have was made
 pub record IsMade (H : History) (o l : Bytes) : Type 0 where
@@ -63,23 +64,16 @@ known_made H o l there = made_by_some H o l (lot_made H (lot_id o l)) refl there
 
 -- the row of each lot after an action that changes this lot's disposition and no other's
 module _ (H : History) (o lot : Bytes) (made : Made) (is : lot_made H (lot_id o lot) ≡ Some made) (own : List Action) (d : Disposition) where
-  abbrev row_after : Bytes → Made → LotRow
-  row_after l m = record { lot = l; material = m.material; origin = m.origin; disposition = disposition_of own m.material l }
-
   pub lots_after : disposition_of own made.material lot ≡ d → ((l material : Bytes) → same_bytes lot l ≡ false → disposition_of own material l ≡ disposition_of (acts o H) material l) →
-      (k : Bytes) → option_map (row_after k) (lot_made H (lot_id o k)) ≡ cond (same_bytes k lot) (Some (disposed (row_made H o lot made) d)) (lot_row H o k)
+      (k : Bytes) → option_map (row_by own k) (lot_made H (lot_id o k)) ≡ cond (same_bytes k lot) (Some (disposed (row_by (acts o H) lot made) d)) (lot_row H o k)
   lots_after this others k =
-      elim (same_bytes k lot) as (λ b. same_bytes k lot ≡ b → option_map (row_after k) (lot_made H (lot_id o k)) ≡ cond b (Some (disposed (row_made H o lot made) d)) (lot_row H o k)) [
+      elim (same_bytes k lot) as (λ b. same_bytes k lot ≡ b → option_map (row_by own k) (lot_made H (lot_id o k)) ≡ cond b (Some (disposed (row_by (acts o H) lot made) d)) (lot_row H o k)) [
         | true ↦ λ same.
-            ap (λ l. option_map (row_after l) (lot_made H (lot_id o l))) (same_bytes-exact k lot same)
-            ∙ ap (option_map (row_after lot)) is
-            ∙ ap (λ e. Some (disposed (row_made H o lot made) e)) this
-        | false ↦ λ other. other_lot k (lot_made H (lot_id o k)) (λ material. others k material (same_bytes-symm lot k ∙ other))
+            ap (λ l. option_map (row_by own l) (lot_made H (lot_id o l))) (same_bytes-exact k lot same)
+            ∙ ap (option_map (row_by own lot)) is
+            ∙ ap (λ e. Some (disposed (row_by (acts o H) lot made) e)) this
+        | false ↦ λ other. mapped_alike (row_by own k) (row_by (acts o H) k) (lot_made H (lot_id o k)) (λ m there. ap (disposed (row_by (acts o H) k m)) (others k m.material (same_bytes-symm lot k ∙ other)))
       ] refl
-    where
-      other_lot : (l : Bytes) (x : Option Made) → ((material : Bytes) → disposition_of own material l ≡ disposition_of (acts o H) material l) → option_map (row_after l) x ≡ option_map (row_made H o l) x
-      other_lot l None same = refl
-      other_lot l (Some m) same = ap (λ e. Some (disposed (row_made H o l m) e)) (same m.material)
 
 -- ---- a release and a rejection
 
@@ -103,22 +97,22 @@ rejected_other own material lot l other = ap (λ b. cond (b || list_any (rejects
 
 -- where the history's tables differ by the lot alone, the slice's do
 module _ (H : History) (s : Slice) (there : IsRowsOf H s) (lot : Bytes) (m : IsMade H s.owner lot) where
-  pub found_lot : lot_at s lot ≡ Some (row_made H s.owner lot m.made)
-  found_lot = ap (λ (t : Tables). t.lot lot) there ∙ ap (option_map (row_made H s.owner lot)) m.is
+  pub found_lot : lot_at s lot ≡ Some (row_by (acts s.owner H) lot m.made)
+  found_lot = ap (λ (t : Tables). t.lot lot) there ∙ ap (option_map (row_by (acts s.owner H) lot)) m.is
 
-  lot_grows : (d : Disposition) (after : Tables) → after ≡ with_lot (disposed (row_made H s.owner lot m.made) d) (tables_given H s.owner) → tables_of (put_rows (given_disposition (λ row. d) (lot_at s lot)) s) ≡ after
+  lot_grows : (d : Disposition) (after : Tables) → after ≡ with_lot (disposed (row_by (acts s.owner H) lot m.made) d) (tables_given H s.owner) → tables_of (put_rows (given_disposition (λ row. d) (lot_at s lot)) s) ≡ after
   lot_grows d after is =
       ap (λ x. tables_of (put_rows (given_disposition (λ row. d) x) s)) found_lot
-      ∙ in_slice s (row_made H s.owner lot m.made) d found_lot
-      ∙ ap (with_lot (disposed (row_made H s.owner lot m.made) d)) there
+      ∙ in_slice s (row_by (acts s.owner H) lot m.made) d found_lot
+      ∙ ap (with_lot (disposed (row_by (acts s.owner H) lot m.made) d)) there
       ∙ sym is
 
-release_in_history : (H : History) (o lot : Bytes) (m : IsMade H o lot) → is_quarantined (disposition_of (acts o H) m.made.material lot) ≡ true → tables_given (by o (Release lot) ∷ H) o ≡ with_lot (disposed (row_made H o lot m.made) Released) (tables_given H o)
+release_in_history : (H : History) (o lot : Bytes) (m : IsMade H o lot) → is_quarantined (disposition_of (acts o H) m.made.material lot) ≡ true → tables_given (by o (Release lot) ∷ H) o ≡ with_lot (disposed (row_by (acts o H) lot m.made) Released) (tables_given H o)
 release_in_history H o lot m was = tables-own H o (Release lot) refl ∙ (λ i. record (tables_given H o) {
   lot = λ k. lots_after H o lot m.made m.is (Release lot ∷ acts o H) Released (released_now (acts o H) m.made.material lot was) (λ l material. released_other (acts o H) material lot l) k i;
 })
 
-reject_in_history : (H : History) (o lot : Bytes) (m : IsMade H o lot) → tables_given (by o (Reject lot) ∷ H) o ≡ with_lot (disposed (row_made H o lot m.made) Rejected) (tables_given H o)
+reject_in_history : (H : History) (o lot : Bytes) (m : IsMade H o lot) → tables_given (by o (Reject lot) ∷ H) o ≡ with_lot (disposed (row_by (acts o H) lot m.made) Rejected) (tables_given H o)
 reject_in_history H o lot m = tables-own H o (Reject lot) refl ∙ (λ i. record (tables_given H o) {
   lot = λ k. lots_after H o lot m.made m.is (Reject lot ∷ acts o H) Rejected (rejected_now (acts o H) m.made.material lot) (λ l material. rejected_other (acts o H) material lot l) k i;
 })

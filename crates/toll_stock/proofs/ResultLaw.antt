@@ -4,7 +4,7 @@ use Rattle.toll_stock.proofs.Common.{false≢true, list_any, option_map, is_eq, 
 use Rattle.std.proofs.lemmas.Bool.Decides.{nat_tests}
 use Rattle.toll_base.proofs.SliceFits.{fits_exact}
 use Rattle.toll_stock.specs.LotRows.{given_disposition, disposition_after, result_rows}
-use Rattle.toll_stock.proofs.LotLaw.{with_lot, disposed, in_slice, rows_fit, row_made, IsMade, known_made, lots_after, found_lot}
+use Rattle.toll_stock.proofs.LotLaw.{with_lot, disposed, in_slice, rows_fit, row_by, IsMade, known_made, lots_after, found_lot}
 
 -- ---- keys of results
 
@@ -129,13 +129,13 @@ result_disposition false false true true is = refl
 result_disposition false false true false is = refl
 
 module _ (H : History) (o lot test : Bytes) (value : ℤ) (day : ℕ) (m : IsMade H o lot) where
-  result_now : disposition_of (RecordResult lot test value day ∷ acts o H) m.made.material lot ≡ disposition_after (tables_given H o) test value (row_made H o lot m.made)
+  result_now : disposition_of (RecordResult lot test value day ∷ acts o H) m.made.material lot ≡ disposition_after (tables_given H o) test value (row_by (acts o H) lot m.made)
   result_now = result_disposition (list_any (rejects lot) (acts o H)) (stays_released (is_bad (acts o H) m.made.material) lot (acts o H)) (same_bytes lot lot) (is_bad (acts o H) m.made.material test value) (same_bytes-refl lot)
 
   result_other : (l material : Bytes) → same_bytes lot l ≡ false → disposition_of (RecordResult lot test value day ∷ acts o H) material l ≡ disposition_of (acts o H) material l
   result_other l material other = ap (λ b. cond (list_any (rejects l) (acts o H)) Rejected (cond (not (b && is_bad (acts o H) material test value) && stays_released (is_bad (acts o H) material) l (acts o H)) Released Quarantined)) other
 
-  result_in_history : tables_given (by o (RecordResult lot test value day) ∷ H) o ≡ with_lot (disposed (row_made H o lot m.made) (disposition_after (tables_given H o) test value (row_made H o lot m.made))) (with_result (new_row (acts o H) lot test value day) (tables_given H o))
+  result_in_history : tables_given (by o (RecordResult lot test value day) ∷ H) o ≡ with_lot (disposed (row_by (acts o H) lot m.made) (disposition_after (tables_given H o) test value (row_by (acts o H) lot m.made))) (with_result (new_row (acts o H) lot test value day) (tables_given H o))
   result_in_history = tables-own H o (RecordResult lot test value day) refl ∙ (λ i. record (tables_after (RecordResult lot test value day) (acts o H) o H) {
     lot = λ k. lots_after H o lot m.made m.is (RecordResult lot test value day ∷ acts o H) _ result_now result_other k i;
     result = λ k. result-recorded (acts o H) lot test value day k i;
@@ -148,7 +148,7 @@ result_grows : (lot test : Bytes) (value : ℤ) (day : ℕ) → Grows (RecordRes
 result_grows lot test value day H s lawful valid accepted there =
     let m = known_made H s.owner lot (accepted_passes H s.owner (RecordResult lot test value day) accepted 0) in
     let row : ResultRow = record { lot = lot; test = test; number = count_results_in s lot test + 1; value = value; day = day } in
-    let made = row_made H s.owner lot m.made in
+    let made = row_by (acts s.owner H) lot m.made in
     let d = disposition_after (tables_of s) test value made in
     let found = found_lot H s there lot m in
     let none : result_of (acts s.owner H) (lot, test, count_results_of (acts s.owner H) lot test + 1) ≡ None = too_many (acts s.owner H) (lot, test, count_results_of (acts s.owner H) lot test + 1) (omega arith) in

@@ -1,10 +1,12 @@
 -- What the adding of a test owes.
-use Rattle.std.proofs.Common.{◌≡◌, false, ◌&&◌, ◌||◌, suc, cond, Some, None, is_some, [], ◌∷◌, length, refl, sym, ap, ◌∙◌}
-use Rattle.toll_stock.proofs.Common.{false≢true, list_any, option_map, is_eq, or_right, false_from_ne_true, Bytes, same_bytes, bytes_cmp, pair_cmp, AddTest, by, History, acts, Slice, test_at, with_row, KeepsRules, or_else, where_so, is_some_where, lot_id, Made, lot_made, material_used, is_outside, is_bad, rejects, stays_released, disposition_of, Tables, tables_of, tables_given, lot_row, IsDecided, Decides, DecisionKeepsRules, Accepted, test_checks, verdict, Put, Decision, Disposition, Quarantined, Released, Rejected, LotRow, Test, none_applies, accepted_passes, less_of, tables-own, put_first, row_at-put_row, length-new, any-new, same_bytes-exact, pair_cmp_total, is_eq-then}
+use Rattle.std.proofs.Common.{◌≡◌, false, ◌&&◌, ◌||◌, suc, cond, Some, is_some, [], ◌∷◌, length, refl, sym, ap, ◌∙◌}
+use Rattle.toll_stock.proofs.Common.{false≢true, list_any, option_map, is_eq, or_right, false_from_ne_true, Bytes, same_bytes, bytes_cmp, pair_cmp, AddTest, by, History, acts, Slice, test_at, with_row, KeepsRules, or_else, where_so, is_some_where, lot_id, Made, lot_made, material_used, is_outside, is_bad, rejects, stays_released, disposition_of, Tables, tables_of, tables_given, lot_row, IsDecided, Decides, DecisionKeepsRules, Accepted, test_checks, verdict, Put, Decision, Quarantined, Released, Rejected, Test, none_applies, accepted_passes, less_of, tables-own, put_first, row_at-put_row, length-new, any-new, same_bytes-exact, pair_cmp_total, is_eq-then}
 use Rattle.toll_history.specs.Work.{test_of}
 use Rattle.toll_base.specs.declared.rows.TestRow.{TestRow}
 use Rattle.toll_history.proofs.Adding.{adding_decided, adding_keeps}
 use Rattle.toll_history.proofs.OpenTests.{is_used}
+use Rattle.toll_stock.proofs.LotLaw.{disposed, row_by}
+use Rattle.toll_stock.proofs.Mapped.{mapped_alike}
 
 -- tables with one test more
 abbrev with_test : TestRow → Tables → Tables
@@ -34,13 +36,8 @@ module _ (H : History) (o : Bytes) (row : TestRow) (accepted : verdict H (by o (
   same_disposition : (material l : Bytes) → same_bytes material row.material ≡ false → disposition_of (AddTest row ∷ acts o H) material l ≡ disposition_of (acts o H) material l
   same_disposition material l other = ap (λ bad. cond (list_any (rejects l) (acts o H)) Rejected (cond (stays_released bad l (acts o H)) Released Quarantined)) (same_bad material other)
 
-  same_lots : (l : Bytes) → option_map (λ (made : Made). let r : LotRow = record { lot = l; material = made.material; origin = made.origin; disposition = disposition_of (AddTest row ∷ acts o H) made.material l } in r) (lot_made H (lot_id o l)) ≡ lot_row H o l
-  same_lots l =
-      elim (lot_made H (lot_id o l)) as (λ x. lot_made H (lot_id o l) ≡ x → option_map (λ (made : Made). let r : LotRow = record { lot = l; material = made.material; origin = made.origin; disposition = disposition_of (AddTest row ∷ acts o H) made.material l } in r) x
-      ≡ option_map (λ (made : Made). let r : LotRow = record { lot = l; material = made.material; origin = made.origin; disposition = disposition_of (acts o H) made.material l } in r) x) [
-        | None ↦ λ is. refl
-        | Some made ↦ λ is. ap (λ (d : Disposition). let r : LotRow = record { lot = l; material = made.material; origin = made.origin; disposition = d } in Some r) (same_disposition made.material l (not_its_material l made is))
-      ] refl
+  same_lots : (l : Bytes) → option_map (row_by (AddTest row ∷ acts o H) l) (lot_made H (lot_id o l)) ≡ lot_row H o l
+  same_lots l = mapped_alike (row_by (AddTest row ∷ acts o H) l) (row_by (acts o H) l) (lot_made H (lot_id o l)) (λ made is. ap (disposed (row_by (acts o H) l made)) (same_disposition made.material l (not_its_material l made is)))
 
   in_history : tables_given (by o (AddTest row) ∷ H) o ≡ with_test row (tables_given H o)
   in_history = tables-own H o (AddTest row) refl ∙ (λ i. record (with_test row (tables_given H o)) {

@@ -1,13 +1,9 @@
 -- What the totals of a lot are, over a history whose rows the slice has.
-use Rattle.std.proofs.Common.{◌≡◌, Option, Some, None, is_some, refl, sym, ap, ◌∙◌}
-use Rattle.toll_stock.proofs.Common.{option_map, Bytes, where_so, History, lot_id, lot_made, Slice, lot_at, Tables, IsRowsOf, LotRow, on_hand, shipped}
+use Rattle.std.proofs.Common.{◌≡◌, Some, None, is_some, sym, ap, ◌∙◌}
+use Rattle.toll_stock.proofs.Common.{Bytes, where_so, History, lot_id, lot_made, Slice, lot_at, Tables, IsRowsOf, LotRow, on_hand, shipped}
 use Rattle.toll_stock.specs.LotTotals.{totals_given}
+use Rattle.toll_stock.proofs.Mapped.{some_mapped}
 use Rattle.toll_stock.specs.declared.stock.Totals.{Totals}
-
--- what is there stays so under a function
-pub some_mapped : {X Y : Type 0} (f : X → Y) (x : Option X) → is_some (option_map f x) ≡ is_some x
-some_mapped f None = refl
-some_mapped f (Some x) = refl
 
 module _ (H : History) (s : Slice) (there : IsRowsOf H s) (lot : Bytes) where
   -- the slice has the lots that were made

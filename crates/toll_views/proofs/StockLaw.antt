@@ -1,5 +1,5 @@
 -- The stock that a slice shows is that of every lawful history of which it has the rows.
-use Rattle.std.proofs.Common.{◌≡◌, ℕ, ◌<◌, true, Option, Some, None, is_some, List, [], ◌∷◌, length, get_or, map, zero, suc, refl, sym, ap, ◌∙◌, arith}
+use Rattle.std.proofs.Common.{◌≡◌, ℕ, ◌<◌, true, Some, is_some, List, [], ◌∷◌, length, get_or, map, zero, suc, refl, sym, ap, ◌∙◌, arith}
 use Rattle.toll_views.proofs.Common.{nat_list_cmp_total, AllByRecursion, Bytes, bytes_cmp, pair_cmp, Slice, lot_at, material_at, IsInKeyOrder, AreRowsGiven, none_or, LotRow, same_bytes-exact, History, acts, Tables, IsRowsOf, IsLawful, on_hand_in, along, each_found, row_at-map, map_ordered}
 use Rattle.std.specs.Option.{option_map, option_map_or}
 use Rattle.toll_base.specs.Lots.{lot_id}
@@ -8,6 +8,7 @@ use Rattle.toll_base.specs.declared.rows.MaterialRow.{MaterialRow}
 use Rattle.toll_history.specs.Amounts.{on_hand}
 use Rattle.toll_history.specs.Work.{measure_of}
 use Rattle.toll_stock.proofs.OnHandTotals.{on_hand_is}
+use Rattle.toll_stock.proofs.Mapped.{mapped_alike}
 use Rattle.toll_views.specs.InSlice.{measure_in, line_in}
 use Rattle.toll_views.specs.Views.{stock_line}
 use Rattle.toll_views.specs.declared.stock.StockLine.{StockLine}
@@ -28,11 +29,6 @@ material_there s keeps ordered =
     each_at (λ row. is_some (material_at s row.material) ≡ true) s.lots
     (along _ _ (λ row found. ap (none_or (λ (r : LotRow). is_some (material_at s r.material))) (sym found) ∙ keeps.lot_materials row.lot) s.lots
     (each_found bytes_cmp nat_list_cmp_total (λ row. row.lot) s.lots ordered))
-
--- what is made alike of a value that is there
-mapped_alike : {X Y : Type 0} (f g : X → Y) (x : Option X) → ((y : X) → x ≡ Some y → f y ≡ g y) → option_map f x ≡ option_map g x
-mapped_alike f g None alike = refl
-mapped_alike f g (Some y) alike = ap Some (alike y refl)
 
 module _ (H : History) (lawful : IsLawful H) (s : Slice) (there : IsRowsOf H s) (lots : IsInKeyOrder bytes_cmp (λ row. row.lot) s.lots) (sublots : IsInKeyOrder pair_cmp (λ row. (row.lot, row.sublot)) s.sublots) where
   -- the line of a lot, as the history gives it
