@@ -1,10 +1,10 @@
 -- Tables that are ours already, and the version that is read.
 use Rattle.std.proofs.Common.{◌≡◌, ◌≢◌, ◌⊎◌, inl, inr, ℕ, true, false, if◌then◌else◌, List, [], ◌∷◌, ◌++◌, slice_get, None, Some, Ok, Result, Option, IfOk, IfSome, OnOk, IsTrue, refl, sym, ap, subst, ◌∙◌}
-use Rattle.toll_sql.proofs.Common.{survives_weaker, Database, Schema, Table, KeepsRows, indexed, State, HasCleanDisk, Trees, Error, Content}
+use Rattle.toll_sql.proofs.Common.{survives_weaker, Database, Schema, Table, KeepsRows, indexed, State, HasCleanDisk, Survives, Trees, Error, Content}
 use Rattle.toll_sql.specs.Asking.{IsQuerying}
 use Rattle.toll_sql.specs.First.{AreFirst, HasVersion, Tells, first_version, meta_rows}
 use Rattle.toll_sql.specs.Holds.{Holds, version}
-use Rattle.toll_sql.specs.Opening.{Adopts, FindsVersion, HoldsEither, LeavesRaised, without_limit}
+use Rattle.toll_sql.specs.Opening.{Adopts, FindsVersion, HoldsEither, IsForeign, IsUnlike, LeavesRaised, TakesOver, without_limit}
 use Rattle.toll_sql.specs.Others.{HasOurs, Indexed, has_its_name}
 use Rattle.toll_sql.specs.Tables.{by_batch, made_all, table_of}
 use Rattle.toll_sql.specs.declared.table_kind.TableKind.TheVariants.{Moves, Voids}
@@ -30,41 +30,61 @@ pub record IsMisfit (told : Option ℕ) (other : ℕ) (fault : OpenFault) : Type
   pub foreign : fault ≡ NotOurs → told ≢ Some other
   pub known : (fault ≡ Damaged) ⊎ (fault ≡ NotOurs)
 
-pub no_disk : (told : Option ℕ) (other : ℕ) (fault : OpenFault) → IsMisfit told other fault → ¬ (fault ≡ Disk)
-no_disk told other fault m is = elim m.known [ inl d ↦ (let x : Damaged ≡ Disk = sym d ∙ is in absurd cc) | inr n ↦ (let x : NotOurs ≡ Disk = sym n ∙ is in absurd cc) ]
+pub no_disk : (fault : OpenFault) → (fault ≡ Damaged) ⊎ (fault ≡ NotOurs) → ¬ (fault ≡ Disk)
+no_disk fault known is = elim known [ inl d ↦ (let x : Damaged ≡ Disk = sym d ∙ is in absurd cc) | inr n ↦ (let x : NotOurs ≡ Disk = sym n ∙ is in absurd cc) ]
 
 pub found_in : (db : Database) (told : Option ℕ) (r : Result (Option ℕ) Error) → r ≡ Ok told → IfOk r (FindsVersion db) → FindsVersion db told
 found_in db told r is h = subst (λ (x : Result (Option ℕ) Error). IfOk x (FindsVersion db)) is h
 
+pub tells_it : (db : Database) (n : ℕ) (told : Option ℕ) (r : Result (Option ℕ) Error) → r ≡ Ok told → told ≡ Some n → IfOk r (λ v. IfSome v (λ n. Tells n (meta_rows db.trees))) → Tells n (meta_rows db.trees)
+tells_it db n told r is so h =
+    subst (λ (v : Option ℕ). IfSome v (λ n. Tells n (meta_rows db.trees))) so (subst (λ (x : Result (Option ℕ) Error). IfOk x (λ v. IfSome v (λ n. Tells n (meta_rows db.trees)))) is h)
+
+-- a call that has no limit of steps begins as one whose limit was lifted
+pub as_unlimited : (old new : State) (P : Trees → Type 0) → old.step_limit ≡ None → Survives old new P → Survives (without_limit old) new P
+as_unlimited old new P free s = record { clean = s.clean; shield = s.shield; counts = s.counts; limit = s.limit ∙ free; closes = s.closes; crash = s.crash }
+
+-- tables that are refused, for they are not what their version has
+pub turned_down : (old new : State) (fault : OpenFault) → TakesOver (LeavesRaised old) old new (refused (Unit {0}) fault) → (HasCleanDisk new → fault ≡ Damaged → IsUnlike version HasOurs old.now ⊎ IsUnlike first_version AreFirst old.now)
+    → (HasCleanDisk new → fault ≡ NotOurs → IsForeign old.now) → (HasCleanDisk new → (c : Content) → ¬ (HoldsEither old c)) → Adopts old new (refused (Unit {0}) fault)
+turned_down old new fault over damaged foreign unheld = record {
+  over = over;
+  known_as = λ _. tt;
+  damaged = λ clean same. damaged clean (let it : fault ≡ Damaged = cc in it);
+  foreign = λ clean same. inr (foreign clean (let it : fault ≡ NotOurs = cc in it));
+  ours = λ _ _. tt;
+  indexed = λ _ _. tt;
+  raised = λ _ _. tt;
+  holds = λ _ _ _. tt;
+  known = λ clean _ c h. absurd (unheld clean c h);
+}
+
 module _ (old new : State) (auto : old.in_transaction ≡ false) (settled : IsTrue old.is_open → old.now ≡ old.committed) (has : HasOurs old.now.schema) (free : old.step_limit ≡ None) (told : Option ℕ) (r : Result (Option ℕ) Error) (is : r ≡ Ok told)
     (asking : IsQuerying old new r) (found : HasCleanDisk new → IfOk r (FindsVersion old.now)) where
+  lifted : Survives (without_limit old) new (LeavesRaised old)
+  lifted = as_unlimited old new (LeavesRaised old) free (survives_weaker old new _ (LeavesRaised old) (λ _ _ h. absurd (h has settled)) asking.asks.survives)
+
   -- another version was told
   pub other_version : told ≢ Some version → (HasCleanDisk new → (n : ℕ) → HasVersion n old.now.trees → IfOk r (λ v. v ≡ Some n)) → (fault : OpenFault) → IsMisfit told first_version fault → Adopts old new (refused (Unit {0}) fault)
   other_version other tells fault m =
       let a = asking.asks in
-      record {
-        over = record {
-          unlimited = a.survives.limit ∙ free;
-          autocommit = a.mode;
-          ended = tt;
-          live = a.live;
-          shown = λ _. tt;
-          refused = λ clean live. a.same clean has live (settled (a.live clean live));
-          cause = λ _ same. absurd (no_disk told first_version fault m (let it : fault ≡ Disk = cc in it));
-          survives = record { clean = a.survives.clean; shield = a.survives.shield; counts = a.survives.counts; limit = a.survives.limit ∙ free; closes = a.survives.closes; crash = λ clean db left. elim (a.survives.crash clean db left) [ inl was ↦ inl was | inr h ↦ absurd (h has settled) ] };
-        };
-        known_as = λ _. tt;
-        ours = λ _ _. tt;
-        indexed = λ _ _. tt;
-        raised = λ _ _. tt;
-        holds = λ _ c h. tt;
-        known = λ clean _ c h. elim h [
-          | inl held ↦ absurd (other (subst (λ (x : Result (Option ℕ) Error). IfOk x (λ v. v ≡ Some version)) is (tells clean version held.rows.meta)))
-          | inr first ↦ absurd (apart has first.first.schema)
-        ];
-        damaged = λ clean same. (let it : fault ≡ Damaged = cc in inr (record { tables = apart has; told = shows_it old.now told (found_in old.now told r is (found clean)) first_version (m.damaged it) }));
-        foreign = λ clean same. (let it : fault ≡ NotOurs = cc in inr (inl (shows_neither old.now told (found_in old.now told r is (found clean)) (m.foreign it) other)));
-      }
+      let over : TakesOver (LeavesRaised old) old new (refused (Unit {0}) fault) = record {
+        unlimited = a.survives.limit ∙ free;
+        autocommit = a.mode;
+        ended = tt;
+        live = a.live;
+        shown = λ _. tt;
+        refused = λ clean live. a.same clean has live (settled (a.live clean live));
+        cause = λ _ same. absurd (no_disk fault m.known (let it : fault ≡ Disk = cc in it));
+        survives = lifted;
+      } in
+      turned_down old new fault over
+      (λ clean it. inr (record { tables = apart has; told = shows_it old.now told (found_in old.now told r is (found clean)) first_version (m.damaged it) }))
+      (λ clean it. inl (shows_neither old.now told (found_in old.now told r is (found clean)) (m.foreign it) other))
+      (λ clean c h. elim h [
+        | inl held ↦ other (subst (λ (x : Result (Option ℕ) Error). IfOk x (λ v. v ≡ Some version)) is (tells clean version held.rows.meta))
+        | inr first ↦ apart has first.first.schema
+      ])
 
   -- this version was told
   pub this_version : has_its_name new.now.schema ≡ true → told ≡ Some version → (HasCleanDisk new → IfOk r (λ v. IfSome v (λ n. Tells n (meta_rows old.now.trees)))) → Adopts old new done
@@ -74,7 +94,7 @@ module _ (old new : State) (auto : old.in_transaction ≡ false) (settled : IsTr
       let idle = λ (clean : HasCleanDisk new). (let it : old.now ≡ old.committed = settled (a.live clean (live clean)) in it) in
       let same = λ (clean : HasCleanDisk new). (let it : (new.now ≡ old.now) × (new.committed ≡ old.committed) = a.same clean has (live clean) (idle clean) in it) in
       let was_named = λ (clean : HasCleanDisk new). (let it : has_its_name old.now.schema ≡ true = ap (λ (d : Database). has_its_name d.schema) (sym (same clean).0) ∙ named in it) in
-      let it_tells = λ (clean : HasCleanDisk new). (let it : Tells version (meta_rows old.now.trees) = subst (λ (v : Option ℕ). IfSome v (λ n. Tells n (meta_rows old.now.trees))) so (subst (λ (x : Result (Option ℕ) Error). IfOk x (λ v. IfSome v (λ n. Tells n (meta_rows old.now.trees)))) is (tells clean)) in it) in
+      let it_tells = λ (clean : HasCleanDisk new). tells_it old.now version told r is so (tells clean) in
       record {
         over = record {
           unlimited = a.survives.limit ∙ free;
@@ -84,7 +104,7 @@ module _ (old new : State) (auto : old.in_transaction ≡ false) (settled : IsTr
           shown = λ clean. (live clean, (same clean).0 ∙ idle clean ∙ sym (same clean).1);
           refused = λ _ _. tt;
           cause = λ _ no. absurd cc;
-          survives = record { clean = a.survives.clean; shield = a.survives.shield; counts = a.survives.counts; limit = a.survives.limit ∙ free; closes = a.survives.closes; crash = λ clean db left. elim (a.survives.crash clean db left) [ inl was ↦ inl was | inr h ↦ absurd (h has settled) ] };
+          survives = lifted;
         };
         known_as = λ clean. inl (record { tables = has; told = it_tells clean });
         ours = λ clean h. elim h [

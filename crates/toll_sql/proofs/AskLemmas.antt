@@ -1,5 +1,5 @@
 -- What a text that reads rows is answered.
-use Rattle.std.proofs.Common.{◌≡◌, ℕ, zero, suc, Bool, true, false, cond, ◌&&◌, List, [], ◌∷◌, map, length, Result, IfOk, IfErr, refl, sym, ap, ap₂, subst, ◌∙◌, Ordering}
+use Rattle.std.proofs.Common.{◌≡◌, ℕ, zero, suc, Bool, true, false, cond, ◌&&◌, List, [], ◌∷◌, map, length, Result, IfOk, IfErr, refl, sym, ap, ap₂, subst, subst₂, ◌∙◌, Ordering}
 use Rattle.toll_sql.proofs.Common.{on, ordering_then, list_all, filter_agree, IfErr-weaker, IsPlain, command_of, reads_as, never_commits, survives_weaker, understood, reads_listing, Row, column, row_cmp, overlay, IsAnswer, key_cmp, Schema, State, HasCleanDisk, Survives, Shown, FailsToQuery, CommitsShowing, Env, eval_all, holds, Trees, Error, Null, Text, Bytes}
 use Rattle.std.specs.Prelude.{filter, IsPermutation, IsSorted}
 use Rattle.toll_sql.specs.Asking.{IsQuerying}
@@ -11,7 +11,7 @@ use Rattle.toll_sql.specs.Others.{HasOurs}
 use Rattle.toll_sql.proofs.Beside.{Others, is_ours, others_of, ours_and}
 use Rattle.toll_sql.specs.Tables.{tree_of, keys_of, width_of, is_owned, select_text}
 use Rattle.toll_sql.specs.declared.table_kind.TableKind.{TableKind}
-use Rattle.toll_sql.specs.declared.table_kind.TableKind.TheVariants.{Meta, Owners, Units, Materials, Tests, Recipes, Requirements, Orders, Batches, Lots, Sublots, Moves, Results, Voids}
+use Rattle.toll_sql.specs.declared.table_kind.TableKind.TheVariants.{Meta}
 use Rattle.toll_sql.proofs.Calls.{plain_given, shown_same}
 use Rattle.toll_sql.proofs.CellLemmas.{all_columns}
 use Rattle.toll_sql.proofs.PutCommon.{equals_text}
@@ -26,7 +26,7 @@ module _ (sql : List ℕ) (params : Row) (old new : State) (plain : (others : Ot
   under : HasOurs old.now.schema → IsPlain (understood old.now.schema sql)
   under has = subst (λ s. IsPlain (understood s sql)) (sym (is_ours has)) (plain (others_of has))
 
-  pub querying : {X : Type 0} (items : X → List Row) (r : Result X Error) → (old.in_transaction ≡ false → new.in_transaction ≡ false) → (HasCleanDisk new → IfOk r (λ x. Shown sql params old new (items x)))
+  querying : {X : Type 0} (items : X → List Row) (r : Result X Error) → (old.in_transaction ≡ false → new.in_transaction ≡ false) → (HasCleanDisk new → IfOk r (λ x. Shown sql params old new (items x)))
       → (HasCleanDisk new → IfErr r (FailsToQuery sql params old new)) → Survives old new (CommitsShowing sql params old) → IsQuerying old new r
   querying {X} items r mode ok err survives = record {
     asks = record {
@@ -39,6 +39,13 @@ module _ (sql : List ℕ) (params : Row) (old new : State) (plain : (others : Ot
     cause = λ clean. IfErr-weaker r _ _ (λ e h. (query_fails old new sql params e h).1) (err clean);
   }
 
+  -- so it is of a call that was given this text and these parameters
+  pub asked : {X : Type 0} (items : X → List Row) (r : Result X Error) (text : List ℕ) (given : Row) → text ≡ sql → given ≡ params → (old.in_transaction ≡ false → new.in_transaction ≡ false) → (HasCleanDisk new → IfOk r (λ x. Shown text given old new (items x)))
+      → (HasCleanDisk new → IfErr r (FailsToQuery text given old new)) → Survives old new (CommitsShowing text given old) → IsQuerying old new r × (HasCleanDisk new → IfOk r (λ x. Shown sql params old new (items x)))
+  asked items r text given is are mode ok err survives =
+      let shown = λ (clean : HasCleanDisk new). subst₂ (λ t p. IfOk r (λ x. Shown t p old new (items x))) is are (ok clean) in
+      (querying items r mode shown (λ clean. subst₂ (λ t p. IfErr r (FailsToQuery t p old new)) is are (err clean)) (subst₂ (λ t p. Survives old new (CommitsShowing t p old)) is are survives), shown)
+
 -- ---- columns, keys and tests
 
 columns_shown : (at n : ℕ) (params row : Row) → eval_all (terms_from 1 at n) (params ∷ row ∷ []) ≡ columns_from at n row
@@ -47,19 +54,7 @@ columns_shown at (suc n) params row = ap (λ cells. column row at ∷ cells) (co
 
 told : (k : TableKind) (env : Env) → eval_all (map (λ key. key.0) (keys_from 1 (length (keys_of k)))) env ≡ columns_from 0 (length (keys_of k)) (eval_all (terms_from 1 1 (width_of k)) env)
 told Meta env = refl
-told Owners env = refl
-told Units env = refl
-told Materials env = refl
-told Tests env = refl
-told Recipes env = refl
-told Requirements env = refl
-told Orders env = refl
-told Batches env = refl
-told Lots env = refl
-told Sublots env = refl
-told Moves env = refl
-told Results env = refl
-told Voids env = refl
+told _ env = refl
 
 keys_compare : (at from n : ℕ) (a b : Row) → key_cmp at (map (λ key. key.1) (keys_from from n)) a b ≡ row_cmp (columns_from at n a) (columns_from at n b)
 keys_compare at from zero a b = refl
@@ -81,19 +76,7 @@ same_order k a b =
 
 pub seen : (k : TableKind) (db : Trees) → overlay db [] (tree_of k) ≡ db (tree_of k)
 seen Meta db = refl
-seen Owners db = refl
-seen Units db = refl
-seen Materials db = refl
-seen Tests db = refl
-seen Recipes db = refl
-seen Requirements db = refl
-seen Orders db = refl
-seen Batches db = refl
-seen Lots db = refl
-seen Sublots db = refl
-seen Moves db = refl
-seen Results db = refl
-seen Voids db = refl
+seen _ db = refl
 
 and_true : (b : Bool) → (b && true) ≡ b
 and_true true = refl

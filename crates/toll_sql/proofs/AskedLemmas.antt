@@ -22,11 +22,8 @@ module _ (old new : State) (e : Error) (other : IsOther e) where
 
   no_fault : (cause : StoreError) → e ≡ store_error cause → HasCause old new ⊥ cause → ⊥
   no_fault OutOfMemory is h = other.0 is
-  no_fault Io is h = no_disk _ is refl
-  no_fault Corrupt is h = no_disk _ is refl
-  no_fault Full is h = no_disk _ is refl
-  no_fault Broken is h = no_disk _ is refl
   no_fault Unstorable is h = h
+  no_fault _ is h = no_disk _ is refl
 
   module _ (sql : List ℕ) (c : Compiled) (is : understood old.now.schema sql ≡ Ok c) (none : c.returning ≡ None) (whole : IsWholeText sql c) where
     same : (d : Compiled) → understood old.now.schema sql ≡ Ok d → d ≡ c

@@ -7,11 +7,9 @@ use Rattle.toll_sql.proofs.Refusals.{doing}
 module _ (old new : State) where
   told : (U : Type 0) (e : Error) (kind : StoreError) → e ≡ store_error kind → IsTrue (is_disk_fault e) → StoreCause old new U kind → Reason old new
   told U e OutOfMemory is d h = absurd (let f : false ≡ true = sym (ap is_disk_fault is) ∙ d in cc)
-  told U e Io is d h = inl h
-  told U e Corrupt is d h = inl h
-  told U e Full is d h = inl h
   told U e Broken is d h = inr h
   told U e Unstorable is d h = absurd (let f : false ≡ true = sym (ap is_disk_fault is) ∙ d in cc)
+  told U e _ is d h = inl h
 
   failed : (U : Type 0) (e : Error) → Fails old new U e → IsCaused old new e
   failed U e h d = told U e h.0 h.1 d h.2

@@ -23,18 +23,8 @@ fit_length (c ∷ columns) (v ∷ cells) h = ap suc (fit_length columns cells (a
 -- a cell of the column's kind is not changed where it is stored
 cast_one : (k : Kind) (v : Value) → is_of_kind k v ≡ true → cast k v ≡ v
 cast_one kind.Text (Text t) h = refl
-cast_one kind.Text Null h = absurd (false≢true h)
-cast_one kind.Text (Int n) h = absurd (false≢true h)
-cast_one kind.Text (Real x) h = absurd (false≢true h)
-cast_one kind.Text (Blob b) h = absurd (false≢true h)
 cast_one kind.Integer (Int n) h = cast_int n
-cast_one kind.Integer Null h = absurd (false≢true h)
-cast_one kind.Integer (Text t) h = absurd (false≢true h)
-cast_one kind.Integer (Real x) h = absurd (false≢true h)
-cast_one kind.Integer (Blob b) h = absurd (false≢true h)
-cast_one kind.Real v h = absurd (false≢true h)
-cast_one kind.Blob v h = absurd (false≢true h)
-cast_one kind.Any v h = absurd (false≢true h)
+cast_one _ _ h = absurd (false≢true h)
 
 cast_cells : (columns : List Column) (cells : Row) → fit columns cells ≡ true → cast_all columns cells ≡ cells
 cast_cells [] [] h = refl

@@ -7,19 +7,8 @@ use Rattle.toll_sql.specs.Stores.{IsValid, IsWriting, MakesPut, MakesRow, table_
 
 -- its cells fill the columns of its table
 pub fills : (change : Change) → fill (table_of_change change) (cells_of_change change) ≡ true
-fills (Owner row) = refl
-fills (UnitAdded row) = refl
 fills (Put o (of.Material row)) = refl
-fills (Put o (of.Test row)) = refl
-fills (Put o (of.Recipe row)) = refl
-fills (Put o (of.Requirement row)) = refl
-fills (Put o (of.Order row)) = refl
-fills (Put o (of.Batch row)) = refl
-fills (Put o (of.Lot row)) = refl
-fills (Put o (of.Sublot row)) = refl
-fills (Put o (of.Move row)) = refl
-fills (Put o (of.Result row)) = refl
-fills (Put o (of.Void row)) = refl
+fills _ = refl
 
 module _ (change : Change) (old new : State) (valid : IsValid change) where
   made : {X : Type 0} (r : Result X Error) → OnOk r (MakesRow (table_of_change change) (cells_of_change change) old new) → OnOk r (MakesPut change old new)

@@ -12,11 +12,9 @@ use Rattle.toll_sql.specs.FromFiles.{IsUnclosed}
 module _ {D : Type 0} {g : Ghosts D} (conn : Held (FileStore D g)) (last : FileStore D g) where
   excused : (cause : StoreError) → IsTrue (is_disk_fault (store_error cause)) → ExcusesClose conn last cause → ((view conn.store).is_open ≡ false) ⊎ MoreFaults (faults conn.store) (faults last)
   excused OutOfMemory disk h = absurd (let f : false ≡ true = disk in cc)
-  excused Io disk h = inr h
-  excused Corrupt disk h = inr h
-  excused Full disk h = inr h
   excused Broken disk h = h
   excused Unstorable disk h = absurd h
+  excused _ disk h = inr h
 
   pub unclosed : (e : Error) (fault : KeepFault) → ((fault ≡ Memory) × (is_disk_fault e ≡ false)) ⊎ ((fault ≡ Disk) × IsTrue (is_disk_fault e)) → IsClosed conn last → (IsClean (view last) → FailsToClose conn last e) → IsUnclosed conn last fault
   unclosed e fault told closed fails = record {

@@ -46,51 +46,15 @@ no_rows = λ _. []
 
 none_for : (k : TableKind) (o : Bytes) → rows_for k (empty_slice o) ≡ []
 none_for Meta o = refl
-none_for Owners o = refl
-none_for Units o = refl
-none_for Materials o = refl
-none_for Tests o = refl
-none_for Recipes o = refl
-none_for Requirements o = refl
-none_for Orders o = refl
-none_for Batches o = refl
-none_for Lots o = refl
-none_for Sublots o = refl
-none_for Moves o = refl
-none_for Results o = refl
-none_for Voids o = refl
+none_for _ o = refl
 
 none_valid : (k : TableKind) (o : Bytes) → AreValidIn k (empty_slice o)
 none_valid Meta o = tt
-none_valid Owners o = tt
-none_valid Units o = tt
-none_valid Materials o = tt
-none_valid Tests o = tt
-none_valid Recipes o = tt
-none_valid Requirements o = tt
-none_valid Orders o = tt
-none_valid Batches o = tt
-none_valid Lots o = tt
-none_valid Sublots o = tt
-none_valid Moves o = tt
-none_valid Results o = tt
-none_valid Voids o = tt
+none_valid _ o = tt
 
 none_there : (k : TableKind) → IsOther k → [] ≡ as_second no_rows (tree_of k)
 none_there Meta other = absurd (other refl)
-none_there Owners other = refl
-none_there Units other = refl
-none_there Materials other = refl
-none_there Tests other = refl
-none_there Recipes other = refl
-none_there Requirements other = refl
-none_there Orders other = refl
-none_there Batches other = refl
-none_there Lots other = refl
-none_there Sublots other = refl
-none_there Moves other = refl
-none_there Results other = refl
-none_there Voids other = refl
+none_there _ other = refl
 
 other_is : (k : TableKind) → is_owned k ≡ true → IsOther k
 other_is k owned = λ same. unowned_apart Meta k refl owned (sym same)

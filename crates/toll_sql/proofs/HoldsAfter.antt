@@ -30,54 +30,18 @@ use Rattle.toll_sql.proofs.WriteLemmas.{at_table}
 
 keys_fit : (k : TableKind) → length (keys_of k) ≤ width_of k
 keys_fit Meta = omega arith
-keys_fit Owners = omega arith
-keys_fit Units = omega arith
-keys_fit Materials = omega arith
-keys_fit Tests = omega arith
-keys_fit Recipes = omega arith
-keys_fit Requirements = omega arith
-keys_fit Orders = omega arith
-keys_fit Batches = omega arith
-keys_fit Lots = omega arith
-keys_fit Sublots = omega arith
-keys_fit Moves = omega arith
-keys_fit Results = omega arith
-keys_fit Voids = omega arith
+keys_fit _ = omega arith
 
 tree_number : (k : TableKind) → tree_of k ≡ number_of k + number_of k
 tree_number Meta = refl
-tree_number Owners = refl
-tree_number Units = refl
-tree_number Materials = refl
-tree_number Tests = refl
-tree_number Recipes = refl
-tree_number Requirements = refl
-tree_number Orders = refl
-tree_number Batches = refl
-tree_number Lots = refl
-tree_number Sublots = refl
-tree_number Moves = refl
-tree_number Results = refl
-tree_number Voids = refl
+tree_number _ = refl
 
 apart : (j k : TableKind) → (number_of j ≡ number_of k → ⊥) → tree_of j ≢ tree_of k
 apart j k other same = other (omega (arith, tree_number j, tree_number k, same))
 
 first_equal : (k : TableKind) (a b : Row) → is_eq (key_order k a b) ≡ true → is_eq (value_cmp (column a 0) (column b 0)) ≡ true
 first_equal Meta a b h = (and_parts _ _ (sym (is_eq-then (value_cmp (column a 0) (column b 0)) _) ∙ h)).0
-first_equal Owners a b h = (and_parts _ _ (sym (is_eq-then (value_cmp (column a 0) (column b 0)) _) ∙ h)).0
-first_equal Units a b h = (and_parts _ _ (sym (is_eq-then (value_cmp (column a 0) (column b 0)) _) ∙ h)).0
-first_equal Materials a b h = (and_parts _ _ (sym (is_eq-then (value_cmp (column a 0) (column b 0)) _) ∙ h)).0
-first_equal Tests a b h = (and_parts _ _ (sym (is_eq-then (value_cmp (column a 0) (column b 0)) _) ∙ h)).0
-first_equal Recipes a b h = (and_parts _ _ (sym (is_eq-then (value_cmp (column a 0) (column b 0)) _) ∙ h)).0
-first_equal Requirements a b h = (and_parts _ _ (sym (is_eq-then (value_cmp (column a 0) (column b 0)) _) ∙ h)).0
-first_equal Orders a b h = (and_parts _ _ (sym (is_eq-then (value_cmp (column a 0) (column b 0)) _) ∙ h)).0
-first_equal Batches a b h = (and_parts _ _ (sym (is_eq-then (value_cmp (column a 0) (column b 0)) _) ∙ h)).0
-first_equal Lots a b h = (and_parts _ _ (sym (is_eq-then (value_cmp (column a 0) (column b 0)) _) ∙ h)).0
-first_equal Sublots a b h = (and_parts _ _ (sym (is_eq-then (value_cmp (column a 0) (column b 0)) _) ∙ h)).0
-first_equal Moves a b h = (and_parts _ _ (sym (is_eq-then (value_cmp (column a 0) (column b 0)) _) ∙ h)).0
-first_equal Results a b h = (and_parts _ _ (sym (is_eq-then (value_cmp (column a 0) (column b 0)) _) ∙ h)).0
-first_equal Voids a b h = (and_parts _ _ (sym (is_eq-then (value_cmp (column a 0) (column b 0)) _) ∙ h)).0
+first_equal _ a b h = (and_parts _ _ (sym (is_eq-then (value_cmp (column a 0) (column b 0)) _) ∙ h)).0
 
 -- ---- the table of the row, and the others
 
@@ -156,32 +120,14 @@ module _ (o q : Bytes) (row : OfficeRow) (s : Slice) (old new : Trees) (put : Pu
     where
       named_with : (row : OfficeRow) (s : Slice) → (with_row s row).owner ≡ s.owner
       named_with (of.Material x) s = refl
-      named_with (of.Test x) s = refl
-      named_with (of.Recipe x) s = refl
-      named_with (of.Requirement x) s = refl
-      named_with (of.Order x) s = refl
-      named_with (of.Batch x) s = refl
-      named_with (of.Lot x) s = refl
-      named_with (of.Sublot x) s = refl
-      named_with (of.Move x) s = refl
-      named_with (of.Result x) s = refl
-      named_with (of.Void x) s = refl
+      named_with _ s = refl
   slice_after valid h false e = record { named = h.named; stored = others_rows h e; valid = h.valid }
 
 -- ---- the whole content
 
 is_owned_for : (row : OfficeRow) → is_owned (table_for row) ≡ true
 is_owned_for (of.Material x) = refl
-is_owned_for (of.Test x) = refl
-is_owned_for (of.Recipe x) = refl
-is_owned_for (of.Requirement x) = refl
-is_owned_for (of.Order x) = refl
-is_owned_for (of.Batch x) = refl
-is_owned_for (of.Lot x) = refl
-is_owned_for (of.Sublot x) = refl
-is_owned_for (of.Move x) = refl
-is_owned_for (of.Result x) = refl
-is_owned_for (of.Void x) = refl
+is_owned_for _ = refl
 
 -- a table that owners do not part is not the row's
 pub unowned_apart : (j k : TableKind) → is_owned j ≡ false → is_owned k ≡ true → number_of j ≡ number_of k → ⊥

@@ -35,9 +35,7 @@ no_name = refl
 
 named_nothing : (a b c : Option ℕ) → is_some a || is_some b || is_some c ≡ false → (b ≡ None) × (option_or a c ≡ None)
 named_nothing None None None h = (refl, refl)
-named_nothing (Some i) b c h = absurd cc
-named_nothing None (Some i) c h = absurd cc
-named_nothing None None (Some i) h = absurd cc
+named_nothing _ _ _ h = absurd cc
 
 module _ {schema : Schema} (has : HasOurs schema) (lacking : has_its_name schema ≡ false) where
   index_compiles : compiled schema index_text ≡ Ok (one_statement (CreateIndex (number_of Moves)) [] index_text)

@@ -72,15 +72,7 @@ pub record AreTrue (a b c d e f g h i : Bool) : Type 0 where
 
 all_true : (a b c d e f g h i : Bool) → (a && (b && (c && (d && (e && (f && (g && (h && (i && true))))))))) ≡ true → AreTrue a b c d e f g h i
 all_true true true true true true true true true true k = record { at0 = refl; at1 = refl; at2 = refl; at3 = refl; at4 = refl; at5 = refl; at6 = refl; at7 = refl; at8 = refl }
-all_true false b c d e f g h i k = absurd (false≢true k)
-all_true true false c d e f g h i k = absurd (false≢true k)
-all_true true true false d e f g h i k = absurd (false≢true k)
-all_true true true true false e f g h i k = absurd (false≢true k)
-all_true true true true true false f g h i k = absurd (false≢true k)
-all_true true true true true true false g h i k = absurd (false≢true k)
-all_true true true true true true true false h i k = absurd (false≢true k)
-all_true true true true true true true true false i k = absurd (false≢true k)
-all_true true true true true true true true true false k = absurd (false≢true k)
+all_true _ _ _ _ _ _ _ _ _ k = absurd (false≢true k)
 
 true_all : (a b c d e f g h i : Bool) → AreTrue a b c d e f g h i → (a && (b && (c && (d && (e && (f && (g && (h && (i && true))))))))) ≡ true
 true_all a b c d e f g h i t = both a _ t.at0 (both b _ t.at1 (both c _ t.at2 (both d _ t.at3 (both e _ t.at4 (both f _ t.at5 (both g _ t.at6 (both h _ t.at7 (both i true t.at8 refl))))))))
@@ -148,16 +140,7 @@ IsUse o role row = IsActual (order_of row.what) (number_of row.what) (segment_of
 as_actual : (o : Bytes) (role : Role) (what : Move) → kind_number what ≡ actual_kind role → (material : Bytes) × (sublot : Bytes) × (what ≡ Actual (order_of what) (number_of what) (segment_of what) role material (lot_of o what) sublot)
 as_actual o Consumed (Actual order number segment Consumed material lot sublot) k = (material, sublot, refl)
 as_actual o Produced (Actual order number segment Produced material lot sublot) k = (material, sublot, refl)
-as_actual o Consumed (Actual order number segment Produced material lot sublot) k = absurd (omega (arith, k))
-as_actual o Produced (Actual order number segment Consumed material lot sublot) k = absurd (omega (arith, k))
-as_actual o Consumed (Receive material lot sublot) k = absurd (omega (arith, k))
-as_actual o Produced (Receive material lot sublot) k = absurd (omega (arith, k))
-as_actual o Consumed (Split lot sublot target) k = absurd (omega (arith, k))
-as_actual o Produced (Split lot sublot target) k = absurd (omega (arith, k))
-as_actual o Consumed (Ship lot sublot) k = absurd (omega (arith, k))
-as_actual o Produced (Ship lot sublot) k = absurd (omega (arith, k))
-as_actual o Consumed (Scrap lot sublot) k = absurd (omega (arith, k))
-as_actual o Produced (Scrap lot sublot) k = absurd (omega (arith, k))
+as_actual o _ _ k = absurd (omega (arith, k))
 
 pub actual_of_kind : (o : Bytes) (role : Role) (row : MoveRow) → kind_number row.what ≡ actual_kind role → IsUse o role row
 actual_of_kind o role row k =

@@ -79,9 +79,6 @@ module _ {K : Type 0} (store : K → State) (closed : K → Bool) where
   abbrev Rests : K → Type 0
   Rests k = IsLive k → OnlyLeaves (store k)
 
-  abbrev ReadsTo : {X : Type 0} → K → K → Result X KeepFault → Type 0
-  ReadsTo old new r = IsReading meaning old new r
-
   abbrev answered : {X : Type 0} → X → Result X KeepFault
   answered x = Ok x
 
@@ -111,7 +108,7 @@ module _ {K : Type 0} (store : K → State) (closed : K → Bool) where
 
     looked : {X : Type 0} (r : Result X KeepFault) → Rests old → IsLooking (store old) (store new) r → closed new ≡ closes r
         → (HasCleanDisk (store new) → (c : Content) → HoldsIn (store old) c → ContentKeepsRules c → r ≢ Err Damaged)
-        → (IsHonest new → ¬ (IsLive old) → (cs : List Content) → Leaves old cs → Leaves new cs) → ReadsTo old new r
+        → (IsHonest new → ¬ (IsLive old) → (cs : List Content) → Leaves old cs → Leaves new cs) → IsReading meaning old new r
     looked r only looks is whole shut = record {
       goes = goes r _ looks.asks.survives looks.asks.live looks.asks.shown looks.cause looks.unclosed is shut;
       keeps = λ clean. record {
@@ -124,7 +121,7 @@ module _ {K : Type 0} (store : K → State) (closed : K → Bool) where
     }
 
   -- a closed keep answers Closed, and stays as it is
-  closed_still : (k : K) → IsTrue (closed k) → Rests k → ReadsTo {X = Unit {0}} k k (failed Closed)
+  closed_still : (k : K) → IsTrue (closed k) → Rests k → IsReading {X = Unit {0}} meaning k k (failed Closed)
   closed_still k was only = record {
     goes = record {
       honest = λ clean. clean;
@@ -149,24 +146,24 @@ module _ {K : Type 0} (store : K → State) (closed : K → Bool) where
 
   module _ (old mid : K) (only : Rests old) where
     -- where it isn't known whether its store lies open, that was asked, and nothing else
-    pub begun : (r : Result (Unit {0}) KeepFault) → (IsTrue (closed old) → (r ≡ Err Closed) × (mid ≡ old)) → (closed old ≡ false → IsFinding (store old) (store mid) r) → closed mid ≡ closes r → ReadsTo old mid r
+    pub begun : (r : Result (Unit {0}) KeepFault) → (IsTrue (closed old) → (r ≡ Err Closed) × (mid ≡ old)) → (closed old ≡ false → IsFinding (store old) (store mid) r) → closed mid ≡ closes r → IsReading meaning old mid r
     begun r shut found is = elim (cases_Bool (closed old)) [
-      | inl was ↦ (let now = shut was in subst (λ a. ReadsTo old mid a) (sym now.0) (subst (λ k. ReadsTo {X = Unit {0}} old k (failed Closed)) (sym now.1) (closed_still old was only)))
+      | inl was ↦ (let now = shut was in subst (λ a. IsReading meaning old mid a) (sym now.0) (subst (λ k. IsReading {X = Unit {0}} meaning old k (failed Closed)) (sym now.1) (closed_still old was only)))
       | inr not ↦ (let f = found not in looked old mid not r only f.looks is (λ _ _ _ _. f.undamaged) (λ clean _ cs left db may. elim (f.survives.crash clean db may) [ inl before ↦ left db before | inr never ↦ absurd never ]))
     ]
 
   -- a call that ends there
-  pub unbegun : {X : Type 0} (old mid : K) (fault : KeepFault) → ReadsTo {X = Unit {0}} old mid (failed fault) → ReadsTo {X = X} old mid (failed fault)
+  pub unbegun : {X : Type 0} (old mid : K) (fault : KeepFault) → IsReading {X = Unit {0}} meaning old mid (failed fault) → IsReading {X = X} meaning old mid (failed fault)
   unbegun old mid fault first = read_fault meaning old mid fault first.goes first.keeps first.whole
 
-  module _ (old mid new : K) (first : ReadsTo {X = Unit {0}} old mid (answered tt)) where
+  module _ (old mid new : K) (first : IsReading {X = Unit {0}} meaning old mid (answered tt)) where
     -- the store lay open when what was asked began
     opened : {P : Type 0} → IsHonest mid → ¬ (IsLive mid) → P
     opened clean not = absurd (not (first.goes.shown clean))
 
     -- a look, whose answer was passed on
-    pub reading : {X : Type 0} (answer r : Result X KeepFault) (after : State) → store new ≡ after → r ≡ answer → closed new ≡ closes answer → Rests mid → IsLooking (store mid) after answer
-        → (HasCleanDisk after → (c : Content) → HoldsIn (store mid) c → ContentKeepsRules c → answer ≢ Err Damaged) → ReadsTo old new r
+    reading : {X : Type 0} (answer r : Result X KeepFault) (after : State) → store new ≡ after → r ≡ answer → closed new ≡ closes answer → Rests mid → IsLooking (store mid) after answer
+        → (HasCleanDisk after → (c : Content) → HoldsIn (store mid) c → ContentKeepsRules c → answer ≢ Err Damaged) → IsReading meaning old new r
     reading {X} answer r after at same is only looks whole =
         let there = subst (λ a. IsLooking (store mid) (store new) a) (sym same) (subst (λ s. IsLooking (store mid) s answer) (sym at) looks) in
         reads_then meaning old mid new tt r first
@@ -175,7 +172,7 @@ module _ {K : Type 0} (store : K → State) (closed : K → Bool) where
         (λ clean not. opened (let before : HasCleanDisk (store mid) = omega (arith, clean, there.asks.survives.clean) in before) not))
 
     -- what is so of the answer over what was held when the look began is so over what was held before
-    pub so_read : {X : Type 0} (answer r : Result X KeepFault) (after : State) → store new ≡ after → r ≡ answer → IsLooking (store mid) after answer → (c : Content) (P : X → Type 0) → (HasCleanDisk after → HoldsIn (store mid) c → IfOk answer P)
+    so_read : {X : Type 0} (answer r : Result X KeepFault) (after : State) → store new ≡ after → r ≡ answer → IsLooking (store mid) after answer → (c : Content) (P : X → Type 0) → (HasCleanDisk after → HoldsIn (store mid) c → IfOk answer P)
         → IsHonest new → HoldsOpen old c → IfOk r P
     so_read {X} answer r after at same looks c P reads clean was =
         let there : HasCleanDisk after = subst HasCleanDisk at clean in
@@ -234,6 +231,13 @@ module _ {K : Type 0} (store : K → State) (closed : K → Bool) where
           let clean_mid = before survives clean in
           let live = first.goes.shown clean_mid in
           subst (λ s. LeavesIn s (c ∷ after changes c ∷ [])) (sym at) (crash_left (store mid) after' changes c free ((first.keeps clean_mid).content c was live) (only live) survives (subst HasCleanDisk at clean))
+
+  -- so a look reads, and what is so of its answer over whatever the store held is so over what the keep held
+  pub read_out : {X : Type 0} {old mid : K} {answer r : Result X KeepFault} {after : State} → ((k : K) → Rests k) → (new : K) → IsReading {X = Unit {0}} meaning old mid (answered tt) → store new ≡ after → r ≡ answer → closed new ≡ closes answer → IsLooking (store mid) after answer
+      → (HasCleanDisk after → (c : Content) → HoldsIn (store mid) c → ContentKeepsRules c → answer ≢ Err Damaged) → (P : Content → X → Type 0) → (HasCleanDisk after → (c : Content) → HoldsIn (store mid) c → IfOk answer (P c))
+      → IsReading meaning old new r × (IsHonest new → (c : Content) → HoldsOpen old c → IfOk r (P c))
+  read_out {X} {old} {mid} {answer} {r} {after} rests new first at same is looks whole P reads =
+      (reading old mid new first answer r after at same is (rests mid) looks whole, λ clean c was. so_read old mid new first answer r after at same looks c (P c) (λ clean held. reads clean c held) clean was)
 
   -- of what didn't begin
   pub unapplied_crash : (new : K) (changes : List Change) (c : Content) → Leaves new (c ∷ []) → Leaves new (c ∷ after changes c ∷ [])

@@ -19,9 +19,7 @@ IsCell _ = ⊥
 equal_cells : (v w : Value) → IsCell w → equal (first_key plain).collation v w ≡ is_eq (value_cmp v w)
 equal_cells v (Text t) h = key_equals v t
 equal_cells v (Int n) h = rw first_key-plain (equals_int v n)
-equal_cells v Null h = absurd h
-equal_cells v (Real x) h = absurd h
-equal_cells v (Blob b) h = absurd h
+equal_cells v _ h = absurd h
 
 -- numbers one after another
 upto : ℕ → ℕ → List ℕ
@@ -43,23 +41,9 @@ agree_is at (suc n) row cells v h =
 -- ---- cells that fill the columns
 
 one_cell : (k : Kind) (v : Value) → is_of_kind k v ≡ true → IsCell v
-one_cell k (Text t) h = tt
-one_cell k (Int n) h = tt
-one_cell kind.Text Null h = absurd (false≢true h)
-one_cell kind.Integer Null h = absurd (false≢true h)
-one_cell kind.Real Null h = absurd (false≢true h)
-one_cell kind.Blob Null h = absurd (false≢true h)
-one_cell kind.Any Null h = absurd (false≢true h)
-one_cell kind.Text (Real x) h = absurd (false≢true h)
-one_cell kind.Integer (Real x) h = absurd (false≢true h)
-one_cell kind.Real (Real x) h = absurd (false≢true h)
-one_cell kind.Blob (Real x) h = absurd (false≢true h)
-one_cell kind.Any (Real x) h = absurd (false≢true h)
-one_cell kind.Text (Blob b) h = absurd (false≢true h)
-one_cell kind.Integer (Blob b) h = absurd (false≢true h)
-one_cell kind.Real (Blob b) h = absurd (false≢true h)
-one_cell kind.Blob (Blob b) h = absurd (false≢true h)
-one_cell kind.Any (Blob b) h = absurd (false≢true h)
+one_cell kind.Text (Text t) h = tt
+one_cell kind.Integer (Int n) h = tt
+one_cell _ _ h = absurd (false≢true h)
 
 pub cells_are : (columns : List Column) (cells : Row) → fit columns cells ≡ true → AllByRecursion IsCell cells
 cells_are [] [] h = tt
@@ -81,19 +65,7 @@ some_cells at (suc n) row le all = (column_is row at (omega (arith, le)) all, so
 keys_are : (k : TableKind) → keys_of k ≡ upto 1 (length (keys_of k))
 unfolding upto
 keys_are Meta = refl
-keys_are Owners = refl
-keys_are Units = refl
-keys_are Materials = refl
-keys_are Tests = refl
-keys_are Recipes = refl
-keys_are Requirements = refl
-keys_are Orders = refl
-keys_are Batches = refl
-keys_are Lots = refl
-keys_are Sublots = refl
-keys_are Moves = refl
-keys_are Results = refl
-keys_are Voids = refl
+keys_are _ = refl
 
 module _ (k : TableKind) (cells : Row) (long : length (keys_of k) ≤ length cells) (all : AllByRecursion IsCell cells) where
   pub has_key_is : (row : Row) → has_key k cells row ≡ is_eq (key_order k (cells_of row) cells)

@@ -1,14 +1,15 @@
 -- What is read of a store whose tables hold a content.
-use Rattle.std.proofs.Common.{◌≡◌, ◌≢◌, Bool, true, List, [], ◌∷◌, map, Ok, Err, Result, OnOk, IsTrue, refl, sym, subst, ◌∙◌}
+use Rattle.std.proofs.Common.{◌≡◌, ◌≢◌, Bool, true, false, List, [], ◌∷◌, map, Ok, Err, Result, OnOk, IsTrue, refl, sym, subst, ◌∙◌}
 use Rattle.toll_sql.proofs.Common.{AllByRecursion, Database, Row, State, HasCleanDisk, Trees, Bytes, Slice, Content, KeepFault, Disk, Closed}
 use Rattle.toll_sql.specs.Asking.{Asks, IsLooking}
 use Rattle.toll_sql.specs.Bag.{owned_by}
 use Rattle.toll_sql.specs.Cells.{fill}
 use Rattle.toll_sql.specs.Encode.{rows_for, material_cells, test_cells, recipe_cells, requirement_cells, order_cells, batch_cells, lot_cells, sublot_cells, move_cells, result_cells, void_cells}
 use Rattle.toll_sql.specs.Fronts.{IsStoredAs}
-use Rattle.toll_sql.specs.Holds.{HoldsPart}
+use Rattle.toll_sql.specs.Holds.{HoldsAll, HoldsPart}
 use Rattle.toll_sql.specs.Others.{HasOurs}
-use Rattle.toll_sql.specs.Rows.{AreOfOwner}
+use Rattle.toll_sql.specs.Rows.{AreAll, AreOfOwner}
+use Rattle.toll_sql.specs.StoredLaws.{StandAlone}
 use Rattle.toll_sql.specs.Stores.{HoldsIn, HoldsPartIn}
 use Rattle.toll_sql.specs.Tables.{tree_of, is_owned}
 use Rattle.toll_sql.specs.declared.table_kind.TableKind.{TableKind}
@@ -22,9 +23,6 @@ all_map k cells fits [] = tt
 all_map k cells fits (x ∷ l) = (fits x, all_map k cells fits l)
 
 all_fill : (k : TableKind) (s : Slice) → AllByRecursion (λ c. fill k c ≡ true) (rows_for k s)
-all_fill Meta s = tt
-all_fill Owners s = tt
-all_fill Units s = tt
 all_fill Materials s = all_map Materials (material_cells s.owner) (λ x. refl) s.materials
 all_fill Tests s = all_map Tests (test_cells s.owner) (λ x. refl) s.tests
 all_fill Recipes s = all_map Recipes (recipe_cells s.owner) (λ x. refl) s.recipes
@@ -36,6 +34,7 @@ all_fill Sublots s = all_map Sublots (sublot_cells s.owner) (λ x. refl) s.sublo
 all_fill Moves s = all_map Moves (move_cells s.owner) (λ x. refl) s.moves
 all_fill Results s = all_map Results (result_cells s.owner) (λ x. refl) s.results
 all_fill Voids s = all_map Voids (void_cells s.owner) (λ x. refl) s.voids
+all_fill _ s = tt
 
 -- ---- what is answered
 
@@ -43,6 +42,12 @@ pub stored_as : (s : State) (o : Bytes) (slice : Slice) → HoldsPartIn is_owned
 stored_as s o slice held k owned rows read =
     let has = held.rows.stored k owned in
     record { are = rows_read k (owned_by o (s.now.trees (tree_of k))) rows (rows_for k slice) read has (all_fill k slice); rising = has.rising; valid = held.rows.valid k owned }
+
+-- rows of the plant that were read are those that the table held
+pub plant_rows : {X : Type 0} (k : TableKind) (cells : X → Row) (is_valid : X → Type 0) → StandAlone k cells is_valid → (t : TableKind) → t ≡ k → (db : Trees) (rows : List Row) → (is_owned t ≡ false → AreAll t db rows) → (l : List X) → HoldsAll k cells is_valid db l → rows ≡ map cells l
+plant_rows k cells is_valid alone t is db rows all l held =
+    let read = subst (λ k. AreAll k db rows) is (all (subst (λ k. is_owned k ≡ false) (sym is) alone.unowned)) in
+    rows_read k (db (tree_of k)) rows (map cells l) read held.stored (all_map k cells alone.fills l)
 
 -- rows that were read are looked at without the store
 pub looking : {X Y E : Type 0} (old new : State) (x : X) (r : Result Y KeepFault) → Asks {X = X} {E = E} old new (Ok x) → r ≢ Err Disk → r ≢ Err Closed → IsLooking old new r

@@ -1,5 +1,5 @@
 -- What is made of the tables by making one more, the index, and the row of the version.
-use Rattle.std.proofs.Common.{◌≡◌, ◌&&◌, ◌==◌, inl, ℕ, suc, ◌+◌, false, List, [], ◌∷◌, ◌++◌, take, arith, Ok, Result, IsTrue, ap, subst, ◌∙◌, sym, refl}
+use Rattle.std.proofs.Common.{◌≡◌, ◌&&◌, ◌==◌, inl, ℕ, suc, ◌+◌, ◌<◌, false, List, [], ◌∷◌, ◌++◌, take, get_or, arith, Ok, Result, IsTrue, ap, subst, ◌∙◌, sym, refl}
 use Rattle.toll_sql.proofs.Common.{AllByRecursion, State, ExecutesInside, Survives, HasCleanDisk, Schema, Table, Trees, Error, same_name, Index, IsShaped}
 use Rattle.sqlite_catalog.specs.Change.{KeepsRows, indexed, next_tree}
 use Rattle.sqlite_trees.specs.declared.store.Shape.TheVariants as shape
@@ -13,10 +13,10 @@ use Rattle.toll_sql.specs.Tables.{every_table, with_tables, made_before, made_al
 use Rattle.toll_sql.specs.declared.table_kind.TableKind.{TableKind}
 use Rattle.toll_sql.specs.declared.table_kind.TableKind.TheVariants.{Meta, Moves}
 use Rattle.toll_sql.proofs.CreateLemmas.{adds, lists}
-use Rattle.toll_sql.proofs.CreateTexts.{unplaced, create_is, create_defines, create_uncounted, create_place, earlier_is, next_is, index_defines}
+use Rattle.toll_sql.proofs.CreateTexts.{unplaced, create_is, create_defines, create_uncounted, create_place, earlier_is, next_is, place_of, index_defines}
 use Rattle.toll_sql.proofs.IndexText.{index_is, index_listed}
 use Rattle.toll_sql.proofs.PutTexts.{number_of}
-use Rattle.toll_sql.proofs.StepLemmas.{one_step}
+use Rattle.toll_sql.proofs.StepLemmas.{in_turn, one_step}
 
 pub table_step : (k : TableKind) (old new : State) (r : Result ℕ Error) → (old.in_transaction ≡ false → new ≡ old) → (HasCleanDisk new → IsTrue old.in_transaction → ExecutesInside 0 (create_text k) [] old new r) → Survives old new (λ _. ⊥)
     → IsStep (IsMaking (made_before k)) (MakesTable k) old new r
@@ -102,10 +102,10 @@ all_kept (t ∷ ts) old new h e = (h.0 ∙ e.0, all_kept ts old new h.1 e.1)
 before_is : (n : ℕ) (k : TableKind) → number_of k ≡ n → made_before k ≡ with_tables no_schema (take n every_table)
 before_is n k at = ap (with_tables no_schema) (earlier_is k) ∙ ap (λ m. with_tables no_schema (take m every_table)) at
 
-pub next_ready : (n : ℕ) (k : TableKind) → number_of k ≡ n → (first now : State) → MakesFirst n first now → IsMaking (made_before k) now
+next_ready : (n : ℕ) (k : TableKind) → number_of k ≡ n → (first now : State) → MakesFirst n first now → IsMaking (made_before k) now
 next_ready n k at first now h = subst (λ s. IsMaking s now) (sym (before_is n k at)) h.making
 
-pub next_made : (n : ℕ) (k : TableKind) → number_of k ≡ n → (first now next : State) → MakesFirst n first now → MakesTable k now next → MakesFirst (n + 1) first next
+next_made : (n : ℕ) (k : TableKind) → number_of k ≡ n → (first now next : State) → MakesFirst n first now → MakesTable k now next → MakesFirst (n + 1) first next
 next_made n k at first now next h one =
     let were : AreEmpty (made_before k) now.now.trees = subst (λ s. AreEmpty s now.now.trees) (sym (before_is n k at)) h.empty in
     let are = all_more (λ t. next.now.trees t.tree ≡ []) (made_before k).tables (record (unplaced k) { tree = next_tree (made_before k) }) (all_kept (made_before k).tables _ _ one.others were)
@@ -113,6 +113,14 @@ next_made n k at first now next h one =
     let more : suc (number_of k) ≡ n + 1 = omega (arith, at) in
     let all : with_tables (made_before k) (k ∷ []) ≡ with_tables no_schema (take (n + 1) every_table) = next_is k ∙ ap (λ m. with_tables no_schema (take m every_table)) more in
     record { making = subst (λ s. IsMaking s next) all one.making; empty = subst (λ s. AreEmpty s next.now.trees) all are }
+
+pub next_step : {X : Type 0} (tables : List TableKind) → tables ≡ every_table → (n : ℕ) → n < 14 → (first now next : State) (r : Result X Error) → IsStep (IsMaking no_schema) (MakesFirst n) first now none_yet
+    → IsStep (IsMaking (made_before (get_or tables n Meta))) (MakesTable (get_or tables n Meta)) now next r → IsStep (IsMaking no_schema) (MakesFirst (n + 1)) first next r
+next_step tables are n low first now next r so_far one =
+    let k = get_or every_table n Meta in
+    let at = place_of n low in
+    in_turn (IsMaking no_schema) (IsMaking (made_before k)) (MakesFirst n) (MakesTable k) (MakesFirst (n + 1)) first now next tt r (λ _. next_ready n k at first now) (next_made n k at first now next) so_far
+    (subst (λ all. IsStep (IsMaking (made_before (get_or all n Meta))) (MakesTable (get_or all n Meta)) now next r) are one)
 
 pub begun : (s : State) → IsStep (IsMaking no_schema) (MakesFirst 0) s s none_yet
 begun s = record {

@@ -1,56 +1,46 @@
--- A movement is told by the number of its kind.
-use Rattle.std.proofs.Common.{◌≡◌, ℕ, pos, sym, ◌∙◌}
-use Rattle.toll_sql.proofs.Common.{Value, Int, Bytes, LotId, Move, Receive, Split, Ship, Scrap, Actual, Consumed, Produced}
-use Rattle.toll_sql.specs.Encode.{kind_number}
+-- A movement is told by its cells.
+use Rattle.std.proofs.Common.{◌≡◌, ℕ, ℤ, pos, [], ◌∷◌, get_or, refl, sym, ap, subst, ◌∙◌}
+use Rattle.toll_sql.proofs.Common.{Value, Int, Text, Row, column, Bytes, Role, Consumed, Produced, Move, Receive, Split, Ship, Scrap, Actual}
+use Rattle.toll_sql.specs.Encode.{kind_number, lot_of, sublot_of, target_of, material_of, order_of, number_of, segment_of}
+use Rattle.toll_sql.specs.Moves.{ShowsMove, IsUnshown}
 
-pub one_number : (v : Value) (m n : ℕ) → v ≡ Int (pos m) → v ≡ Int (pos n) → n ≡ m
-one_number v m n p q = let e : Int (pos n) ≡ Int (pos m) = sym q ∙ p in cc
+-- ---- what a cell has, where it is of the kind
 
-module _ (P : Move → Type 0) where
-  pub if_receipt : ((material lot sublot : Bytes) → P (Receive material lot sublot)) → (m : Move) → kind_number m ≡ 0 → P m
-  if_receipt f (Receive material lot sublot) h = f material lot sublot
-  if_receipt f (Split lot sublot target) h = absurd cc
-  if_receipt f (Ship lot sublot) h = absurd cc
-  if_receipt f (Scrap lot sublot) h = absurd cc
-  if_receipt f (Actual order number segment Consumed material lot sublot) h = absurd cc
-  if_receipt f (Actual order number segment Produced material lot sublot) h = absurd cc
+abbrev pub text_of : Value → Bytes
+text_of (Text t) = t
+text_of _ = []
 
-  pub if_split : ((lot sublot target : Bytes) → P (Split lot sublot target)) → (m : Move) → kind_number m ≡ 1 → P m
-  if_split f (Split lot sublot target) h = f lot sublot target
-  if_split f (Receive material lot sublot) h = absurd cc
-  if_split f (Ship lot sublot) h = absurd cc
-  if_split f (Scrap lot sublot) h = absurd cc
-  if_split f (Actual order number segment Consumed material lot sublot) h = absurd cc
-  if_split f (Actual order number segment Produced material lot sublot) h = absurd cc
+abbrev pub int_of : Value → ℤ
+int_of (Int n) = n
+int_of _ = pos 0
 
-  pub if_shipment : ((lot sublot : Bytes) → P (Ship lot sublot)) → (m : Move) → kind_number m ≡ 2 → P m
-  if_shipment f (Ship lot sublot) h = f lot sublot
-  if_shipment f (Receive material lot sublot) h = absurd cc
-  if_shipment f (Split lot sublot target) h = absurd cc
-  if_shipment f (Scrap lot sublot) h = absurd cc
-  if_shipment f (Actual order number segment Consumed material lot sublot) h = absurd cc
-  if_shipment f (Actual order number segment Produced material lot sublot) h = absurd cc
+abbrev pub nat_of : Value → ℕ
+nat_of (Int (pos n)) = n
+nat_of _ = 0
 
-  pub if_scrapping : ((lot sublot : Bytes) → P (Scrap lot sublot)) → (m : Move) → kind_number m ≡ 3 → P m
-  if_scrapping f (Scrap lot sublot) h = f lot sublot
-  if_scrapping f (Receive material lot sublot) h = absurd cc
-  if_scrapping f (Split lot sublot target) h = absurd cc
-  if_scrapping f (Ship lot sublot) h = absurd cc
-  if_scrapping f (Actual order number segment Consumed material lot sublot) h = absurd cc
-  if_scrapping f (Actual order number segment Produced material lot sublot) h = absurd cc
+-- ---- the movement with such parts
 
-  pub if_consumption : ((order : Bytes) (number segment : ℕ) (material : Bytes) (lot : LotId) (sublot : Bytes) → P (Actual order number segment Consumed material lot sublot)) → (m : Move) → kind_number m ≡ 4 → P m
-  if_consumption f (Actual order number segment Consumed material lot sublot) h = f order number segment material lot sublot
-  if_consumption f (Actual order number segment Produced material lot sublot) h = absurd cc
-  if_consumption f (Receive material lot sublot) h = absurd cc
-  if_consumption f (Split lot sublot target) h = absurd cc
-  if_consumption f (Ship lot sublot) h = absurd cc
-  if_consumption f (Scrap lot sublot) h = absurd cc
+abbrev moved : (kind owner lot sublot target material order number segment : Value) → Move
+moved kind owner lot sublot target material order number segment =
+    let l = text_of lot in
+    let s = text_of sublot in
+    let actual : Role → Move = λ role. Actual (text_of order) (nat_of number) (nat_of segment) role (text_of material) (record { owner = text_of owner; lot = l }) s in
+    get_or (Receive (text_of material) l s ∷ Split l s (text_of target) ∷ Ship l s ∷ Scrap l s ∷ actual Consumed ∷ actual Produced ∷ []) (nat_of kind) (actual Consumed)
 
-  pub if_production : ((order : Bytes) (number segment : ℕ) (material : Bytes) (lot : LotId) (sublot : Bytes) → P (Actual order number segment Produced material lot sublot)) → (m : Move) → kind_number m ≡ 5 → P m
-  if_production f (Actual order number segment Produced material lot sublot) h = f order number segment material lot sublot
-  if_production f (Actual order number segment Consumed material lot sublot) h = absurd cc
-  if_production f (Receive material lot sublot) h = absurd cc
-  if_production f (Split lot sublot target) h = absurd cc
-  if_production f (Ship lot sublot) h = absurd cc
-  if_production f (Scrap lot sublot) h = absurd cc
+pub move_told : (o : Bytes) (m : Move) → moved (Int (pos (kind_number m))) (Text (lot_of o m).owner) (Text (lot_of o m).lot) (Text (sublot_of m)) (Text (target_of m)) (Text (material_of m)) (Text (order_of m)) (Int (pos (number_of m))) (Int (pos (segment_of m))) ≡ m
+move_told o (Actual order number segment Consumed material lot sublot) = refl
+move_told o _ = refl
+
+-- the movement of this kind that the cells of a row are those of, and the one of the kind that they tell
+abbrev pub of_kind : Value → Row → Move
+of_kind kind row = moved kind (column row 3) (column row 4) (column row 5) (column row 6) (column row 7) (column row 8) (column row 9) (column row 10)
+
+abbrev pub of_row : Row → Move
+of_row row = of_kind (column row 2) row
+
+shown : (o : Bytes) (row : Row) (m : Move) → ShowsMove o row m → of_row row ≡ m
+shown o row m s = (λ i. moved (s.kind i) (s.lot_owner i) (s.lot i) (s.sublot i) (s.target i) (s.material i) (s.order i) (s.number i) (s.segment i)) ∙ move_told o m
+
+-- a row shows no other movement than the one of its kind
+pub unshown : (n : ℕ) (o : Bytes) (row : Row) (m : Move) → column row 2 ≡ Int (pos n) → IsUnshown o row (of_kind (Int (pos n)) row) → IsUnshown o row m
+unshown n o row m is none valid shows = subst (λ m. IsUnshown o row m) (ap (λ kind. of_kind kind row) (sym is) ∙ shown o row m shows) none valid shows

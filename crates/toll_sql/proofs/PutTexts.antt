@@ -45,19 +45,7 @@ number_of Voids = 13
 
 pub columns_are : (k : TableKind) → length (table_of k).columns ≡ width_of k
 columns_are Meta = refl
-columns_are Owners = refl
-columns_are Units = refl
-columns_are Materials = refl
-columns_are Tests = refl
-columns_are Recipes = refl
-columns_are Requirements = refl
-columns_are Orders = refl
-columns_are Batches = refl
-columns_are Lots = refl
-columns_are Sublots = refl
-columns_are Moves = refl
-columns_are Results = refl
-columns_are Voids = refl
+columns_are _ = refl
 
 -- the table with a number
 abbrev pub numbered : ℕ → TableKind
@@ -65,19 +53,7 @@ numbered n = get_or every_table n Voids
 
 told : (k : TableKind) → numbered (number_of k) ≡ k
 told Meta = refl
-told Owners = refl
-told Units = refl
-told Materials = refl
-told Tests = refl
-told Recipes = refl
-told Requirements = refl
-told Orders = refl
-told Batches = refl
-told Lots = refl
-told Sublots = refl
-told Moves = refl
-told Results = refl
-told Voids = refl
+told _ = refl
 
 -- tables with one number are one
 pub same_table : (j k : TableKind) → (j ≡ k) ⊎ (number_of j ≡ number_of k → ⊥)
@@ -89,35 +65,11 @@ same_table j k = elim (cases_Bool (nat_eq (number_of j) (number_of k))) [
 -- it is that one
 pub listed : (k : TableKind) → slice_get ours.tables (number_of k) ≡ Some (table_of k)
 listed Meta = refl
-listed Owners = refl
-listed Units = refl
-listed Materials = refl
-listed Tests = refl
-listed Recipes = refl
-listed Requirements = refl
-listed Orders = refl
-listed Batches = refl
-listed Lots = refl
-listed Sublots = refl
-listed Moves = refl
-listed Results = refl
-listed Voids = refl
+listed _ = refl
 
 pub tree_is : (k : TableKind) → (table_of k).tree ≡ tree_of k
 tree_is Meta = refl
-tree_is Owners = refl
-tree_is Units = refl
-tree_is Materials = refl
-tree_is Tests = refl
-tree_is Recipes = refl
-tree_is Requirements = refl
-tree_is Orders = refl
-tree_is Batches = refl
-tree_is Lots = refl
-tree_is Sublots = refl
-tree_is Moves = refl
-tree_is Results = refl
-tree_is Voids = refl
+tree_is _ = refl
 
 -- a row is inserted, or the row with its key is changed to it
 abbrev pub putting : TableKind → Command
@@ -139,19 +91,7 @@ slots_are at (suc n) = ap suc (slots_are (suc at) n)
 put_compiles : (others : Others) (k : TableKind) → compiled (ours_and others) (put_text k) ≡ Ok (one_statement (putting k) (slots_of k) (put_text k))
 unfolding everything
 put_compiles others Meta = refl
-put_compiles others Owners = refl
-put_compiles others Units = refl
-put_compiles others Materials = refl
-put_compiles others Tests = refl
-put_compiles others Recipes = refl
-put_compiles others Requirements = refl
-put_compiles others Orders = refl
-put_compiles others Batches = refl
-put_compiles others Lots = refl
-put_compiles others Sublots = refl
-put_compiles others Moves = refl
-put_compiles others Results = refl
-put_compiles others Voids = refl
+put_compiles others _ = refl
 
 pub put_is : (others : Others) (k : TableKind) → command_of (understood (ours_and others) (put_text k)) ≡ putting k
 put_is others k = command_is (ours_and others) (put_text k) (put_compiles others k)

@@ -4,7 +4,7 @@ use Rattle.toll_sql.proofs.Common.{on_ok_weaker, on_err_weaker, survives_then, s
 use Rattle.sqlite.specs.declared.error.ErrorCode.TheVariants as code
 use Rattle.toll_sql.specs.Asked.{IsUnreadBy, meta_text}
 use Rattle.toll_sql.specs.Asking.{IsQuerying}
-use Rattle.toll_sql.specs.Causes.{is_disk_fault}
+use Rattle.toll_sql.specs.Causes.{Reason, is_disk_fault}
 use Rattle.toll_sql.specs.Create.{IsShapedAs, IsUnindexed, IsWhole, LeavesMade, begin}
 use Rattle.toll_sql.specs.First.{AreFirst, HasVersion, IsFirst, Raised, Tells, first_ours, first_version, meta_rows}
 use Rattle.toll_sql.specs.Holds.{Holds, version}
@@ -13,7 +13,7 @@ use Rattle.toll_sql.specs.Others.{HasOurs, HasOursIn, Indexed, has_its_name}
 use Rattle.toll_sql.specs.Stores.{HoldsIn}
 use Rattle.toll_sql.specs.declared.open_fault.OpenFault.{OpenFault}
 use Rattle.toll_sql.specs.declared.open_fault.OpenFault.TheVariants.{Disk, Damaged, NotOurs}
-use Rattle.toll_sql.proofs.AdoptLemmas.{IsMisfit, apart, found_in, no_disk}
+use Rattle.toll_sql.proofs.AdoptLemmas.{IsMisfit, apart, as_unlimited, found_in, no_disk, tells_it, turned_down}
 use Rattle.toll_sql.proofs.CauseLemmas.{reason_before}
 use Rattle.toll_sql.proofs.Indexing.{first_unnamed, holds_kept, indexed_ours, indexed_told, kept_ours}
 use Rattle.toll_sql.proofs.MetaLemmas.{shows_it, shows_neither}
@@ -56,9 +56,18 @@ start_first s first free = record { making = record { schema = first.schema; unl
 pub start_unindexed : (s : State) → has_its_name s.now.schema ≡ false → HasOursIn s.now → s.step_limit ≡ None → IsUnindexed (begin s)
 start_unindexed s lacking ours free = record { ours = ours; lacking = lacking; unlimited = free; inside = refl }
 
--- a call that has no limit of steps begins as one whose limit was lifted
-as_unlimited : (old new : State) (P : Trees → Type 0) → old.step_limit ≡ None → Survives old new P → Survives (without_limit old) new P
-as_unlimited old new P free s = record { clean = s.clean; shield = s.shield; counts = s.counts; limit = s.limit ∙ free; closes = s.closes; crash = s.crash }
+-- a refusal of what was asked for alone
+left_over : {X : Type 0} (old new : State) (r : Result X Error) → old.step_limit ≡ None → IsLeft old new r → (fault : OpenFault) → (HasCleanDisk new → fault ≡ Disk → Reason old new) → TakesOver (LeavesRaised old) old new (refused (Unit {0}) fault)
+left_over old new r free left fault cause = record {
+  unlimited = left.survives.limit ∙ free;
+  autocommit = λ _. left.ended;
+  ended = tt;
+  live = left.live;
+  shown = λ _. tt;
+  refused = left.same;
+  cause = λ clean same. cause clean (let it : fault ≡ Disk = cc in it);
+  survives = as_unlimited old new (LeavesRaised old) free (survives_weaker old new (λ _. ⊥) (LeavesRaised old) (λ _ _ h. absurd h) left.survives);
+}
 
 both_ok : {X E : Type 0} (A B C : Type 0) (r : Result X E) → (A → B → C) → OnOk r A → OnOk r B → OnOk r C
 both_ok A B C (Ok x) join a b = join a b
@@ -108,29 +117,14 @@ module _ (Found : Database → Type 0) (Brought : Database → Database → Type
 module _ (old mid : State) (has : AreFirst old.now.schema) (free : old.step_limit ≡ None) (told : Option ℕ) (r : Result (Option ℕ) Error) (is : r ≡ Ok told) (left : IsLeft old mid r) where
   -- another version was told
   pub other_first : told ≢ Some first_version → (HasCleanDisk mid → (n : ℕ) → HasVersion n old.now.trees → IfOk r (λ v. v ≡ Some n)) → (HasCleanDisk mid → IfOk r (FindsVersion old.now)) → (fault : OpenFault) → IsMisfit told version fault → Adopts old mid (refused (Unit {0}) fault)
-  other_first other tells found fault m = record {
-    over = record {
-      unlimited = left.survives.limit ∙ free;
-      autocommit = λ _. left.ended;
-      ended = tt;
-      live = left.live;
-      shown = λ _. tt;
-      refused = left.same;
-      cause = λ _ same. absurd (no_disk told version fault m (let it : fault ≡ Disk = cc in it));
-      survives = as_unlimited old mid (LeavesRaised old) free (survives_weaker old mid (λ _. ⊥) (LeavesRaised old) (λ _ _ h. absurd h) left.survives);
-    };
-    known_as = λ _. tt;
-    ours = λ _ _. tt;
-    indexed = λ _ _. tt;
-    raised = λ _ _. tt;
-    holds = λ _ c h. tt;
-    known = λ clean _ c h. elim h [
-      | inl held ↦ absurd (apart held.ours.schema has)
-      | inr first ↦ absurd (other (subst (λ (x : Result (Option ℕ) Error). IfOk x (λ v. v ≡ Some first_version)) is (tells clean first_version first.rows.meta)))
-    ];
-    damaged = λ clean same. (let it : fault ≡ Damaged = cc in inl (record { tables = λ this. apart this has; told = shows_it old.now told (found_in old.now told r is (found clean)) version (m.damaged it) }));
-    foreign = λ clean same. (let it : fault ≡ NotOurs = cc in inr (inl (shows_neither old.now told (found_in old.now told r is (found clean)) other (m.foreign it))));
-  }
+  other_first other tells found fault m =
+      turned_down old mid fault (left_over old mid r free left fault (λ _ disk. absurd (no_disk fault m.known disk)))
+      (λ clean it. inl (record { tables = λ this. apart this has; told = shows_it old.now told (found_in old.now told r is (found clean)) version (m.damaged it) }))
+      (λ clean it. inl (shows_neither old.now told (found_in old.now told r is (found clean)) other (m.foreign it)))
+      (λ clean c h. elim h [
+        | inl held ↦ apart held.ours.schema has
+        | inr first ↦ other (subst (λ (x : Result (Option ℕ) Error). IfOk x (λ v. v ≡ Some first_version)) is (tells clean first_version first.rows.meta))
+      ])
 
   module _ (so : told ≡ Some first_version) (tells : HasCleanDisk mid → IfOk r (λ v. IfSome v (λ n. Tells n (meta_rows old.now.trees)))) (unchanged : HasCleanDisk mid → OnOk r (IsUnchanged old mid)) (new : State) (q : Result (Unit {0}) OpenFault) (raises : Brings IsFirst Raised mid new q) where
     same : HasCleanDisk mid → (mid.now ≡ old.now) × (mid.committed ≡ old.committed)
@@ -150,7 +144,7 @@ module _ (old mid : State) (has : AreFirst old.now.schema) (free : old.step_limi
     late_first = late IsFirst Raised old mid new free left.survives left.live same lacking held q raises
 
     told_first : HasCleanDisk new → Tells first_version (meta_rows old.now.trees)
-    told_first clean = subst (λ (v : Option ℕ). IfSome v (λ n. Tells n (meta_rows old.now.trees))) so (subst (λ (x : Result (Option ℕ) Error). IfOk x (λ v. IfSome v (λ n. Tells n (meta_rows old.now.trees)))) is (tells (late_first clean)))
+    told_first clean = tells_it old.now first_version told r is so (tells (late_first clean))
 
     pub all_adopted : Adopts old new q
     all_adopted = record {
@@ -194,7 +188,7 @@ module _ (old mid new : State) (auto : old.in_transaction ≡ false) (settled : 
   told_this : HasCleanDisk new → Tells version (meta_rows old.now.trees)
   told_this clean =
       let before = late HasOursIn Indexed old mid new free still asking.asks.live unchanged lacks held_so q brings clean in
-      subst (λ (v : Option ℕ). IfSome v (λ n. Tells n (meta_rows old.now.trees))) so (subst (λ (x : Result (Option ℕ) Error). IfOk x (λ v. IfSome v (λ n. Tells n (meta_rows old.now.trees)))) is (tells before))
+      tells_it old.now version told r is so (tells before)
 
   pub all_indexed : Adopts old new q
   all_indexed = record {
@@ -213,56 +207,23 @@ module _ (old mid new : State) (auto : old.in_transaction ≡ false) (settled : 
   }
 
 -- tables of neither version
-module _ (old new : State) (free : old.step_limit ≡ None) (not_ours : ¬ HasOurs old.now.schema) (not_first : ¬ AreFirst old.now.schema) (told : Option ℕ) (r : Result (Option ℕ) Error) (is : r ≡ Ok told) (left : IsLeft old new r)
-    (found : HasCleanDisk new → IfOk r (FindsVersion old.now)) where
-  pub others_told : (fault : OpenFault) → (fault ≡ Damaged → (told ≡ Some first_version) ⊎ (told ≡ Some version)) → (fault ≡ NotOurs → (told ≢ Some first_version) × (told ≢ Some version)) → (fault ≡ Damaged) ⊎ (fault ≡ NotOurs) → Adopts old new (refused (Unit {0}) fault)
-  others_told fault damaged foreign known = record {
-    over = record {
-      unlimited = left.survives.limit ∙ free;
-      autocommit = λ _. left.ended;
-      ended = tt;
-      live = left.live;
-      shown = λ _. tt;
-      refused = left.same;
-      cause = λ _ same. absurd (neither (let it : fault ≡ Disk = cc in it));
-      survives = as_unlimited old new (LeavesRaised old) free (survives_weaker old new (λ _. ⊥) (LeavesRaised old) (λ _ _ h. absurd h) left.survives);
-    };
-    known_as = λ _. tt;
-    damaged = λ clean same. (let it : fault ≡ Damaged = cc in elim (damaged it) [
-      | inl first ↦ inr (record { tables = not_first; told = shows_it old.now told (found_in old.now told r is (found clean)) first_version first })
-      | inr this ↦ inl (record { tables = not_ours; told = shows_it old.now told (found_in old.now told r is (found clean)) version this })
-    ]);
-    foreign = λ clean same. (let it : fault ≡ NotOurs = cc in inr (inl (shows_neither old.now told (found_in old.now told r is (found clean)) (foreign it).0 (foreign it).1)));
-    ours = λ _ _. tt;
-    indexed = λ _ _. tt;
-    raised = λ _ _. tt;
-    holds = λ _ c h. tt;
-    known = λ _ _ c h. elim h [ inl held ↦ absurd (not_ours held.ours.schema) | inr first ↦ absurd (not_first first.first.schema) ];
-  }
-    where
-      neither : ¬ (fault ≡ Disk)
-      neither same = elim known [ inl d ↦ (let x : Damaged ≡ Disk = sym d ∙ same in absurd cc) | inr n ↦ (let x : NotOurs ≡ Disk = sym n ∙ same in absurd cc) ]
+module _ (old new : State) (free : old.step_limit ≡ None) (not_ours : ¬ HasOurs old.now.schema) (not_first : ¬ AreFirst old.now.schema) where
+  unheld : (c : Content) → ¬ (HoldsEither old c)
+  unheld c h = elim h [ inl held ↦ not_ours held.ours.schema | inr first ↦ not_first first.first.schema ]
 
--- tables of neither version, which can't be asked for theirs
-module _ (old new : State) (free : old.step_limit ≡ None) (not_ours : ¬ HasOurs old.now.schema) (not_first : ¬ AreFirst old.now.schema) (e : Error) (left : IsLeft old new (failed (Option ℕ) e)) (unread : HasCleanDisk new → IsUnreadFor old.step_limit old.now e) where
-  pub others_unread : (fault : OpenFault) → (fault ≡ Disk → IsTrue (is_disk_fault e)) → (fault ≡ NotOurs → (e ≢ SqliteFailure code.OutOfMemory) × (is_disk_fault e ≡ false)) → fault ≢ Damaged → Adopts old new (refused (Unit {0}) fault)
-  others_unread fault disk foreign undamaged = record {
-    over = record {
-      unlimited = left.survives.limit ∙ free;
-      autocommit = λ _. left.ended;
-      ended = tt;
-      live = left.live;
-      shown = λ _. tt;
-      refused = left.same;
-      cause = λ clean same. left.fault clean (disk (let it : fault ≡ Disk = cc in it));
-      survives = as_unlimited old new (LeavesRaised old) free (survives_weaker old new (λ _. ⊥) (LeavesRaised old) (λ _ _ h. absurd h) left.survives);
-    };
-    known_as = λ _. tt;
-    damaged = λ _ same. absurd (undamaged (let it : fault ≡ Damaged = cc in it));
-    foreign = λ clean same. (let it = foreign (let is : fault ≡ NotOurs = cc in is) in inr (inr (subst (λ limit. IsUnreadBy limit old.now meta_text) free (unread clean it.0 it.1))));
-    ours = λ _ _. tt;
-    indexed = λ _ _. tt;
-    raised = λ _ _. tt;
-    holds = λ _ c h. tt;
-    known = λ _ _ c h. elim h [ inl held ↦ absurd (not_ours held.ours.schema) | inr first ↦ absurd (not_first first.first.schema) ];
-  }
+  pub others_told : (told : Option ℕ) (r : Result (Option ℕ) Error) → r ≡ Ok told → IsLeft old new r → (HasCleanDisk new → IfOk r (FindsVersion old.now)) → (fault : OpenFault) → (fault ≡ Damaged → (told ≡ Some first_version) ⊎ (told ≡ Some version))
+      → (fault ≡ NotOurs → (told ≢ Some first_version) × (told ≢ Some version)) → (fault ≡ Damaged) ⊎ (fault ≡ NotOurs) → Adopts old new (refused (Unit {0}) fault)
+  others_told told r is left found fault damaged foreign known =
+      turned_down old new fault (left_over old new r free left fault (λ _ disk. absurd (no_disk fault known disk)))
+      (λ clean it. elim (damaged it) [
+        | inl first ↦ inr (record { tables = not_first; told = shows_it old.now told (found_in old.now told r is (found clean)) first_version first })
+        | inr this ↦ inl (record { tables = not_ours; told = shows_it old.now told (found_in old.now told r is (found clean)) version this })
+      ])
+      (λ clean it. inl (shows_neither old.now told (found_in old.now told r is (found clean)) (foreign it).0 (foreign it).1)) (λ _. unheld)
+
+  -- they can't be asked for theirs
+  pub others_unread : (e : Error) → IsLeft old new (failed (Option ℕ) e) → (HasCleanDisk new → IsUnreadFor old.step_limit old.now e) → (fault : OpenFault) → (fault ≡ Disk → IsTrue (is_disk_fault e))
+      → (fault ≡ NotOurs → (e ≢ SqliteFailure code.OutOfMemory) × (is_disk_fault e ≡ false)) → fault ≢ Damaged → Adopts old new (refused (Unit {0}) fault)
+  others_unread e left unread fault disk foreign undamaged =
+      turned_down old new fault (left_over old new (failed (Option ℕ) e) free left fault (λ clean is. left.fault clean (disk is))) (λ _ is. absurd (undamaged is))
+      (λ clean it. let other = foreign it in inr (subst (λ limit. IsUnreadBy limit old.now meta_text) free (unread clean other.0 other.1))) (λ _. unheld)

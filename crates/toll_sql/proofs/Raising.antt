@@ -11,7 +11,7 @@ use Rattle.toll_sql.specs.First.{Raised, as_second, first_ours, first_version}
 use Rattle.toll_sql.specs.Holds.{HasRows, version}
 use Rattle.toll_sql.specs.Tables.{made_all, tree_of}
 use Rattle.toll_sql.specs.declared.table_kind.TableKind.{TableKind}
-use Rattle.toll_sql.specs.declared.table_kind.TableKind.TheVariants.{Meta, Owners, Units, Materials, Tests, Recipes, Requirements, Orders, Batches, Lots, Sublots, Moves, Results, Voids}
+use Rattle.toll_sql.specs.declared.table_kind.TableKind.TheVariants.{Meta, Voids}
 use Rattle.toll_sql.proofs.CreateTexts.{unplaced}
 use Rattle.toll_sql.proofs.Fresh.{IsOther, finished_holds}
 use Rattle.toll_sql.proofs.MakeLemmas.{all_more, shaped_still}
@@ -29,19 +29,7 @@ raised_shaped old new before h = record {
 module _ (old new : State) (h : MakesTable Voids old new) where
   as_were : (k : TableKind) → IsOther k → new.now.trees (tree_of k) ≡ as_second old.now.trees (tree_of k)
   as_were Meta other = absurd (other refl)
-  as_were Owners other = h.others.1.0
-  as_were Units other = h.others.1.1.0
-  as_were Materials other = h.others.1.1.1.0
-  as_were Tests other = h.others.1.1.1.1.0
-  as_were Recipes other = h.others.1.1.1.1.1.0
-  as_were Requirements other = h.others.1.1.1.1.1.1.0
-  as_were Orders other = h.others.1.1.1.1.1.1.1.0
-  as_were Batches other = h.others.1.1.1.1.1.1.1.1.0
-  as_were Lots other = h.others.1.1.1.1.1.1.1.1.1.0
-  as_were Sublots other = h.others.1.1.1.1.1.1.1.1.1.1.0
-  as_were Moves other = h.others.1.1.1.1.1.1.1.1.1.1.1.0
-  as_were Results other = h.others.1.1.1.1.1.1.1.1.1.1.1.1.0
-  as_were Voids other = h.empty
+  as_were _ other = assumption h
 
   meta_was : new.now.trees (tree_of Meta) ≡ old.now.trees (tree_of Meta)
   meta_was = h.others.0

@@ -29,24 +29,12 @@ tied _ h = absurd (false≢true h)
 value_exact : (a b : Value) → same_value a b ≡ true → a ≡ b
 value_exact (Text s) (Text t) h = ap Text (same_bytes-exact s t h)
 value_exact (Int m) (Int n) h = ap Int (int_cmp-IsAntisymmetric m n (tied _ h))
-value_exact (Text s) Null h = absurd (false≢true h)
-value_exact (Text s) (Int n) h = absurd (false≢true h)
-value_exact (Text s) (Real x) h = absurd (false≢true h)
-value_exact (Text s) (Blob t) h = absurd (false≢true h)
-value_exact (Int m) Null h = absurd (false≢true h)
-value_exact (Int m) (Text t) h = absurd (false≢true h)
-value_exact (Int m) (Real x) h = absurd (false≢true h)
-value_exact (Int m) (Blob t) h = absurd (false≢true h)
-value_exact Null b h = absurd (false≢true h)
-value_exact (Real x) b h = absurd (false≢true h)
-value_exact (Blob t) b h = absurd (false≢true h)
+value_exact _ _ h = absurd (false≢true h)
 
 value_itself : (v : Value) → IsCell v → same_value v v ≡ true
 value_itself (Text t) h = same_bytes-refl t
 value_itself (Int n) h = ap is_eq (tied_itself int_cmp_total n)
-value_itself Null h = absurd h
-value_itself (Real x) h = absurd h
-value_itself (Blob b) h = absurd h
+value_itself _ h = absurd h
 
 abbrev pub same_row : Row → Row → Bool
 same_row [] [] = true

@@ -56,19 +56,11 @@ at_place P (Some x) e each h = each x h
 
 of_edit : (r : Refusal) → is_disk_fault (edit_error r) ≡ false
 of_edit (broken.Violates rule) = refl
-of_edit broken.Mismatch = refl
-of_edit broken.BadReference = refl
-of_edit broken.NoRowid = refl
-of_edit broken.TooDeep = refl
+of_edit _ = refl
 
 of_alter : (r : AlterRefusal) → is_disk_fault (alter_error r) ≡ false
 of_alter (why.Invalid e) = refl
-of_alter why.NameTaken = refl
-of_alter why.BadName = refl
-of_alter why.BadKey = refl
-of_alter why.BadText = refl
-of_alter why.TooBig = refl
-of_alter (why.Violates rule) = refl
+of_alter _ = refl
 
 -- ---- what is asked
 
@@ -80,23 +72,7 @@ query limit db q params e (inr (inr h)) = is_other e _ h.0 refl
 pub reading : (limit : Option ℕ) (c : Command) (db : Database) (params : Row) (e : Error) → RefusesToRead limit c db params e → is_disk_fault e ≡ false
 reading limit (command.Select q names) db params e h = query limit db q params e h
 reading limit (command.Rows values width names) db params e h = is_other e _ h.0 refl
-reading limit (command.Insert at from) db params e h = is_other e _ h refl
-reading limit (command.InsertOr at how from clauses) db params e h = is_other e _ h refl
-reading limit (command.Update at q) db params e h = is_other e _ h refl
-reading limit (command.Delete at q) db params e h = is_other e _ h refl
-reading limit command.CreateTable db params e h = is_other e _ h refl
-reading limit (command.CreateIndex at) db params e h = is_other e _ h refl
-reading limit command.CreateView db params e h = is_other e _ h refl
-reading limit (command.DropTable at) db params e h = is_other e _ h refl
-reading limit (command.DropIndex at) db params e h = is_other e _ h refl
-reading limit (command.DropView at) db params e h = is_other e _ h refl
-reading limit command.Begin db params e h = is_other e _ h refl
-reading limit command.Commit db params e h = is_other e _ h refl
-reading limit command.Rollback db params e h = is_other e _ h refl
-reading limit (command.Savepoint name) db params e h = is_other e _ h refl
-reading limit (command.Release name) db params e h = is_other e _ h refl
-reading limit (command.RollbackTo name) db params e h = is_other e _ h refl
-reading limit command.Nothing db params e h = is_other e _ h refl
+reading limit _ db params e h = is_other e _ h refl
 
 sourced : (limit : Option ℕ) (db : Database) (params : Row) (from : Source) → Spares (rows.Sourced limit db params from)
 sourced limit db params (source.Values terms width) e (inl h) = is_other e _ h.0 refl
@@ -326,19 +302,7 @@ module _ (limit : Option ℕ) (mode : Mode) (params : Row) (db : Database) (text
   redefines (command.DropTable at) e h = on_table at (λ task. does.Drops task mode db.trees) (λ task. drops task mode db.trees) e h
   redefines (command.DropIndex at) e h = without_index' at e h
   redefines (command.DropView at) e h = without_view' at e h
-  redefines (command.Select q names) e h = refuses {A = Tally × Database} InvalidQuery refl e h
-  redefines (command.Rows values width names) e h = refuses {A = Tally × Database} InvalidQuery refl e h
-  redefines (command.Insert at from) e h = refuses {A = Tally × Database} InvalidQuery refl e h
-  redefines (command.InsertOr at how from clauses) e h = refuses {A = Tally × Database} InvalidQuery refl e h
-  redefines (command.Update at q) e h = refuses {A = Tally × Database} InvalidQuery refl e h
-  redefines (command.Delete at q) e h = refuses {A = Tally × Database} InvalidQuery refl e h
-  redefines command.Begin e h = refuses {A = Tally × Database} InvalidQuery refl e h
-  redefines command.Commit e h = refuses {A = Tally × Database} InvalidQuery refl e h
-  redefines command.Rollback e h = refuses {A = Tally × Database} InvalidQuery refl e h
-  redefines (command.Savepoint name) e h = refuses {A = Tally × Database} InvalidQuery refl e h
-  redefines (command.Release name) e h = refuses {A = Tally × Database} InvalidQuery refl e h
-  redefines (command.RollbackTo name) e h = refuses {A = Tally × Database} InvalidQuery refl e h
-  redefines command.Nothing e h = refuses {A = Tally × Database} InvalidQuery refl e h
+  redefines _ e h = refuses {A = Tally × Database} InvalidQuery refl e h
 
   other : (r : Option Returning) (c : Command) (e : Error) → MatchBool (is_some r) (Refuses {A = Tally × Database} InvalidQuery (Err (Some e))) (does.Redefines limit mode params db text c (Err (Some e))) → is_disk_fault e ≡ false
   other r c e h = either (is_some r) (Refuses {A = Tally × Database} InvalidQuery (Err (Some e))) (does.Redefines limit mode params db text c (Err (Some e))) (refuses {A = Tally × Database} InvalidQuery refl e) (redefines c e) h
@@ -348,18 +312,4 @@ module _ (limit : Option ℕ) (mode : Mode) (params : Row) (db : Database) (text
   doing r (command.InsertOr at how from clauses) e h = on_table at (λ task. does.OnRows task mode r (command.InsertOr at how from clauses) db.trees) (λ task. on_rows task mode r (command.InsertOr at how from clauses) db.trees (inserts_or task how clauses from db.trees)) e h
   doing r (command.Update at q) e h = on_table at (λ task. does.OnRows task mode r (command.Update at q) db.trees) (λ task. on_rows task mode r (command.Update at q) db.trees (updates task q task.params db.trees)) e h
   doing r (command.Delete at q) e h = on_table at (λ task. does.OnRows task mode r (command.Delete at q) db.trees) (λ task. on_rows task mode r (command.Delete at q) db.trees (deletes task q db.trees)) e h
-  doing r command.CreateTable e h = other r command.CreateTable e h
-  doing r (command.CreateIndex at) e h = other r (command.CreateIndex at) e h
-  doing r command.CreateView e h = other r command.CreateView e h
-  doing r (command.DropTable at) e h = other r (command.DropTable at) e h
-  doing r (command.DropIndex at) e h = other r (command.DropIndex at) e h
-  doing r (command.DropView at) e h = other r (command.DropView at) e h
-  doing r (command.Select q names) e h = other r (command.Select q names) e h
-  doing r (command.Rows values width names) e h = other r (command.Rows values width names) e h
-  doing r command.Begin e h = other r command.Begin e h
-  doing r command.Commit e h = other r command.Commit e h
-  doing r command.Rollback e h = other r command.Rollback e h
-  doing r (command.Savepoint name) e h = other r (command.Savepoint name) e h
-  doing r (command.Release name) e h = other r (command.Release name) e h
-  doing r (command.RollbackTo name) e h = other r (command.RollbackTo name) e h
-  doing r command.Nothing e h = other r command.Nothing e h
+  doing r c e h = other r c e h

@@ -16,16 +16,7 @@ use Rattle.toll_sql.proofs.PutTexts.{number_of, same_table}
 -- the row is its owner's
 pub owner_first : (o : Bytes) (row : OfficeRow) → column (cells_for o row) 0 ≡ Text o
 owner_first o (of.Material row) = refl
-owner_first o (of.Test row) = refl
-owner_first o (of.Recipe row) = refl
-owner_first o (of.Requirement row) = refl
-owner_first o (of.Order row) = refl
-owner_first o (of.Batch row) = refl
-owner_first o (of.Lot row) = refl
-owner_first o (of.Sublot row) = refl
-owner_first o (of.Move row) = refl
-owner_first o (of.Result row) = refl
-owner_first o (of.Void row) = refl
+owner_first o _ = refl
 
 -- in its table it is placed among the others
 pub placed : (s : Slice) (row : OfficeRow) → Rises (key_order (table_for row)) (rows_for (table_for row) s)
@@ -44,31 +35,18 @@ placed s (of.Void x) rises = put_placed bytes_cmp nat_list_cmp_total (λ (row : 
 
 -- the other tables have the rows that they had
 pub untouched : (k : TableKind) (s : Slice) (row : OfficeRow) → (number_of k ≡ number_of (table_for row) → ⊥) → rows_for k (with_row s row) ≡ rows_for k s
-untouched Meta s row other = refl
-untouched Owners s row other = refl
-untouched Units s row other = refl
 untouched Materials s (of.Material x) other = absurd (other refl)
-untouched Materials s _ other = refl
 untouched Tests s (of.Test x) other = absurd (other refl)
-untouched Tests s _ other = refl
 untouched Recipes s (of.Recipe x) other = absurd (other refl)
-untouched Recipes s _ other = refl
 untouched Requirements s (of.Requirement x) other = absurd (other refl)
-untouched Requirements s _ other = refl
 untouched Orders s (of.Order x) other = absurd (other refl)
-untouched Orders s _ other = refl
 untouched Batches s (of.Batch x) other = absurd (other refl)
-untouched Batches s _ other = refl
 untouched Lots s (of.Lot x) other = absurd (other refl)
-untouched Lots s _ other = refl
 untouched Sublots s (of.Sublot x) other = absurd (other refl)
-untouched Sublots s _ other = refl
 untouched Moves s (of.Move x) other = absurd (other refl)
-untouched Moves s _ other = refl
 untouched Results s (of.Result x) other = absurd (other refl)
-untouched Results s _ other = refl
 untouched Voids s (of.Void x) other = absurd (other refl)
-untouched Voids s _ other = refl
+untouched _ s _ other = refl
 
 -- ---- values of their kinds
 
@@ -91,31 +69,18 @@ module _ {K R : Type 0} (key : R → K) (P : R → Type 0) (x : R) (px : P x) wh
     all_put l all = one_or _ (replace_row cmp key l x) (insert_row cmp key l x) (all_replaced l all) (all_inserted l all)
 
 still_valid : (k : TableKind) (s : Slice) (row : OfficeRow) → (number_of k ≡ number_of (table_for row) → ⊥) → AreValidIn k s → AreValidIn k (with_row s row)
-still_valid Meta s row other h = tt
-still_valid Owners s row other h = tt
-still_valid Units s row other h = tt
 still_valid Materials s (of.Material x) other h = absurd (other refl)
-still_valid Materials s _ other h = h
 still_valid Tests s (of.Test x) other h = absurd (other refl)
-still_valid Tests s _ other h = h
 still_valid Recipes s (of.Recipe x) other h = absurd (other refl)
-still_valid Recipes s _ other h = h
 still_valid Requirements s (of.Requirement x) other h = absurd (other refl)
-still_valid Requirements s _ other h = h
 still_valid Orders s (of.Order x) other h = absurd (other refl)
-still_valid Orders s _ other h = h
 still_valid Batches s (of.Batch x) other h = absurd (other refl)
-still_valid Batches s _ other h = h
 still_valid Lots s (of.Lot x) other h = absurd (other refl)
-still_valid Lots s _ other h = h
 still_valid Sublots s (of.Sublot x) other h = absurd (other refl)
-still_valid Sublots s _ other h = h
 still_valid Moves s (of.Move x) other h = absurd (other refl)
-still_valid Moves s _ other h = h
 still_valid Results s (of.Result x) other h = absurd (other refl)
-still_valid Results s _ other h = h
 still_valid Voids s (of.Void x) other h = absurd (other refl)
-still_valid Voids s _ other h = h
+still_valid _ s _ other h = h
 
 its_valid : (s : Slice) (row : OfficeRow) → IsRow row → AreValidIn (table_for row) s → AreValidIn (table_for row) (with_row s row)
 its_valid s (of.Material x) is h = all_put (λ (row : MaterialRow). row.material) _ x is bytes_cmp s.materials h

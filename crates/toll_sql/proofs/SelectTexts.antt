@@ -43,19 +43,7 @@ slot_is false = refl
 select_compiles : (others : Others) (k : TableKind) → compiled (ours_and others) (select_text k) ≡ Ok (one_statement (selecting k) (slot_of (is_owned k)) (select_text k))
 unfolding everything
 select_compiles others Meta = refl
-select_compiles others Owners = refl
-select_compiles others Units = refl
-select_compiles others Materials = refl
-select_compiles others Tests = refl
-select_compiles others Recipes = refl
-select_compiles others Requirements = refl
-select_compiles others Orders = refl
-select_compiles others Batches = refl
-select_compiles others Lots = refl
-select_compiles others Sublots = refl
-select_compiles others Moves = refl
-select_compiles others Results = refl
-select_compiles others Voids = refl
+select_compiles others _ = refl
 
 pub select_is : (others : Others) (k : TableKind) → (command_of (understood (ours_and others) (select_text k)) ≡ selecting k) × (reads_listing (ours_and others) (select_text k) ≡ false)
 select_is others k = let text = select_text k in (command_is (ours_and others) text (select_compiles others k), unlisted (ours_and others) text (select_compiles others k))

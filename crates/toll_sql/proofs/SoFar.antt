@@ -44,19 +44,7 @@ all_behind P (y ∷ ys) (suc i) end all = (all.0, all_behind P ys i (omega (arit
 
 first_column : (k : TableKind) (row : Row) → column (columns_from 1 (width_of k) row) 0 ≡ column row 1
 first_column Meta row = refl
-first_column Owners row = refl
-first_column Units row = refl
-first_column Materials row = refl
-first_column Tests row = refl
-first_column Recipes row = refl
-first_column Requirements row = refl
-first_column Orders row = refl
-first_column Batches row = refl
-first_column Lots row = refl
-first_column Sublots row = refl
-first_column Moves row = refl
-first_column Results row = refl
-first_column Voids row = refl
+first_column _ row = refl
 
 all_owned : (k : TableKind) (o : Bytes) (stored : List Row) → AreOwnedBy o (map (columns_from 1 (width_of k)) (owned_by o stored))
 all_owned k o [] = tt

@@ -19,19 +19,35 @@ use toll_base::{
     Bounded, Disposition, Limits, LotId, Measure, Name, Origin, OwnerKey, Role, State, Value,
 };
 
+// The text in this column, where it has one.
+fn text_at(row: &Row, at: usize) -> Option<&[u8]>
+    ensures some { IfSome result (λ t. column row.now at ≡ Text t.now) }
+    ensures none { result ≡ None → (t : List ℕ) → column row.now at ≢ Text t }
+{
+    match row.get_ref(at) {
+        Ok(ValueRef::Text(bytes)) => Some(bytes),
+        _ => None,
+    }
+}
+
+// The whole number in this column, where it has one.
+fn int_at(row: &Row, at: usize) -> Option<i64>
+    ensures some { IfSome result (λ n. column row.now at ≡ Int n) }
+    ensures none { result ≡ None → (n : ℤ) → column row.now at ≢ Int n }
+{
+    match row.get_ref(at) {
+        Ok(ValueRef::Int(n)) => Some(n),
+        _ => None,
+    }
+}
+
 /// The name in this column, where it is one.
 pub fn name_at(row: &Row, at: usize) -> Option<Name>
     ensures some { IfSome result (λ n. column row.now at ≡ Text n) }
     ensures valid { IfSome result (λ n. IsTrue (is_name n)) }
     ensures none { result ≡ None → (n : List ℕ) → IsTrue (is_name n) → column row.now at ≢ Text n }
 {
-    match row.get_ref(at) {
-        Ok(ValueRef::Text(bytes)) => match Name::parse(bytes) {
-            Ok(name) => Some(name),
-            Err(_) => None,
-        },
-        _ => None,
-    }
+    Name::parse(text_at(row, at)?).ok()
 }
 
 /// The lot that these columns name, its owner's and its own, where it is one.
@@ -52,13 +68,7 @@ pub fn measure_at(row: &Row, at: usize) -> Option<Measure>
     ensures valid { IfSome result (λ n. IsTrue (is_measure n)) }
     ensures none { result ≡ None → (n : List ℕ) → IsTrue (is_measure n) → column row.now at ≢ Text n }
 {
-    match row.get_ref(at) {
-        Ok(ValueRef::Text(bytes)) => match Measure::parse(bytes) {
-            Ok(measure) => Some(measure),
-            Err(_) => None,
-        },
-        _ => None,
-    }
+    Measure::parse(text_at(row, at)?).ok()
 }
 
 /// The owner's key in this column, where it is one.
@@ -67,13 +77,7 @@ pub fn key_at(row: &Row, at: usize) -> Option<OwnerKey>
     ensures valid { IfSome result (λ n. IsTrue (is_owner_key n)) }
     ensures none { result ≡ None → (n : List ℕ) → IsTrue (is_owner_key n) → column row.now at ≢ Text n }
 {
-    match row.get_ref(at) {
-        Ok(ValueRef::Text(bytes)) => match OwnerKey::parse(bytes) {
-            Ok(key) => Some(key),
-            Err(_) => None,
-        },
-        _ => None,
-    }
+    OwnerKey::parse(text_at(row, at)?).ok()
 }
 
 /// The whole number in this column, where it is one and not negative.
@@ -97,13 +101,7 @@ pub fn bounded_at<const LEAST: u64, const MOST: u64>(
     ensures valid { IfSome result (λ n. (LEAST ≤ n) × (n ≤ MOST)) }
     ensures none { result ≡ None → (n : ℕ) → LEAST ≤ n → n ≤ MOST → column row.now at ≢ Int (pos n) }
 {
-    match number_at(row, at) {
-        Some(n) => match Bounded::new(n) {
-            Ok(number) => Some(number),
-            Err(_) => None,
-        },
-        None => None,
-    }
+    Bounded::new(number_at(row, at)?).ok()
 }
 
 /// The value of a test in this column, where it is one.
@@ -112,13 +110,7 @@ pub fn value_at(row: &Row, at: usize) -> Option<Value>
     ensures valid { IfSome result IsValue }
     ensures none { result ≡ None → (n : ℤ) → IsValue n → column row.now at ≢ Int n }
 {
-    match row.get_ref(at) {
-        Ok(ValueRef::Int(n)) => match Value::new(n) {
-            Ok(value) => Some(value),
-            Err(_) => None,
-        },
-        _ => None,
-    }
+    Value::new(int_at(row, at)?).ok()
 }
 
 /// Whether the column has 1 rather than 0.
@@ -186,10 +178,7 @@ pub fn limits_at(row: &Row, low: usize, high: usize) -> Option<Limits>
     ensures valid { IfSome result (λ l. IsValue l.low × IsValue l.high) }
     ensures none { result ≡ None → (l : Bounds) → IsValue l.low → IsValue l.high → column row.now low ≡ Int l.low → column row.now high ≢ Int l.high }
 {
-    match Limits::new(value_at(row, low)?, value_at(row, high)?) {
-        Ok(limits) => Some(limits),
-        Err(_) => None,
-    }
+    Limits::new(value_at(row, low)?, value_at(row, high)?).ok()
 }
 
 /// Where a lot comes from, by these columns: of an order and of the number of a batch.

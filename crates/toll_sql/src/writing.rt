@@ -4,7 +4,6 @@ ghost use Rattle.sqlite.specs.Held.{state};
 ghost use Rattle.sqlite.specs.State.{HasCleanDisk, Survives};
 ghost use Rattle.sqlite.specs.Values.{bound};
 ghost use Rattle.toll_base.specs.declared.decision.Change.TheVariants.{Put};
-ghost use Rattle.toll_base.specs.declared.rows.Row.TheVariants.{Sublot, Result as ResultOf};
 ghost use Rattle.toll_sql.specs.Causes.{Reason};
 ghost use Rattle.toll_sql.specs.Create.{IsWhole};
 ghost use Rattle.toll_sql.specs.Stores.{Applies, IsApplied, IsReady, IsWriting, LeavesPut, MakesAll, MakesPut, StaysOnErr, WritesRow};
@@ -18,7 +17,7 @@ use crate::fault::fault_of;
 use crate::table_kind::TableKind;
 use sqlite::types::ValueRef;
 use sqlite::{Alter, Connection, Error, Transaction};
-use toll_base::{Change, Name, ResultRow, Row, SublotRow};
+use toll_base::{Change, Name, Row};
 use toll_keep::KeepFault;
 
 /// The greatest whole number that a column can have.
@@ -87,7 +86,7 @@ fn put_change<S: Alter>(tx: &mut Transaction<'_, S>, change: &Change) -> Result<
     }
 }
 
-// Puts the owner's row.
+// Puts the owner's row; an amount or a number that no column can have, which no rules allow, is out of range.
 fn put_row<S: Alter>(tx: &mut Transaction<'_, S>, owner: &Name, row: &Row) -> Result<(), Error>
     ensures same_reference { tx.new.conn.ghost_name ≡ tx.old.conn.ghost_name }
     ensures writes { IsWriting (MakesPut (Put owner.now row.now)) (state S.Store tx.old.conn.now) (state S.Store tx.new.conn.now) result }
@@ -100,41 +99,13 @@ fn put_row<S: Alter>(tx: &mut Transaction<'_, S>, owner: &Name, row: &Row) -> Re
         Row::Order(row) => put(tx, TableKind::Orders, &order_values(owner, row)),
         Row::Batch(row) => put(tx, TableKind::Batches, &batch_values(owner, row)),
         Row::Lot(row) => put(tx, TableKind::Lots, &lot_values(owner, row)),
-        Row::Sublot(row) => put_sublot(tx, owner, row),
+        Row::Sublot(row) if row.amount > MOST => Err(Error::IntegralValueOutOfRange(AMOUNT)),
+        Row::Sublot(row) => put(tx, TableKind::Sublots, &sublot_values(owner, row)),
         Row::Move(row) => put(tx, TableKind::Moves, &move_values(owner, row)),
-        Row::Result(row) => put_result(tx, owner, row),
+        Row::Result(row) if row.number > MOST => Err(Error::IntegralValueOutOfRange(NUMBER)),
+        Row::Result(row) => put(tx, TableKind::Results, &result_values(owner, row)),
         Row::Void(row) => put(tx, TableKind::Voids, &void_values(owner, row)),
     }
-}
-
-// Puts the sublot; an amount that no column can have, which no rules allow, is out of range.
-fn put_sublot<S: Alter>(
-    tx: &mut Transaction<'_, S>,
-    owner: &Name,
-    row: &SublotRow,
-) -> Result<(), Error>
-    ensures same_reference { tx.new.conn.ghost_name ≡ tx.old.conn.ghost_name }
-    ensures writes { IsWriting (MakesPut (Put owner.now (Sublot row.now))) (state S.Store tx.old.conn.now) (state S.Store tx.new.conn.now) result }
-{
-    if row.amount > MOST {
-        return Err(Error::IntegralValueOutOfRange(AMOUNT));
-    }
-    put(tx, TableKind::Sublots, &sublot_values(owner, row))
-}
-
-// Puts the result; a number that no column can have, which no rules allow, is out of range.
-fn put_result<S: Alter>(
-    tx: &mut Transaction<'_, S>,
-    owner: &Name,
-    row: &ResultRow,
-) -> Result<(), Error>
-    ensures same_reference { tx.new.conn.ghost_name ≡ tx.old.conn.ghost_name }
-    ensures writes { IsWriting (MakesPut (Put owner.now (ResultOf row.now))) (state S.Store tx.old.conn.now) (state S.Store tx.new.conn.now) result }
-{
-    if row.number > MOST {
-        return Err(Error::IntegralValueOutOfRange(NUMBER));
-    }
-    put(tx, TableKind::Results, &result_values(owner, row))
 }
 
 /// Puts a row of these cells into the table, in place of the one with its key.

@@ -1,42 +1,28 @@
-use Rattle.std.proofs.Common.{◌≡◌, ◌+◌, get_or, Ok, Err, rules, subst, arith}
+use Rattle.std.proofs.Common.{◌≡◌, ◌+◌, Ok, Err, rules, subst, arith}
 use Rattle.sqlite.specs.Held.{state}
-use Rattle.toll_sql.specs.Create.{IsMaking, IsStep, MakesAllTables, MakesTable}
+use Rattle.toll_sql.specs.Create.{IsMaking, IsStep, MakesAllTables}
 use Rattle.toll_sql.specs.Plain.{no_schema}
-use Rattle.toll_sql.specs.Tables.{every_table, made_before}
-use Rattle.toll_sql.specs.declared.table_kind.TableKind.TheVariants.{Meta}
-use Rattle.toll_sql.proofs.CreateTexts.{place_of}
-use Rattle.toll_sql.proofs.MakeLemmas.{MakesFirst, next_made, next_ready, none_yet}
-use Rattle.toll_sql.proofs.StepLemmas.{done, in_turn, makes_more, stopped}
+use Rattle.toll_sql.proofs.MakeLemmas.{MakesFirst, next_step, none_yet}
+use Rattle.toll_sql.proofs.StepLemmas.{done, makes_more, stopped}
 use Rattle.toll_sql.proofs.creating.make_tables.Goals as goal
 
 pub loop-table-preserved : goal.loop-table-preserved
 loop-table-preserved g c =
     let first = state g.S.Store c.args.tx.now.conn.now in
-    let now = state g.S.Store c.loop-table.tx.conn.now in
     let next = state g.S.Store c.make_table.new.tx.conn.now in
     let n = c.loop-table.table-index in
-    let k = get_or every_table n Meta in
-    let at = place_of n c.loop-table-test.true in
-    let one = subst (λ all. IsStep (IsMaking (made_before (get_or all n Meta))) (MakesTable (get_or all n Meta)) now next (Ok c.in_ok-make_table.field-0)) c.every_table-table-items.ensures c.in_ok-make_table.ensures.steps in
-    record {
-      same_reference = search rules;
-      steps = done (IsMaking no_schema) (MakesFirst (n + 1)) first next c.in_ok-make_table.field-0 tt (in_turn (IsMaking no_schema) (IsMaking (made_before k)) (MakesFirst n) (MakesTable k) (MakesFirst (n + 1)) first now next tt (Ok c.in_ok-make_table.field-0)
-          (λ _. next_ready n k at first now) (next_made n k at first now next) c.loop-table.invariant.steps one);
-    }
+    let step = next_step _ c.every_table-table-items.ensures n c.loop-table-test.true first (state g.S.Store c.loop-table.tx.conn.now) next (Ok c.in_ok-make_table.field-0) c.loop-table.invariant.steps c.in_ok-make_table.ensures.steps in
+    record { same_reference = search rules; steps = done (IsMaking no_schema) (MakesFirst (n + 1)) first next c.in_ok-make_table.field-0 tt step }
 
 pub returns-in_err-make_table-clause-steps : goal.returns-in_err-make_table-clause-steps
 returns-in_err-make_table-clause-steps g c =
     let first = state g.S.Store c.args.tx.now.conn.now in
-    let now = state g.S.Store c.loop-table.tx.conn.now in
     let next = state g.S.Store c.make_table.new.tx.conn.now in
     let n = c.loop-table.table-index in
-    let k = get_or every_table n Meta in
-    let at = place_of n c.loop-table-test.true in
     let r = c.make_table.result in
-    let one = subst (λ all. IsStep (IsMaking (made_before (get_or all n Meta))) (MakesTable (get_or all n Meta)) now next r) c.every_table-table-items.ensures c.make_table.ensures.steps in
+    let step = next_step _ c.every_table-table-items.ensures n c.loop-table-test.true first (state g.S.Store c.loop-table.tx.conn.now) next r c.loop-table.invariant.steps c.make_table.ensures.steps in
     let is : c.from_residual.result ≡ Err c.in_err-make_table.field-0.0 = search rules in
-    stopped (IsMaking no_schema) (MakesFirst (n + 1)) MakesAllTables first next c.in_err-make_table.field-0.0 r c.from_residual.result c.in_err-make_table.was is
-    (in_turn (IsMaking no_schema) (IsMaking (made_before k)) (MakesFirst n) (MakesTable k) (MakesFirst (n + 1)) first now next tt r (λ _. next_ready n k at first now) (next_made n k at first now next) c.loop-table.invariant.steps one)
+    stopped (IsMaking no_schema) (MakesFirst (n + 1)) MakesAllTables first next c.in_err-make_table.field-0.0 r c.from_residual.result c.in_err-make_table.was is step
 
 pub returns-clause-steps : goal.returns-clause-steps
 returns-clause-steps g c =

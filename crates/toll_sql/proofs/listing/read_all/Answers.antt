@@ -2,10 +2,8 @@ use Rattle.std.proofs.Common.{◌≡◌, false, map, sym, ap, subst, ◌∙◌}
 use Rattle.toll_sql.proofs.Common.{IfOk-weaker, state}
 use Rattle.toll_sql.specs.Asked.{AreReadBy}
 use Rattle.toll_sql.specs.Cells.{columns_from}
-use Rattle.toll_sql.specs.Rows.{AreAll}
-use Rattle.toll_sql.specs.Tables.{is_owned, select_text, tree_of, width_of}
-use Rattle.toll_sql.proofs.LookLemmas.{all_map, looking}
-use Rattle.toll_sql.proofs.ReadLemmas.{rows_read}
+use Rattle.toll_sql.specs.Tables.{is_owned, select_text, width_of}
+use Rattle.toll_sql.proofs.LookLemmas.{looking, plant_rows}
 use Rattle.toll_sql.proofs.listing.read_all.Goals as goal
 
 pub returns-in-Ok-clause-looks : goal.returns-in-Ok-clause-looks
@@ -16,19 +14,13 @@ returns-in-Ok-clause-looks g c alone =
 pub returns-in-Ok-clause-reads : goal.returns-in-Ok-clause-reads
 returns-in-Ok-clause-reads g c alone clean has l held =
     let X = g.X.PlantRow in
-    let old = state g.S.Store c.args.conn.now in
-    let own : is_owned c.table.result ≡ false = subst (λ k. is_owned k ≡ false) (sym c.table.ensures) alone.unowned in
-    let read = subst (λ k. AreAll k old.now.trees c.in-Ok.rows.items) c.table.ensures (c.in-Ok.ensures.rows own clean has) in
-    let are = rows_read X.kind (old.now.trees (tree_of X.kind)) c.in-Ok.rows.items (map X.cells l) read held.stored (all_map X.kind X.cells alone.fills l) in
+    let are = plant_rows X.kind X.cells X.is_valid alone c.table.result c.table.ensures (state g.S.Store c.args.conn.now).now.trees c.in-Ok.rows.items (λ own. c.in-Ok.ensures.rows own clean has) l held in
     c.list_rows.ensures.reads alone l (c.deref.ensures.value ∙ are) held.valid
 
 pub returns-in-Ok-clause-whole : goal.returns-in-Ok-clause-whole
 returns-in-Ok-clause-whole g c alone clean has l held =
     let X = g.X.PlantRow in
-    let old = state g.S.Store c.args.conn.now in
-    let own : is_owned c.table.result ≡ false = subst (λ k. is_owned k ≡ false) (sym c.table.ensures) alone.unowned in
-    let read = subst (λ k. AreAll k old.now.trees c.in-Ok.rows.items) c.table.ensures (c.in-Ok.ensures.rows own clean has) in
-    let are = rows_read X.kind (old.now.trees (tree_of X.kind)) c.in-Ok.rows.items (map X.cells l) read held.stored (all_map X.kind X.cells alone.fills l) in
+    let are = plant_rows X.kind X.cells X.is_valid alone c.table.result c.table.ensures (state g.S.Store c.args.conn.now).now.trees c.in-Ok.rows.items (λ own. c.in-Ok.ensures.rows own clean has) l held in
     c.list_rows.ensures.whole alone l (c.deref.ensures.value ∙ are) held.valid
 
 pub returns-in-Ok-clause-shown : goal.returns-in-Ok-clause-shown

@@ -1,10 +1,9 @@
-use Rattle.std.proofs.Common.{◌≡◌, ◌+◌, true, Ok, Err, get_or, rules, subst, arith}
+use Rattle.std.proofs.Common.{◌≡◌, ◌+◌, Err, rules, subst, arith}
 use Rattle.sqlite.specs.Held.{state}
 use Rattle.toll_sql.specs.Fronts.{front}
-use Rattle.toll_sql.specs.Reading.{ReadsNext, ReadsOn}
+use Rattle.toll_sql.specs.Reading.{ReadsOn}
 use Rattle.toll_sql.specs.Shown.{tables_of_owners}
-use Rattle.toll_sql.specs.Tables.{is_owned}
-use Rattle.toll_sql.specs.declared.table_kind.TableKind.TheVariants.{Materials, Meta}
+use Rattle.toll_sql.specs.declared.table_kind.TableKind.TheVariants.{Materials}
 use Rattle.toll_sql.proofs.ReadOn.{HasRead, kind_at, one_more_read, read_well, reads_not}
 use Rattle.toll_sql.proofs.slice_reading.read_tables.Goals as goal
 
@@ -15,8 +14,7 @@ loop-table-preserved g c =
     let now = state g.S.Store c.loop-table.conn in
     let next = state g.S.Store c.read_kind.new.conn in
     let n = c.loop-table.table-index in
-    let one = subst (λ all. is_owned (get_or all n Meta) ≡ true → ReadsNext (get_or all n Meta) o now next c.loop-table.slice c.read_kind.new.slice (Ok c.in_ok-read_kind.field-0)) c.tables_of_owners-table-items.ensures c.in_ok-read_kind.ensures in
-    record { reads = one_more_read n c.loop-table-test.true o first now next c.args.slice.now c.loop-table.slice c.read_kind.new.slice read_well c.loop-table.invariant.reads one }
+    record { reads = one_more_read _ c.tables_of_owners-table-items.ensures n c.loop-table-test.true o first now next c.args.slice.now c.loop-table.slice c.read_kind.new.slice read_well c.loop-table.invariant.reads c.in_ok-read_kind.ensures }
 
 pub returns-in_err-read_kind : goal.returns-in_err-read_kind
 returns-in_err-read_kind g c =
@@ -25,8 +23,7 @@ returns-in_err-read_kind g c =
     let now = state g.S.Store c.loop-table.conn in
     let next = state g.S.Store c.read_kind.new.conn in
     let n = c.loop-table.table-index in
-    let one = subst (λ all. is_owned (get_or all n Meta) ≡ true → ReadsNext {X = Unit {0}} (get_or all n Meta) o now next c.loop-table.slice c.read_kind.new.slice (Err c.in_err-read_kind.field-0.0)) c.tables_of_owners-table-items.ensures c.in_err-read_kind.ensures in
-    let p = one_more_read n c.loop-table-test.true o first now next c.args.slice.now c.loop-table.slice c.read_kind.new.slice (Err c.in_err-read_kind.field-0.0) c.loop-table.invariant.reads one in
+    let p = one_more_read _ c.tables_of_owners-table-items.ensures n c.loop-table-test.true o first now next c.args.slice.now c.loop-table.slice c.read_kind.new.slice (Err c.in_err-read_kind.field-0.0) c.loop-table.invariant.reads c.in_err-read_kind.ensures in
     let q : ReadsOn (front Materials 0) (λ s. s) tables_of_owners o {X = Unit {0}} first next c.args.slice.now c.read_kind.new.slice (Err c.in_err-read_kind.field-0.0) =
     reads_not (front Materials 0) (front (kind_at (n + 1)) 0) (λ s. s) o first next c.args.slice.now c.read_kind.new.slice c.in_err-read_kind.field-0.0 p in
     let f = c.from_residual.ensures in
