@@ -1,6 +1,6 @@
 -- What a text reads of a database, whatever its tables are.
 use Rattle.std.proofs.Common.{◌≡◌, ◌≢◌, ◌⊎◌, inl, inr, ℕ, true, false, List, [], None, Ok, Err, Result, IfOk, IfErr, refl, sym, ap, subst, ◌∙◌}
-use Rattle.toll_sql.proofs.Common.{timed, Database, RefusesToRead, Row, IsSourceOf, reads_listing, understood, State, Shown, FailsToQuery, FailsToShow, HasCause, IsNotRun, IsNoStatement, IsTooLate, store_error, Error, SqliteFailure, Compiled, CompileError, StoreError, OutOfMemory, Io, Corrupt, Full, Broken, Unstorable}
+use Rattle.toll_sql.proofs.Common.{timed, Database, RefusesToRead, Row, IsSourceOf, reads_listing, understood, State, Shown, FailsToQuery, FailsToShow, HasCause, IsNotRun, IsNoStatement, IsTooLate, store_error, Error, SqliteFailure, Compiled, CompileError, StoreError, OutOfMemory, Unstorable}
 use Rattle.sqlite.specs.declared.error.ErrorCode.TheVariants as code
 use Rattle.toll_sql.specs.Asked.{AreReadBy, AreReadWith, IsUnreadBy, IsWholeText}
 use Rattle.toll_sql.specs.Causes.{is_disk_fault}

@@ -1,6 +1,6 @@
 -- What an error that is told as a fault of the disk has for a cause.
 use Rattle.std.proofs.Common.{◌≡◌, inl, inr, ℕ, List, true, false, Ok, Err, IsTrue, IfErr, Result, arith, refl, sym, ap, ◌∙◌}
-use Rattle.toll_sql.proofs.Common.{cases_Bool, StoreError, OutOfMemory, Io, Corrupt, Full, Broken, Unstorable, Error, ExecuteReturnedResults, Row, Trees, Returning, Compiled, State, Fails, HasCause as StoreCause, store_error, IsNoStatement, IsNotRun, RunsCommand, RunsAlone, ExecutesIn, ExecutesInside, shows_rows, mode_of, text_of, Survives, HasCleanDisk, FailsToCommit}
+use Rattle.toll_sql.proofs.Common.{cases_Bool, StoreError, OutOfMemory, Broken, Unstorable, Error, ExecuteReturnedResults, Row, Trees, Returning, Compiled, State, Fails, HasCause as StoreCause, store_error, IsNoStatement, IsNotRun, RunsCommand, RunsAlone, ExecutesIn, ExecutesInside, shows_rows, mode_of, text_of, Survives, HasCleanDisk, FailsToCommit}
 use Rattle.toll_sql.specs.Causes.{IsCaused, is_disk_fault, Reason}
 use Rattle.toll_sql.proofs.Refusals.{doing}
 

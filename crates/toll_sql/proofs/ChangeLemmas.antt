@@ -1,6 +1,6 @@
 -- A change is put as the row that it has.
 use Rattle.std.proofs.Common.{◌≡◌, true, Ok, Err, Result, OnOk, refl, sym, subst}
-use Rattle.toll_sql.proofs.Common.{Row, State, Error, Change, Owner, Unit as UnitAdded, Put}
+use Rattle.toll_sql.proofs.Common.{Row, State, Error, Change, Put}
 use Rattle.toll_base.specs.declared.rows.Row.TheVariants as of
 use Rattle.toll_sql.specs.Cells.{fill}
 use Rattle.toll_sql.specs.Stores.{IsValid, IsWriting, MakesPut, MakesRow, table_of_change, cells_of_change}

@@ -1,7 +1,7 @@
 -- Why files could not be closed.
 use Rattle.std.proofs.Common.{◌≡◌, ◌⊎◌, inl, inr, false, true, IsTrue, sym, ap, ◌∙◌}
 use Rattle.sqlite.specs.Files.{ExcusesClose, FailsToClose, IsClosed}
-use Rattle.toll_sql.proofs.Common.{Held, store_error, Error, IsClean, StoreError, OutOfMemory, Io, Corrupt, Full, Broken, Unstorable, KeepFault, Memory, Disk}
+use Rattle.toll_sql.proofs.Common.{Held, store_error, Error, IsClean, StoreError, OutOfMemory, Broken, Unstorable, KeepFault, Memory, Disk}
 use Rattle.sqlite_disk.specs.Disk.{MoreFaults}
 use Rattle.sqlite_disk.specs.declared.Disk.{Ghosts}
 use Rattle.sqlite_store.specs.FileStore.{faults, view}

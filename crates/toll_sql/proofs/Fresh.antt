@@ -11,7 +11,7 @@ use Rattle.toll_sql.specs.Holds.{HasRows, Holds, HoldsSlice, NamesOwner, version
 use Rattle.toll_sql.specs.Tables.{made_all, tree_of, is_owned}
 use Rattle.toll_sql.specs.Valid.{AreValidIn, IsOwner, IsUnit}
 use Rattle.toll_sql.specs.declared.table_kind.TableKind.{TableKind}
-use Rattle.toll_sql.specs.declared.table_kind.TableKind.TheVariants.{Meta, Owners, Units, Materials, Tests, Recipes, Requirements, Orders, Batches, Lots, Sublots, Moves, Results, Voids}
+use Rattle.toll_sql.specs.declared.table_kind.TableKind.TheVariants.{Meta, Owners, Units}
 use Rattle.toll_sql.proofs.HoldsAfter.{other_tree, rows_after, same_all, same_each, unowned_apart}
 use Rattle.toll_sql.proofs.PutTexts.{number_of}
 use Rattle.toll_sql.proofs.WriteLemmas.{at_table}

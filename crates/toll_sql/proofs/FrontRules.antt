@@ -5,7 +5,7 @@ use Rattle.toll_base.specs.declared.capacity.TheConstants.{MOST_ACTUALS, MOST_ST
 use Rattle.toll_base.proofs.SliceFits.{empty_keeps}
 use Rattle.toll_sql.specs.Fronts.{front}
 use Rattle.toll_sql.specs.declared.table_kind.TableKind.{TableKind}
-use Rattle.toll_sql.specs.declared.table_kind.TableKind.TheVariants.{Meta, Owners, Units, Materials, Tests, Recipes, Requirements, Orders, Batches, Lots, Sublots, Moves, Results, Voids}
+use Rattle.toll_sql.specs.declared.table_kind.TableKind.TheVariants.{Materials, Tests, Recipes, Requirements, Orders, Batches, Lots, Sublots, Moves, Results, Voids}
 
 at_most : {X : Type 0} (n : ℕ) (xs : List X) → length (take n xs) ≤ length xs
 at_most zero xs = omega arith

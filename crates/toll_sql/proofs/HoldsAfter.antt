@@ -13,7 +13,7 @@ use Rattle.toll_sql.specs.Stores.{PutsAll, PutsChange, PutsRow, has_key}
 use Rattle.toll_sql.specs.Tables.{tree_of, keys_of, table_of, width_of, is_owned}
 use Rattle.toll_sql.specs.Valid.{IsOwner, IsRow, IsUnit}
 use Rattle.toll_sql.specs.declared.table_kind.TableKind.{TableKind}
-use Rattle.toll_sql.specs.declared.table_kind.TableKind.TheVariants.{Meta, Owners, Units, Materials, Tests, Recipes, Requirements, Orders, Batches, Lots, Sublots, Moves, Results, Voids}
+use Rattle.toll_sql.specs.declared.table_kind.TableKind.TheVariants.{Meta, Owners, Units}
 use Rattle.toll_sql.proofs.Bags.{placed_in}
 use Rattle.toll_sql.proofs.CellLemmas.{fit_length}
 use Rattle.toll_sql.proofs.ChangeLemmas.{fills}

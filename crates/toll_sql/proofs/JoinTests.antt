@@ -1,6 +1,6 @@
 -- What the tests ask of two movements as the table has them.
 use Rattle.std.proofs.Common.{◌≡◌, ◌≤◌, ℕ, ℤ, pos, Bool, true, false, ◌&&◌, List, [], ◌∷◌, refl, sym, ap, subst, ◌∙◌, Some, arith}
-use Rattle.toll_sql.proofs.Common.{false≢true, list_all, is_eq, is_le, int_cmp, nat_tests, tied_itself, exact_signed, Binary, binary, is_true, from_truth, Row, column, value_cmp, holds, Value, Null, Int, Text, Compare, Is, Eq, Le, value_cmp_total, value_cmp-Int, Bytes, Move, Receive, Split, Ship, Scrap, Actual, MoveRow, Role, Consumed, Produced, IsActual}
+use Rattle.toll_sql.proofs.Common.{false≢true, list_all, is_eq, is_le, int_cmp, nat_tests, tied_itself, exact_signed, Binary, binary, is_true, from_truth, Row, column, value_cmp, holds, Value, Null, Int, Text, Compare, Is, Eq, Le, value_cmp_total, value_cmp-Int, Bytes, Move, Actual, MoveRow, Role, Consumed, Produced, IsActual}
 use Rattle.toll_sql.specs.Encode.{actual_kind, kind_number, lot_of, order_of, number_of, segment_of, move_cells}
 use Rattle.toll_sql.proofs.JoinQuery.{owners_tests, all_tests}
 use Rattle.toll_sql.proofs.PutCommon.{equals_text, tied, is_text as text_of}

@@ -13,7 +13,7 @@ use Rattle.toll_sql.specs.StoredLaws.{StandAlone}
 use Rattle.toll_sql.specs.Stores.{HoldsIn, HoldsPartIn}
 use Rattle.toll_sql.specs.Tables.{tree_of, is_owned}
 use Rattle.toll_sql.specs.declared.table_kind.TableKind.{TableKind}
-use Rattle.toll_sql.specs.declared.table_kind.TableKind.TheVariants.{Meta, Owners, Units, Materials, Tests, Recipes, Requirements, Orders, Batches, Lots, Sublots, Moves, Results, Voids}
+use Rattle.toll_sql.specs.declared.table_kind.TableKind.TheVariants.{Materials, Tests, Recipes, Requirements, Orders, Batches, Lots, Sublots, Moves, Results, Voids}
 use Rattle.toll_sql.proofs.ReadLemmas.{rows_read}
 
 -- ---- the rows of a slice fill the columns of their tables

@@ -6,12 +6,13 @@ use Rattle.toll_sql.specs.Asked.{ShowsMeta}
 use Rattle.toll_sql.specs.Bag.{all_cells}
 use Rattle.toll_sql.specs.Cells.{cells_of, columns_from}
 use Rattle.toll_sql.specs.Encode.{meta_cells}
-use Rattle.toll_sql.specs.First.{IsVersionIn, TellNeither, Tells, first_version, meta_rows}
+use Rattle.toll_sql.specs.First.{HasVersion, IsVersionIn, TellNeither, Tells, first_version, meta_rows}
 use Rattle.toll_sql.specs.Holds.{version}
 use Rattle.toll_sql.specs.Rows.{AreAll}
 use Rattle.toll_sql.specs.Stores.{PutsRow}
 use Rattle.toll_sql.specs.Tables.{tree_of, width_of}
 use Rattle.toll_sql.specs.declared.table_kind.TableKind.TheVariants.{Meta}
+use Rattle.toll_sql.proofs.ReadLemmas.{rows_read}
 
 abbrev Telling : ℕ → Row → Type 0
 Telling n row = (column row 0 ≡ Text (codes "toll")) × (column row 1 ≡ Int (pos n))
@@ -50,15 +51,23 @@ module _ (n : ℕ) where
   ]
 
   -- a row alone tells its version
-  pub told_alone : (rows : List Row) (told : Option ℕ) → rows ≡ meta_cells n ∷ [] → IsVersionIn rows told → told ≡ Some n
+  told_alone : (rows : List Row) (told : Option ℕ) → rows ≡ meta_cells n ∷ [] → IsVersionIn rows told → told ≡ Some n
   told_alone rows told is v = let it : IsVersionIn (meta_cells n ∷ []) told = subst (λ xs. IsVersionIn xs told) is v in it.every n (inl (refl, refl)) ((λ _. refl), tt)
 
-pub told_in : (db : Trees) (rows : List Row) (told : Option ℕ) → AreAll Meta db rows → IsVersionIn rows told → IfSome told (λ n. Tells n (meta_rows db))
+told_in : (db : Trees) (rows : List Row) (told : Option ℕ) → AreAll Meta db rows → IsVersionIn rows told → IfSome told (λ n. Tells n (meta_rows db))
 told_in db rows told read v = some told v.some
   where
     some : (told : Option ℕ) → IfSome told (λ n. Tells n rows) → IfSome told (λ n. Tells n (meta_rows db))
     some None h = tt
     some (Some n) h = told_stored n db rows read h
+
+-- what rows that were answered tell
+module _ (db : Trees) (rows shown : List Row) (is : shown ≡ rows) (told : Option ℕ) (tells : IsVersionIn shown told) (read : AreAll Meta db rows) where
+  pub read_alone : (n : ℕ) → HasVersion n db → told ≡ Some n
+  read_alone n has = told_alone n shown told (is ∙ rows_read Meta (db (tree_of Meta)) rows (meta_cells n ∷ []) read has (refl, tt)) tells
+
+  pub read_told : IfSome told (λ n. Tells n (meta_rows db))
+  read_told = told_in db rows told read (subst (λ xs. IsVersionIn xs told) is tells)
 
 -- a row of another name counts for nothing
 pub skipped : (row : Row) (rows : List Row) (told : Option ℕ) → (column row 0 ≢ Text (codes "toll")) → IsVersionIn rows told → IsVersionIn (row ∷ rows) told

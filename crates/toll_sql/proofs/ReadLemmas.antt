@@ -1,6 +1,6 @@
 -- What a query in the order of the key answers is the list of rows that the table has.
 use Rattle.std.proofs.Common.{◌≡◌, ◌⊎◌, ℕ, zero, suc, ◌+◌, ◌<◌, ◌≤◌, Bool, true, false, ◌&&◌, ◌||◌, cond, inl, inr, List, [], ◌∷◌, map, length, get_or, refl, sym, ap, ap₂, subst, ◌∙◌, arith, Ordering, Less, Equal}
-use Rattle.toll_sql.proofs.Common.{false≢true, IsTotalOrder, AllByRecursion, is_eq, is_lt, int_cmp, and_parts, cases_Bool, tied_itself, int_cmp_total, sorted_far, ranks_by, Row, column, IsAscending, Value, Null, Int, Real, Text, Blob, all_has, Has, same_bytes-exact, same_bytes-refl, same_bytes}
+use Rattle.toll_sql.proofs.Common.{false≢true, IsTotalOrder, AllByRecursion, is_eq, is_lt, int_cmp, and_parts, cases_Bool, tied_itself, int_cmp_total, sorted_far, ranks_by, Row, column, IsAscending, Value, Null, Int, Text, all_has, Has, same_bytes-exact, same_bytes-refl, same_bytes}
 use Rattle.std.specs.FinMap.{int_cmp-IsAntisymmetric}
 use Rattle.std.specs.Prelude.{IsSorted}
 use Rattle.toll_sql.specs.Bag.{Rises, NeverFalls, SameBag, total}

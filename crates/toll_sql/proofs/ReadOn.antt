@@ -1,14 +1,17 @@
 -- Readings one after another.
 use Rattle.std.proofs.Common.{◌≡◌, ◌<◌, ℕ, suc, ◌+◌, true, List, [], ◌∷◌, ◌++◌, take, length, get_or, inl, inr, Ok, Err, Result, OnOk, IsTrue, refl, sym, ap, subst, subst₂, ◌∙◌, arith}
-use Rattle.toll_sql.proofs.Common.{on_ok_weaker, AllByRecursion, Database, State, HasCleanDisk, Survives, Trees, Bytes, Slice, KeepFault, Disk, Damaged, Closed}
+use Rattle.toll_sql.proofs.Common.{false≢true, length-map, on_ok_weaker, AllByRecursion, Database, Row, State, HasCleanDisk, Survives, Trees, Bytes, Slice, KeepFault, Disk, Damaged, Closed}
+use Rattle.toll_base.specs.declared.rows.Row.{Row as OfficeRow}
 use Rattle.toll_sql.specs.Asking.{Asks, IsLooking}
-use Rattle.toll_sql.specs.Fronts.{front}
+use Rattle.toll_sql.specs.Encode.{rows_for}
+use Rattle.toll_sql.specs.Fronts.{front, past}
 use Rattle.toll_sql.specs.Others.{HasOurs}
-use Rattle.toll_sql.specs.Reading.{ReadsNext, ReadsOn, next_of}
+use Rattle.toll_sql.specs.Reading.{ReadsKind, ReadsNext, ReadsOn, next_of}
 use Rattle.toll_sql.specs.Shown.{AreRowsIn, Shows, tables_of_owners}
+use Rattle.toll_sql.specs.StoredLaws.{StandIn}
 use Rattle.toll_sql.specs.Tables.{is_owned}
 use Rattle.toll_sql.specs.declared.table_kind.TableKind.{TableKind}
-use Rattle.toll_sql.specs.declared.table_kind.TableKind.TheVariants.{Meta, Materials, Tests, Recipes, Requirements, Orders, Batches, Lots, Sublots, Moves, Results, Voids}
+use Rattle.toll_sql.specs.declared.table_kind.TableKind.TheVariants.{Meta, Owners, Units, Materials}
 use Rattle.toll_sql.proofs.CauseLemmas.{reason_before}
 use Rattle.toll_sql.proofs.LookLemmas.{held_on}
 use Rattle.toll_sql.proofs.OpenLemmas.{found_still}
@@ -118,38 +121,11 @@ take_all : {X : Type 0} (xs : List X) → take (length xs) xs ≡ xs
 take_all [] = refl
 take_all (x ∷ xs) = ap (λ ys. x ∷ ys) (take_all xs)
 
-pub materials_behind : (s : Slice) → front Materials (length s.materials) s ≡ front Tests 0 s
-materials_behind s = ap (λ l. record s { materials = l; tests = []; recipes = []; requirements = []; orders = []; batches = []; lots = []; sublots = []; moves = []; results = []; voids = [] }) (take_all s.materials)
-
-pub tests_behind : (s : Slice) → front Tests (length s.tests) s ≡ front Recipes 0 s
-tests_behind s = ap (λ l. record s { tests = l; recipes = []; requirements = []; orders = []; batches = []; lots = []; sublots = []; moves = []; results = []; voids = [] }) (take_all s.tests)
-
-pub recipes_behind : (s : Slice) → front Recipes (length s.recipes) s ≡ front Requirements 0 s
-recipes_behind s = ap (λ l. record s { recipes = l; requirements = []; orders = []; batches = []; lots = []; sublots = []; moves = []; results = []; voids = [] }) (take_all s.recipes)
-
-pub requirements_behind : (s : Slice) → front Requirements (length s.requirements) s ≡ front Orders 0 s
-requirements_behind s = ap (λ l. record s { requirements = l; orders = []; batches = []; lots = []; sublots = []; moves = []; results = []; voids = [] }) (take_all s.requirements)
-
-pub orders_behind : (s : Slice) → front Orders (length s.orders) s ≡ front Batches 0 s
-orders_behind s = ap (λ l. record s { orders = l; batches = []; lots = []; sublots = []; moves = []; results = []; voids = [] }) (take_all s.orders)
-
-pub batches_behind : (s : Slice) → front Batches (length s.batches) s ≡ front Lots 0 s
-batches_behind s = ap (λ l. record s { batches = l; lots = []; sublots = []; moves = []; results = []; voids = [] }) (take_all s.batches)
-
-pub lots_behind : (s : Slice) → front Lots (length s.lots) s ≡ front Sublots 0 s
-lots_behind s = ap (λ l. record s { lots = l; sublots = []; moves = []; results = []; voids = [] }) (take_all s.lots)
-
-pub sublots_behind : (s : Slice) → front Sublots (length s.sublots) s ≡ front Moves 0 s
-sublots_behind s = ap (λ l. record s { sublots = l; moves = []; results = []; voids = [] }) (take_all s.sublots)
-
-pub moves_behind : (s : Slice) → front Moves (length s.moves) s ≡ front Results 0 s
-moves_behind s = ap (λ l. record s { moves = l; results = []; voids = [] }) (take_all s.moves)
-
-pub results_behind : (s : Slice) → front Results (length s.results) s ≡ front Voids 0 s
-results_behind s = ap (λ l. record s { results = l; voids = [] }) (take_all s.results)
-
-pub voids_behind : (s : Slice) → front Voids (length s.voids) s ≡ s
-voids_behind s = ap (λ l. record s { voids = l }) (take_all s.voids)
+behind : (k : TableKind) (s : Slice) → is_owned k ≡ true → front k (length (rows_for k s)) s ≡ front (next_of k) 0 s
+behind Meta s owned = absurd (false≢true owned)
+behind Owners s owned = absurd (false≢true owned)
+behind Units s owned = absurd (false≢true owned)
+behind _ s owned = simp (length-map, take_all) refl
 
 -- so what was read this far was read up to there
 pub reads_up_to : {X : Type 0} (f g h : Slice → Slice) {kinds : List TableKind} (o : Bytes) (a b : State) (s t : Slice) (r : Result X KeepFault) → ((s : Slice) → g s ≡ h s) → ReadsOn f g kinds o a b s t r → ReadsOn f h kinds o a b s t r
@@ -157,9 +133,12 @@ reads_up_to f g h {kinds} o a b s t r same p = subst (λ (g : Slice → Slice). 
 
 -- ---- each table behind the one before it
 
-pub read_next : {X : Type 0} (table k : TableKind) (g : Slice → Slice) (o : Bytes) (a b : State) (s t : Slice) (r : Result X KeepFault) → table ≡ k → ((s : Slice) → g s ≡ front (next_of k) 0 s) → ReadsOn (front k 0) g (k ∷ []) o a b s t r
-    → ReadsNext table o a b s t r
-read_next table k g o a b s t r is behind h = subst (λ k. ReadsNext k o a b s t r) (sym is) (reads_up_to _ g (front (next_of k) 0) o a b s t r behind h)
+pub read_next : {X Y : Type 0} (table k : TableKind) {cells : Bytes → X → Row} {is_valid : X → Type 0} {row : X → OfficeRow} {listed : Slice → List X} (o : Bytes) (a b : State) (s t : Slice) (r : Result Y KeepFault) → StandIn k cells is_valid row listed → table ≡ k
+    → ReadsKind k cells is_valid row listed o a b s t r → ReadsNext table o a b s t r
+read_next table k {cells} {is_valid} {row} {listed} o a b s t r stand is reads = subst (λ k. ReadsNext k o a b s t r) (sym is) (reads_up_to _ (past k listed) (front (next_of k) 0) o a b s t r all (reads stand))
+  where
+    all : (s : Slice) → past k listed s ≡ front (next_of k) 0 s
+    all s = ap (λ n. front k n s) (sym (ap length (stand.its_rows s) ∙ length-map (listed s) (cells s.owner))) ∙ behind k s stand.owned
 
 -- the table with this number, and the first so many
 abbrev pub kind_at : ℕ → TableKind

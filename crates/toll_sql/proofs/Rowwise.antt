@@ -8,7 +8,7 @@ use Rattle.toll_sql.specs.Cells.{key_order}
 use Rattle.toll_sql.specs.Encode.{table_for, cells_for, rows_for, material_cells, test_cells, recipe_cells, requirement_cells, order_cells, batch_cells, lot_cells, sublot_cells, move_cells, result_cells, void_cells}
 use Rattle.toll_sql.specs.Valid.{AreValidIn, IsRow}
 use Rattle.toll_sql.specs.declared.table_kind.TableKind.{TableKind}
-use Rattle.toll_sql.specs.declared.table_kind.TableKind.TheVariants.{Meta, Owners, Units, Materials, Tests, Recipes, Requirements, Orders, Batches, Lots, Sublots, Moves, Results, Voids}
+use Rattle.toll_sql.specs.declared.table_kind.TableKind.TheVariants.{Materials, Tests, Recipes, Requirements, Orders, Batches, Lots, Sublots, Moves, Results, Voids}
 use Rattle.toll_sql.proofs.Orders.{materials_order, tests_order, recipes_order, requirements_order, orders_order, batches_order, lots_order, sublots_order, moves_order, results_order, voids_order}
 use Rattle.toll_sql.proofs.Placing.{put_placed}
 use Rattle.toll_sql.proofs.PutTexts.{number_of, same_table}
@@ -34,19 +34,22 @@ placed s (of.Result x) rises = put_placed result_cmp result_cmp_total (λ (row :
 placed s (of.Void x) rises = put_placed bytes_cmp nat_list_cmp_total (λ (row : VoidRow). row.key) (void_cells s.owner) (key_order Voids) (voids_order s.owner) x s.voids rises
 
 -- the other tables have the rows that they had
+others_still : (k : TableKind) (s : Slice) (row : OfficeRow) → (number_of k ≡ number_of (table_for row) → ⊥) → (rows_for k (with_row s row) ≡ rows_for k s) × (AreValidIn k s → AreValidIn k (with_row s row))
+others_still Materials s (of.Material x) other = absurd (other refl)
+others_still Tests s (of.Test x) other = absurd (other refl)
+others_still Recipes s (of.Recipe x) other = absurd (other refl)
+others_still Requirements s (of.Requirement x) other = absurd (other refl)
+others_still Orders s (of.Order x) other = absurd (other refl)
+others_still Batches s (of.Batch x) other = absurd (other refl)
+others_still Lots s (of.Lot x) other = absurd (other refl)
+others_still Sublots s (of.Sublot x) other = absurd (other refl)
+others_still Moves s (of.Move x) other = absurd (other refl)
+others_still Results s (of.Result x) other = absurd (other refl)
+others_still Voids s (of.Void x) other = absurd (other refl)
+others_still _ s _ other = (refl, λ h. h)
+
 pub untouched : (k : TableKind) (s : Slice) (row : OfficeRow) → (number_of k ≡ number_of (table_for row) → ⊥) → rows_for k (with_row s row) ≡ rows_for k s
-untouched Materials s (of.Material x) other = absurd (other refl)
-untouched Tests s (of.Test x) other = absurd (other refl)
-untouched Recipes s (of.Recipe x) other = absurd (other refl)
-untouched Requirements s (of.Requirement x) other = absurd (other refl)
-untouched Orders s (of.Order x) other = absurd (other refl)
-untouched Batches s (of.Batch x) other = absurd (other refl)
-untouched Lots s (of.Lot x) other = absurd (other refl)
-untouched Sublots s (of.Sublot x) other = absurd (other refl)
-untouched Moves s (of.Move x) other = absurd (other refl)
-untouched Results s (of.Result x) other = absurd (other refl)
-untouched Voids s (of.Void x) other = absurd (other refl)
-untouched _ s _ other = refl
+untouched k s row other = (others_still k s row other).0
 
 -- ---- values of their kinds
 
@@ -68,20 +71,6 @@ module _ {K R : Type 0} (key : R → K) (P : R → Type 0) (x : R) (px : P x) wh
     unfolding put_row
     all_put l all = one_or _ (replace_row cmp key l x) (insert_row cmp key l x) (all_replaced l all) (all_inserted l all)
 
-still_valid : (k : TableKind) (s : Slice) (row : OfficeRow) → (number_of k ≡ number_of (table_for row) → ⊥) → AreValidIn k s → AreValidIn k (with_row s row)
-still_valid Materials s (of.Material x) other h = absurd (other refl)
-still_valid Tests s (of.Test x) other h = absurd (other refl)
-still_valid Recipes s (of.Recipe x) other h = absurd (other refl)
-still_valid Requirements s (of.Requirement x) other h = absurd (other refl)
-still_valid Orders s (of.Order x) other h = absurd (other refl)
-still_valid Batches s (of.Batch x) other h = absurd (other refl)
-still_valid Lots s (of.Lot x) other h = absurd (other refl)
-still_valid Sublots s (of.Sublot x) other h = absurd (other refl)
-still_valid Moves s (of.Move x) other h = absurd (other refl)
-still_valid Results s (of.Result x) other h = absurd (other refl)
-still_valid Voids s (of.Void x) other h = absurd (other refl)
-still_valid _ s _ other h = h
-
 its_valid : (s : Slice) (row : OfficeRow) → IsRow row → AreValidIn (table_for row) s → AreValidIn (table_for row) (with_row s row)
 its_valid s (of.Material x) is h = all_put (λ (row : MaterialRow). row.material) _ x is bytes_cmp s.materials h
 its_valid s (of.Test x) is h = all_put (λ (row : TestRow). (row.material, row.test)) _ x is pair_cmp s.tests h
@@ -98,5 +87,5 @@ its_valid s (of.Void x) is h = all_put (λ (row : VoidRow). row.key) _ x is byte
 pub valid_with : (k : TableKind) (s : Slice) (row : OfficeRow) → IsRow row → AreValidIn k s → AreValidIn k (with_row s row)
 valid_with k s row is valid = elim (same_table k (table_for row)) [
   | inl same ↦ subst (λ k. AreValidIn k (with_row s row)) (sym same) (its_valid s row is (subst (λ k. AreValidIn k s) same valid))
-  | inr other ↦ still_valid k s row other valid
+  | inr other ↦ (others_still k s row other).1 valid
 ]

@@ -5,7 +5,7 @@ use Rattle.toll_sql.specs.Given.{IsGiven}
 use Rattle.toll_sql.specs.Select.{plain_query}
 use Rattle.toll_sql.specs.Tables.{table_of, tree_of, keys_of, width_of, is_owned, select_text}
 use Rattle.toll_sql.specs.declared.table_kind.TableKind.{TableKind}
-use Rattle.toll_sql.specs.declared.table_kind.TableKind.TheVariants.{Meta, Owners, Units, Materials, Tests, Recipes, Requirements, Orders, Batches, Lots, Sublots, Moves, Results, Voids}
+use Rattle.toll_sql.specs.declared.table_kind.TableKind.TheVariants.{Meta}
 use Rattle.toll_sql.proofs.Beside.{Others, ours_and}
 use Rattle.toll_sql.proofs.PutTexts.{terms_from}
 use Rattle.toll_sql.proofs.TextLemmas.{one_statement, command_is, unlisted, given}

@@ -7,7 +7,7 @@ use Rattle.toll_sql.specs.Shown.{AreOwnedBy, AreRowsOf, IsRowOf}
 use Rattle.toll_sql.specs.Rows.{AreOfOwner}
 use Rattle.toll_sql.specs.Tables.{tree_of, width_of}
 use Rattle.toll_sql.specs.declared.table_kind.TableKind.{TableKind}
-use Rattle.toll_sql.specs.declared.table_kind.TableKind.TheVariants.{Meta, Owners, Units, Materials, Tests, Recipes, Requirements, Orders, Batches, Lots, Sublots, Moves, Results, Voids}
+use Rattle.toll_sql.specs.declared.table_kind.TableKind.TheVariants.{Meta}
 use Rattle.toll_sql.proofs.PutCommon.{is_text}
 
 -- with the next one, one more

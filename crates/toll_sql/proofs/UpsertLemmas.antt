@@ -1,7 +1,7 @@
 -- What an INSERT of one row with ON CONFLICT DO UPDATE makes of a table, whichever table it is.
 use Rattle.std.proofs.Common.{◌≡◌, ◌≢◌, ◌⊎◌, inl, inr, ℕ, ℤ, pos, Bool, true, false, not, cond, ◌&&◌, List, [], ◌∷◌, ◌++◌, map, drop, length, slice_get, Option, Some, None, Ok, Err, Result, refl, sym, ap, subst, subst₂, ◌∙◌}
 use Rattle.std.specs.Prelude.{filter, IsPermutation, ◌/◌}
-use Rattle.toll_sql.proofs.Common.{is_eq, AllByRecursion, list_all, filter_agree, IsPermutation-map, Value, Null, Int, Text, Real, Blob, Row, column, value_cmp, binary, is_true, from_truth, Term, col, op2, eval_all, holds, Query, IsAnswer, overlay, IsShaped, Schema, Table, Values, Binary, plain, Compare, Eq, Abort, Upsert, Enforced, agree, Has, conflicts, AreConflicts, cast_row, ids_of, Given, Chosen, Above, edit_of, taken_by, is_taken, next_rowid, with_rowid, id_in, without_all, put_all, are_fresh, all_has, value_rows, edit_error, Refusal, one_step, one_permutation, Command, InsertOr, Database, Tally, Does, OnTable, OnRows, AtPlace, understood, State, mode_of, Executes, IsPlain, command_of, statement_of, runs_as}
+use Rattle.toll_sql.proofs.Common.{is_eq, AllByRecursion, list_all, filter_agree, IsPermutation-map, Value, Null, Int, Row, column, value_cmp, binary, is_true, from_truth, Term, col, op2, eval_all, holds, Query, IsAnswer, overlay, IsShaped, Schema, Table, Values, Binary, plain, Compare, Eq, Abort, Upsert, Enforced, agree, Has, conflicts, AreConflicts, cast_row, ids_of, Given, Chosen, Above, edit_of, taken_by, is_taken, next_rowid, with_rowid, id_in, without_all, put_all, are_fresh, all_has, value_rows, edit_error, Refusal, one_step, one_permutation, Command, InsertOr, Database, Tally, Does, OnTable, OnRows, AtPlace, understood, State, mode_of, Executes, IsPlain, command_of, statement_of, runs_as}
 use Rattle.sqlite.specs.Tree.{Trees, rowid, has_rowid, put_row, without_rowid}
 use Rattle.sqlite_trees.specs.declared.store.Shape.TheVariants as shape
 use Rattle.sqlite_trees.proofs.TreeLemmas.{IsShaped-put_row, IsShaped-filter, not_true}

@@ -6,9 +6,8 @@ use Rattle.toll_sql.proofs.asking.owners_rows.Goals as goal
 
 pub returns : goal.returns
 returns g c =
-    let k = c.args.table in
     let old = state g.S.Store c.args.conn.now in
     let new = state g.S.Store c.query_all.new.self in
     let called = c.query_all.ensures in
-    let it = asked (select_text k) (Text c.args.owner.now ∷ []) old new (plain k old new) (λ rows. rows.items) c.query_all.result _ _ c.select_text.ensures (ap (λ (o : Bytes). Text o ∷ []) c.as_bytes.ensures.bytes) called.mode called.ok called.err called.survives in
-    record { asks = λ owned. it.0; rows = λ owned clean has. IfOk-weaker c.query_all.result _ _ (λ rows h. owners_selected k old new c.args.owner.now owned has rows.items h) (it.1 clean) }
+    let it = asked (select_text c.args.table) (Text c.args.owner.now ∷ []) old new (plain c.args.table old new) (λ rows. rows.items) c.query_all.result _ _ c.select_text.ensures (ap (λ (o : Bytes). Text o ∷ []) c.as_bytes.ensures.bytes) called.mode called.ok called.err called.survives in
+    record { asks = λ owned. it.0; rows = λ owned clean has. IfOk-weaker c.query_all.result _ _ (λ rows h. owners_selected c.args.table old new c.args.owner.now owned has rows.items h) (it.1 clean) }

@@ -8,13 +8,7 @@ use Rattle.toll_sql.proofs.ReadOn.{HasRead, kind_at, one_more_read, read_well, r
 use Rattle.toll_sql.proofs.slice_reading.read_tables.Goals as goal
 
 pub loop-table-preserved : goal.loop-table-preserved
-loop-table-preserved g c =
-    let o = c.args.owner.now in
-    let first = state g.S.Store c.args.conn.now in
-    let now = state g.S.Store c.loop-table.conn in
-    let next = state g.S.Store c.read_kind.new.conn in
-    let n = c.loop-table.table-index in
-    record { reads = one_more_read _ c.tables_of_owners-table-items.ensures n c.loop-table-test.true o first now next c.args.slice.now c.loop-table.slice c.read_kind.new.slice read_well c.loop-table.invariant.reads c.in_ok-read_kind.ensures }
+loop-table-preserved g c = record { reads = one_more_read _ c.tables_of_owners-table-items.ensures _ c.loop-table-test.true _ _ _ _ _ _ _ read_well c.loop-table.invariant.reads c.in_ok-read_kind.ensures }
 
 pub returns-in_err-read_kind : goal.returns-in_err-read_kind
 returns-in_err-read_kind g c =

@@ -1,25 +1,14 @@
-use Rattle.std.proofs.Common.{◌≡◌, [], ◌∷◌, refl, subst, ◌∙◌}
+use Rattle.std.proofs.Common.{refl, subst}
 use Rattle.sqlite.specs.Held.{state}
-use Rattle.toll_sql.specs.Encode.{meta_cells}
 use Rattle.toll_sql.specs.First.{IsVersionIn}
-use Rattle.toll_sql.specs.Tables.{tree_of}
-use Rattle.toll_sql.specs.declared.table_kind.TableKind.TheVariants.{Meta}
-use Rattle.toll_sql.proofs.MetaLemmas.{told_alone, told_in}
-use Rattle.toll_sql.proofs.ReadLemmas.{rows_read}
+use Rattle.toll_sql.proofs.MetaLemmas.{read_alone, read_told}
 use Rattle.toll_sql.proofs.version.read_version.Goals as goal
 
 pub returns-clause-version : goal.returns-clause-version
-returns-clause-version g c clean has n version =
-    let old = state g.S.Store c.args.conn.now in
-    let rows = c.in_ok-rows.rows.items in
-    let read : rows ≡ meta_cells n ∷ [] = rows_read Meta (old.now.trees (tree_of Meta)) rows (meta_cells n ∷ []) (c.in_ok-rows.ensures.rows refl clean has) version (refl, tt) in
-    told_alone n c.as_slice.result.now c.version_in.result (c.as_slice.ensures.value ∙ read) c.version_in.ensures
+returns-clause-version g c clean has = read_alone (state g.S.Store c.args.conn.now).now.trees c.in_ok-rows.rows.items _ c.as_slice.ensures.value _ c.version_in.ensures (c.in_ok-rows.ensures.rows refl clean has)
 
 pub returns-clause-told : goal.returns-clause-told
-returns-clause-told g c clean has =
-    let old = state g.S.Store c.args.conn.now in
-    let rows = c.in_ok-rows.rows.items in
-    told_in old.now.trees rows c.version_in.result (c.in_ok-rows.ensures.rows refl clean has) (subst (λ xs. IsVersionIn xs c.version_in.result) c.as_slice.ensures.value c.version_in.ensures)
+returns-clause-told g c clean has = read_told (state g.S.Store c.args.conn.now).now.trees c.in_ok-rows.rows.items _ c.as_slice.ensures.value _ c.version_in.ensures (c.in_ok-rows.ensures.rows refl clean has)
 
 pub returns-clause-found : goal.returns-clause-found
 returns-clause-found g c clean = (c.in_ok-rows.rows.items, c.in_ok-rows.ensures.read clean, subst (λ xs. IsVersionIn xs c.version_in.result) c.as_slice.ensures.value c.version_in.ensures)
