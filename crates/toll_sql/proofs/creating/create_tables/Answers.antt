@@ -1,4 +1,4 @@
-use Rattle.std.proofs.Common.{◌≡◌, false, rules, subst}
+use Rattle.std.proofs.Common.{rules, subst}
 use Rattle.sqlite.specs.Held.{state}
 use Rattle.toll_sql.specs.Create.{IsMaking, IsNew, IsWhole}
 use Rattle.toll_sql.specs.Plain.{no_schema}
@@ -7,18 +7,12 @@ use Rattle.toll_sql.proofs.creating.create_tables.Goals as goal
 
 pub returns-in-Ok : goal.returns-in-Ok
 returns-in-Ok g c =
-    let old = state g.S.Store c.args.conn.now in
     let new = state g.S.Store c.create_or_none.new.conn in
-    let auto : old.in_transaction ≡ false = search rules in
-    let has : old.now.schema ≡ no_schema = search rules in
-    let whole : IsWhole (IsMaking no_schema) IsNew (state g.S.Store c.set_step_limit.new.self) new made = c.in-Ok.ensures.whole in
-    record { creates = created old new auto has (subst (λ h. IsWhole (IsMaking no_schema) IsNew (state g.S.Store h) new made) c.set_step_limit.ensures whole) }
+    let whole = subst (λ h. IsWhole (IsMaking no_schema) IsNew (state g.S.Store h) new made) c.set_step_limit.ensures c.in-Ok.ensures.whole in
+    record { creates = created (state g.S.Store c.args.conn.now) new (search rules) (search rules) whole }
 
 pub returns-in-Err : goal.returns-in-Err
 returns-in-Err g c =
-    let old = state g.S.Store c.args.conn.now in
     let new = state g.S.Store c.create_or_none.new.conn in
-    let auto : old.in_transaction ≡ false = search rules in
-    let has : old.now.schema ≡ no_schema = search rules in
-    let whole : IsWhole (IsMaking no_schema) IsNew (state g.S.Store c.set_step_limit.new.self) new (failed (Unit {0}) c.in-Err.error) = c.in-Err.ensures.whole in
-    record { creates = not_created old new auto has c.in-Err.error c.open_fault_of.result c.open_fault_of.ensures (subst (λ h. IsWhole (IsMaking no_schema) IsNew (state g.S.Store h) new (failed (Unit {0}) c.in-Err.error)) c.set_step_limit.ensures whole) }
+    let whole = subst (λ h. IsWhole (IsMaking no_schema) IsNew (state g.S.Store h) new (failed (Unit {0}) c.in-Err.error)) c.set_step_limit.ensures c.in-Err.ensures.whole in
+    record { creates = not_created (state g.S.Store c.args.conn.now) new (search rules) (search rules) c.in-Err.error c.open_fault_of.result c.open_fault_of.ensures whole }

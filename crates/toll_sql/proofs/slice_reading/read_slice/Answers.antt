@@ -20,40 +20,29 @@ returns-in_err-slice-clause-looks g c =
     let f = c.from_residual-in_err-slice.ensures in
     search rules
 
-pub returns-clause-looks : goal.returns-clause-looks
-returns-clause-looks g c =
-    let old = state g.S.Store c.args.conn.now in
-    let one = state g.S.Store c.read_owners.new.conn in
-    let two = state g.S.Store c.read_rows_of.new.conn in
-    let q = looks_then old one two _ _ c.in_ok-owners.ensures.looks c.in_ok-slice.ensures.looks in
-    looks_as old two (Ok _) (Ok _) q (λ live. live) (λ is. absurd (cc)) (λ is. absurd (cc)) (λ is. absurd (cc))
-
-pub returns-clause-shown : goal.returns-clause-shown
-returns-clause-shown g c =
-    let old = state g.S.Store c.args.conn.now in
-    let one = state g.S.Store c.read_owners.new.conn in
-    let two = state g.S.Store c.read_rows_of.new.conn in
-    shows_then {Y = Slice} [] tables_of_owners c.args.owner.now old one two _ (Ok _) c.in_ok-owners.ensures.looks (λ clean has idle. tt) c.in_ok-slice.ensures.looks c.in_ok-slice.ensures.shown
-
 pub returns-then-not-is_known-clause-known : goal.returns-then-not-is_known-clause-known
 returns-then-not-is_known-clause-known g c clean none =
     let old = state g.S.Store c.args.conn.now in
     (c.deref.result.now, subst (λ owners. AreTold Owners owner_cells IsOwner old.now owners) (sym c.deref.ensures.value) (c.in_ok-owners.ensures.shown clean), sym c.is_known.ensures ∙ c.if-not-is_known.true)
 
-pub returns-clause-known : goal.returns-clause-known
-returns-clause-known g c clean none = absurd (cc none)
-
-pub returns-clause-alone : goal.returns-clause-alone
-returns-clause-alone g c =
+pub returns : goal.returns
+returns g c =
+    let o = c.args.owner.now in
     let old = state g.S.Store c.args.conn.now in
     let one = state g.S.Store c.read_owners.new.conn in
     let two = state g.S.Store c.read_rows_of.new.conn in
-    all_rows c.args.owner.now old one two _ c.in_ok-owners.ensures.looks c.deref.result.now c.in_ok-slice.slice c.in_ok-slice.ensures.looks
-    (λ clean has owners held. c.deref.ensures.value ∙ c.in_ok-owners.ensures.reads clean has owners held) c.in_ok-slice.ensures.reads
-    (λ unknown. false≢true (sym unknown ∙ sym c.is_known.ensures ∙ c.if-not-is_known.false))
-
-pub returns-clause-reads : goal.returns-clause-reads
-returns-clause-reads g c = told_reads c.args.owner.now (state g.S.Store c.args.conn.now) (state g.S.Store c.read_rows_of.new.conn) _ (returns-clause-alone g c)
+    let owners = c.in_ok-owners.ensures in
+    let slice = c.in_ok-slice.ensures in
+    let alone = all_rows o old one two _ owners.looks c.deref.result.now c.in_ok-slice.slice slice.looks (λ clean has rows held. c.deref.ensures.value ∙ owners.reads clean has rows held) slice.reads
+    (λ unknown. false≢true (sym unknown ∙ sym c.is_known.ensures ∙ c.if-not-is_known.false)) in
+    record {
+      looks = looks_as old two (Ok _) (Ok _) (looks_then old one two _ _ owners.looks slice.looks) (λ live. live) (λ is. absurd (cc)) (λ is. absurd (cc)) (λ is. absurd (cc));
+      reads = told_reads o old two _ alone;
+      shown = shows_then {Y = Slice} [] tables_of_owners o old one two _ (Ok _) owners.looks (λ clean has idle. tt) slice.looks slice.shown;
+      known = λ clean none. absurd (cc none);
+      whole = told_whole o old two _ alone;
+      alone = alone;
+    }
 
 pub returns-in_err-slice-clause-whole : goal.returns-in_err-slice-clause-whole
 returns-in_err-slice-clause-whole g c clean content held keeps =
