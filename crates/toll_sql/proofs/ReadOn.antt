@@ -158,10 +158,10 @@ HasRead n o a b s t = ReadsOn (front Materials 0) (front (kind_at n) 0) (take n 
 pub none_read : (o : Bytes) (a : State) (s : Slice) → (HasCleanDisk a → IsTrue a.is_open) → HasRead 0 o a a s s
 none_read o a s live = record { looks = (found_still a live).looks; shows = λ _ _ _. tt; reads = λ _ _ _ first. first; whole = λ _ _ _ _ _ is. absurd cc }
 
-pub one_more_read : (tables : List TableKind) → tables ≡ tables_of_owners → (i : ℕ) → i < 11 → (o : Bytes) (a b c : State) (s t u : Slice) (r : Result (Unit {0}) KeepFault) → HasRead i o a b s t → (is_owned (get_or tables i Meta) ≡ true → ReadsNext (get_or tables i Meta) o b c t u r)
+pub one_more_read : (tables : List TableKind) → tables ≡ tables_of_owners → (i : ℕ) → i < length tables → (o : Bytes) (a b c : State) (s t u : Slice) (r : Result (Unit {0}) KeepFault) → HasRead i o a b s t → (is_owned (get_or tables i Meta) ≡ true → ReadsNext (get_or tables i Meta) o b c t u r)
     → ReadsOn (front Materials 0) (front (kind_at (i + 1)) 0) (take (i + 1) tables_of_owners) o a c s u r
 one_more_read tables are i low o a b c s t u r so next =
     let one = subst (λ all. is_owned (get_or all i Meta) ≡ true → ReadsNext (get_or all i Meta) o b c t u r) are next in
     let k = kind_at i in
-    let step = step_at i low in
+    let step = step_at i (subst (λ all. i < length all) are low) in
     subst₂ (λ next kinds. ReadsOn (front Materials 0) (front next 0) kinds o a c s u r) step.1 step.2 (reads_then (front Materials 0) (front k 0) (front (next_of k) 0) o a b c s t u tt r so (one step.0))

@@ -20,8 +20,8 @@ use sqlite::{Alter, Connection, Error, Transaction};
 /// The version of these tables.
 const VERSION: u64 = 2;
 
-// All tables, in the order in which they are made.
-fn every_table() -> [TableKind; 14]
+/// All tables, in the order in which they are made.
+pub(crate) fn every_table() -> [TableKind; 14]
     ensures { result ≡ every_table }
 {
     [

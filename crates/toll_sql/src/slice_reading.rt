@@ -15,6 +15,7 @@ ghost use Rattle.toll_sql.specs.Shown.{IsToldUnknown, Shows, ShowsSlice, tables_
 ghost use Rattle.toll_sql.specs.Tables.{is_owned};
 ghost use Rattle.toll_sql.specs.declared.table_kind.TableKind.TheVariants.{Materials};
 
+use crate::creating::every_table;
 use crate::listing::read_owners;
 use crate::reading::read_table;
 use crate::table_kind::TableKind;
@@ -25,6 +26,9 @@ use toll_base::{
     ResultRow, Slice, SublotRow, TestRow, VoidRow,
 };
 use toll_keep::KeepFault;
+
+/// How many tables stand first that owners do not part.
+const UNOWNED: usize = 3;
 
 /// All rows of an owner: `None` for an unknown one. HOUSE is always known. Where rows are given, each that
 /// the tables have of the owner is a row of the office, its values values of their kinds: one that is none
@@ -80,26 +84,7 @@ fn read_rows_of<S: Alter>(
     Ok(slice)
 }
 
-// The tables that owners part, each behind those of the rows that its own refer to.
-fn tables_of_owners() -> [TableKind; 11]
-    ensures { result ≡ tables_of_owners }
-{
-    [
-        TableKind::Materials,
-        TableKind::Tests,
-        TableKind::Recipes,
-        TableKind::Requirements,
-        TableKind::Orders,
-        TableKind::Batches,
-        TableKind::Lots,
-        TableKind::Sublots,
-        TableKind::Moves,
-        TableKind::Results,
-        TableKind::Voids,
-    ]
-}
-
-// Reads the owner's rows of each table.
+// Reads the owner's rows of each table that owners part, each behind those of the rows that its own refer to.
 fn read_tables<S: Alter>(
     conn: &mut Connection<S>,
     slice: &mut Slice,
@@ -108,8 +93,9 @@ fn read_tables<S: Alter>(
     requires { HasCleanDisk (state S.Store conn.old) → IsTrue (state S.Store conn.old).is_open }
     ensures { ReadsOn (front Materials 0) (λ s. s) tables_of_owners owner.now (state S.Store conn.old) (state S.Store conn.new) slice.old slice.new result }
 {
-    for table in tables_of_owners() {
-        read_kind(conn, slice, owner, table)?;
+    let every = every_table();
+    for table in &every[UNOWNED..] {
+        read_kind(conn, slice, owner, *table)?;
     }
     Ok(())
 }
