@@ -8,12 +8,10 @@ use Rattle.toll_sql.proofs.edges.read_all_edges.Goals as goal
 
 pub returns-in-Ok : goal.returns-in-Ok
 returns-in-Ok g c =
-    let r = c.edges_shown.result in
-    let rows = c.in-Ok.rows.items in
-    let read = subst (λ rows. IfOk r (λ edges. AreReadFrom rows edges.items)) c.deref.ensures.value c.edges_shown.ensures.read in
+    let read = subst (λ rows. IfOk c.edges_shown.result (λ edges. AreReadFrom rows edges.items)) c.deref.ensures.value c.edges_shown.ensures.read in
     record {
-      looks = looking (state g.S.Store c.args.conn.now) (state g.S.Store c.all_pairs.new.conn) c.in-Ok.rows r c.in-Ok.ensures.asks.asks c.edges_shown.ensures.disk c.edges_shown.ensures.closed;
-      reads = λ clean has content held. read_from (IsEdgeOfSome content) rows (c.in-Ok.ensures.rows clean has content held) (λ edges. edges.items) r read;
-      shown = λ clean. IfOk-weaker r _ _ (λ edges it. (rows, c.in-Ok.ensures.read clean, it)) read;
-      whole = λ clean has content held is. each_named (IsEdgeOfSome content) rows (c.in-Ok.ensures.rows clean has content held) (λ e d. edge_named (content.rows d.owner) ((held.slices d.owner).valid Moves refl) e d.edge) (subst HasNoEdge c.deref.ensures.value (c.edges_shown.ensures.damaged is));
+      looks = looking (state g.S.Store c.args.conn.now) (state g.S.Store c.all_pairs.new.conn) c.in-Ok.rows c.edges_shown.result c.in-Ok.ensures.asks.asks c.edges_shown.ensures.disk c.edges_shown.ensures.closed;
+      reads = λ clean has content held. read_from (IsEdgeOfSome content) c.in-Ok.rows.items (c.in-Ok.ensures.rows clean has content held) (λ edges. edges.items) c.edges_shown.result read;
+      shown = λ clean. IfOk-weaker c.edges_shown.result _ _ (λ edges it. (c.in-Ok.rows.items, c.in-Ok.ensures.read clean, it)) read;
+      whole = λ clean has content held is. each_named (IsEdgeOfSome content) c.in-Ok.rows.items (c.in-Ok.ensures.rows clean has content held) (λ e d. edge_named (content.rows d.owner) ((held.slices d.owner).valid Moves refl) e d.edge) (subst HasNoEdge c.deref.ensures.value (c.edges_shown.ensures.damaged is));
     }
