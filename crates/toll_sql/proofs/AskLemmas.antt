@@ -1,5 +1,5 @@
 -- What a text that reads rows is answered.
-use Rattle.std.proofs.Common.{◌≡◌, ℕ, zero, suc, Bool, true, false, cond, ◌&&◌, List, [], ◌∷◌, map, length, Result, IfOk, IfErr, refl, sym, ap, ap₂, subst, subst₂, ◌∙◌, Ordering}
+use Rattle.std.proofs.Common.{◌≡◌, ℕ, zero, suc, Bool, true, false, cond, List, [], ◌∷◌, map, length, Result, IfOk, IfErr, refl, sym, ap, ap₂, subst, subst₂, ◌∙◌, Ordering}
 use Rattle.toll_sql.proofs.Common.{on, ordering_then, list_all, filter_agree, IfErr-weaker, IsPlain, command_of, reads_as, never_commits, survives_weaker, understood, reads_listing, Row, column, row_cmp, overlay, IsAnswer, key_cmp, Schema, State, HasCleanDisk, Survives, Shown, FailsToQuery, CommitsShowing, Env, eval_all, holds, Trees, Error, Null, Text, Bytes}
 use Rattle.std.specs.Prelude.{filter, IsPermutation, IsSorted}
 use Rattle.toll_sql.specs.Asking.{IsQuerying}
@@ -19,6 +19,7 @@ use Rattle.toll_sql.proofs.PutTexts.{terms_from}
 use Rattle.toll_sql.proofs.QueryLemmas.{query_fails, live_of, open_of, same_of}
 use Rattle.toll_sql.proofs.SelectLemmas.{shown_by}
 use Rattle.toll_sql.proofs.SelectTexts.{owner_is, test_of, keys_from, query_of, selecting, select_is, select_given}
+use Rattle.toll_sql.proofs.UpsertLemmas.{and_true}
 
 -- ---- any text that is understood, whatever it asks
 
@@ -77,10 +78,6 @@ same_order k a b =
 pub seen : (k : TableKind) (db : Trees) → overlay db [] (tree_of k) ≡ db (tree_of k)
 seen Meta db = refl
 seen _ db = refl
-
-and_true : (b : Bool) → (b && true) ≡ b
-and_true true = refl
-and_true false = refl
 
 all_pass : (rows : List Row) (params : Row) → filter (λ row. list_all (holds (params ∷ row ∷ [])) []) rows ≡ rows
 all_pass [] params = refl

@@ -1,9 +1,9 @@
 -- What the tests ask of two movements as the table has them.
-use Rattle.std.proofs.Common.{◌≡◌, ◌≤◌, ℕ, ℤ, pos, Bool, true, false, ◌&&◌, List, [], ◌∷◌, refl, sym, ap, subst, ◌∙◌, Some, arith}
-use Rattle.toll_sql.proofs.Common.{false≢true, list_all, is_eq, is_le, int_cmp, nat_tests, tied_itself, exact_signed, Binary, binary, is_true, from_truth, Row, column, value_cmp, holds, Value, Null, Int, Text, Compare, Is, Eq, Le, value_cmp_total, value_cmp-Int, Bytes, Move, Actual, MoveRow, Role, Consumed, Produced, IsActual}
+use Rattle.std.proofs.Common.{◌≡◌, ◌≤◌, ℕ, ℤ, pos, Bool, true, false, ◌&&◌, List, [], ◌∷◌, refl, sym, ap, subst, ◌∙◌, arith}
+use Rattle.toll_sql.proofs.Common.{false≢true, list_all, is_eq, is_le, int_cmp, nat_tests, tied_itself, exact_signed, Binary, binary, is_true, Row, column, value_cmp, holds, Value, Null, Int, Text, Compare, Is, Eq, Le, value_cmp_total, value_cmp-Int, Bytes, Move, Actual, MoveRow, Role, Consumed, Produced, IsActual}
 use Rattle.toll_sql.specs.Encode.{actual_kind, kind_number, lot_of, order_of, number_of, segment_of, move_cells}
 use Rattle.toll_sql.proofs.JoinQuery.{owners_tests, all_tests}
-use Rattle.toll_sql.proofs.PutCommon.{equals_text, tied, is_text as text_of}
+use Rattle.toll_sql.proofs.PutCommon.{equals_text, tied, is_text as text_of, told}
 use Rattle.toll_sql.proofs.UpsertLemmas.{equals_int}
 
 -- ---- tests of values
@@ -31,10 +31,6 @@ numbers_same m n h = let e = exact_signed (pos m) (pos n) (sym (value_cmp-Int (p
 
 pub number_itself : (n : ℕ) → equals (Int (pos n)) (Int (pos n)) ≡ true
 number_itself n = equals_int (Int (pos n)) (pos n) ∙ ap is_eq (tied_itself value_cmp_total (Int (pos n)))
-
-told : (b : Bool) → is_true (from_truth (Some b)) ≡ b
-told true = refl
-told false = refl
 
 at_most_int : (m n : ℤ) → is_at_most (Int m) (Int n) ≡ is_le (int_cmp m n)
 unfolding binary

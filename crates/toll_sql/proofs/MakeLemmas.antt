@@ -17,6 +17,7 @@ use Rattle.toll_sql.proofs.CreateTexts.{unplaced, create_is, create_defines, cre
 use Rattle.toll_sql.proofs.IndexText.{index_is, index_listed}
 use Rattle.toll_sql.proofs.PutTexts.{number_of}
 use Rattle.toll_sql.proofs.StepLemmas.{in_turn, one_step}
+use Rattle.toll_sql.proofs.ListLemmas.{more_valid}
 
 pub table_step : (k : TableKind) (old new : State) (r : Result ℕ Error) → (old.in_transaction ≡ false → new ≡ old) → (HasCleanDisk new → IsTrue old.in_transaction → ExecutesInside 0 (create_text k) [] old new r) → Survives old new (λ _. ⊥)
     → IsStep (IsMaking (made_before k)) (MakesTable k) old new r
@@ -40,10 +41,6 @@ pub shaped_still : (ts : List Table) (old new : Trees) → KeepsRows ts old new 
 shaped_still [] old new kept shaped = tt
 shaped_still (t ∷ ts) old new kept shaped = (subst (IsShaped shape.Table) (sym kept.0) shaped.0, shaped_still ts old new kept.1 shaped.1)
 
-pub all_more : {X : Type 0} (P : X → Type 0) (xs : List X) (x : X) → AllByRecursion P xs → P x → AllByRecursion P (xs ++ x ∷ [])
-all_more P [] x h p = (p, tt)
-all_more P (y ∷ xs) x h p = (h.0, all_more P xs x h.1 p)
-
 -- the office's tables alone have theirs
 pub all_ours : HasOurs made_all
 all_ours = record { tables = ([], refl, tt); indexes = ([], refl, tt) }
@@ -56,7 +53,7 @@ no_guard i plain (t ∷ ts) = (ap (λ b. b && (i.table == t.tree)) plain, no_gua
 pub ours_indexed : {schema : Schema} → HasOurs schema → HasOurs (indexed schema (table_of Moves) by_batch)
 ours_indexed {schema} has =
     let index : Index = record by_batch { tree = next_tree schema } in
-    record { tables = has.tables; indexes = (has.indexes.0 ++ index ∷ [], ap (λ indexes. indexes ++ index ∷ []) has.indexes.1, all_more _ has.indexes.0 index has.indexes.2 (no_guard index refl made_all.tables)) }
+    record { tables = has.tables; indexes = (has.indexes.0 ++ index ∷ [], ap (λ indexes. indexes ++ index ∷ []) has.indexes.1, more_valid _ has.indexes.0 index has.indexes.2 (no_guard index refl made_all.tables)) }
 
 none_named : has_its_name made_all ≡ false
 unfolding same_name
@@ -108,7 +105,7 @@ next_ready n k at first now h = subst (λ s. IsMaking s now) (sym (before_is n k
 next_made : (n : ℕ) (k : TableKind) → number_of k ≡ n → (first now next : State) → MakesFirst n first now → MakesTable k now next → MakesFirst (n + 1) first next
 next_made n k at first now next h one =
     let were : AreEmpty (made_before k) now.now.trees = subst (λ s. AreEmpty s now.now.trees) (sym (before_is n k at)) h.empty in
-    let are = all_more (λ t. next.now.trees t.tree ≡ []) (made_before k).tables (record (unplaced k) { tree = next_tree (made_before k) }) (all_kept (made_before k).tables _ _ one.others were)
+    let are = more_valid (λ t. next.now.trees t.tree ≡ []) (made_before k).tables (record (unplaced k) { tree = next_tree (made_before k) }) (all_kept (made_before k).tables _ _ one.others were)
     (subst (λ tree. next.now.trees tree ≡ []) (sym (create_place k)) one.empty) in
     let more : suc (number_of k) ≡ n + 1 = omega (arith, at) in
     let all : with_tables (made_before k) (k ∷ []) ≡ with_tables no_schema (take (n + 1) every_table) = next_is k ∙ ap (λ m. with_tables no_schema (take m every_table)) more in

@@ -18,6 +18,7 @@ use Rattle.toll_sql.proofs.CauseLemmas.{reason_before}
 use Rattle.toll_sql.proofs.Indexing.{first_unnamed, holds_kept, indexed_ours, indexed_told, kept_ours}
 use Rattle.toll_sql.proofs.MetaLemmas.{shows_it, shows_neither}
 use Rattle.toll_sql.proofs.OverLemmas.{IsTold, disk_told, done, failed, made, not_damaged, not_foreign, refused}
+use Rattle.toll_sql.proofs.SoFar.{when_ok}
 
 module _ (Found : Database → Type 0) (Brought : Database → Database → Type 0) (Before : State → Type 0) (old new : State) (start : Found old.now → old.step_limit ≡ None → Before (begin old)) where
   abbrev Leaves : Trees → Type 0
@@ -72,10 +73,6 @@ left_over old new r free left fault cause = record {
 both_ok : {X E : Type 0} (A B C : Type 0) (r : Result X E) → (A → B → C) → OnOk r A → OnOk r B → OnOk r C
 both_ok A B C (Ok x) join a b = join a b
 both_ok A B C (Err e) join a b = tt
-
-when_ok : {X E : Type 0} (A : Type 0) (r : Result X E) → A → OnOk r A
-when_ok A (Ok x) a = a
-when_ok A (Err e) a = tt
 
 -- the version was read, and then the tables were brought to what they are to be
 module _ (Found : Database → Type 0) (Brought : Database → Database → Type 0) (old mid new : State) (free : old.step_limit ≡ None) (survives : Survives old mid (λ _. ⊥)) (was_live : HasCleanDisk mid → IsTrue mid.is_open → IsTrue old.is_open)

@@ -1,7 +1,7 @@
 -- What an INSERT of one row with ON CONFLICT DO UPDATE makes of a table, whichever table it is.
 use Rattle.std.proofs.Common.{◌≡◌, ◌≢◌, ◌⊎◌, inl, inr, ℕ, ℤ, pos, Bool, true, false, not, cond, ◌&&◌, List, [], ◌∷◌, ◌++◌, map, drop, length, slice_get, Option, Some, None, Ok, Err, Result, refl, sym, ap, subst, subst₂, ◌∙◌}
 use Rattle.std.specs.Prelude.{filter, IsPermutation, ◌/◌}
-use Rattle.toll_sql.proofs.Common.{is_eq, AllByRecursion, list_all, filter_agree, IsPermutation-map, Value, Null, Int, Row, column, value_cmp, binary, is_true, from_truth, Term, col, op2, eval_all, holds, Query, IsAnswer, overlay, IsShaped, Schema, Table, Values, Binary, plain, Compare, Eq, Abort, Upsert, Enforced, agree, Has, conflicts, AreConflicts, cast_row, ids_of, Given, Chosen, Above, edit_of, taken_by, is_taken, next_rowid, with_rowid, id_in, without_all, put_all, are_fresh, all_has, value_rows, edit_error, Refusal, one_step, one_permutation, Command, InsertOr, Database, Tally, Does, OnTable, OnRows, AtPlace, understood, State, mode_of, Executes, IsPlain, command_of, statement_of, runs_as}
+use Rattle.toll_sql.proofs.Common.{is_eq, AllByRecursion, list_all, filter_agree, IsPermutation-map, Value, Null, Int, Row, column, value_cmp, binary, is_true, Term, col, op2, eval_all, holds, Query, IsAnswer, overlay, IsShaped, Schema, Table, Values, Binary, plain, Compare, Eq, Abort, Upsert, Enforced, agree, Has, conflicts, AreConflicts, cast_row, ids_of, Given, Chosen, Above, edit_of, taken_by, is_taken, next_rowid, with_rowid, id_in, without_all, put_all, are_fresh, all_has, value_rows, edit_error, Refusal, one_step, one_permutation, Command, InsertOr, Database, Tally, Does, OnTable, OnRows, AtPlace, understood, State, mode_of, Executes, IsPlain, command_of, statement_of, runs_as}
 use Rattle.sqlite.specs.Tree.{Trees, rowid, has_rowid, put_row, without_rowid}
 use Rattle.sqlite_trees.specs.declared.store.Shape.TheVariants as shape
 use Rattle.sqlite_trees.proofs.TreeLemmas.{IsShaped-put_row, IsShaped-filter, not_true}
@@ -14,6 +14,7 @@ use Rattle.toll_sql.specs.Bag.{all_cells}
 use Rattle.toll_sql.specs.Select.{plain_query}
 use Rattle.toll_sql.proofs.SelectLemmas.{shown_by}
 use Rattle.toll_sql.proofs.TableLemmas.{one_hit, parted, put_perm}
+use Rattle.toll_sql.proofs.PutCommon.{told}
 
 -- a part that gave a value did not stop on the way
 pub went : {B E R : Type 0} {b : B} {Stops : E → Type 0} → ((stop : E) × Stops stop × (Ok b ≡ Err stop)) ⊎ R → R
@@ -22,10 +23,6 @@ went (inr on) = on
 
 pub same_value : {B E : Type 0} {a b : B} → ◌≡◌ {A = Result B E} (Ok a) (Ok b) → a ≡ b
 same_value e = cc
-
-told : (b : Bool) → is_true (from_truth (Some b)) ≡ b
-told true = refl
-told false = refl
 
 null_first : (n : ℤ) → is_eq (value_cmp Null (Int n)) ≡ false
 unfolding value_cmp
@@ -47,7 +44,7 @@ all_of P (x ∷ xs) f = (f x (inl refl), all_of P xs (λ y has. f y (inr has)))
 abbrev by_rowid : ℕ → List Term
 by_rowid n = op2 (Compare Eq Binary) (col 1 0) (col 0 n) ∷ []
 
-and_true : (b : Bool) → (b && true) ≡ b
+pub and_true : (b : Bool) → (b && true) ≡ b
 and_true true = refl
 and_true false = refl
 
