@@ -1,4 +1,1 @@
-pub mod Asking
-pub mod Faults
 pub mod Doing
-pub mod Serving

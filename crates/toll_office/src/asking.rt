@@ -1,13 +1,13 @@
 //! Asking the server of a file.
 ghost use Rattle.std.specs.Prelude.{◌≡◌, IfSome, IsNone};
-ghost use Rattle.toll_office.specs.Asking.{IsServerTold};
 ghost use Rattle.toll_programs.specs.Told.{streams_of};
+ghost use Rattle.toll_served.specs.Asking.{IsServerTold};
 
-use crate::handing::hand_over;
 use crate::plant_door::socket_path;
-use crate::server_stream::ServerStream;
 use std::fs;
 use std::os::unix::fs::{FileTypeExt, MetadataExt};
+use std::os::unix::net::UnixStream;
+use toll_served::{Noted, hand_over};
 use toll_streams::Sink;
 
 /// Asks the server of the office in this file, for whose answer it waits as long as it takes, writes what
@@ -28,12 +28,13 @@ pub fn ask_server<W: Sink, E: Sink>(
     hand_over(rt.alloc(), &mut stream, words, file, output, error)
 }
 
-fn connect(rt: &HostRuntime, office: &str) -> Option<ServerStream> {
+fn connect(rt: &HostRuntime, office: &str) -> Option<Noted<UnixStream>> {
     let path = socket_path(rt, office).ok()?;
     if !is_of_its_owner(rt, office, path.as_str()) {
         return None;
     }
-    ServerStream::connect(rt, path.as_str()).ok()
+    let stream = UnixStream::connect(rt, path.as_str()).ok()?;
+    Some(Noted::new(stream))
 }
 
 // Whether a socket file stands there that belongs to the user whose file the office's is: whoever may put

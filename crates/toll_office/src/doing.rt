@@ -1,15 +1,16 @@
 //! Commands, imports and scripts. What is done to a keep stays in here, so that who calls owns none.
 ghost use Rattle.std.specs.Prelude.{◌≡◌, IsErr, IfOk};
+ghost use Rattle.toll_office.specs.Doing.{IsCommandOver, IsImportOver, IsScriptDone};
 ghost use Rattle.toll_programs.specs.Told.{streams_of};
 ghost use Rattle.toll_sql.specs.Opened.{IsOpened};
-ghost use Rattle.toll_office.specs.Doing.{IsCommandOver, IsImportOver, IsScriptDone};
 
-use crate::office::{FileKeep, Office, OfficeFault};
+use crate::office::{FileKeep, Office};
 use sqlite::MemStore;
 use std::alloc::Global;
 use toll_desk::PlantCmd;
 use toll_keep::{Keep, Remembering};
 use toll_programs::{ScriptEnd, plant_import, plant_line, script};
+use toll_served::OfficeFault;
 use toll_sql::SqlKeep;
 use toll_streams::{Sink, Source};
 

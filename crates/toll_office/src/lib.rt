@@ -4,34 +4,18 @@
 #![tactic(auto)]
 
 mod asking;
-mod desk;
 mod doing;
-mod handing;
-mod laws;
-mod lending;
 mod office;
-mod passing;
 mod plant_door;
 mod programs;
-mod server_stream;
 mod serving;
-mod session;
 mod socket_file;
 mod sockets;
-mod stored;
 mod stream;
-mod stuck;
 mod timed;
-mod version;
-mod watch;
 
 pub use asking::ask_server;
 pub use doing::{do_command, do_import, do_script};
-pub use handing::hand_over;
-pub use laws::what_is_served_between_two_openings_is_a_run;
-pub use office::{OfficeFault, take_lock};
 pub use programs::run;
-pub use server_stream::Noting;
 pub use serving::{Served, serve_all, serve_one};
 pub use sockets::Sockets;
-pub use stored::Stored;

@@ -1,13 +1,12 @@
 //! The plant's way in to a server.
-use crate::office::take_lock;
 use crate::socket_file::SocketFile;
-use crate::version::VERSION;
 use mio::net::UnixStream;
 use mio::{Registry, Token};
 use std::alloc::AllocError;
 use std::io;
 use std::io::{ErrorKind, Write};
 use toll_parcels::greeting;
+use toll_served::{VERSION, take_lock};
 
 /// The socket file `FILE.sock` beside an office's file, where the plant's commands come to its server. Who
 /// comes is greeted with the server's build.

@@ -1,7 +1,6 @@
 //! The programs.
 use crate::asking::ask_server;
 use crate::doing::{do_command, do_import, do_script};
-use crate::office::OfficeFault;
 use crate::serving::serve_all;
 use crate::sockets::Sockets;
 use std::alloc::{AllocError, Global};
@@ -14,6 +13,7 @@ use toll_plant::{MOST_FILE_BYTES, WordsFault, command_of};
 use toll_programs::{
     FrontFault, Status, Task, read_front, task_of, tell, tell_end, usage_of, warn,
 };
+use toll_served::OfficeFault;
 
 /// How many standard streams there are.
 const STREAMS: usize = 3;

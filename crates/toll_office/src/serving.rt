@@ -1,10 +1,10 @@
 //! Serving owners on a socket.
-use crate::desk::Desk;
-use crate::office::{FileKeep, Office, answer_from};
+use crate::office::{Office, Tables, answer_from};
 use crate::sockets::Sockets;
 use crate::timed::Timed;
 use std::net::{TcpListener, TcpStream};
-use toll_peers::{Served as Ended, serve};
+use toll_peers::Served as Ended;
+use toll_served::{Place, serve_place};
 use toll_streams::write_whole;
 use toll_wire::{Out, ReadFault, read_request};
 
@@ -39,10 +39,12 @@ pub fn serve_one(rt: &HostRuntime, listener: &TcpListener, path: &str) -> Served
 /// itself does it, but for how often the file is opened: it stays open between requests while nobody else
 /// changes it.
 pub fn serve_all(rt: &HostRuntime, sockets: &mut Sockets<'_>, path: &str, count: u64) -> Ended {
-    let mut desk: Desk<'_, FileKeep> = Desk::new(rt, path);
-    let ended = serve(rt.alloc(), sockets, &mut desk, count);
-    desk.close();
-    ended
+    let place = Place {
+        rt,
+        path,
+        opener: Tables,
+    };
+    serve_place(sockets, place, count)
 }
 
 // The request that the peer sends, which it must within the time.

@@ -1,7 +1,6 @@
 //! The sockets of the system.
 use crate::plant_door::{DoorFault, PlantDoor};
 use crate::stream::Stream;
-use crate::watch::{ServingFault, Watch};
 use mio::net::TcpListener;
 use mio::{Events, Interest, Poll, Token};
 use std::io;
@@ -9,6 +8,7 @@ use std::io::ErrorKind;
 use std::net::{Ipv4Addr, SocketAddr, SocketAddrV4};
 use std::time::{Duration, Instant};
 use toll_peers::{Coming, Door, World, WorldFault};
+use toll_served::{ServingFault, Watch};
 
 /// How many events one wait gives.
 const MOST_EVENTS: usize = 256;

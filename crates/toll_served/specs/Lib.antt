@@ -5,3 +5,6 @@ pub mod Doors
 pub mod Events
 pub mod Serving
 pub mod Whole
+pub mod Faults
+pub mod Asking
+pub mod Sittings

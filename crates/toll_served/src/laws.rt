@@ -4,8 +4,10 @@ ghost use Rattle.toll_peers.specs.Runs.{Tasks, Turn};
 ghost use Rattle.toll_plant.specs.UnderWay.{UnderWay};
 ghost use Rattle.toll_served.specs.Events.{Part};
 ghost use Rattle.toll_served.specs.Serving.{IsRunWhereAnswered};
+ghost use Rattle.toll_served.specs.Sittings.{AreSittings};
 ghost use Rattle.toll_served.specs.Whole.{IsAllAsked};
 
+use crate::place::Opener;
 use toll_keep::Keep;
 
 /// Whatever peers ask of an office that answers each of them over its keep, one turn after another, is a run
@@ -20,4 +22,11 @@ pub fn what_peers_ask_over_a_keep_is_a_run<K: Keep, O>()
 /// fault, in order, and the report of what came of them.
 pub fn what_one_asks_is_all_of_its_turns()
     ensures { (tasks : Tasks UnderWay) (parts : List Part) → IsAllAsked tasks parts }
+{}
+
+/// What a desk serves between two openings of its office is a run: of its turns, all in which an office was
+/// asked were taken over the one keep that stood open, one after another, and in all others what was asked
+/// was turned away, and an import given up.
+pub fn what_is_served_between_two_openings_is_a_run<K: Keep, O: Opener<K>, D>()
+    ensures { AreSittings K.meaning O.is_opened D }
 {}

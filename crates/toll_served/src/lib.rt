@@ -1,20 +1,46 @@
 //! A server's answers at its two doors, over any keep: owners' requests, and what the plant asks in parcels.
-//! What peers ask, side by side, is a run of events.
+//! What peers ask, side by side, is a run of events; so it is over an office that stands in a file, which is
+//! opened under its lock and stays open while nobody else changes it. And the other side: what is asked is
+//! handed to a server, and what it tells is passed on.
 #![tactic(auto)]
 
 mod answering;
+mod desk;
+mod handing;
 mod importing;
 mod kept_office;
 mod laws;
+mod lending;
+mod lock;
+mod noting;
+mod office_fault;
+mod opened;
+mod passing;
+mod place;
 mod plant;
 mod printout;
 mod reply;
 mod room;
 mod serving;
+mod session;
+mod stuck;
+mod version;
+mod watch;
 
 pub use answering::answer_at;
+pub use desk::Desk;
+pub use handing::hand_over;
 pub use importing::Importing;
 pub use kept_office::KeptOffice;
-pub use laws::{what_one_asks_is_all_of_its_turns, what_peers_ask_over_a_keep_is_a_run};
+pub use laws::{
+    what_is_served_between_two_openings_is_a_run, what_one_asks_is_all_of_its_turns,
+    what_peers_ask_over_a_keep_is_a_run,
+};
+pub use lock::take_lock;
+pub use noting::{Noted, Noting};
+pub use office_fault::OfficeFault;
+pub use place::{Opener, Place};
 pub use reply::Reply;
-pub use serving::serve_keep;
+pub use serving::{serve_keep, serve_place};
+pub use version::VERSION;
+pub use watch::{ServingFault, Watch};

@@ -1,9 +1,12 @@
-//! Serving over a keep.
+//! Serving over a keep, and over an office in a file.
 ghost use Rattle.std.specs.Prelude.{◌≡◌};
 ghost use Rattle.toll_peers.specs.Worlds.{EndsSo, Tallies};
 ghost use Rattle.toll_served.specs.Serving.{HasServed};
+ghost use Rattle.toll_served.specs.Sittings.{IsServedAt};
 
+use crate::desk::Desk;
 use crate::kept_office::KeptOffice;
+use crate::place::{Opener, Place};
 use std::alloc::Global;
 use toll_keep::Keep;
 use toll_peers::{Served, World, serve};
@@ -22,4 +25,21 @@ pub fn serve_keep<W: World, K: Keep>(
     ensures end { Tallies (EndsSo result count) (W.tally world.old) (W.tally world.new) }
 {
     serve(alloc, world, office, count)
+}
+
+/// Serves so many owners side by side over the office at this place, and the plant meanwhile. It is opened for
+/// the first request, stays open between requests while nobody else changes it, and is closed in the end.
+pub fn serve_place<W: World, K: Keep + Drop, O: Opener<K>>(
+    world: &mut W,
+    place: Place<'_, O>,
+    count: u64,
+) -> Served
+    ensures run { IsServedAt O K.meaning O.is_opened (result ≡ Served.All) }
+    ensures end { Tallies (EndsSo result count) (W.tally world.old) (W.tally world.new) }
+{
+    let alloc = place.rt.alloc();
+    let mut desk = Desk::new(place);
+    let served = serve(alloc, world, &mut desk, count);
+    desk.close();
+    served
 }

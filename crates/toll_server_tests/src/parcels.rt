@@ -5,13 +5,13 @@ use toll_parcels::{
 };
 
 /// The words `stock ACME`, as the plant asks them.
-const STOCK: &[u8] = b"\0\0\0\x0f\0\0\0\x0bstock\0ACME\0";
+pub const STOCK: &[u8] = b"\0\0\0\x0f\0\0\0\x0bstock\0ACME\0";
 
 /// The word `import`, and a file of three bytes.
 const IMPORT: &[u8] = b"\0\0\0\x0f\0\0\0\x07import\0\x01a,b";
 
 /// Status 1, `no` on standard output and `why` on standard error.
-const TOLD: &[u8] = b"\0\0\0\x0a\x01\0\0\0\x02nowhy";
+pub const TOLD: &[u8] = b"\0\0\0\x0a\x01\0\0\0\x02nowhy";
 
 /// The greeting of build 1.0.
 const GREETING: &[u8] = b"\0\0\0\x08toll 1.0";

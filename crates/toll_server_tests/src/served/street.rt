@@ -87,7 +87,8 @@ pub struct Guest<'l> {
 }
 
 impl<'l> Guest<'l> {
-    fn new(visit: &Visit<'l>, log: &'l Log) -> Self {
+    /// Who comes so.
+    pub fn new(visit: &Visit<'l>, log: &'l Log) -> Self {
         Guest {
             door: visit.door,
             asks: visit.asked,

@@ -5,8 +5,9 @@ use std::fs::File;
 use std::io::{Read, Write};
 use std::net::{Ipv4Addr, Shutdown, SocketAddrV4, TcpListener, TcpStream};
 use std::test::Fail;
-use toll_office::{Served, do_command, serve_one, take_lock};
+use toll_office::{Served, do_command, serve_one};
 use toll_plant::command_of;
+use toll_served::take_lock;
 
 const ADDED: &[&[&str]] = &[
     &["owner-add", "ACME", "ACMEKEY1"],

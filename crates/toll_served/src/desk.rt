@@ -1,50 +1,49 @@
 //! The office in a file, as the peers of a server ask it.
 ghost use Rattle.std.specs.Prelude.{◌≡◌, []};
-ghost use Rattle.toll_office.specs.Faults.{fault_text};
-ghost use Rattle.toll_office.specs.Serving.{AnswersBy, GoesOnBy, IsTurnedAway, IsUnopened, standing_of};
 ghost use Rattle.toll_programs.specs.Statuses.{code_of};
 ghost use Rattle.toll_programs.specs.declared.status.Status.{Status};
+ghost use Rattle.toll_served.specs.Faults.{fault_text};
+ghost use Rattle.toll_served.specs.Sittings.{AnswersBy, GoesOnBy, IsTurnedAway, IsUnopened, standing_of};
 
-use crate::office::OfficeFault;
+use crate::importing::Importing;
+use crate::office_fault::OfficeFault;
+use crate::place::{Opener, Place};
+use crate::reply::Reply;
 use crate::session::Session;
-use crate::stored::Stored;
 use crate::watch::{ServingFault, Watch};
 use std::alloc::Global;
+use toll_keep::Keep;
 use toll_parcels::Told;
 use toll_peers::{Door, Office, Progress};
 use toll_programs::Status;
-use toll_served::{Importing, Reply};
 use toll_wire::Out;
 
 /// An office that a server has open. What it is asked it answers by its session, and a fault that it meets
 /// it tells the operator.
-pub struct Desk<'a, K> {
-    rt: &'a HostRuntime,
-    path: &'a str,
+pub struct Desk<'a, K, O> {
+    place: Place<'a, O>,
     session: Session<K>,
     watch: Watch,
 }
 
 /// By hand, as a session's.
-impl<K: Drop> Drop for Desk<'_, K> {
+impl<K: Drop, O: Drop> Drop for Desk<'_, K, O> {
     fn drop(self) {
         let Desk {
-            rt: _,
-            path: _,
+            place: _,
             session: _,
             watch: _,
         } = self;
     }
 }
 
-impl<'a, K: Stored> Desk<'a, K> {
-    /// Of the office in this file, which is opened for the first request.
-    pub fn new(rt: &'a HostRuntime, path: &'a str) -> Self
+impl<'a, K: Keep + Drop, O: Opener<K>> Desk<'a, K, O> {
+    /// Of the office at this place, which is opened for the first request.
+    pub fn new(place: Place<'a, O>) -> Self
         ensures { IsUnopened (standing_of result.session) }
     {
         Desk {
-            rt,
-            path,
+            place,
             session: Session::new(),
             watch: Watch::new(),
         }
@@ -53,23 +52,22 @@ impl<'a, K: Stored> Desk<'a, K> {
     /// Closes the file, if it is open.
     pub fn close(self) {
         let Desk {
-            rt,
-            path,
+            place,
             session,
             watch: _,
         } = self;
-        session.close(rt, path);
+        session.close(&place);
     }
 }
 
-impl<K: Stored> Desk<'_, K> {
+impl<K: Drop, O: Drop> Desk<'_, K, O> {
     // What a turn of the session came to, of which the operator is told a fault.
     fn noted(&mut self, reply: Reply) -> Progress<Importing>
         ensures progress { result ≡ reply.progress }
         ensures session { self.new.session ≡ self.old.session }
     {
         let fault = (!reply.goes_on).then_some(ServingFault::Unavailable);
-        self.watch.note(self.rt, fault);
+        self.watch.note(self.place.rt, fault);
         reply.progress
     }
 
@@ -77,23 +75,24 @@ impl<K: Stored> Desk<'_, K> {
     fn note_closed(&mut self, fault: OfficeFault)
         ensures { self.new.session ≡ self.old.session }
     {
-        self.watch.note(self.rt, Some(ServingFault::Office(fault)));
+        self.watch
+            .note(self.place.rt, Some(ServingFault::Office(fault)));
     }
 }
 
-impl<K: Stored> Office for Desk<'_, K> {
+impl<K: Keep + Drop, O: Opener<K>> Office for Desk<'_, K, O> {
     type Task = Importing;
 
-    ghost answers = { AnswersBy K.Keep.meaning K.is_opened (λ desk. standing_of desk.session) };
+    ghost answers = { AnswersBy K.meaning O.is_opened (λ desk. standing_of desk.session) };
 
-    ghost goes_on = { GoesOnBy K.Keep.meaning K.is_opened (λ desk. standing_of desk.session) };
+    ghost goes_on = { GoesOnBy K.meaning O.is_opened (λ desk. standing_of desk.session) };
 
     // Who came in at the plant's door and asked nothing only looked whether somebody is there.
     fn answer(&mut self, alloc: Global, door: Door, asked: &[u8]) -> Progress<Importing> {
         if door == Door::Plant && asked.is_empty() {
             return Progress::Told(Vec::new(alloc));
         }
-        match self.session.answer(self.rt, self.path, door, asked) {
+        match self.session.answer(&self.place, door, asked) {
             Ok(reply) => self.noted(reply),
             Err(fault) => {
                 self.note_closed(fault);
@@ -103,7 +102,7 @@ impl<K: Stored> Office for Desk<'_, K> {
     }
 
     fn go_on(&mut self, alloc: Global, task: Importing) -> Progress<Importing> {
-        match self.session.go_on(self.rt, self.path, task) {
+        match self.session.go_on(&self.place, task) {
             Ok(reply) => self.noted(reply),
             Err(stuck) => {
                 self.note_closed(stuck.fault);

@@ -1,7 +1,6 @@
-//! A connection to a server.
+//! Connections that tell whether a read of them has failed.
 use std::io;
 use std::io::{Read, Write};
-use std::os::unix::net::UnixStream;
 use toll_peers::Socket;
 use toll_streams::{Sink, Source};
 
@@ -14,27 +13,27 @@ pub trait Noting: Socket {
         ensures { Self.Source.has_failed self.now ≡ Some result };
 }
 
-/// A connection to a server, whose reads and writes wait.
+/// A stream, and whether a read of it has failed.
 #[derive(Drop)]
-pub struct ServerStream {
-    stream: UnixStream,
+pub struct Noted<S> {
+    stream: S,
     has_failed: bool,
 }
 
-impl ServerStream {
-    /// To the server that listens at this socket file.
-    pub fn connect(rt: &HostRuntime, path: &str) -> io::Result<Self> {
-        Ok(ServerStream {
-            stream: UnixStream::connect(rt, path)?,
+impl<S: Drop> Noted<S> {
+    /// No read has failed yet.
+    pub fn new(stream: S) -> Self {
+        Noted {
+            stream,
             has_failed: false,
-        })
+        }
     }
 }
 
-impl Source for ServerStream {
+impl<S: Read + Drop> Source for Noted<S> {
     ghost use Rattle.std.specs.Prelude.{Some};
 
-    ghost has_failed = { λ server. Some server.has_failed };
+    ghost has_failed = { λ noted. Some noted.has_failed };
 
     fn read_some(&mut self, buffer: &mut [u8]) -> io::Result<usize> {
         let read = self.stream.read(buffer);
@@ -43,19 +42,19 @@ impl Source for ServerStream {
     }
 }
 
-impl Sink for ServerStream {
+impl<S: Write + Drop> Sink for Noted<S> {
     fn write_some(&mut self, bytes: &[u8]) -> io::Result<usize> {
         self.stream.write(bytes)
     }
 }
 
-impl Socket for ServerStream {
+impl<S: Read + Write + Drop> Socket for Noted<S> {
     ghost use Rattle.std.specs.Prelude.{refl};
 
     ghost apart = { λ _. refl };
 }
 
-impl Noting for ServerStream {
+impl<S: Read + Write + Drop> Noting for Noted<S> {
     fn has_failed(&self) -> bool {
         self.has_failed
     }

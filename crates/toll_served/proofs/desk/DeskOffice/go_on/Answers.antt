@@ -1,7 +1,7 @@
 use Rattle.std.proofs.Common.{inr, subst, sym}
-use Rattle.toll_office.specs.Serving.{IsGivenUp, IsIdle, standing_of}
+use Rattle.toll_served.specs.Sittings.{IsGivenUp, IsIdle, standing_of}
 use Rattle.toll_served.specs.Doors.{IsToldSo}
-use Rattle.toll_office.proofs.desk.DeskOffice.go_on.Goals as goal
+use Rattle.toll_served.proofs.desk.DeskOffice.go_on.Goals as goal
 
 pub returns-in-Err : goal.returns-in-Err
 returns-in-Err g c =

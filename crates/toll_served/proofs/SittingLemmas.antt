@@ -2,7 +2,7 @@
 use Rattle.std.proofs.Common.{◌≡◌, ◌⊎◌, ◌∙◌, ◌≤◌, ap, List, [], ◌∷◌, Option, None, Some, refl, sym, subst, inl, inr, arith}
 use Rattle.toll_keep.specs.Content.{Content}
 use Rattle.toll_keep.specs.Meaning.{Meaning}
-use Rattle.toll_office.specs.Serving.{AnswersBy, AreThoseTaken, GoesOnBy, IsAtHand, IsLeft, IsSitting, IsToldOver, Standing}
+use Rattle.toll_served.specs.Sittings.{AnswersBy, AreThoseTaken, GoesOnBy, IsAtHand, IsLeft, IsSitting, IsToldOver, Standing}
 use Rattle.toll_peers.specs.Runs.{Handed, Request, Task, ComesTo, Runs, Turn}
 use Rattle.toll_peers.specs.declared.progress.Progress.{Progress}
 use Rattle.toll_plant.specs.UnderWay.{UnderWay}

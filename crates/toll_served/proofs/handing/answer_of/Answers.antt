@@ -2,12 +2,12 @@ use Rattle.std.proofs.Common.{◌≡◌, ◌⊎◌, ◌∙◌, ◌++◌, ℕ, Bo
 use Rattle.std.specs.Io.KnownBytes.{IsAtEnd}
 use Rattle.std.specs.Prelude.{IfNone, is_some}
 use Rattle.toll_base.specs.Bytes.{Bytes}
-use Rattle.toll_office.specs.Asking.{IsAnswer, IsNoAnswer}
+use Rattle.toll_served.specs.Asking.{IsAnswer, IsNoAnswer}
 use Rattle.toll_parcels.specs.Messages.{IsToldBy}
 use Rattle.toll_parcels.specs.Parcels.{IsEnough}
 use Rattle.toll_parcels.specs.declared.told.Told.{Told}
 use Rattle.toll_parcels.specs.declared.told.TheConstants.{MOST_TOLD_BYTES}
-use Rattle.toll_office.proofs.handing.answer_of.Goals as goal
+use Rattle.toll_served.proofs.handing.answer_of.Goals as goal
 
 -- what can't be read is no answer
 no_answer : (text : Bytes) (read : Option Told) (found : Bool) → found ≡ is_some read → found ≡ false

@@ -1,6 +1,6 @@
 //! What a server told, as the program tells it.
-ghost use Rattle.toll_office.specs.Asking.{IsPassedOn};
 ghost use Rattle.toll_programs.specs.Told.{streams_of};
+ghost use Rattle.toll_served.specs.Asking.{IsPassedOn};
 
 use toll_parcels::Told;
 use toll_programs::Status;

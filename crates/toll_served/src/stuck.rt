@@ -1,11 +1,11 @@
 //! An import that can't go on.
-ghost use Rattle.toll_office.specs.Serving.{IsGivenUp};
 ghost use Rattle.toll_served.specs.Doors.{IsToldSo};
+ghost use Rattle.toll_served.specs.Sittings.{IsGivenUp};
 
-use crate::office::OfficeFault;
+use crate::importing::Importing;
+use crate::office_fault::OfficeFault;
 use std::alloc::Global;
 use toll_peers::Progress;
-use toll_served::Importing;
 
 /// An import that can't go on, since the office was closed and can't be opened.
 #[derive(Drop)]

@@ -1,13 +1,13 @@
 //! Handing what is asked to a server.
 ghost use Rattle.std.specs.Prelude.{◌≡◌, IsNone, IsTrue, map, option_map};
-ghost use Rattle.toll_office.specs.Asking.{CanBeTold, IsAnswer, IsExchange, IsGreetedBy, IsHandedOver, IsServerTold, IsWrittenOf, lost_line};
 ghost use Rattle.toll_parcels.specs.Messages.{asked_text};
 ghost use Rattle.toll_parcels.specs.Parcels.{parcel};
 ghost use Rattle.toll_programs.specs.Told.{IsWarned, stream_of, streams_of};
 ghost use Rattle.toll_programs.specs.declared.status.Status.{Status};
+ghost use Rattle.toll_served.specs.Asking.{CanBeTold, IsAnswer, IsExchange, IsGreetedBy, IsHandedOver, IsServerTold, IsWrittenOf, lost_line};
 
+use crate::noting::Noting;
 use crate::passing::pass_on;
-use crate::server_stream::Noting;
 use crate::version::VERSION;
 use std::alloc::Global;
 use toll_parcels::{Asked, MOST_GREETING_BYTES, MOST_TOLD_BYTES, Parcel, Told, is_greeting};
@@ -16,7 +16,7 @@ use toll_streams::{Arriving, Sink, write_whole};
 
 /// What came of asking a server.
 #[derive(Drop)]
-pub enum Reply {
+pub enum Heard {
     /// No server of this build took all that was asked: nothing was done.
     Nobody,
     /// It took all of it, and told nothing: a read failed, or what came is no answer, and no more will. What
@@ -49,9 +49,9 @@ pub fn hand_over<S: Noting, W: Sink, E: Sink>(
         return None;
     };
     match exchange(alloc, stream, VERSION, &asked) {
-        Reply::Nobody => None,
-        Reply::Lost | Reply::Unread => Some(write_lost(error)),
-        Reply::Told(text) => Some(write_answer(&text, output, error)),
+        Heard::Nobody => None,
+        Heard::Lost | Heard::Unread => Some(write_lost(error)),
+        Heard::Told(text) => Some(write_answer(&text, output, error)),
     }
 }
 
@@ -74,15 +74,15 @@ fn write_lost<E: Sink>(error: &mut E) -> u64
 }
 
 // Hands what is asked to a server that greets as one of this build, and takes its answer.
-fn exchange<S: Noting>(alloc: Global, stream: &mut S, version: &str, asked: &[u8]) -> Reply
+fn exchange<S: Noting>(alloc: Global, stream: &mut S, version: &str, asked: &[u8]) -> Heard
     ensures { IsExchange S.Source S.Sink version.now asked.now stream.old stream.new result }
 {
     if !is_greeted(alloc, stream, version) {
-        return Reply::Nobody;
+        return Heard::Nobody;
     }
     match write_whole(stream, asked) {
         Ok(()) => answer_of(alloc, stream),
-        Err(_) => Reply::Nobody,
+        Err(_) => Heard::Nobody,
     }
 }
 
@@ -98,15 +98,15 @@ fn is_greeted<S: Noting>(alloc: Global, stream: &mut S, version: &str) -> bool
 }
 
 // What the server tells, to whom all was sent.
-fn answer_of<S: Noting>(alloc: Global, stream: &mut S) -> Reply
+fn answer_of<S: Noting>(alloc: Global, stream: &mut S) -> Heard
     ensures told { CanBeTold S.Source stream.old stream.new result }
     ensures unsent { S.Sink.held stream.new ≡ S.Sink.held stream.old }
 {
     let mut parcel = Parcel::new(alloc, MOST_TOLD_BYTES);
     match parcel.read_on(stream) {
-        Arriving::Complete if Told::read(&parcel.bytes).is_some() => Reply::Told(parcel.bytes),
-        Arriving::Complete => Reply::Lost,
-        Arriving::Waiting | Arriving::Failed if stream.has_failed() => Reply::Lost,
-        Arriving::Waiting | Arriving::Failed => Reply::Unread,
+        Arriving::Complete if Told::read(&parcel.bytes).is_some() => Heard::Told(parcel.bytes),
+        Arriving::Complete => Heard::Lost,
+        Arriving::Waiting | Arriving::Failed if stream.has_failed() => Heard::Lost,
+        Arriving::Waiting | Arriving::Failed => Heard::Unread,
     }
 }

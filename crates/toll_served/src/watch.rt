@@ -1,7 +1,7 @@
 //! What an operator sees of a server's faults.
 ghost use Rattle.std.specs.Prelude.{◌≡◌, None};
 
-use crate::office::OfficeFault;
+use crate::office_fault::OfficeFault;
 use thiserror::Error;
 
 /// A fault that a server meets.

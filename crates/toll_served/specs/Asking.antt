@@ -5,8 +5,8 @@ use Rattle.toll_base.specs.Bytes.{Bytes}
 use Rattle.toll_streams.specs.Streams.{HasFailed}
 use Rattle.toll_streams.specs.declared.sink.Sink as sink
 use Rattle.toll_streams.specs.declared.source.Source as source
-use Rattle.toll_office.specs.declared.handing.Reply.{Reply}
-use Rattle.toll_office.specs.declared.handing.Reply.TheVariants.{Nobody, Lost, Unread, Told as Answered}
+use Rattle.toll_served.specs.declared.handing.Heard.{Heard}
+use Rattle.toll_served.specs.declared.handing.Heard.TheVariants.{Nobody, Lost, Unread, Told as Answered}
 use Rattle.toll_parcels.specs.Messages.{IsToldBy, greeting_text}
 use Rattle.toll_parcels.specs.Parcels.{IsEnough, parcel}
 use Rattle.toll_parcels.specs.declared.told.Told.{Told}
@@ -56,7 +56,7 @@ module _ {S : Type 0} (from : source.Ghosts S) (sent now : S) where
   HasBroken = HasFailed (from.has_failed sent) (from.has_failed now)
 
   -- an answer is what it gave; it is lost where it gave none, or a read failed; and where there was no memory, no whole one was read
-  abbrev pub CanBeTold : Reply → Type 0
+  abbrev pub CanBeTold : Heard → Type 0
   CanBeTold Nobody = ⊥
   CanBeTold Lost = HasBroken ⊎ ((text : Bytes) × Gave text × IsNoAnswer text)
   CanBeTold Unread = (text : Bytes) × Gave text × ¬ (IsEnough MOST_TOLD_BYTES text)
@@ -64,7 +64,7 @@ module _ {S : Type 0} (from : source.Ghosts S) (sent now : S) where
 
 module _ {S : Type 0} (from : source.Ghosts S) (to : sink.Ghosts S) (version asked : Bytes) (old new : S) where
   -- all that is asked was sent, once, and then this came of it
-  pub record IsHeard (reply : Reply) : Type 0 where
+  pub record IsHeard (reply : Heard) : Type 0 where
     -- the connection, as it was once all was sent
     pub sent : S
     pub sends : IsSent version asked (exchange_of from to old sent)
@@ -72,7 +72,7 @@ module _ {S : Type 0} (from : source.Ghosts S) (to : sink.Ghosts S) (version ask
     pub once : to.held new ≡ to.held sent
 
   -- nobody was asked, or not all of it was sent; or all of it was sent, and this came of it
-  abbrev pub IsExchange : Reply → Type 0
+  abbrev pub IsExchange : Heard → Type 0
   IsExchange Nobody = IsUnsent asked (exchange_of from to old new)
   IsExchange reply = IsHeard reply
 
@@ -92,7 +92,7 @@ abbrev pub IsWrittenOf : Streams → Bytes → ℕ → Type 0
 IsWrittenOf s text status = (told : Told) × IsToldBy text told.status told.output.now told.error.now × IsPassedOn s told status
 
 -- what came of asking a server is written; nothing, where it was not asked
-abbrev pub IsReplyWritten : Streams → Reply → Option ℕ → Type 0
+abbrev pub IsReplyWritten : Streams → Heard → Option ℕ → Type 0
 IsReplyWritten s Nobody status = IsNone status × IsUntouched s.output × IsUntouched s.error
 IsReplyWritten s Lost status = IsSomeAnd status (IsFailing s lost_line Failed)
 IsReplyWritten s Unread status = IsSomeAnd status (IsFailing s lost_line Failed)
@@ -100,7 +100,7 @@ IsReplyWritten s (Answered text) status = IsSomeAnd status (IsWrittenOf s text.i
 
 -- what is asked was handed to the server behind a connection, and what came of it is written
 pub record IsHandedOver {S : Type 0} (from : source.Ghosts S) (to : sink.Ghosts S) (version asked : Bytes) (old new : S) (s : Streams) (status : Option ℕ) : Type 0 where
-  pub reply : Reply
+  pub reply : Heard
   pub exchanged : IsExchange from to version asked old new reply
   pub written : IsReplyWritten s reply status
 

@@ -1,6 +1,0 @@
-use Rattle.toll_office.proofs.Sittings.{sitting}
-use Rattle.toll_office.proofs.laws.what_is_served_between_two_openings_is_a_run.Goals as goal
-
-pub returns : goal.returns
-returns g c = λ standing old new turns first told one.
-    sitting g.K.Keep.meaning g.K.Stored.is_opened g.met.K.Keep.settled standing old new turns first told one.0 one.1

@@ -1,0 +1,22 @@
+//! The lock of an office's file.
+use crate::office_fault::OfficeFault;
+use std::fs::{File, OpenOptions};
+
+/// The lock of the file, `FILE.lock`, asked for once.
+pub fn take_lock(rt: &HostRuntime, path: &str) -> Result<File, OfficeFault> {
+    let Ok(name) = format!(in rt.alloc(); "{path}.lock") else {
+        return Err(OfficeFault::Memory);
+    };
+    let Ok(lock) = OpenOptions::new()
+        .read(true)
+        .write(true)
+        .create(true)
+        .open(rt, name.as_str())
+    else {
+        return Err(OfficeFault::Locked);
+    };
+    match lock.try_lock() {
+        Ok(()) => Ok(lock),
+        Err(_) => Err(OfficeFault::Locked),
+    }
+}
