@@ -1,109 +1,133 @@
 //! What is handed to a server, and what is printed of what it tells.
-use crate::parcels::STOCK;
-use crate::served::Visit;
-use crate::served::street::{Guest, Log};
+use crate::parcels::{STOCK, TOLD};
 use std::alloc::Global;
-use toll_peers::Door;
+use std::cell::Cell;
+use std::io;
+use std::io::{ErrorKind, Read, Write};
 use toll_served::{Noted, hand_over};
 
 /// What is handed over in each case.
 const WORDS: &[&str] = &["stock", "ACME"];
 
-/// What a server gives and is to take, whether it takes that, and what comes of it.
-struct Case {
-    gives: &'static [u8],
-    takes: &'static [u8],
+/// The greeting of this build.
+const GREETING: &[u8] = b"\0\0\0\x19toll 1.0, office format 2";
+
+/// Nothing, an answer that was cut, or one without a status.
+const NO_ANSWERS: [&[u8]; 3] = [b"", b"\0\0\0\x0a\x01\0\0\0\x02now", b"\0\0\0\0"];
+
+/// No greeting, one that was cut, that of another build, or this one's with something behind it.
+const OTHER_GREETINGS: [&[u8]; 4] = [
+    b"",
+    b"\0\0\0\x19toll 1.0, office format ",
+    b"\0\0\0\x19toll 1.0, office format 1",
+    b"\0\0\0\x19toll 1.0, office format 2?",
+];
+
+/// A server that gives a greeting, and its answer once it took what is asked. Behind that, reading fails.
+#[derive(Drop)]
+struct Server<'a> {
+    gives: &'a [u8],
+    answers: &'a [u8],
+    takes: &'a [u8],
+    is_asked: &'a Cell<bool>,
+}
+
+impl Read for Server<'_> {
+    fn read(&mut self, buffer: &mut [u8]) -> io::Result<usize> {
+        if self.gives.is_empty() {
+            return Err(ErrorKind::ConnectionReset.into());
+        }
+        let n = self.gives.len().min(buffer.len());
+        let (given, rest) = self.gives.split_at(n);
+        buffer[..n].copy_from_slice(given);
+        self.gives = rest;
+        Ok(n)
+    }
+}
+
+impl Write for Server<'_> {
+    fn write(&mut self, bytes: &[u8]) -> io::Result<usize> {
+        let Some(rest) = self.takes.strip_prefix(bytes) else {
+            return Err(ErrorKind::BrokenPipe.into());
+        };
+        self.takes = rest;
+        if rest.is_empty() {
+            self.gives = self.answers;
+            self.is_asked.set(true);
+        }
+        Ok(bytes.len())
+    }
+
+    fn flush(&mut self) -> io::Result<()> {
+        Ok(())
+    }
+}
+
+/// Whether a server was asked, what is printed of what it told, and the exit status.
+#[derive(Clone, Copy)]
+struct End {
     is_asked: bool,
     status: Option<u64>,
     output: &'static [u8],
     error: &'static [u8],
 }
 
-/// It tells status 1, `no` and `why`.
-const ANSWERED: Case = Case {
-    gives: b"\0\0\0\x19toll 1.0, office format 2\0\0\0\x0a\x01\0\0\0\x02nowhy",
-    takes: STOCK,
+const PRINTED: End = End {
     is_asked: true,
     status: Some(1),
     output: b"no",
     error: b"why",
 };
 
-/// Its connection fails once it was asked.
-const LOST: Case = Case {
-    gives: b"\0\0\0\x19toll 1.0, office format 2",
-    takes: STOCK,
+const LOST: End = End {
     is_asked: true,
     status: Some(3),
     output: b"",
     error: b"fault Lost\n",
 };
 
-const CUT: Case = Case {
-    gives: b"\0\0\0\x19toll 1.0, office format 2\0\0\0\x0a\x01\0\0\0\x02now",
-    ..LOST
-};
-
-/// What it tells has no status.
-const NO_ANSWER: Case = Case {
-    gives: b"\0\0\0\x19toll 1.0, office format 2\0\0\0\0",
-    ..LOST
-};
-
-const OF_ANOTHER_BUILD: Case = Case {
-    gives: b"\0\0\0\x19toll 1.0, office format 1\0\0\0\x0a\x01\0\0\0\x02nowhy",
-    takes: STOCK,
+const LEFT: End = End {
     is_asked: false,
     status: None,
     output: b"",
     error: b"",
 };
 
-const UNGREETED: Case = Case {
-    gives: b"\0\0\0\x19toll 1.0, office format ",
-    ..OF_ANOTHER_BUILD
-};
-
-/// It takes nothing of what is asked.
-const UNHEARD: Case = Case {
-    gives: ANSWERED.gives,
-    takes: b"frob",
-    ..OF_ANOTHER_BUILD
-};
-
-// Whether it comes to that.
-fn comes(alloc: Global, case: &Case) -> bool {
-    let log = Log::new();
-    let visit = Visit {
-        door: Door::Plant,
-        asked: case.gives,
-        told: case.takes,
-    };
-    let mut server = Noted::new(Guest::new(&visit, &log));
+// Whether handing the words over to a server that gives this and takes that comes to such an end.
+fn comes_to(alloc: Global, gives: &[u8], takes: &[u8], answers: &[u8], end: &End) -> bool {
+    let is_asked = Cell::new(false);
+    let mut server = Noted::new(Server {
+        gives,
+        answers,
+        takes,
+        is_asked: &is_asked,
+    });
     let mut output = Vec::new(alloc);
     let mut error = Vec::new(alloc);
     let status = hand_over(alloc, &mut server, WORDS, None, &mut output, &mut error);
-    let is_asked = log.told.get() == 1;
-    (status, is_asked) == (case.status, case.is_asked)
-        && output.as_slice() == case.output
-        && error.as_slice() == case.error
+    (is_asked.get(), status) == (end.is_asked, end.status)
+        && output.as_slice() == end.output
+        && error.as_slice() == end.error
 }
 
 #[test]
 fn what_a_server_tells_is_printed(rt: HostRuntime) {
-    assert!(rt; comes(rt.alloc(), &ANSWERED));
+    assert!(rt; comes_to(rt.alloc(), GREETING, STOCK, TOLD, &PRINTED));
 }
 
 #[test]
 fn a_server_that_tells_nothing_has_lost_the_answer(rt: HostRuntime) {
-    for case in [&LOST, &CUT, &NO_ANSWER] {
-        assert!(rt; comes(rt.alloc(), case), "where it gives {:?}", case.gives);
+    for answers in NO_ANSWERS {
+        let is_lost = comes_to(rt.alloc(), GREETING, STOCK, answers, &LOST);
+        assert!(rt; is_lost, "where it tells {:?}", answers);
     }
 }
 
 #[test]
 fn what_no_server_of_the_build_takes_is_left_to_the_program(rt: HostRuntime) {
-    for case in [&OF_ANOTHER_BUILD, &UNGREETED, &UNHEARD] {
-        assert!(rt; comes(rt.alloc(), case), "where it gives {:?}", case.gives);
+    for greeting in OTHER_GREETINGS {
+        let is_left = comes_to(rt.alloc(), greeting, STOCK, TOLD, &LEFT);
+        assert!(rt; is_left, "where it gives {:?}", greeting);
     }
+    assert!(rt; comes_to(rt.alloc(), GREETING, b"frob", TOLD, &LEFT));
 }

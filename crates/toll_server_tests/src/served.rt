@@ -1,6 +1,6 @@
 //! A keep that is asked at both doors, and peers that ask it side by side.
 mod imports;
-pub mod street;
+mod street;
 
 use crate::served::street::{Log, Street};
 use std::alloc::{AllocError, Global};
@@ -11,10 +11,10 @@ use toll_served::{KeptOffice, Reply, answer_at, serve_keep};
 
 /// Who comes to a door, what it asks, and what it is told.
 #[derive(Clone, Copy)]
-pub struct Visit<'a> {
-    pub door: Door,
-    pub asked: &'a [u8],
-    pub told: &'a [u8],
+struct Visit<'a> {
+    door: Door,
+    asked: &'a [u8],
+    told: &'a [u8],
 }
 
 const ADD_OWNER: Visit<'static> = Visit {

@@ -87,8 +87,7 @@ pub struct Guest<'l> {
 }
 
 impl<'l> Guest<'l> {
-    /// Who comes so.
-    pub fn new(visit: &Visit<'l>, log: &'l Log) -> Self {
+    fn new(visit: &Visit<'l>, log: &'l Log) -> Self {
         Guest {
             door: visit.door,
             asks: visit.asked,
