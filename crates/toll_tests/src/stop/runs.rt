@@ -77,10 +77,19 @@ impl Adopting {
     /// The files of the office.
     pub fn files(&self, alloc: Global) -> Result<Disks, Fail> {
         match connect(alloc, empty_files(alloc)) {
-            Ok(conn) => Ok(disconnect(as_version_1(told_to_new(alloc, conn, self.story)?)?)),
+            Ok(conn) => Ok(disconnect(first_version(alloc, conn, self.story)?)),
             Err(_) => Err("no store".into()),
         }
     }
+}
+
+// The store of a new office of version 1 to which these chapters were told.
+fn first_version<S: Alter + Drop>(
+    alloc: Global,
+    conn: Connection<S>,
+    story: &[&[Line]],
+) -> Result<Connection<S>, Fail> {
+    as_version_1(told_to_new(alloc, conn, story)?)
 }
 
 // What version 2 has and version 1 has not is taken away.
