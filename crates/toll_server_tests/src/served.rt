@@ -1,4 +1,5 @@
 //! A keep that is asked at both doors, and peers that ask it side by side.
+mod desks;
 mod imports;
 mod street;
 

@@ -19,8 +19,8 @@ const RECORDS: usize = 2 * GROUP_RECORDS + 1;
 /// What is asked behind each of the first two groups, and changes what comes of the records behind it.
 const BETWEEN: [&[Visit<'static>]; 2] = [&[ADD_OWNER], &[ADD_RECIPE, PLACE]];
 
-// What asks for the import of the records.
-fn import_of_records(alloc: Global) -> Result<Vec<u8>, PackFault> {
+/// What asks for the import of the records.
+pub fn import_of_records(alloc: Global) -> Result<Vec<u8>, PackFault> {
     let mut file = String::from_str(alloc, HEADER)?;
     for _ in 0..RECORDS {
         file.push_str(RECORD)?;
