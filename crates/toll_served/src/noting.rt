@@ -33,6 +33,8 @@ impl<S: Drop> Noted<S> {
 impl<S: Read + Drop> Source for Noted<S> {
     ghost use Rattle.std.specs.Prelude.{Some};
 
+    ghost unread = { λ noted. S.Read.remaining noted.stream };
+
     ghost has_failed = { λ noted. Some noted.has_failed };
 
     fn read_some(&mut self, buffer: &mut [u8]) -> io::Result<usize> {
