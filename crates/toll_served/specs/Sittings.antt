@@ -4,10 +4,9 @@ use Rattle.toll_base.specs.Bytes.{Bytes}
 use Rattle.toll_keep.specs.Meaning.{Meaning}
 use Rattle.toll_served.specs.Faults.{fault_text}
 use Rattle.toll_served.specs.declared.office_fault.OfficeFault.{OfficeFault}
-use Rattle.toll_served.specs.declared.desk.Desk.{Desk}
 use Rattle.toll_served.specs.declared.session.Session.{Session}
 use Rattle.toll_parcels.specs.Messages.{IsToldBy}
-use Rattle.toll_peers.specs.Runs.{Handed, Request, Task, ComesTo, IsWholeRun, Runs, Turn}
+use Rattle.toll_peers.specs.Runs.{Handed, Request, Task, ComesTo, Runs, Turn}
 use Rattle.toll_peers.specs.declared.door.Door.{Door}
 use Rattle.toll_peers.specs.declared.door.Door.TheVariants.{Owners, Plant}
 use Rattle.toll_peers.specs.declared.progress.Progress.{Progress}
@@ -133,14 +132,3 @@ abbrev pub AreSittings : {K : Type 0} → Meaning K → (K → Type 0) → Type 
 AreSittings {K} meaning is_opened O =
     (standing : O → Standing K) (old new : O) (turns : List (Turn UnderWay)) (first : K)
     → Runs (AnswersBy meaning is_opened standing) (GoesOnBy meaning is_opened standing) old turns new → IsOneOffice first (standing old) (standing new) → IsSitting meaning first turns (standing new)
-
--- the office that a desk has open
-abbrev pub standing_at : {K O : Type 0} → Desk K O → Standing K
-standing_at desk = standing_of desk.session
-
--- a desk, of whose office none was open at first, was asked by peers and by nobody else, each import gone on with for whom it was left
-pub record IsServedAt {K : Type 0} (O : Type 0) (meaning : Meaning K) (is_opened : K → Type 0) (is_over : Type 0) : Type 0 where
-  pub first : Desk K O
-  pub last : Desk K O
-  pub unopened : IsUnopened (standing_at first)
-  pub run : IsWholeRun (AnswersBy meaning is_opened standing_at) (GoesOnBy meaning is_opened standing_at) first last is_over

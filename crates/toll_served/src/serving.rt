@@ -2,7 +2,6 @@
 ghost use Rattle.std.specs.Prelude.{◌≡◌};
 ghost use Rattle.toll_peers.specs.Worlds.{EndsSo, Tallies};
 ghost use Rattle.toll_served.specs.Serving.{HasServed};
-ghost use Rattle.toll_served.specs.Sittings.{IsServedAt};
 
 use crate::desk::Desk;
 use crate::kept_office::KeptOffice;
@@ -34,7 +33,6 @@ pub fn serve_place<W: World, K: Keep + Drop, O: Opener<K>>(
     place: Place<'_, O>,
     count: u64,
 ) -> Served
-    ensures run { IsServedAt O K.meaning O.is_opened (result ≡ Served.All) }
     ensures end { Tallies (EndsSo result count) (W.tally world.old) (W.tally world.new) }
 {
     let alloc = place.rt.alloc();
