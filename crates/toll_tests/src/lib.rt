@@ -6,6 +6,8 @@
 #[cfg(test)]
 mod desk;
 #[cfg(test)]
+mod doors;
+#[cfg(test)]
 mod keep;
 #[cfg(test)]
 mod office;

@@ -3,7 +3,7 @@ mod desks;
 mod imports;
 mod street;
 
-use crate::served::street::{Log, Street};
+use crate::doors::served::street::{Log, Street};
 use std::alloc::{AllocError, Global};
 use toll_keep::{Keep, MemKeep, Refused, Refusing};
 use toll_parcels::Told;

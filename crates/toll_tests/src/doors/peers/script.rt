@@ -1,5 +1,5 @@
 //! A world by a script, and an office that writes down what it is asked.
-use crate::peers::wire::{Log, Plan, Wire};
+use crate::doors::peers::wire::{Log, Plan, Wire};
 use std::alloc::Global;
 use toll_peers::{Coming, Door, Office, Progress, World, WorldFault};
 

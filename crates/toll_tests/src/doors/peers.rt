@@ -2,8 +2,8 @@
 mod script;
 mod wire;
 
-use crate::peers::script::{Scribe, Script};
-use crate::peers::wire::{Ends, Log, Pace, Plan, Takes};
+use crate::doors::peers::script::{Scribe, Script};
+use crate::doors::peers::wire::{Ends, Log, Pace, Plan, Takes};
 use std::alloc::Global;
 use toll_peers::{Door, Served, serve};
 

@@ -1,6 +1,6 @@
 //! Imports in turns, with others in between.
-use crate::served::street::{Log, Street};
-use crate::served::{ADD_OWNER, ADD_RECIPE, LIST, PLACE, Visit, go_on, is_told, tells};
+use crate::doors::served::street::{Log, Street};
+use crate::doors::served::{ADD_OWNER, ADD_RECIPE, LIST, PLACE, Visit, go_on, is_told, tells};
 use std::alloc::{AllocError, Global};
 use std::test::Fail;
 use toll_keep::{Keep, MemKeep, Refused, Refusing};
