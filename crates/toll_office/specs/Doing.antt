@@ -1,30 +1,12 @@
--- What is done over an office that is opened for it.
-use Rattle.std.specs.Prelude.{◌≡◌, ◌⊎◌, ℕ}
-use Rattle.toll_base.specs.Bytes.{Bytes}
-use Rattle.toll_desk.specs.declared.plant_cmd.PlantCmd.{PlantCmd}
+-- A script over an office in memory.
+use Rattle.std.specs.Prelude.{◌≡◌, ◌⊎◌}
 use Rattle.toll_streams.specs.declared.sink.Sink as sink
 use Rattle.toll_streams.specs.declared.source.Source as source
 use Rattle.toll_keep.specs.Content.{nothing}
 use Rattle.toll_keep.specs.declared.keep.Keep.{Ghosts}
-use Rattle.toll_programs.specs.Done.{IsCommandDone, IsImportDone}
 use Rattle.toll_programs.specs.Running.{IsScriptRun}
-use Rattle.toll_programs.specs.Told.{Streams}
 use Rattle.toll_programs.specs.declared.scripts.ScriptEnd.{ScriptEnd}
 use Rattle.toll_programs.specs.declared.scripts.ScriptEnd.TheVariants.{Memory}
-
--- a command was done over a keep that was opened so, and its answer was told
-pub record IsCommandOver {K : Type 0} (keep : Ghosts K) (IsOpened : K → Type 0) (command : PlantCmd) (streams : Streams) (status : ℕ) : Type 0 where
-  pub first : K
-  pub last : K
-  pub opened : IsOpened first
-  pub done : IsCommandDone keep.meaning first last command streams status
-
--- a file was imported into a keep that was opened so, and what came of it was told
-pub record IsImportOver {K : Type 0} (keep : Ghosts K) (IsOpened : K → Type 0) (file : Bytes) (streams : Streams) (status : ℕ) : Type 0 where
-  pub first : K
-  pub last : K
-  pub opened : IsOpened first
-  pub done : IsImportDone keep.meaning first last file streams status
 
 module _ {K R W : Type 0} (keep : Ghosts K) (from : source.Ghosts R) (to : sink.Ghosts W) (reader rest : R) (writer written : W) (end : ScriptEnd) where
   -- a script was run over a keep that held nothing at first

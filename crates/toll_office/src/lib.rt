@@ -15,7 +15,8 @@ mod stream;
 mod timed;
 
 pub use asking::ask_server;
-pub use doing::{do_command, do_import, do_script};
+pub use doing::do_script;
+pub use office::{Tables, place_of};
 pub use programs::run;
 pub use serving::{Served, serve_all, serve_one};
 pub use sockets::Sockets;

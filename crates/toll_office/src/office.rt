@@ -3,48 +3,29 @@ ghost use Rattle.std.specs.Prelude.{◌≡◌, IfOk};
 ghost use Rattle.toll_served.specs.Faults.{office_fault_name};
 ghost use Rattle.toll_sql.specs.Opened.{IsOpened};
 ghost use Rattle.toll_sql.specs.Opening.{name_of};
-ghost use Rattle.toll_wire.specs.Steps.{IsAnswered};
 
 use sqlite::{File as StoreFile, FileStore, Unknown};
 use std::fs;
-use std::fs::File;
 use std::io::ErrorKind;
-use toll_keep::{Keep, Remembering};
-use toll_served::{OfficeFault, Opener, take_lock};
+use toll_keep::Remembering;
+use toll_served::{OfficeFault, Opener, Place};
 use toll_sql::{OpenFault, SqlKeep};
-use toll_wire::{Out, answer};
 
 /// The keep of an office on a file.
 pub type FileKeep = Remembering<SqlKeep<FileStore<StoreFile>>>;
 
-/// The office on a file that nobody else uses meanwhile. It can't be dropped: who opens it closes it.
-pub struct Office {
-    pub keep: FileKeep,
-    lock: File,
-}
-
-impl Office {
-    /// Takes the lock of the file, `FILE.lock`, without waiting, and opens the office in it. An absent or
-    /// empty file becomes an office without rows.
-    pub fn open(rt: &HostRuntime, path: &str) -> Result<Self, OfficeFault>
-        ensures { IfOk result (λ office. IsOpened office.keep) }
-    {
-        let lock = take_lock(rt, path)?;
-        let keep = Tables.open(rt, path)?;
-        Ok(Office { keep, lock })
-    }
-
-    /// Closes the file, and then gives back the lock.
-    pub fn close(self) {
-        let Office { keep, lock } = self;
-        Tables.close(keep);
-        let _ = lock.unlock();
-    }
-}
-
 /// Opens an office whose rows stand in tables. Where there is no office in the file yet, one is made.
 #[derive(Clone, Copy)]
 pub struct Tables;
+
+/// Where the office in this file stands.
+pub fn place_of<'a>(rt: &'a HostRuntime, path: &'a str) -> Place<'a, Tables> {
+    Place {
+        rt,
+        path,
+        opener: Tables,
+    }
+}
 
 /// An office whose making was stopped may have its tables in the log alone, or no tables in a file that is
 /// not empty: so where the file is not as its length says, it is looked at the other way. A file that isn't
@@ -88,13 +69,6 @@ fn told_as(fault: OpenFault) -> OfficeFault
         OpenFault::Damaged => OfficeFault::Damaged,
         OpenFault::NotOurs => OfficeFault::NotOurs,
     }
-}
-
-/// The answer to a request, over the office in the file, as [`answer`] gives it.
-pub fn answer_from(rt: &HostRuntime, keep: &mut FileKeep, request: &[u8]) -> Out
-    ensures { IsAnswered ⟦<FileKeep as Keep>⟧.meaning keep.old keep.new request.now result }
-{
-    answer(rt.alloc(), keep, request)
 }
 
 // Whether the file isn't there and its log is, with bytes.

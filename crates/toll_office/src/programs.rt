@@ -1,6 +1,7 @@
 //! The programs.
 use crate::asking::ask_server;
-use crate::doing::{do_command, do_import, do_script};
+use crate::doing::do_script;
+use crate::office::place_of;
 use crate::serving::serve_all;
 use crate::sockets::Sockets;
 use std::alloc::{AllocError, Global};
@@ -13,7 +14,7 @@ use toll_plant::{MOST_FILE_BYTES, WordsFault, command_of};
 use toll_programs::{
     FrontFault, Status, Task, read_front, task_of, tell, tell_end, usage_of, warn,
 };
-use toll_served::OfficeFault;
+use toll_served::{OfficeFault, do_command, do_import};
 
 /// How many standard streams there are.
 const STREAMS: usize = 3;
@@ -92,7 +93,7 @@ fn run_words(rt: &HostRuntime, file: &str, words: &[&str]) -> u64 {
     if let Some(status) = ask_server(rt, file, words, None, &mut output, &mut error) {
         return status;
     }
-    let done = do_command(rt, file, &command, &mut output, &mut error);
+    let done = do_command(&place_of(rt, file), &command, &mut output, &mut error);
     status_of(rt, done)
 }
 
@@ -105,7 +106,7 @@ fn run_import(rt: &HostRuntime, file: &str, actuals: &str) -> u64 {
     if let Some(status) = ask_server(rt, file, &["import"], Some(&text), &mut output, &mut error) {
         return status;
     }
-    let done = do_import(rt, file, &text, &mut output, &mut error);
+    let done = do_import(&place_of(rt, file), &text, &mut output, &mut error);
     status_of(rt, done)
 }
 

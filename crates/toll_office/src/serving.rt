@@ -1,10 +1,10 @@
 //! Serving owners on a socket.
-use crate::office::{Office, Tables, answer_from};
+use crate::office::place_of;
 use crate::sockets::Sockets;
 use crate::timed::Timed;
 use std::net::{TcpListener, TcpStream};
 use toll_peers::Served as Ended;
-use toll_served::{Place, serve_place};
+use toll_served::{answer_once, serve_place};
 use toll_streams::write_whole;
 use toll_wire::{Out, ReadFault, read_request};
 
@@ -29,7 +29,7 @@ pub fn serve_one(rt: &HostRuntime, listener: &TcpListener, path: &str) -> Served
         return Served::AcceptFault;
     };
     match take_request(rt, &socket) {
-        Ok(request) => give(rt, &socket, &answer_once(rt, path, &request)),
+        Ok(request) => give(rt, &socket, &answer_once(&place_of(rt, path), &request)),
         Err(_) => Served::ReadFault,
     }
 }
@@ -39,12 +39,7 @@ pub fn serve_one(rt: &HostRuntime, listener: &TcpListener, path: &str) -> Served
 /// itself does it, but for how often the file is opened: it stays open between requests while nobody else
 /// changes it.
 pub fn serve_all(rt: &HostRuntime, sockets: &mut Sockets<'_>, path: &str, count: u64) -> Ended {
-    let place = Place {
-        rt,
-        path,
-        opener: Tables,
-    };
-    serve_place(sockets, place, count)
+    serve_place(sockets, place_of(rt, path), count)
 }
 
 // The request that the peer sends, which it must within the time.
@@ -63,17 +58,5 @@ fn give(rt: &HostRuntime, socket: &TcpStream, reply: &Out) -> Served {
     match write_whole(&mut timed, reply.bytes()) {
         Ok(()) => Served::Answered,
         Err(_) => Served::WriteFault,
-    }
-}
-
-// The answer over the file, which is opened for this request alone.
-fn answer_once(rt: &HostRuntime, path: &str, request: &[u8]) -> Out {
-    match Office::open(rt, path) {
-        Ok(mut office) => {
-            let reply = answer_from(rt, &mut office.keep, request);
-            office.close();
-            reply
-        }
-        Err(_) => Out::Unavailable,
     }
 }

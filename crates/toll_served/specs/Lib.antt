@@ -8,3 +8,4 @@ pub mod Whole
 pub mod Faults
 pub mod Asking
 pub mod Sittings
+pub mod Doing

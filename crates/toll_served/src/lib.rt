@@ -6,12 +6,14 @@
 
 mod answering;
 mod desk;
+mod doing;
 mod handing;
 mod importing;
 mod kept_office;
 mod laws;
 mod lending;
 mod lock;
+mod locked;
 mod noting;
 mod office_fault;
 mod opened;
@@ -29,6 +31,7 @@ mod watch;
 
 pub use answering::answer_at;
 pub use desk::Desk;
+pub use doing::{answer_once, do_command, do_import};
 pub use handing::hand_over;
 pub use importing::Importing;
 pub use kept_office::KeptOffice;

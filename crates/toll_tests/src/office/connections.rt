@@ -5,9 +5,9 @@ use std::fs::File;
 use std::io::{Read, Write};
 use std::net::{Ipv4Addr, Shutdown, SocketAddrV4, TcpListener, TcpStream};
 use std::test::Fail;
-use toll_office::{Served, do_command, serve_one};
+use toll_office::{Served, place_of, serve_one};
 use toll_plant::command_of;
-use toll_served::take_lock;
+use toll_served::{do_command, take_lock};
 
 const ADDED: &[&[&str]] = &[
     &["owner-add", "ACME", "ACMEKEY1"],
@@ -60,7 +60,7 @@ fn is_done(rt: &HostRuntime, path: &str, words: &[&str]) -> Result<bool, Fail> {
     let command = command_of(rt.alloc(), words)?;
     let mut output = page_of(rt, path, "out")?;
     let mut error = page_of(rt, path, "err")?;
-    let status = do_command(rt, path, &command, &mut output, &mut error)?;
+    let status = do_command(&place_of(rt, path), &command, &mut output, &mut error)?;
     Ok(status == 0)
 }
 
