@@ -121,21 +121,16 @@ fn refusal(alloc: Global, door: Door, fault: OfficeFault) -> Vec<u8>
             Ok(bytes) => bytes,
             Err(_) => Vec::new(alloc),
         },
-        Door::Plant => match told_of(fault).packed(alloc) {
-            Ok(bytes) => bytes,
-            Err(_) => Vec::new(alloc),
-        },
-    }
-}
-
-// What the plant is told of such a fault.
-fn told_of(fault: OfficeFault) -> Told<'static>
-    ensures status { result.status ≡ code_of Status.Failed }
-    ensures texts { (result.output.now ≡ []) × (result.error.now ≡ fault_text fault) }
-{
-    Told {
-        status: Status::Failed.code(),
-        output: b"",
-        error: fault.line(),
+        Door::Plant => {
+            let told = Told {
+                status: Status::Failed.code(),
+                output: b"",
+                error: fault.line(),
+            };
+            match told.packed(alloc) {
+                Ok(bytes) => bytes,
+                Err(_) => Vec::new(alloc),
+            }
+        }
     }
 }

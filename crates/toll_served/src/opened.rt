@@ -42,7 +42,9 @@ impl<K: Drop> Opened<K> {
         ensures { IfSome result (λ lent. lent.keep ≡ self.keep) }
     {
         let is_lent = match &mut self.files {
-            Some(files) => files.lend(place.rt).is_ok(),
+            Some(Files { database, log }) => {
+                database.lend(place.rt).is_ok() && log.lend(place.rt).is_ok()
+            }
             None => false,
         };
         if is_lent {
@@ -55,7 +57,9 @@ impl<K: Drop> Opened<K> {
     /// Locks the files again, and tells whether nobody has changed them.
     pub fn take_back(&self, rt: &HostRuntime) -> bool {
         match &self.files {
-            Some(files) => files.take_back(rt).unwrap_or(false),
+            Some(Files { database, log }) => {
+                database.take_back(rt).unwrap_or(false) && log.take_back(rt).unwrap_or(false)
+            }
             None => false,
         }
     }
@@ -75,14 +79,5 @@ impl Files {
             database: Lending::of(rt, database)?,
             log: Lending::of(rt, log)?,
         })
-    }
-
-    fn lend(&mut self, rt: &HostRuntime) -> io::Result<()> {
-        self.database.lend(rt)?;
-        self.log.lend(rt)
-    }
-
-    fn take_back(&self, rt: &HostRuntime) -> io::Result<bool> {
-        Ok(self.database.take_back(rt)? && self.log.take_back(rt)?)
     }
 }

@@ -71,7 +71,14 @@ impl<K: Keep + Drop> Session<K> {
         ensures lock { IsLockKept self.old → IsLockKept self.new }
     {
         match self.take(place) {
-            Ok(opened) => Ok(self.answer_over(place, opened, door, asked)),
+            Ok(mut opened) => {
+                let reply = reply_over(place.rt.alloc(), &mut opened.keep, door, asked);
+                if let Progress::Left(_) = &reply.progress {
+                    self.imports = self.imports.saturating_add(1);
+                }
+                self.leave(place, opened, reply.goes_on);
+                Ok(reply)
+            }
             Err(fault) => {
                 self.unlock();
                 Err(fault)
@@ -95,52 +102,20 @@ impl<K: Keep + Drop> Session<K> {
         ensures lock { IsLockKept self.old → IsLockKept self.new }
     {
         match self.take(place) {
-            Ok(opened) => Ok(self.go_on_over(place, opened, import)),
+            Ok(mut opened) => {
+                let reply = import.go_on(place.rt.alloc(), &mut opened.keep);
+                if let Progress::Told(_) = &reply.progress {
+                    self.imports = self.imports.saturating_sub(1);
+                }
+                self.leave(place, opened, reply.goes_on);
+                Ok(reply)
+            }
             Err(fault) => {
                 self.imports = self.imports.saturating_sub(1);
                 self.unlock();
                 Err(Stuck { fault, import })
             }
         }
-    }
-
-    // The answer over an office that was taken, which then stays open where it goes on.
-    fn answer_over<O: Opener<K>>(
-        &mut self,
-        place: &Place<'_, O>,
-        mut opened: Opened<K>,
-        door: Door,
-        asked: &[u8],
-    ) -> Reply
-        ensures taken { IsTakenFrom K.meaning opened.keep (Request door asked.now) result.progress (standing_of self.new) }
-        ensures closed { result.goes_on ≡ false → self.new.opened ≡ None }
-        ensures openings { self.new.openings ≡ self.old.openings }
-        ensures imports { self.new.imports ≡ begun result.progress self.old.imports }
-        ensures lock { IsSome self.old.lock → IsLockKept self.new }
-    {
-        let reply = reply_over(place.rt.alloc(), &mut opened.keep, door, asked);
-        self.imports = begun(&reply.progress, self.imports);
-        self.leave(place, opened, reply.goes_on);
-        reply
-    }
-
-    // A turn of an import over an office that was taken, which then stays open where it goes on.
-    fn go_on_over<O: Opener<K>>(
-        &mut self,
-        place: &Place<'_, O>,
-        mut opened: Opened<K>,
-        import: Importing,
-    ) -> Reply
-        ensures taken { IsTakenFrom K.meaning opened.keep (Task import) result.progress (standing_of self.new) }
-        ensures closed { result.goes_on ≡ false → self.new.opened ≡ None }
-        ensures openings { self.new.openings ≡ self.old.openings }
-        ensures imports { self.new.imports ≡ ended result.progress self.old.imports }
-        ensures lock { IsSome self.old.lock → IsLockKept self.new }
-    {
-        let reply = import.go_on(place.rt.alloc(), &mut opened.keep);
-        self.imports = ended(&reply.progress, self.imports);
-        self.leave(place, opened, reply.goes_on);
-        reply
     }
 
     // The office as it was left, or opened anew, under the lock.
@@ -240,26 +215,6 @@ impl<K: Keep + Drop> Session<K> {
         if let Some(lock) = self.lock.take() {
             let _ = lock.unlock();
         }
-    }
-}
-
-// How many imports are under way behind such an answer.
-fn begun(progress: &Progress<Importing>, imports: u64) -> u64
-    ensures { result ≡ begun progress.now imports }
-{
-    match progress {
-        Progress::Told(_) => imports,
-        Progress::Left(_) => imports.saturating_add(1),
-    }
-}
-
-// How many are behind such a turn of one.
-fn ended(progress: &Progress<Importing>, imports: u64) -> u64
-    ensures { result ≡ ended progress.now imports }
-{
-    match progress {
-        Progress::Told(_) => imports.saturating_sub(1),
-        Progress::Left(_) => imports,
     }
 }
 
