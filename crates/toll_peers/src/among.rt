@@ -3,6 +3,7 @@ ghost use Rattle.std.specs.Prelude.{◌↔◌, IsTrue};
 ghost use Rattle.toll_peers.specs.Halls.{IsAmong};
 
 use crate::peer::Peer;
+use crate::stage::Stage;
 
 /// Which of the peers that are there.
 #[derive(Clone, Copy, Debug, PartialEq, Eq)]
@@ -21,9 +22,9 @@ impl Among {
         ensures { IsTrue result ↔ IsAmong self peer.now }
     {
         match self {
-            Among::Reading => peer.stage.is_reading(),
-            Among::Pending => peer.stage.is_pending(),
-            Among::Timed => !peer.stage.is_pending(),
+            Among::Reading => matches!(peer.stage, Stage::Reading),
+            Among::Pending => matches!(peer.stage, Stage::Pending(_)),
+            Among::Timed => !matches!(peer.stage, Stage::Pending(_)),
         }
     }
 }

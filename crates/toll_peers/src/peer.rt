@@ -57,7 +57,7 @@ impl<S: Socket, T: Drop> Peer<S, T> {
         ensures idle { IsSome (task_of self.old.stage) → self.new ≡ self.old }
         ensures until { self.new.until ≡ until_after (reply_of self.old.stage) (reply_of self.new.stage) self.old.until now }
     {
-        if !self.stage.is_reading() {
+        if !matches!(self.stage, Stage::Reading) {
             return self.give();
         }
         match self.request.read_on(&mut self.socket) {
