@@ -1,8 +1,5 @@
 //! The office in a file, as the peers of a server ask it.
-ghost use Rattle.std.specs.Prelude.{◌≡◌, []};
-ghost use Rattle.toll_programs.specs.Statuses.{code_of};
-ghost use Rattle.toll_programs.specs.declared.status.Status.{Status};
-ghost use Rattle.toll_served.specs.Faults.{fault_text};
+ghost use Rattle.std.specs.Prelude.{◌≡◌};
 ghost use Rattle.toll_served.specs.Sittings.{AnswersBy, GoesOnBy, IsTurnedAway, IsUnopened, standing_of};
 
 use crate::importing::Importing;

@@ -3,7 +3,7 @@ ghost use Rattle.std.specs.Prelude.{◌≡◌, IsErr, IfOk};
 ghost use Rattle.toll_programs.specs.Told.{streams_of};
 ghost use Rattle.toll_served.specs.Doing.{IsCommandOver, IsImportOver, IsRequestOver};
 
-use crate::locked::Locked;
+use crate::locked_office::LockedOffice;
 use crate::office_fault::OfficeFault;
 use crate::place::{Opener, Place};
 use toll_desk::PlantCmd;
@@ -23,7 +23,7 @@ pub fn do_command<K: Keep, O: Opener<K>, W: Sink, E: Sink>(
     ensures done { IfOk result (IsCommandOver K.meaning O.is_opened command.now (streams_of W.Sink E.Sink output.old output.new error.old error.new)) }
     ensures untold { IsErr result → (output.new ≡ output.old) × (error.new ≡ error.old) }
 {
-    let mut office = Locked::open(place)?;
+    let mut office = LockedOffice::open(place)?;
     let status = plant_line(place.rt.alloc(), &mut office.keep, command, output, error);
     office.close(&place.opener);
     Ok(status)
@@ -40,7 +40,7 @@ pub fn do_import<K: Keep, O: Opener<K>, W: Sink, E: Sink>(
     ensures done { IfOk result (IsImportOver K.meaning O.is_opened actuals.now (streams_of W.Sink E.Sink output.old output.new error.old error.new)) }
     ensures untold { IsErr result → (output.new ≡ output.old) × (error.new ≡ error.old) }
 {
-    let mut office = Locked::open(place)?;
+    let mut office = LockedOffice::open(place)?;
     let status = plant_import(place.rt.alloc(), &mut office.keep, actuals, output, error);
     office.close(&place.opener);
     Ok(status)
@@ -51,7 +51,7 @@ pub fn do_import<K: Keep, O: Opener<K>, W: Sink, E: Sink>(
 pub fn answer_once<K: Keep, O: Opener<K>>(place: &Place<'_, O>, request: &[u8]) -> Out
     ensures { IsRequestOver K.meaning O.is_opened request.now result }
 {
-    match Locked::open(place) {
+    match LockedOffice::open(place) {
         Ok(mut office) => {
             let told = answer(place.rt.alloc(), &mut office.keep, request);
             office.close(&place.opener);

@@ -4,7 +4,7 @@ ghost use Rattle.toll_parcels.specs.Messages.{asked_text};
 ghost use Rattle.toll_parcels.specs.Parcels.{parcel};
 ghost use Rattle.toll_programs.specs.Told.{IsWarned, stream_of, streams_of};
 ghost use Rattle.toll_programs.specs.declared.status.Status.{Status};
-ghost use Rattle.toll_served.specs.Asking.{CanBeTold, IsAnswer, IsExchange, IsGreetedBy, IsHandedOver, IsServerTold, IsWrittenOf, lost_line};
+ghost use Rattle.toll_served.specs.Asking.{CanBeTold, IsAnswer, IsExchange, IsGreetedBy, IsHandedOver, IsWrittenOf, lost_line};
 
 use crate::noting::Noting;
 use crate::passing::pass_on;

@@ -13,7 +13,7 @@ mod kept_office;
 mod laws;
 mod lending;
 mod lock;
-mod locked;
+mod locked_office;
 mod noting;
 mod office_fault;
 mod opened;

@@ -2,7 +2,7 @@
 ghost use Rattle.std.specs.Prelude.{◌≡◌, ◌+◌, ◌-◌, ◌<◌, false, None, Some, IfErr, IfOk, IfSome, IsSome, OnErr, OnOk};
 ghost use Rattle.toll_peers.specs.Runs.{Request, Task};
 ghost use Rattle.toll_served.specs.Doors.{IsServedIfRoom};
-ghost use Rattle.toll_served.specs.Sittings.{IsAtHand, IsIdle, IsLeft, IsLockKept, IsTakenFrom, IsUnopened, Takes, begun, ended, standing_of};
+ghost use Rattle.toll_served.specs.Sittings.{IsAtHand, IsIdle, IsLeft, IsLockKept, IsUnopened, Takes, begun, ended, standing_of};
 
 use crate::answering::answer_at;
 use crate::importing::Importing;

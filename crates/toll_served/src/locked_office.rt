@@ -7,24 +7,24 @@ use crate::place::{Opener, Place};
 use std::fs::File;
 
 /// An office in a file that nobody else uses meanwhile. It can't be dropped: who opens it closes it.
-pub struct Locked<K> {
+pub struct LockedOffice<K> {
     pub keep: K,
     lock: File,
 }
 
-impl<K> Locked<K> {
+impl<K> LockedOffice<K> {
     /// Takes the lock of the file, `FILE.lock`, without waiting, and opens the office in it.
     pub fn open<O: Opener<K>>(place: &Place<'_, O>) -> Result<Self, OfficeFault>
         ensures { IfOk result (λ office. O.is_opened office.keep) }
     {
         let lock = take_lock(place.rt, place.path)?;
         let keep = place.opener.open(place.rt, place.path)?;
-        Ok(Locked { keep, lock })
+        Ok(LockedOffice { keep, lock })
     }
 
     /// Closes the file, and then gives back the lock.
     pub fn close<O: Opener<K>>(self, opener: &O) {
-        let Locked { keep, lock } = self;
+        let LockedOffice { keep, lock } = self;
         opener.close(keep);
         let _ = lock.unlock();
     }
