@@ -1,5 +1,5 @@
 -- A plan that is carried out.
-use Rattle.std.proofs.Common.{◌≡◌, ◌==◌, Bool, true, false, List, [], ◌∷◌, length, Result, Ok, Err, OnOk, OnErr, IfOk, refl, sym, ap, subst, arith, ◌∙◌}
+use Rattle.std.proofs.Common.{◌≡◌, ◌==◌, ◌&&◌, Bool, true, false, List, [], ◌∷◌, length, Result, Ok, Err, OnOk, OnErr, IfOk, refl, sym, ap, subst, arith, ◌∙◌}
 use Rattle.toll_desk.proofs.Common.{on_ok_weaker, History, Change, nat_eq-exact, Meaning, Content, after, Fits, Goes, IsReading, KeepFault, goes_then, goes_as, goes_fault}
 use Rattle.toll_keep.specs.Meaning.{OverHeld, OverLive}
 use Rattle.toll_desk.specs.Outcome.{finished, IsDone}
@@ -8,6 +8,10 @@ use Rattle.toll_desk.specs.Plans.{LeadsTo}
 pub no_changes : (changes : List Change) → (length changes == 0) ≡ true → changes ≡ []
 no_changes [] e = refl
 no_changes (change ∷ changes) e = let none : length (change ∷ changes) ≡ 0 = nat_eq-exact (length (change ∷ changes)) 0 e in absurd (omega arith)
+
+pub and_false : (b : Bool) → (b && false) ≡ false
+and_false true = refl
+and_false false = refl
 
 module _ {K : Type 0} (meaning : Meaning K) where
   -- what is so of a content after changes were made of it, or not

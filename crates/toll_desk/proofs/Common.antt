@@ -57,7 +57,7 @@ pub use Rattle.toll_history.specs.Tables.{IsRowsOf, Tables, lot_row, sublot_row,
 unfoldable pub use Rattle.toll_history.specs.Verdict.{checks}
 pub use Rattle.toll_history.specs.Verdict.{Accepted, Checks, IsLawful, IsValid, Refused, Repeated, Verdict, first_of, grow, grown, is_quarantined, known_batch_checks, needs_owner, verdict}
 pub use Rattle.toll_history.specs.Work.{batch_of, cancels, found, is_closed, measure_of, order_of, order_placed, state_of, unit_of}
-pub use Rattle.toll_keep.proofs.Calls.{goes_as, goes_fault, goes_then, read_fault, read_memory, read_ok, reads_then, settles, settles_still}
+pub use Rattle.toll_keep.proofs.Calls.{goes_as, goes_fault, goes_then, read_fault, read_memory, read_ok, reads_then, settles, settles_still, spared}
 pub use Rattle.toll_keep.proofs.Outcomes.{of_ok}
 pub use Rattle.toll_keep.proofs.Slicing.{has_found, has_more, has_new, owner-with_row}
 pub use Rattle.toll_keep.specs.Content.{Content, Fits, PutsToKnown, after, after_owners, after_units, knows, slice_of}

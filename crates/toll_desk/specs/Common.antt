@@ -20,7 +20,7 @@ pub use Rattle.toll_history.specs.History.{History, acts, owner_known}
 pub use Rattle.toll_history.specs.Tables.{IsRowsOf, lot_row, sublot_row}
 pub use Rattle.toll_history.specs.Verdict.{Accepted, Checks, IsLawful, IsValid, Refused, Repeated, Verdict, grow, is_actual, verdict}
 pub use Rattle.toll_keep.specs.Content.{Content, ContentKeepsRules, Fits, after, slice_of}
-pub use Rattle.toll_keep.specs.Goes.{Goes, IsReading, Settles}
+pub use Rattle.toll_keep.specs.Goes.{Goes, IsReading, IsSpared, Settles}
 pub use Rattle.toll_keep.specs.Meaning.{Meaning, OverHeld}
 pub use Rattle.toll_keep.specs.Reads.{HaveRead}
 pub use Rattle.toll_keep.specs.declared.fault.KeepFault.{KeepFault}

@@ -1,6 +1,6 @@
 -- What is so of a command or question of the plant that was answered over a keep.
 use Rattle.std.specs.Prelude.{◌≡◌, ◌≢◌, false, Ok, Err}
-use Rattle.toll_desk.specs.Common.{Refusal, Refused, Meaning, Content, ContentKeepsRules, Settles, Damaged, CannotRead, Judged}
+use Rattle.toll_desk.specs.Common.{Refusal, Refused, Meaning, Content, ContentKeepsRules, IsSpared, Settles, Memory, Damaged, CannotRead, Judged}
 use Rattle.toll_desk.specs.Asking.{asked_by, asks_recall, is_accepted, plant_told, IsValidDeed}
 use Rattle.toll_desk.specs.Outcome.{GoesFor}
 use Rattle.toll_desk.specs.Clauses.{IsPlantDone}
@@ -15,6 +15,7 @@ module _ {K : Type 0} (meaning : Meaning K) where
     pub unread : (why : Refusal) → asked_by command ≡ CannotRead why → (plant_told reply ≡ Ok (Judged (Refused why))) × (new ≡ old)
     pub goes : GoesFor meaning old new (asked_by command) (plant_told reply)
     pub settles : Settles meaning old new
+    pub spared : plant_told reply ≡ Err Memory → IsSpared meaning old new
     pub whole : asks_recall (asked_by command) ≡ false → meaning.is_honest new → (c : Content) → meaning.holds old c → ContentKeepsRules c → plant_told reply ≢ Err Damaged
     pub undamaged : Over meaning old new (λ c H. plant_told reply ≢ Err Damaged)
     pub valid : IsValidDeed (asked_by command)

@@ -1,7 +1,7 @@
 //! Owners' requests over a keep.
 ghost use Rattle.std.specs.Prelude.{◌≡◌, ◌≢◌, false, [], Err, OnErr};
 ghost use Rattle.toll_keep.specs.Content.{ContentKeepsRules};
-ghost use Rattle.toll_keep.specs.Goes.{Goes, IsReading, Settles};
+ghost use Rattle.toll_keep.specs.Goes.{Goes, IsReading, IsSpared, Settles};
 ghost use Rattle.toll_keep.specs.Meaning.{OverHeld};
 ghost use Rattle.toll_desk.specs.Clauses.{IfPlacedAgain, IsOwnerDone, IsPlannedBy, IsPlannedFor, OverOwner};
 ghost use Rattle.toll_desk.specs.Asking.{asked_of, may_change, told_of};
@@ -60,7 +60,7 @@ fn plan_for<K: Keep>(alloc: Global, keep: &mut K, owner: &Name, request: &Reques
     }
 }
 
-/// The reply to an owner's request, which is done.
+/// The reply to an owner's request, which is done. Behind want of memory nothing changed.
 pub fn owner_do<K: Keep>(
     alloc: Global,
     keep: &mut K,
@@ -70,6 +70,7 @@ pub fn owner_do<K: Keep>(
 ) -> Reply
     ensures goes { Goes K.meaning keep.old keep.new (told_of result) }
     ensures settles { Settles K.meaning keep.old keep.new }
+    ensures spared { told_of result ≡ Err KeepFault.Memory → IsSpared K.meaning keep.old keep.new }
     ensures whole { OverHeld K.meaning keep.old keep.new (λ c. ContentKeepsRules c → told_of result ≢ Err KeepFault.Damaged) }
     ensures quiet { OverHeld K.meaning keep.old keep.new (λ c. may_change (asked_of request.now) (told_of result) ≡ false → K.meaning.holds keep.new c) }
     ensures once { OverHeld K.meaning keep.old keep.new (λ c. IfPlacedAgain (c.rows owner.now) (asked_of request.now) (K.meaning.holds keep.new c)) }

@@ -79,6 +79,7 @@ module _ {T : Type 0} (K : Ghosts T) where
         live = goes.live;
         shown = goes.shown;
         lasts = goes.lasts;
+        spares = goes.spares;
         cause = goes.cause;
         since = λ honest later. goes.since honest later.keep;
         stays = goes.stays;
@@ -120,6 +121,7 @@ module _ {T : Type 0} (K : Ghosts T) where
           live = λ honest lives. lives;
           shown = λ honest. ∥∥₁_elim (old.live some honest) (once old.keep) (λ there. there);
           lasts = λ honest lived. inl lived;
+          spares = λ honest e lived. inl lived;
           cause = λ honest e. absurd (cc e);
           since = λ honest later cause. cause;
           stays = λ closed. absurd (shut closed);

@@ -1,10 +1,10 @@
 -- One call of a keep after another, and the same under another answer.
 use Rattle.std.proofs.Common.{◌≡◌, [], ◌∷◌, Result, Ok, Err, inl, inr, refl, subst, ◌∙◌}
-use Rattle.std.specs.Prelude.{◌≢◌, ◌↔◌, IsTrue, OnOk}
+use Rattle.std.specs.Prelude.{◌≢◌, ◌↔◌, ◌⊎◌, IsTrue, OnErr, OnOk}
 use mathlib.Core.Bool.{false≢true}
-use Rattle.toll_keep.specs.Meaning.{Meaning}
+use Rattle.toll_keep.specs.Meaning.{Meaning, OverHeld}
 use Rattle.toll_keep.specs.Content.{Content, ContentKeepsRules}
-use Rattle.toll_keep.specs.Goes.{Goes, Keeps, IsReading, Settles, closes}
+use Rattle.toll_keep.specs.Goes.{Goes, Keeps, IsReading, IsSpared, Settles, closes}
 use Rattle.toll_keep.specs.declared.fault.KeepFault.{KeepFault}
 use Rattle.toll_keep.specs.declared.fault.KeepFault.TheVariants.{Memory, Disk, Damaged, Closed}
 
@@ -35,6 +35,7 @@ module _ {K : Type 0} (meaning : Meaning K) where
     live = λ now lives. first.live (second.honest now) (second.live now lives);
     shown = second.shown;
     lasts = λ now lived. elim (second.lasts now (first.shown (second.honest now))) [ inl lives ↦ inl lives | inr cause ↦ inr (first.since (second.honest now) new cause) ];
+    spares = λ now is lived. second.spares now is (first.shown (second.honest now));
     cause = λ now is. first.since (second.honest now) new (second.cause now is);
     since = λ now later cause. first.since (second.honest now) later (second.since now later cause);
     stays = λ was cs left. absurd (open_before old middle x first was);
@@ -48,6 +49,12 @@ module _ {K : Type 0} (meaning : Meaning K) where
   -- so it does once a call has returned, or the store met a cause of Disk
   pub settles : {X : Type 0} (old new : K) (r : Result X KeepFault) → Rests → GoesTo old new r → Settles meaning old new
   settles old new r settled goes = λ now lived c held. elim (goes.lasts now lived) [ inl lives ↦ inl (lives, settled new c now lives held) | inr cause ↦ inr cause ]
+
+  -- behind want of memory nothing changed, where the call leaves what is held
+  pub spared : {X : Type 0} (old new : K) (r : Result X KeepFault) → Rests → r ≡ Err Memory → GoesTo old new r → OverHeld meaning old new (λ c. OnErr r (meaning.holds new c)) → IsSpared meaning old new
+  spared old new r settled is goes none = λ now lived c held.
+      let same : meaning.holds new c = subst (λ a. OnErr a (meaning.holds new c)) is (none now c held) in
+      elim (goes.spares now is lived) [ inl lives ↦ inl (lives, same, settled new c now lives same) | inr unsure ↦ inr unsure ]
 
   pub settles_still : (k : K) → Rests → Settles meaning k k
   settles_still k settled = λ now lived c held. inl (lived, settled k c now lived held)
@@ -64,14 +71,16 @@ module _ {K : Type 0} (meaning : Meaning K) where
 
   -- what is so of a call is so under another answer, which is the same fault, or none or a want of memory where it was none
   goes_under : {X Y : Type 0} (old new : K) (was : Result X KeepFault) (told : Result Y KeepFault) →
-      ((told ≡ Err Closed) ↔ (was ≡ Err Closed)) → closes was ≡ closes told → (OnOk was (meaning.is_live new) → OnOk told (meaning.is_live new)) → (told ≡ Err Disk → was ≡ Err Disk) → GoesTo old new was → GoesTo old new told
-  goes_under old new was told shut_out alike shows fails goes = record {
+      ((told ≡ Err Closed) ↔ (was ≡ Err Closed)) → closes was ≡ closes told → (OnOk was (meaning.is_live new) → OnOk told (meaning.is_live new)) → (told ≡ Err Disk → was ≡ Err Disk)
+      → (told ≡ Err Memory → (was ≡ Err Memory) ⊎ (OnOk was (meaning.is_live new) → meaning.is_live new)) → GoesTo old new was → GoesTo old new told
+  goes_under old new was told shut_out alike shows fails lacks goes = record {
     honest = goes.honest;
     closed = (λ is. goes.closed.0 (shut_out.0 is), λ closed. shut_out.1 (goes.closed.1 closed));
     closes = goes.closes ∙ alike;
     live = goes.live;
     shown = λ now. shows (goes.shown now);
     lasts = goes.lasts;
+    spares = λ now is lived. elim (lacks is) [ inl same ↦ goes.spares now same lived | inr answered ↦ inl (answered (goes.shown now)) ];
     cause = λ now is. goes.cause now (fails is);
     since = goes.since;
     stays = goes.stays;
@@ -79,13 +88,13 @@ module _ {K : Type 0} (meaning : Meaning K) where
   }
 
   pub goes_as : {X Y : Type 0} (old new : K) (x : X) (y : Y) → GoesTo old new (answered x) → GoesTo old new (answered y)
-  goes_as old new x y = goes_under old new (answered x) (answered y) (λ is. (cc), λ is. (cc)) refl (λ live. live) (λ is. (cc))
+  goes_as old new x y = goes_under old new (answered x) (answered y) (λ is. (cc), λ is. (cc)) refl (λ live. live) (λ is. (cc)) (λ is. (cc))
 
   pub goes_memory : {X Y : Type 0} (old new : K) (x : X) → GoesTo old new (answered x) → GoesTo {X = Y} old new (failed Memory)
-  goes_memory {X} {Y} old new x = goes_under {X = X} {Y = Y} old new (answered x) (failed Memory) (λ is. (cc), λ is. (cc)) refl (λ live. tt) (λ is. (cc))
+  goes_memory {X} {Y} old new x = goes_under {X = X} {Y = Y} old new (answered x) (failed Memory) (λ is. (cc), λ is. (cc)) refl (λ live. tt) (λ is. (cc)) (λ is. inr (λ live. live))
 
   pub goes_fault : {X Y : Type 0} (old new : K) (fault : KeepFault) → GoesTo {X = X} old new (failed fault) → GoesTo {X = Y} old new (failed fault)
-  goes_fault {X} {Y} old new fault = goes_under {X = X} {Y = Y} old new (failed fault) (failed fault) (λ is. (cc), λ is. (cc)) (closes_alike fault) (λ live. live) (λ is. (cc))
+  goes_fault {X} {Y} old new fault = goes_under {X = X} {Y = Y} old new (failed fault) (failed fault) (λ is. (cc), λ is. (cc)) (closes_alike fault) (λ live. live) (λ is. (cc)) (λ is. inl (cc))
     where
       closes_alike : (fault : KeepFault) → closes {X = X} (Err fault) ≡ closes {X = Y} (Err fault)
       closes_alike Memory = refl

@@ -1,5 +1,5 @@
 -- What is remembered: looked up, added, and after changes.
-use Rattle.std.proofs.Common.{◌≡◌, ℕ, Bool, true, false, cond, map, Some, None, List, [], ◌∷◌, ◌++◌, get_or, refl, sym, ap, subst, ◌∙◌}
+use Rattle.std.proofs.Common.{◌≡◌, ℕ, Bool, true, false, cond, map, Some, None, List, [], ◌∷◌, ◌++◌, get_or, Global, Vec, Result, Ok, Err, IfOk, refl, sym, ap, subst, ◌∙◌}
 use Rattle.std.specs.Prelude.{position}
 use Rattle.toll_keep.proofs.Common.{list_any, All-get_or, All-push, All-weaker, All-map, position-Some, false≢true, Bytes, same_bytes, Slice, empty_slice, with_row, after_change, after_changes, Change, Owner, Unit as UnitAdded, Put, Edge, OwnerRow, UnitRow, AreEdges, IsEdge, Contains-none, same_bytes-exact}
 use Rattle.std.specs.List.Sorted.{IsStrictlySortedBy}
@@ -24,6 +24,10 @@ of_known false rows s e = absurd (cc e)
 
 pub edges_there : (c : Content) (o : Bytes) (s : Slice) (edges : List Edge) → slice_of c o ≡ Some s → AreEdges (IsEdge s) edges → AreEdges (IsEdge (c.rows o)) edges
 edges_there c o s edges there = subst (λ t. AreEdges (IsEdge t) edges) (sym (of_known (knows c o) (c.rows o) s there).1)
+
+pub edges_told : {E : Type 0} (c : Content) (o : Bytes) (s : Slice) (told : Result (Vec Edge Global) E) → slice_of c o ≡ Some s → IfOk told (λ edges. AreEdges (IsEdge s) edges.items) → IfOk told (λ edges. AreEdges (IsEdge (c.rows o)) edges.items)
+edges_told c o s (Ok edges) there shown = edges_there c o s edges.items there shown
+edges_told c o s (Err e) there shown = tt
 
 -- ---- added
 

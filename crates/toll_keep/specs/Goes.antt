@@ -2,7 +2,7 @@
 use Rattle.std.specs.Prelude.{◌≡◌, ◌≢◌, ◌↔◌, ◌⊎◌, Bool, true, false, IsTrue, List, [], ◌∷◌, ◌++◌, Result, Ok, Err, OnOk}
 use Rattle.std.proofs.Common.{inl, inr}
 use Rattle.toll_keep.specs.Content.{Content, ContentKeepsRules}
-use Rattle.toll_keep.specs.Meaning.{Meaning, OverHeld}
+use Rattle.toll_keep.specs.Meaning.{Meaning, OverHeld, OverLive}
 use Rattle.toll_keep.specs.declared.fault.KeepFault.{KeepFault}
 use Rattle.toll_keep.specs.declared.fault.KeepFault.TheVariants.{Memory, Disk, Damaged, Closed}
 
@@ -28,6 +28,8 @@ module _ {K : Type 0} where
     pub shown : meaning.is_honest new → OnOk result (meaning.is_live new)
     -- whatever was answered, a store that lived lives on, or met a cause of Disk
     pub lasts : meaning.is_honest new → meaning.is_live old → meaning.is_live new ⊎ meaning.has_cause old new
+    -- behind want of memory a store that lived lives on, or there was no memory to ask it
+    pub spares : meaning.is_honest new → result ≡ Err Memory → meaning.is_live old → meaning.is_live new ⊎ IsTrue (meaning.is_unsure new)
     -- Disk has a cause, and a later cause is one from here on too
     pub cause : meaning.is_honest new → result ≡ Err Disk → meaning.has_cause old new
     pub since : meaning.is_honest new → (later : K) → meaning.has_cause new later → meaning.has_cause old later
@@ -49,6 +51,10 @@ module _ {K : Type 0} where
 -- once a call has returned, whatever it answered, a store that lived lives on and a stop leaves the content that is held and no other; or it met a cause of Disk
 abbrev pub Settles : {K : Type 0} → Meaning K → K → K → Type 0
 Settles meaning old new = meaning.is_honest new → meaning.is_live old → (c : Content) → meaning.holds new c → (meaning.is_live new × meaning.leaves new (c ∷ [])) ⊎ meaning.has_cause old new
+
+-- nothing changed: a store that lived lives on, holds what it held, and a stop leaves just that; or there was no memory to ask it
+abbrev pub IsSpared : {K : Type 0} → Meaning K → K → K → Type 0
+IsSpared meaning old new = OverLive meaning old new (λ c. (meaning.is_live new × meaning.holds new c × meaning.leaves new (c ∷ [])) ⊎ IsTrue (meaning.is_unsure new))
 
 -- no damage is found in rows that keep the rules
 abbrev pub FindsNoDamage : {K X : Type 0} → Meaning K → (old new : K) → Result X KeepFault → Type 0

@@ -11,6 +11,8 @@ pub record Meaning (K : Type 0) : Type 1 where
   pub is_closed : K → Bool
   -- its store has not shut itself
   pub is_live : K → Type 0
+  -- it lacked the memory to ask whether its store lives still
+  pub is_unsure : K → Bool
   -- what its store met between the one and the other is a cause of Disk
   pub has_cause : K → K → Type 0
   -- a stop at this moment leaves one of these contents
@@ -23,6 +25,7 @@ meaning_of inside meaning = record {
   is_honest = λ k. meaning.is_honest (inside k);
   is_closed = λ k. meaning.is_closed (inside k);
   is_live = λ k. meaning.is_live (inside k);
+  is_unsure = λ k. meaning.is_unsure (inside k);
   has_cause = λ old new. meaning.has_cause (inside old) (inside new);
   leaves = λ k cs. meaning.leaves (inside k) cs;
 }

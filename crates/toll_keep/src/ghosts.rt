@@ -11,10 +11,11 @@ use crate::mem_keep::MemKeep;
 use crate::refusing::Refusing;
 use crate::remembering::Remembering;
 
-/// A keep in memory is always honest and live, never closed, and meets no cause of Disk.
+/// A keep in memory is always honest and live, and surely so, never closed, and meets no cause of Disk.
 pub fn a_keep_in_memory_is_always_open()
     ensures honest { (k : Kept) → ⟦<MemKeep as Keep>⟧.meaning.is_honest k }
     ensures live { (k : Kept) → ⟦<MemKeep as Keep>⟧.meaning.is_live k }
+    ensures sure { (k : Kept) → ⟦<MemKeep as Keep>⟧.meaning.is_unsure k ≡ false }
     ensures not_closed { (k : Kept) → ⟦<MemKeep as Keep>⟧.meaning.is_closed k ≡ false }
     ensures no_cause { (old new : Kept) → ⟦<MemKeep as Keep>⟧.meaning.has_cause old new → ⊥ }
 {}
@@ -25,11 +26,12 @@ pub fn a_keep_in_memory_has_its_content()
     ensures leaves { (k : Kept) (cs : List Content) → ⟦<MemKeep as Keep>⟧.meaning.leaves k cs ↔ Contains cs (content_of k) }
 {}
 
-/// A keep that refuses is honest, live and closed just where the keep inside is, and meets the causes
-/// of Disk that it meets.
+/// A keep that refuses is honest, live, unsure and closed just where the keep inside is, and meets the
+/// causes of Disk that it meets.
 pub fn a_refusing_keep_is_as_open_as_the_one_inside<K: Keep>()
     ensures honest { (r : Refusing K) → ⟦<Refusing<K> as Keep>⟧.meaning.is_honest r ↔ K.meaning.is_honest r.keep }
     ensures live { (r : Refusing K) → ⟦<Refusing<K> as Keep>⟧.meaning.is_live r ↔ K.meaning.is_live r.keep }
+    ensures unsure { (r : Refusing K) → ⟦<Refusing<K> as Keep>⟧.meaning.is_unsure r ≡ K.meaning.is_unsure r.keep }
     ensures closed { (r : Refusing K) → ⟦<Refusing<K> as Keep>⟧.meaning.is_closed r ≡ K.meaning.is_closed r.keep }
     ensures cause { (old new : Refusing K) → ⟦<Refusing<K> as Keep>⟧.meaning.has_cause old new ↔ K.meaning.has_cause old.keep new.keep }
 {}
@@ -40,11 +42,12 @@ pub fn a_refusing_keep_has_the_content_inside<K: Keep>()
     ensures leaves { (r : Refusing K) (cs : List Content) → ⟦<Refusing<K> as Keep>⟧.meaning.leaves r cs ↔ K.meaning.leaves r.keep cs }
 {}
 
-/// A keep that remembers is honest, live and closed just where the keep inside is, and meets the causes
-/// of Disk that it meets.
+/// A keep that remembers is honest, live, unsure and closed just where the keep inside is, and meets the
+/// causes of Disk that it meets.
 pub fn a_remembering_keep_is_as_open_as_the_one_inside<K: Keep>()
     ensures honest { (r : Remembering K ⟦<K as Keep>⟧) → ⟦<Remembering<K> as Keep>⟧.meaning.is_honest r ↔ K.meaning.is_honest r.keep }
     ensures live { (r : Remembering K ⟦<K as Keep>⟧) → ⟦<Remembering<K> as Keep>⟧.meaning.is_live r ↔ K.meaning.is_live r.keep }
+    ensures unsure { (r : Remembering K ⟦<K as Keep>⟧) → ⟦<Remembering<K> as Keep>⟧.meaning.is_unsure r ≡ K.meaning.is_unsure r.keep }
     ensures closed { (r : Remembering K ⟦<K as Keep>⟧) → ⟦<Remembering<K> as Keep>⟧.meaning.is_closed r ≡ K.meaning.is_closed r.keep }
     ensures cause { (old new : Remembering K ⟦<K as Keep>⟧) → ⟦<Remembering<K> as Keep>⟧.meaning.has_cause old new ↔ K.meaning.has_cause old.keep new.keep }
 {}

@@ -2,7 +2,7 @@
 ghost use Rattle.std.specs.Prelude.{◌≡◌, ◌≢◌, Err, List, [], ◌∷◌, ◌++◌, IfOk, OnOk, OnErr};
 ghost use Rattle.toll_keep.specs.Common.{AreEdges, IsEdge};
 ghost use Rattle.toll_keep.specs.Content.{Content, slice_of, after, Fits, ContentKeepsRules};
-ghost use Rattle.toll_keep.specs.Goes.{Goes, IsReading};
+ghost use Rattle.toll_keep.specs.Goes.{Goes, IsReading, IsSpared};
 ghost use Rattle.toll_keep.specs.Holding.{IsHolder, IsEdgeOfSome};
 ghost use Rattle.toll_keep.specs.Meaning.{Meaning, OverHeld, OverLive};
 
@@ -14,7 +14,8 @@ use toll_base::{Change, Edge, Name, OwnerRow, Slice, UnitRow};
 /// What keeps the rows of the plant and of each owner.
 ///
 /// A call that answers [`KeepFault::Memory`] changed nothing, and the keep goes on: where its store lived
-/// it lives on, and a stop leaves what it holds, unless the store met a cause of Disk meanwhile. After
+/// it lives on, it holds what it held, and a stop leaves just that. The one exception is a keep that lacked
+/// even the memory to ask whether its store lives still (`is_unsure`): it asks that at its next call. After
 /// [`KeepFault::Disk`] or [`KeepFault::Damaged`] every call answers [`KeepFault::Closed`], and the keep
 /// is said to hold the rows from before the call that failed; what its store has when it is opened
 /// again is said by `leaves`.
@@ -62,6 +63,7 @@ pub trait Keep {
         ensures goes { Goes meaning self.old self.new result }
         ensures all { OverHeld meaning self.old self.new (λ c. Fits c changes.now → OnOk result (meaning.holds self.new (after changes.now c))) }
         ensures none { OverHeld meaning self.old self.new (λ c. OnErr result (meaning.holds self.new c)) }
+        ensures spared { result ≡ Err KeepFault.Memory → IsSpared meaning self.old self.new }
         ensures whole { OverHeld meaning self.old self.new (λ c. ContentKeepsRules c → result ≢ Err KeepFault.Damaged) }
         ensures crash { OverLive meaning self.old self.new (λ c. Fits c changes.now → meaning.leaves self.new (c ∷ after changes.now c ∷ [])) };
 

@@ -120,6 +120,7 @@ impl Keep for MemKeep {
       is_honest = λ _. ⊤;
       is_closed = λ _. false;
       is_live = λ _. ⊤;
+      is_unsure = λ _. false;
       has_cause = λ _ _. ⊥;
       leaves = λ k cs. IsAmong (λ c. content_of k ≡ c) cs;
     } };

@@ -80,6 +80,7 @@ impl<K: Keep> Keep for Remembering<K> {
       is_honest = λ r. K.meaning.is_honest r.keep;
       is_closed = λ r. K.meaning.is_closed r.keep;
       is_live = λ r. K.meaning.is_live r.keep;
+      is_unsure = λ r. K.meaning.is_unsure r.keep;
       has_cause = λ r s. K.meaning.has_cause r.keep s.keep;
       leaves = λ r cs. K.meaning.leaves r.keep cs;
     } };

@@ -1,7 +1,7 @@
 //! What is told from what is remembered, or read of a keep and then remembered.
-ghost use Rattle.std.specs.Prelude.{◌≡◌, ◌≢◌, [], IfOk, IsSome};
+ghost use Rattle.std.specs.Prelude.{◌≡◌, ◌≢◌, [], None, IfOk, IsOkAnd, IsSome};
 ghost use Rattle.toll_keep.specs.Common.{AreEdges, IsEdge};
-ghost use Rattle.toll_keep.specs.Content.{slice_of};
+ghost use Rattle.toll_keep.specs.Content.{Content, slice_of};
 ghost use Rattle.toll_keep.specs.Goes.{IsReading};
 ghost use Rattle.toll_keep.specs.Meaning.{OverHeld};
 ghost use Rattle.toll_keep.specs.Reads.{HaveRead, IsKept};
@@ -12,7 +12,7 @@ use crate::keep::Keep;
 use crate::known::Known;
 use crate::plant_row::PlantRow;
 use crate::remembered::{remember, remember_edges, remembered, remembered_edges};
-use std::alloc::Global;
+use std::alloc::{AllocError, Global};
 use toll_base::{Edge, Name, Slice};
 
 /// All rows of an owner: `None` for an unknown one.
@@ -61,8 +61,23 @@ fn read_edges<K: Keep>(
     ensures reads { OverHeld K.meaning keep.old keep.new (λ c. OnlyKnownHaveRows c → IfOk result (λ edges. AreEdges (IsEdge (c.rows owner.now)) edges.items)) }
     ensures own { OverHeld K.meaning keep.old keep.new (λ c. AreOf c slices.old.items → AreOf c slices.new.items) }
 {
-    match keep.slice(alloc, owner)? {
-        Some(slice) => Ok(remember_edges(alloc, slices, owner, slice)?),
+    let read = keep.slice(alloc, owner)?;
+    Ok(edges_read(alloc, slices, owner, read)?)
+}
+
+// The edges of a slice that was read, which is remembered. None are told, without memory, where there is none.
+fn edges_read(
+    alloc: Global,
+    slices: &mut Vec<Known>,
+    owner: &Name,
+    read: Option<Slice>,
+) -> Result<Vec<Edge>, AllocError>
+    ensures unknown { read ≡ None → IsOkAnd result (λ edges. edges.items ≡ []) }
+    ensures reads { (c : Content) → OnlyKnownHaveRows c → read ≡ slice_of c owner.now → IfOk result (λ edges. AreEdges (IsEdge (c.rows owner.now)) edges.items) }
+    ensures own { (c : Content) → read ≡ slice_of c owner.now → AreOf c slices.old.items → AreOf c slices.new.items }
+{
+    match read {
+        Some(slice) => remember_edges(alloc, slices, owner, slice),
         None => Ok(Vec::new(alloc)),
     }
 }

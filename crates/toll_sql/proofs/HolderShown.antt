@@ -1,18 +1,19 @@
 -- What is found on a unit are just the batches that hold it.
-use Rattle.std.proofs.Common.{◌≡◌, ℕ, pos, Bool, true, false, not, Option, Some, None, List, [], ◌∷◌, map, codes, Result, IfOk, refl, sym, ap, ap₂, subst, ◌∙◌, ◌&&◌}
-use Rattle.toll_sql.proofs.Common.{false≢true, list_all, is_eq, ordering_reverse, and_parts, tied_itself, Contains-permutation, IsPermutation-sym, IfOk-weaker, IsPlain, command_of, reads_as, Binary, Command, Select, understood, reads_listing, Row, column, bytes, value_cmp, overlay, Query, IsAnswer, State, Shown, Term, col, lit, op2, holds, eval_all, Trees, Value, Null, Int, Text, Compare, Eq, everything, batch_cmp_total, same_bytes-exact, same_bytes-refl, Bytes, same_bytes, batch_cmp, Slice, batch_at, IsInKeyOrder, is_some_where, none_or, BatchRow, Content, IsHolder, is_on, row_of_member, member_of_row, Contains-none, Contains-map, Contains-from_map, Contains-filter, Contains-from_filter, member_of_all}
+use Rattle.std.proofs.Common.{◌≡◌, ℕ, pos, Bool, true, false, not, Option, Some, None, List, [], ◌∷◌, map, codes, Result, Ok, Err, IfOk, OnOk, refl, sym, ap, ap₂, subst, ◌∙◌, ◌&&◌}
+use Rattle.toll_sql.proofs.Common.{false≢true, list_all, is_eq, ordering_reverse, and_parts, tied_itself, Contains-permutation, IsPermutation-sym, IfOk-weaker, on_ok_weaker, all-permutation, IsPlain, command_of, reads_as, Binary, Command, Select, understood, reads_listing, Database, Row, column, bytes, value_cmp, overlay, Query, IsAnswer, State, Shown, Term, col, lit, op2, holds, eval_all, Trees, Value, Null, Int, Text, Compare, Eq, everything, batch_cmp_total, same_bytes-exact, same_bytes-refl, Bytes, same_bytes, batch_cmp, Slice, batch_at, IsInKeyOrder, is_some_where, none_or, BatchRow, Content, IsHolder, is_on, row_of_member, member_of_row, Contains-none, Contains-map, Contains-from_map, Contains-filter, Contains-from_filter, member_of_all}
 use Rattle.std.specs.Prelude.{Contains, IsPermutation, filter}
 use Rattle.toll_keep.specs.declared.holder.Holder.{Holder}
 use Rattle.toll_sql.specs.Cells.{columns_from}
 use Rattle.toll_sql.specs.Encode.{flag, batch_cells}
-use Rattle.toll_sql.specs.HolderRows.{HasNoHolder, IsNamedHolder, IsShownIn, ShowHolders, holder_cells, open_on}
+use Rattle.toll_sql.specs.HolderRows.{AreBatchRows, HasNoBatch, IsHolderOf, IsRowOfBatch, IsShownIn, ShowHolders, batch_columns, open_on}
 use Rattle.toll_sql.specs.Holds.{Holds, HoldsSlice}
 use Rattle.toll_sql.specs.Select.{plain_query}
 use Rattle.toll_sql.specs.Others.{HasOurs}
 use Rattle.toll_sql.proofs.Beside.{Others, is_ours, others_of, ours_and}
-use Rattle.toll_sql.specs.Tables.{is_owned, tree_of}
+use Rattle.toll_sql.specs.Tables.{is_owned, tree_of, width_of}
 use Rattle.toll_sql.specs.Valid.{IsBatch}
 use Rattle.toll_sql.specs.declared.table_kind.TableKind.TheVariants.{Batches}
+use Rattle.toll_sql.specs.Asked.{AreReadWith}
 use Rattle.toll_sql.specs.AskedTexts.{unit_text}
 use Rattle.toll_sql.proofs.JoinTests.{equals, texts_same, text_itself, numbers_same, number_itself, both}
 use Rattle.toll_sql.proofs.MemberRows.{AreRows, rows_kept, seen, under, named_owner}
@@ -28,14 +29,14 @@ use Rattle.toll_sql.proofs.UpsertLemmas.{equals_int}
 abbrev unit_tests : List Term
 unit_tests = op2 (Compare Eq Binary) (col 1 4) (col 0 0) ∷ op2 (Compare Eq Binary) (col 1 6) (lit (Int (pos 0))) ∷ []
 
-abbrev batch_columns : List Term
-batch_columns = col 1 1 ∷ col 1 2 ∷ col 1 3 ∷ []
+abbrev all_columns : List Term
+all_columns = col 1 1 ∷ col 1 2 ∷ col 1 3 ∷ col 1 4 ∷ col 1 5 ∷ col 1 6 ∷ []
 
 abbrev pub unit_query : Query
-unit_query = plain_query (tree_of Batches) unit_tests batch_columns []
+unit_query = plain_query (tree_of Batches) unit_tests all_columns []
 
 abbrev selecting : Command
-selecting = Select (record { lets = []; body = unit_query }) (codes "owner" ∷ codes "ord" ∷ codes "number" ∷ [])
+selecting = Select (record { lets = []; body = unit_query }) (codes "owner" ∷ codes "ord" ∷ codes "number" ∷ codes "unit" ∷ codes "state" ∷ codes "closed" ∷ [])
 
 unit_is : (others : Others) → (command_of (understood (ours_and others) unit_text) ≡ selecting) × (reads_listing (ours_and others) unit_text ≡ false)
 unfolding understood everything
@@ -54,11 +55,11 @@ abbrev passes : Bytes → Row → Bool
 passes unit r = list_all (holds ((Text unit ∷ []) ∷ r ∷ [])) unit_tests
 
 abbrev told : Bytes → Row → Row
-told unit r = eval_all batch_columns ((Text unit ∷ []) ∷ r ∷ [])
+told unit r = eval_all all_columns ((Text unit ∷ []) ∷ r ∷ [])
 
 module _ (unit : Bytes) (db : Trees) (rows : List Row) (a : IsAnswer unit_query db (Text unit ∷ []) rows) where
   same : IsPermutation (map (told unit) (filter (passes unit) (db (tree_of Batches)))) rows
-  same = (shown_by (tree_of Batches) unit_tests batch_columns [] (λ _. []) (λ _. refl) db (Text unit ∷ []) rows a).same
+  same = (shown_by (tree_of Batches) unit_tests all_columns [] (λ _. []) (λ _. refl) db (Text unit ∷ []) rows a).same
 
   pub stored_row : (row : Row) → Contains rows row → (r : Row) × Contains (db (tree_of Batches)) r × (passes unit r ≡ true) × (told unit r ≡ row)
   stored_row row i =
@@ -80,7 +81,7 @@ passes_is : (unit : Bytes) (r : Row) → passes unit r ≡ (is_eq (value_cmp (co
 passes_is unit r = both_true _ _ ∙ ap₂ (λ a b. a && b) (equals_text (column r 4) unit) (equals_int (column r 6) (pos 0))
 
 pub found_on : (db : Trees) (unit : Bytes) (rows : List Row) → IsAnswer unit_query (seen db) (Text unit ∷ []) rows → IsPermutation (open_on unit db) rows
-found_on db unit rows a = subst (λ (p : Row → Bool). IsPermutation (map (columns_from 1 3) (filter p (db (tree_of Batches)))) rows) (λ i. λ r. passes_is unit r i) (same unit (seen db) rows a)
+found_on db unit rows a = subst (λ (p : Row → Bool). IsPermutation (map (columns_from 1 (width_of Batches)) (filter p (db (tree_of Batches)))) rows) (λ i. λ r. passes_is unit r i) (same unit (seen db) rows a)
 
 -- ---- batches on the unit
 
@@ -121,7 +122,7 @@ module _ (db : Trees) (s : Slice) (has : HoldsSlice db s.owner s) where
   batch_there x i = row_of_member batch_cmp (λ (row : BatchRow). (row.order, row.number)) (tied_itself batch_cmp_total) (λ a b lt. batch_cmp_total.antisymm b a ∙ ap ordering_reverse lt) s.batches x batches_rise i
 
 module _ (db : Trees) (c : Content) (has : Holds db c) (unit : Bytes) (rows : List Row) (a : IsAnswer unit_query (seen db) (Text unit ∷ []) rows) where
-  shown_one : (row : Row) → Contains rows row → (h : Holder) × IsHolder c unit (Some h) × IsNamedHolder h × (row ≡ holder_cells h)
+  shown_one : (row : Row) → Contains rows row → (h : Holder) × IsHolder c unit (Some h) × IsRowOfBatch row h × (row ≡ batch_columns row)
   shown_one row i =
       let r = stored_row unit (seen db) rows a row i in
       let o = named_owner is_owned db c.rows has.each Batches refl r.0 r.1 in
@@ -129,11 +130,12 @@ module _ (db : Trees) (c : Content) (has : Holds db c) (unit : Bytes) (rows : Li
       let x = (batches_kept db s (under is_owned db c.rows has.each o.0)).only r.0 r.1 o.2 in
       let valid = member_of_all IsBatch s.batches x.1 ((has.each.slices o.0).valid Batches refl) x.2 in
       let on = passes_on unit s.owner x.0 x.1 (subst (λ r. passes unit r ≡ true) x.3 r.2) in
-      let h : Holder = record { owner = o.0; order = x.1.order; number = x.1.number } in (
+      let h : Holder = record { owner = o.0; order = x.1.order; number = x.1.number } in
+      let is : row ≡ batch_cells o.0 x.1 = sym r.3 ∙ ap (told unit) x.3 ∙ ap (λ n. batch_cells n x.1) (has.each.slices o.0).named in (
         h,
         ap (is_some_where (is_on unit)) (batch_there db s (under is_owned db c.rows has.each o.0) x.1 x.2) ∙ on,
-        record { owner = o.1; order = valid.order; number = valid.number },
-        sym r.3 ∙ ap (told unit) x.3 ∙ ap (λ n. holder_cells (record { owner = n; order = x.1.order; number = x.1.number })) (has.each.slices o.0).named,
+        record { batch = x.1; owner = o.1; valid = valid; cells = ap batch_columns is; order = refl; number = refl },
+        is ∙ sym (ap batch_columns is),
       )
 
   none_there : rows ≡ [] → (o : Bytes) (k : Bytes × ℕ) → none_or (λ row. not (is_on unit row)) (batch_at (c.rows o) k) ≡ true
@@ -167,25 +169,38 @@ module _ (listed rows : List Row) (same : IsPermutation listed rows) where
   pub told_too : {E : Type 0} (r : Result (Option Holder) E) → IfOk r (IsShownIn rows) → IfOk r (IsShownIn listed)
   told_too r h = IfOk-weaker r _ _ (λ found is. shown_too found is) h
 
-  pub unnamed_too : HasNoHolder rows → HasNoHolder listed
+  pub whole_too : {E : Type 0} (r : Result (Option Holder) E) → OnOk r (AreBatchRows rows) → OnOk r (AreBatchRows listed)
+  whole_too r h = on_ok_weaker r (λ all. all-permutation (λ row. (h : Holder) × IsRowOfBatch row h) rows listed (IsPermutation-sym listed rows same) all) h
+
+  pub unnamed_too : HasNoBatch rows → HasNoBatch listed
   unnamed_too (row, i, none) = (row, listed_too row i, none)
+
+pub shown_whole : {E : Type 0} (db : Database) (text : List ℕ) (params : Row) (found : List Row) → AreReadWith db text params found → (r : Result (Option Holder) E) → IfOk r (IsShownIn found) → OnOk r (AreBatchRows found) → IfOk r (IsHolderOf db text params)
+shown_whole db text params found read (Ok h) shown whole = (found, read, shown, whole)
+shown_whole db text params found read (Err e) shown whole = tt
 
 -- ---- the batch that is read
 
 module _ (c : Content) (unit : Bytes) (rows : List Row) (shown : ShowHolders c unit rows) where
-  holder_same : (h k : Holder) → holder_cells h ≡ holder_cells k → h ≡ k
-  holder_same h k e = let number : h.number ≡ k.number = (cc) in ap (λ r. record { owner = bytes (column r 0); order = bytes (column r 1); number = h.number }) e ∙ ap (λ n. record { owner = k.owner; order = k.order; number = n }) number
+  holder_same : (row : Row) (h k : Holder) → IsRowOfBatch row h → IsRowOfBatch row k → h ≡ k
+  holder_same row h k p q =
+      let cells : batch_cells h.owner p.batch ≡ batch_cells k.owner q.batch = sym p.cells ∙ q.cells in
+      let numbers : p.batch.number ≡ q.batch.number = (cc) in
+      let owner : h.owner ≡ k.owner = ap (λ r. bytes (column r 0)) cells in
+      let order : h.order ≡ k.order = sym p.order ∙ ap (λ r. bytes (column r 1)) cells ∙ q.order in
+      let number : h.number ≡ k.number = sym p.number ∙ numbers ∙ q.number in
+      λ i. record { owner = owner i; order = order i; number = number i }
 
   holder_is : (found : Option Holder) → IsShownIn rows found → IsHolder c unit found
   holder_is None empty = shown.none empty
-  holder_is (Some h) (row, i, e) =
+  holder_is (Some h) (row, i, is) =
       let f = shown.only row i in
-      subst (λ h. IsHolder c unit (Some h)) (holder_same f.0 h (ap (columns_from 0 3) (sym f.3) ∙ e)) f.1
+      subst (λ h. IsHolder c unit (Some h)) (holder_same row f.0 h f.2 is) f.1
 
   pub read_from : {E : Type 0} (r : Result (Option Holder) E) → IfOk r (IsShownIn rows) → IfOk r (IsHolder c unit)
   read_from r h = IfOk-weaker r _ _ (λ found is. holder_is found is) h
 
-  pub each_named : ¬ HasNoHolder rows
+  pub each_named : ¬ HasNoBatch rows
   each_named bad =
       let f = shown.only bad.0 bad.1 in
-      bad.2 f.0 f.2 (ap (columns_from 0 3) f.3)
+      bad.2 f.0.owner f.2.batch f.2.owner f.2.valid (f.3 ∙ f.2.cells)

@@ -1,8 +1,8 @@
 -- What a keep's calls make of what its store did.
-use Rattle.std.proofs.Common.{◌≡◌, ◌≢◌, inl, inr, Bool, false, None, List, [], ◌∷◌, Ok, Err, Result, IfOk, OnErr, OnOk, IsTrue, arith, refl, sym, ap, subst, ◌∙◌}
-use Rattle.toll_sql.proofs.Common.{false≢true, cases_Bool, Database, State, Survives, HasCleanDisk, Trees, Change, Content, ContentKeepsRules, after, KeepFault, Disk, Damaged, Closed}
-use Rattle.toll_keep.proofs.Calls.{goes_then, reads_then, read_fault}
-use Rattle.toll_keep.specs.Goes.{Goes, IsReading, among-more, closes}
+use Rattle.std.proofs.Common.{◌≡◌, ◌≢◌, ◌⊎◌, inl, inr, Bool, false, None, List, [], ◌∷◌, Ok, Err, Result, IfOk, OnErr, OnOk, IsTrue, arith, refl, sym, ap, subst, ◌∙◌}
+use Rattle.toll_sql.proofs.Common.{false≢true, cases_Bool, Database, State, Survives, HasCleanDisk, Trees, Change, Content, ContentKeepsRules, after, KeepFault, Memory, Disk, Damaged, Closed}
+use Rattle.toll_keep.proofs.Calls.{goes_then, reads_then, read_fault, spared}
+use Rattle.toll_keep.specs.Goes.{Goes, IsReading, IsSpared, among-more, closes}
 use Rattle.toll_keep.specs.Meaning.{Meaning}
 use Rattle.toll_sql.specs.Asking.{IsFinding, IsLooking}
 use Rattle.toll_sql.specs.Causes.{HasCause, Reason}
@@ -11,6 +11,8 @@ use Rattle.toll_sql.specs.Meant.{means}
 use Rattle.toll_sql.specs.Stores.{HoldsIn, IsOurs, LeavesIn, LiesOpen, HasApplied, PutsAll}
 use Rattle.toll_sql.specs.Others.{HasOurs}
 use Rattle.toll_sql.proofs.HoldsAfter.{holds_all}
+use Rattle.toll_sql.proofs.PassLemmas.{IsMade, PassesOn, looks_on, made_on, ok_on, spared_on, undamaged_on}
+use Rattle.toll_sql.specs.Laws.{one_left}
 
 -- ---- the store
 
@@ -57,11 +59,11 @@ since a b k P s clean h = (omega (arith, s.counts, h.0), reason h.1)
       | inr not ↦ inr not
     ]
 
--- ---- the keep, whose store and whose flag these are
+-- ---- the keep, whose store and whose flags these are
 
-module _ {K : Type 0} (store : K → State) (closed : K → Bool) where
+module _ {K : Type 0} (store : K → State) (closed unsure : K → Bool) where
   abbrev meaning : Meaning K
-  meaning = means store closed
+  meaning = means store closed unsure
 
   abbrev IsHonest : K → Type 0
   IsHonest k = meaning.is_honest k
@@ -85,17 +87,22 @@ module _ {K : Type 0} (store : K → State) (closed : K → Bool) where
   abbrev failed : {X : Type 0} → KeepFault → Result X KeepFault
   failed fault = Err fault
 
+  -- where want of memory is told, the store lies open, or it is not known
+  abbrev pub IsSure : {X : Type 0} → K → Result X KeepFault → Type 0
+  IsSure new r = HasCleanDisk (store new) → r ≡ Err Memory → IsTrue (store new).is_open ⊎ IsTrue (unsure new)
+
   module _ (old new : K) (open_before : closed old ≡ false) where
     pub goes : {X : Type 0} (r : Result X KeepFault) (P : Trees → Type 0) → Survives (store old) (store new) P → (HasCleanDisk (store new) → IsTrue (store new).is_open → IsTrue (store old).is_open)
-        → (HasCleanDisk (store new) → OnOk r (IsTrue (store new).is_open)) → (HasCleanDisk (store new) → r ≡ Err Disk → Reason (store old) (store new)) → r ≢ Err Closed → closed new ≡ closes r
+        → (HasCleanDisk (store new) → OnOk r (IsTrue (store new).is_open)) → (HasCleanDisk (store new) → r ≡ Err Disk → Reason (store old) (store new)) → r ≢ Err Closed → closed new ≡ closes r → IsSure new r
         → (IsHonest new → ¬ (IsLive old) → (cs : List Content) → Leaves old cs → Leaves new cs) → Goes meaning old new r
-    goes r P survives live shown cause unclosed is shut = record {
+    goes r P survives live shown cause unclosed is sure shut = record {
       honest = λ clean. omega (arith, clean, survives.clean);
       closed = (λ told. absurd (unclosed told), λ was. absurd (false≢true (sym open_before ∙ was)));
       closes = is;
       live = λ clean now. record { is_open = live clean now.is_open };
       shown = λ clean. opened r (shown clean);
       lasts = λ clean lived. elim (survives.closes clean lived.is_open) [ inl now ↦ inl (record { is_open = now }) | inr more ↦ inr (survives.counts, inl more) ];
+      spares = λ clean told _. elim (sure clean told) [ inl now ↦ inl (record { is_open = now }) | inr lacks ↦ inr lacks ];
       cause = λ clean told. (survives.counts, cause clean told);
       since = λ clean later h. since (store old) (store new) (store later) P survives clean h;
       stays = λ was cs left. absurd (false≢true (sym open_before ∙ was));
@@ -106,11 +113,11 @@ module _ {K : Type 0} (store : K → State) (closed : K → Bool) where
         opened (Ok x) h = record { is_open = h }
         opened (Err e) h = tt
 
-    looked : {X : Type 0} (r : Result X KeepFault) → Rests old → IsLooking (store old) (store new) r → closed new ≡ closes r
+    looked : {X : Type 0} (r : Result X KeepFault) → Rests old → IsLooking (store old) (store new) r → closed new ≡ closes r → IsSure new r
         → (HasCleanDisk (store new) → (c : Content) → HoldsIn (store old) c → ContentKeepsRules c → r ≢ Err Damaged)
         → (IsHonest new → ¬ (IsLive old) → (cs : List Content) → Leaves old cs → Leaves new cs) → IsReading meaning old new r
-    looked r only looks is whole shut = record {
-      goes = goes r _ looks.asks.survives looks.asks.live looks.asks.shown looks.cause looks.unclosed is shut;
+    looked r only looks is sure whole shut = record {
+      goes = goes r _ looks.asks.survives looks.asks.live looks.asks.shown looks.cause looks.unclosed is sure shut;
       keeps = λ clean. record {
         content = λ c held live.
             let was = held (record { is_open = looks.asks.live clean live.is_open }) in
@@ -130,6 +137,7 @@ module _ {K : Type 0} (store : K → State) (closed : K → Bool) where
       live = λ _ lives. lives;
       shown = λ _. tt;
       lasts = λ _ lives. inl lives;
+      spares = λ _ is. (cc);
       cause = λ _ is. (cc);
       since = λ _ later h. h;
       stays = λ _ cs left. left;
@@ -146,10 +154,10 @@ module _ {K : Type 0} (store : K → State) (closed : K → Bool) where
 
   module _ (old mid : K) (only : Rests old) where
     -- where it isn't known whether its store lies open, that was asked, and nothing else
-    pub begun : (r : Result (Unit {0}) KeepFault) → (IsTrue (closed old) → (r ≡ Err Closed) × (mid ≡ old)) → (closed old ≡ false → IsFinding (store old) (store mid) r) → closed mid ≡ closes r → IsReading meaning old mid r
-    begun r shut found is = elim (cases_Bool (closed old)) [
+    pub begun : (r : Result (Unit {0}) KeepFault) → (IsTrue (closed old) → (r ≡ Err Closed) × (mid ≡ old)) → (closed old ≡ false → IsFinding (store old) (store mid) r) → closed mid ≡ closes r → IsTrue (unsure mid) ⊎ (r ≢ Err Memory) → IsReading meaning old mid r
+    begun r shut found is lacks = elim (cases_Bool (closed old)) [
       | inl was ↦ (let now = shut was in subst (λ a. IsReading meaning old mid a) (sym now.0) (subst (λ k. IsReading {X = Unit {0}} meaning old k (failed Closed)) (sym now.1) (closed_still old was only)))
-      | inr not ↦ (let f = found not in looked old mid not r only f.looks is (λ _ _ _ _. f.undamaged) (λ clean _ cs left db may. elim (f.survives.crash clean db may) [ inl before ↦ left db before | inr never ↦ absurd never ]))
+      | inr not ↦ (let f = found not in looked old mid not r only f.looks is (λ _ told. elim lacks [ inl unknown ↦ inr unknown | inr other ↦ absurd (other told) ]) (λ _ _ _ _. f.undamaged) (λ clean _ cs left db may. elim (f.survives.crash clean db may) [ inl before ↦ left db before | inr never ↦ absurd never ]))
     ]
 
   -- a call that ends there
@@ -162,83 +170,79 @@ module _ {K : Type 0} (store : K → State) (closed : K → Bool) where
     opened clean not = absurd (not (first.goes.shown clean))
 
     -- a look, whose answer was passed on
-    reading : {X : Type 0} (answer r : Result X KeepFault) (after : State) → store new ≡ after → r ≡ answer → closed new ≡ closes answer → Rests mid → IsLooking (store mid) after answer
+    reading : {X : Type 0} (answer r : Result X KeepFault) (after : State) → PassesOn after (store new) answer r (unsure new) → closed new ≡ closes r → Rests mid → IsLooking (store mid) after answer
         → (HasCleanDisk after → (c : Content) → HoldsIn (store mid) c → ContentKeepsRules c → answer ≢ Err Damaged) → IsReading meaning old new r
-    reading {X} answer r after at same is only looks whole =
-        let there = subst (λ a. IsLooking (store mid) (store new) a) (sym same) (subst (λ s. IsLooking (store mid) s answer) (sym at) looks) in
+    reading {X} answer r after passes is only looks whole =
+        let there = looks_on (store mid) after (store new) answer r (unsure new) passes looks in
         reads_then meaning old mid new tt r first
-        (looked mid new first.goes.closes r only there (is ∙ ap closes (sym same))
-        (λ clean c held keeps. subst (λ (a : Result X KeepFault). a ≢ Err Damaged) (sym same) (whole (subst HasCleanDisk at clean) c held keeps))
+        (looked mid new first.goes.closes r only there is (spared_on (store mid) after (store new) answer r (unsure new) passes)
+        (λ clean c held keeps. undamaged_on (store mid) after (store new) answer r (unsure new) passes clean (λ before. whole before c held keeps))
         (λ clean not. opened (let before : HasCleanDisk (store mid) = omega (arith, clean, there.asks.survives.clean) in before) not))
 
     -- what is so of the answer over what was held when the look began is so over what was held before
-    so_read : {X : Type 0} (answer r : Result X KeepFault) (after : State) → store new ≡ after → r ≡ answer → IsLooking (store mid) after answer → (c : Content) (P : X → Type 0) → (HasCleanDisk after → HoldsIn (store mid) c → IfOk answer P)
+    so_read : {X : Type 0} (answer r : Result X KeepFault) (after : State) → PassesOn after (store new) answer r (unsure new) → IsLooking (store mid) after answer → (c : Content) (P : X → Type 0) → (HasCleanDisk after → HoldsIn (store mid) c → IfOk answer P)
         → IsHonest new → HoldsOpen old c → IfOk r P
-    so_read {X} answer r after at same looks c P reads clean was =
-        let there : HasCleanDisk after = subst HasCleanDisk at clean in
-        let before : HasCleanDisk (store mid) = omega (arith, there, looks.asks.survives.clean) in
-        subst (λ (a : Result X KeepFault). IfOk a P) (sym same) (reads there ((first.keeps before).content c was (first.goes.shown before)))
+    so_read {X} answer r after passes looks c P reads clean was =
+        ok_on (store mid) after (store new) P answer r (unsure new) passes clean
+        (λ there. let before : HasCleanDisk (store mid) = omega (arith, there, looks.asks.survives.clean) in reads there ((first.keeps before).content c was (first.goes.shown before)))
 
     -- ---- changes, whose outcome was passed on
 
-    module _ (made r : Result (Unit {0}) KeepFault) (after' : State) (at : store new ≡ after') (same : r ≡ made) where
-      before : {P : Trees → Type 0} → Survives (store mid) after' P → IsHonest new → IsHonest mid
-      before survives clean = let there : HasCleanDisk after' = subst HasCleanDisk at clean in omega (arith, there, survives.clean)
+    module _ (changes : List Change) (made r : Result (Unit {0}) KeepFault) (after' : State) (passes : PassesOn after' (store new) made r (unsure new)) (is_made : IsMade changes (store mid) after' made) where
+      there : IsMade changes (store mid) (store new) r
+      there = made_on (store mid) after' (store new) changes made r (unsure new) passes is_made
 
-      pub applied_goes : (P : Trees → Type 0) → Survives (store mid) after' P → (HasCleanDisk after' → IsTrue after'.is_open → IsTrue (store mid).is_open) → (HasCleanDisk after' → OnOk made (IsTrue after'.is_open))
-          → (HasCleanDisk after' → made ≡ Err Disk → Reason (store mid) after') → made ≢ Err Closed → closed new ≡ closes made → Goes meaning old new r
-      applied_goes P survives live shown cause unclosed is =
-          let there = sym at in
-          subst (λ a. Goes meaning old new a) (sym same)
-          (goes_then meaning old mid new tt made first.goes
-          (goes mid new first.goes.closes made P (subst (λ s. Survives (store mid) s P) there survives) (λ clean now. live (subst HasCleanDisk at clean) (subst (λ s. IsTrue s.is_open) at now))
-          (λ clean. subst (λ s. OnOk made (IsTrue s.is_open)) there (shown (subst HasCleanDisk at clean))) (λ clean told. subst (Reason (store mid)) there (cause (subst HasCleanDisk at clean) told)) unclosed is
-          (λ clean not. opened (before survives clean) not)))
+      before : IsHonest new → IsHonest mid
+      before clean = omega (arith, clean, there.survives.clean)
 
-      pub applied_all : {P : Trees → Type 0} → Survives (store mid) after' P → (changes : List Change) (c : Content) → (store mid).step_limit ≡ None → HasCleanDisk (store new) → (HasCleanDisk after' → IsTrue after'.is_open → IsTrue (store mid).is_open)
-          → (HasCleanDisk after' → IsOurs (store mid).now → (store mid).step_limit ≡ None → OnOk made (HasApplied changes (store mid) after')) → HoldsOpen old c → OnOk r (HoldsOpen new (after changes c))
-      applied_all survives changes c free clean live all was =
-          subst (λ a. OnOk a (HoldsOpen new (after changes c))) (sym same) (subst (λ s. OnOk made (LiesOpen s → HoldsIn s (after changes c))) (sym at) (made_all made (λ ours. all clean' ours free)))
+      pub applied_goes : closed new ≡ closes r → Goes meaning old new r
+      applied_goes is =
+          goes_then meaning old mid new tt r first.goes
+          (goes mid new first.goes.closes r _ there.survives there.live there.shown there.cause there.unclosed is (spared_on (store mid) after' (store new) made r (unsure new) passes) (λ clean not. opened (before clean) not))
+
+      pub applied_all : (c : Content) → (store mid).step_limit ≡ None → HasCleanDisk (store new) → HoldsOpen old c → OnOk r (HoldsOpen new (after changes c))
+      applied_all c free clean was = made_all r (λ ours. there.all clean ours free)
         where
-          clean' : HasCleanDisk after'
-          clean' = subst HasCleanDisk at clean
-
           held : HoldsOpen mid c
-          held = (first.keeps (before survives clean)).content c was
+          held = (first.keeps (before clean)).content c was
 
-          made_all : (m : Result (Unit {0}) KeepFault) → (IsOurs (store mid).now → OnOk m (HasApplied changes (store mid) after')) → OnOk m (LiesOpen after' → HoldsIn after' (after changes c))
-          made_all (Ok x) all = λ now. let there = held (record { is_open = live clean' now.is_open }) in applied_holds (store mid) after' changes c there (all there.ours)
+          made_all : (m : Result (Unit {0}) KeepFault) → (IsOurs (store mid).now → OnOk m (HasApplied changes (store mid) (store new))) → OnOk m (LiesOpen (store new) → HoldsIn (store new) (after changes c))
+          made_all (Ok x) all = λ now. let it = held (record { is_open = there.live clean now.is_open }) in applied_holds (store mid) (store new) changes c it (all it.ours)
           made_all (Err e) all = tt
 
-      pub applied_none : {P : Trees → Type 0} → Survives (store mid) after' P → (c : Content) → HasCleanDisk (store new) → (HasCleanDisk after' → IsTrue after'.is_open → IsTrue (store mid).is_open)
-          → (HasCleanDisk after' → IsTrue after'.is_open → OnErr made ((after'.now ≡ (store mid).now) × (after'.committed ≡ (store mid).committed))) → HoldsOpen old c → OnErr r (HoldsOpen new c)
-      applied_none survives c clean live none was =
-          subst (λ a. OnErr a (HoldsOpen new c)) (sym same) (subst (λ s. OnErr made (LiesOpen s → HoldsIn s c)) (sym at) (made_none made (none clean')))
+      pub applied_none : (c : Content) → HasCleanDisk (store new) → HoldsOpen old c → OnErr r (HoldsOpen new c)
+      applied_none c clean was = made_none r (λ it live. there.none c it clean live)
         where
-          clean' : HasCleanDisk after'
-          clean' = subst HasCleanDisk at clean
-
           held : HoldsOpen mid c
-          held = (first.keeps (before survives clean)).content c was
+          held = (first.keeps (before clean)).content c was
 
-          made_none : (m : Result (Unit {0}) KeepFault) → (IsTrue after'.is_open → OnErr m ((after'.now ≡ (store mid).now) × (after'.committed ≡ (store mid).committed))) → OnErr m (LiesOpen after' → HoldsIn after' c)
+          made_none : (m : Result (Unit {0}) KeepFault) → (HoldsIn (store mid) c → IsTrue (store new).is_open → OnErr m (((store new).now ≡ (store mid).now) × ((store new).committed ≡ (store mid).committed))) → OnErr m (LiesOpen (store new) → HoldsIn (store new) c)
           made_none (Ok x) none = tt
-          made_none (Err e) none = λ now. same_holds (store mid) after' c (none now.is_open) (held (record { is_open = live clean' now.is_open }))
+          made_none (Err e) none = λ now. let it = held (record { is_open = there.live clean now.is_open }) in same_holds (store mid) (store new) c (none it now.is_open) it
 
-      pub applied_crash : (changes : List Change) (c : Content) → (store mid).step_limit ≡ None → HasCleanDisk (store new) → Rests mid → HoldsOpen old c
-          → Survives (store mid) after' (λ db. IsOurs (store mid).now → (store mid).step_limit ≡ None → PutsAll changes (store mid).now.trees db) → Leaves new (c ∷ after changes c ∷ [])
-      applied_crash changes c free clean only was survives =
-          let clean_mid = before survives clean in
-          let live = first.goes.shown clean_mid in
-          subst (λ s. LeavesIn s (c ∷ after changes c ∷ [])) (sym at) (crash_left (store mid) after' changes c free ((first.keeps clean_mid).content c was live) (only live) survives (subst HasCleanDisk at clean))
+      pub applied_spared : ((k : K) → Rests k) → closed new ≡ closes r → r ≡ Err Memory → IsSpared meaning old new
+      applied_spared rests is lacks =
+          spared meaning old new r (λ k c clean live held. one_left (store k) c (rests k live) (held live)) lacks (applied_goes is) (λ clean c was. applied_none c clean was)
+
+      pub applied_whole : r ≢ Err Damaged
+      applied_whole = there.whole
+
+      pub applied_crash : (c : Content) → (store mid).step_limit ≡ None → HasCleanDisk (store new) → Rests mid → HoldsOpen old c → Leaves new (c ∷ after changes c ∷ [])
+      applied_crash c free clean only was =
+          let live = first.goes.shown (before clean) in
+          crash_left (store mid) (store new) changes c free ((first.keeps (before clean)).content c was live) (only live) there.survives clean
 
   -- so a look reads, and what is so of its answer over whatever the store held is so over what the keep held
-  pub read_out : {X : Type 0} {old mid : K} {answer r : Result X KeepFault} {after : State} → ((k : K) → Rests k) → (new : K) → IsReading {X = Unit {0}} meaning old mid (answered tt) → store new ≡ after → r ≡ answer → closed new ≡ closes answer → IsLooking (store mid) after answer
+  pub read_out : {X : Type 0} {old mid : K} {answer r : Result X KeepFault} {after : State} → ((k : K) → Rests k) → (new : K) → IsReading {X = Unit {0}} meaning old mid (answered tt) → PassesOn after (store new) answer r (unsure new) → closed new ≡ closes r → IsLooking (store mid) after answer
       → (HasCleanDisk after → (c : Content) → HoldsIn (store mid) c → ContentKeepsRules c → answer ≢ Err Damaged) → (P : Content → X → Type 0) → (HasCleanDisk after → (c : Content) → HoldsIn (store mid) c → IfOk answer (P c))
       → IsReading meaning old new r × (IsHonest new → (c : Content) → HoldsOpen old c → IfOk r (P c))
-  read_out {X} {old} {mid} {answer} {r} {after} rests new first at same is looks whole P reads =
-      (reading old mid new first answer r after at same is (rests mid) looks whole, λ clean c was. so_read old mid new first answer r after at same looks c (P c) (λ clean held. reads clean c held) clean was)
+  read_out {X} {old} {mid} {answer} {r} {after} rests new first passes is looks whole P reads =
+      (reading old mid new first answer r after passes is (rests mid) looks whole, λ clean c was. so_read old mid new first answer r after passes looks c (P c) (λ clean held. reads clean c held) clean was)
 
   -- of what didn't begin
+  pub unapplied_spared : {X : Type 0} (old new : K) (r : Result X KeepFault) → ((k : K) → Rests k) → r ≡ Err Memory → IsReading meaning old new r → IsSpared meaning old new
+  unapplied_spared old new r rests lacks read =
+      spared meaning old new r (λ k c clean live held. one_left (store k) c (rests k live) (held live)) lacks read.goes (λ clean c held. subst (λ a. OnErr a (HoldsOpen new c)) (sym lacks) ((read.keeps clean).content c held))
+
   pub unapplied_crash : (new : K) (changes : List Change) (c : Content) → Leaves new (c ∷ []) → Leaves new (c ∷ after changes c ∷ [])
   unapplied_crash new changes c left db may = among-more (Holds db) (c ∷ []) (after changes c ∷ []) (left db may)

@@ -19,6 +19,7 @@ pub mod IndexText
 pub mod CloseLemmas
 pub mod CreateLemmas
 pub mod SoFar
+pub mod Taken
 pub mod StepLemmas
 pub mod MakeLemmas
 pub mod WriteLemmas
@@ -54,6 +55,7 @@ pub mod LookLemmas
 pub mod ReadOn
 pub mod Alone
 pub mod ListLemmas
+pub mod PassLemmas
 pub mod KeepLemmas
 pub mod JoinQuery
 pub mod JoinRows

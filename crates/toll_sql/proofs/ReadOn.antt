@@ -1,12 +1,12 @@
 -- Readings one after another.
-use Rattle.std.proofs.Common.{◌≡◌, ◌<◌, ℕ, suc, ◌+◌, true, List, [], ◌∷◌, ◌++◌, take, length, get_or, inl, inr, Ok, Err, Result, OnOk, IsTrue, refl, sym, ap, subst, subst₂, ◌∙◌, arith}
-use Rattle.toll_sql.proofs.Common.{false≢true, length-map, on_ok_weaker, AllByRecursion, Database, Row, State, HasCleanDisk, Survives, Trees, Bytes, Slice, KeepFault, Disk, Damaged, Closed}
+use Rattle.std.proofs.Common.{◌≡◌, ◌<◌, ℕ, suc, ◌+◌, true, List, [], ◌∷◌, ◌++◌, take, drop, length, get_or, inl, inr, Ok, Err, Result, OnOk, IsTrue, refl, sym, ap, subst, subst₂, ◌∙◌, arith}
+use Rattle.toll_sql.proofs.Common.{false≢true, length-map, on_ok_weaker, AllByRecursion, Database, Row, State, HasCleanDisk, Survives, Trees, Bytes, Slice, KeepFault, Disk, Damaged, Closed, Memory}
 use Rattle.toll_base.specs.declared.rows.Row.{Row as OfficeRow}
 use Rattle.toll_sql.specs.Asking.{Asks, IsLooking}
 use Rattle.toll_sql.specs.Encode.{rows_for}
 use Rattle.toll_sql.specs.Fronts.{front, past}
 use Rattle.toll_sql.specs.Others.{HasOurs}
-use Rattle.toll_sql.specs.Reading.{ReadsKind, ReadsNext, ReadsOn, next_of}
+use Rattle.toll_sql.specs.Reading.{AreAllTaken, LacksRoomIn, OverIdle, ReadsKind, ReadsNext, ReadsOn, next_of}
 use Rattle.toll_sql.specs.Shown.{AreRowsIn, Shows, tables_of_owners}
 use Rattle.toll_sql.specs.StoredLaws.{StandIn}
 use Rattle.toll_sql.specs.Tables.{is_owned}
@@ -15,6 +15,7 @@ use Rattle.toll_sql.specs.declared.table_kind.TableKind.TheVariants.{Meta, Owner
 use Rattle.toll_sql.proofs.CauseLemmas.{reason_before}
 use Rattle.toll_sql.proofs.LookLemmas.{held_on}
 use Rattle.toll_sql.proofs.OpenLemmas.{found_still}
+use Rattle.toll_sql.proofs.Taken.{all_taken_then, lacks_in_before, lacks_in_then}
 
 -- ---- two looks are one
 
@@ -85,6 +86,13 @@ shows_then kinds others o a b c x r p shown q more = λ clean has idle.
     let behind = more clean (subst (λ (db : Database). HasOurs db.schema) (sym same.0) has) (same.0 ∙ idle ∙ sym same.1) in
     on_ok_weaker r (λ all. all_append (AreRowsIn o a.now.trees) kinds others (shown before has idle) (subst (λ (db : Database). AllByRecursion (AreRowsIn o db.trees) others) same.0 all)) behind
 
+-- what the tables had before a look that succeeded, they have after it
+over_then : {X Y : Type 0} (a b c : State) (x : X) (r : Result Y KeepFault) (P : Trees → Type 0) → IsLooking {X = X} a b (Ok x) → IsLooking b c r → OverIdle b c P → OverIdle a c P
+over_then a b c x r P p q over = λ clean has idle.
+    let before = clean_before a b c q.asks.survives clean in
+    let same = p.asks.same before has (p.asks.shown before) idle in
+    subst (λ (db : Database). P db.trees) same.0 (over clean (subst (λ (db : Database). HasOurs db.schema) (sym same.0) has) (same.0 ∙ idle ∙ sym same.1))
+
 module _ (f g h : Slice → Slice) {kinds others : List TableKind} (o : Bytes) where
   pub reads_then : {X Y : Type 0} (a b c : State) (s t u : Slice) (x : X) (r : Result Y KeepFault) → ReadsOn f g kinds o {X = X} a b s t (Ok x) → ReadsOn g h others o b c t u r → ReadsOn f h (kinds ++ others) o a c s u r
   reads_then a b c s t u x r p q = record {
@@ -96,11 +104,17 @@ module _ (f g h : Slice → Slice) {kinds others : List TableKind} (o : Bytes) w
     whole = λ clean slice held keeps first.
         let before = clean_before a b c q.looks.asks.survives clean in
         q.whole clean slice (held_on is_owned a b x o slice p.looks.asks before held) keeps (p.reads before slice held first);
+    taken = λ clean has idle.
+        let so_far = p.taken (clean_before a b c q.looks.asks.survives clean) has idle in
+        on_ok_weaker r (λ all. all_taken_then o a.now.trees kinds others s t u so_far all) (over_then a b c x r (λ db. OnOk r (AreAllTaken others o db t u)) p.looks q.looks q.taken clean has idle);
+    lacks = λ clean has idle is.
+        let so_far = p.taken (clean_before a b c q.looks.asks.survives clean) has idle in
+        lacks_in_then o a.now.trees kinds others s t u so_far (over_then a b c x r (λ db. r ≡ Err Memory → LacksRoomIn others o db t u) p.looks q.looks q.lacks clean has idle is);
   }
 
   -- one that failed read nothing
-  pub reads_not : {X Y : Type 0} (a b : State) (s t : Slice) (e : KeepFault) → ReadsOn f g kinds o {X = X} a b s t (Err e) → ReadsOn f h others o {X = Y} a b s t (Err e)
-  reads_not a b s t e p = record {
+  pub reads_not : {X Y : Type 0} (more : List TableKind) → kinds ++ more ≡ others → (a b : State) (s t : Slice) (e : KeepFault) → ReadsOn f g kinds o {X = X} a b s t (Err e) → ReadsOn f h others o {X = Y} a b s t (Err e)
+  reads_not more all a b s t e p = record {
     looks = record {
       asks = record { live = p.looks.asks.live; shown = λ clean. tt; same = p.looks.asks.same; mode = p.looks.asks.mode; survives = p.looks.asks.survives };
       cause = λ clean is. p.looks.cause clean (ap Err (same_error is));
@@ -110,6 +124,8 @@ module _ (f g h : Slice → Slice) {kinds others : List TableKind} (o : Bytes) w
     shows = λ clean has idle. tt;
     reads = λ clean slice held first. tt;
     whole = λ clean slice held keeps first is. p.whole clean slice held keeps first (ap Err (same_error is));
+    taken = λ clean has idle. tt;
+    lacks = λ clean has idle is. subst (λ kinds. LacksRoomIn kinds o a.now.trees s t) all (lacks_in_before o a.now.trees kinds more s t (p.lacks clean has idle (ap Err (same_error is))));
   }
     where
       same_error : {Z : Type 0} {d e : KeepFault} → ◌≡◌ {A = Result Z KeepFault} (Err d) (Err e) → d ≡ e
@@ -144,9 +160,9 @@ read_next table k {cells} {is_valid} {row} {listed} o a b s t r stand is reads =
 abbrev pub kind_at : ℕ → TableKind
 kind_at n = get_or tables_of_owners n Meta
 
-pub step_at : (i : ℕ) → i < 11 → (is_owned (kind_at i) ≡ true) × (next_of (kind_at i) ≡ kind_at (i + 1)) × (take i tables_of_owners ++ kind_at i ∷ [] ≡ take (i + 1) tables_of_owners)
+pub step_at : (i : ℕ) → i < 11 → (is_owned (kind_at i) ≡ true) × (next_of (kind_at i) ≡ kind_at (i + 1)) × (take i tables_of_owners ++ kind_at i ∷ [] ≡ take (i + 1) tables_of_owners) × (take (i + 1) tables_of_owners ++ drop (i + 1) tables_of_owners ≡ tables_of_owners)
 step_at (suc (suc (suc (suc (suc (suc (suc (suc (suc (suc (suc i))))))))))) low = absurd (omega (arith, low))
-step_at _ low = (refl, refl, refl)
+step_at _ low = (refl, refl, refl, refl)
 
 abbrev pub read_well : Result (Unit {0}) KeepFault
 read_well = Ok tt
@@ -156,7 +172,7 @@ abbrev pub HasRead : ℕ → Bytes → State → State → Slice → Slice → T
 HasRead n o a b s t = ReadsOn (front Materials 0) (front (kind_at n) 0) (take n tables_of_owners) o a b s t read_well
 
 pub none_read : (o : Bytes) (a : State) (s : Slice) → (HasCleanDisk a → IsTrue a.is_open) → HasRead 0 o a a s s
-none_read o a s live = record { looks = (found_still a live).looks; shows = λ _ _ _. tt; reads = λ _ _ _ first. first; whole = λ _ _ _ _ _ is. absurd cc }
+none_read o a s live = record { looks = (found_still a live).looks; shows = λ _ _ _. tt; reads = λ _ _ _ first. first; whole = λ _ _ _ _ _ is. absurd cc; taken = λ _ _ _. refl; lacks = λ _ _ _ is. absurd cc }
 
 pub one_more_read : (tables : List TableKind) → tables ≡ tables_of_owners → (i : ℕ) → i < length tables → (o : Bytes) (a b c : State) (s t u : Slice) (r : Result (Unit {0}) KeepFault) → HasRead i o a b s t → (is_owned (get_or tables i Meta) ≡ true → ReadsNext (get_or tables i Meta) o b c t u r)
     → ReadsOn (front Materials 0) (front (kind_at (i + 1)) 0) (take (i + 1) tables_of_owners) o a c s u r

@@ -3,7 +3,7 @@ use Rattle.std.proofs.Common.{◌≡◌, ◌<◌, ◌≤◌, ◌+◌, ◌∙◌,
 use Rattle.toll_sql.proofs.Common.{cases_Bool, IsPermutation-sym, AllByRecursion, is_eq, Row, column, value_cmp, Trees, Text, all-permutation, Bytes}
 use Rattle.toll_sql.specs.Bag.{owned_by}
 use Rattle.toll_sql.specs.Cells.{columns_from}
-use Rattle.toll_sql.specs.Shown.{AreOwnedBy, AreRowsOf, IsRowOf}
+use Rattle.toll_sql.specs.Shown.{AreOwnedBy, AreRowsOf, FirstIs, IsRowOf}
 use Rattle.toll_sql.specs.Rows.{AreOfOwner}
 use Rattle.toll_sql.specs.Tables.{tree_of, width_of}
 use Rattle.toll_sql.specs.declared.table_kind.TableKind.{TableKind}
@@ -20,6 +20,12 @@ pub one_more : {X : Type 0} (P : X → Type 0) (xs : List X) (i : ℕ) (x : X) �
 one_more P xs i x lt is all it =
     let one : suc i ≡ i + 1 = omega arith in
     subst (λ n. AllByRecursion P (take n xs)) one (next_too P xs i x lt is all it)
+
+-- the first of them is good where each so far is, and the next one
+pub first_good : {X : Type 0} (P : X → Type 0) (xs : List X) (i : ℕ) (x : X) → i < length xs → x ≡ get_or xs i x → (1 ≤ i → FirstIs P xs) → P x → FirstIs P xs
+first_good P [] i x lt is so_far it = absurd (omega (arith, lt))
+first_good P (y ∷ ys) zero x lt is so_far it = subst P is it
+first_good P (y ∷ ys) (suc i) x lt is so_far it = so_far (omega arith)
 
 pub value_at : {X : Type 0} (P : X → Type 0) (xs : List X) (i : ℕ) (d : X) → AllByRecursion P xs → i < length xs → P (get_or xs i d)
 value_at P [] i d all lt = absurd (omega (arith, lt))

@@ -11,4 +11,4 @@ all_text = codes "SELECT c.lot_owner, c.lot, p.lot_owner, p.lot FROM moves AS c 
 
 -- the batches that hold a unit
 abbrev pub unit_text : List ℕ
-unit_text = codes "SELECT owner, ord, number FROM batches WHERE unit = ?1 AND closed = 0"
+unit_text = codes "SELECT owner, ord, number, unit, state, closed FROM batches WHERE unit = ?1 AND closed = 0"

@@ -1,6 +1,6 @@
 -- What each call does that asks the store and writes nothing.
-use Rattle.std.specs.Prelude.{◌≡◌, ◌≢◌, Bool, true, false, IsTrue, Result, Err, IfErr, OnOk}
-use Rattle.toll_sql.specs.Common.{State, HasCleanDisk, Survives, Trees, Error, Bytes, Slice, Content, KeepFault, Disk, Damaged, Closed}
+use Rattle.std.specs.Prelude.{◌≡◌, ◌≢◌, Bool, true, false, IsTrue, Result, Ok, Err, IfErr, OnOk, is_err}
+use Rattle.toll_sql.specs.Common.{State, HasCleanDisk, Survives, Trees, Error, Bytes, Slice, Content, KeepFault, Memory, Disk, Damaged, Closed}
 use Rattle.toll_sql.specs.Causes.{IsCaused, Reason}
 use Rattle.toll_sql.specs.Stores.{HoldsIn, HoldsPartIn, LiesIdle}
 use Rattle.toll_sql.specs.Others.{HasOurs}
@@ -53,3 +53,12 @@ pub record IsFinding (old new : State) (result : Result (Unit {0}) KeepFault) : 
   pub looks : IsLooking old new result
   pub undamaged : result ≢ Err Damaged
   pub survives : Survives old new (λ _. ⊥)
+
+-- what is told where a call lacked memory and the store was then asked whether it lies open: that, or the fault that was found
+abbrev pub told_behind : {X : Type 0} → Result (Unit {0}) KeepFault → Result X KeepFault
+told_behind (Ok _) = Err Memory
+told_behind (Err fault) = Err fault
+
+-- behind want of memory the store was asked whether it lies open, which is not known where that lacked memory too
+abbrev pub IsAskedBehind : {X : Type 0} → State → State → Result X KeepFault → Bool → Type 0
+IsAskedBehind old new result unsure = (found : Result (Unit {0}) KeepFault) × IsFinding old new found × (result ≡ told_behind found) × (unsure ≡ is_err found)

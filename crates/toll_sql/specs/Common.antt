@@ -46,4 +46,4 @@ pub use Rattle.toll_base.specs.declared.rows.UnitRow.{UnitRow}
 pub use Rattle.toll_base.specs.declared.rows.VoidRow.{VoidRow}
 pub use Rattle.toll_keep.specs.Content.{Content, nothing}
 pub use Rattle.toll_keep.specs.declared.fault.KeepFault.{KeepFault}
-pub use Rattle.toll_keep.specs.declared.fault.KeepFault.TheVariants.{Closed, Damaged, Disk}
+pub use Rattle.toll_keep.specs.declared.fault.KeepFault.TheVariants.{Closed, Damaged, Disk, Memory}

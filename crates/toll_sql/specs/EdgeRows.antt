@@ -1,6 +1,6 @@
 -- Rows that show edges of genealogy.
-use Rattle.std.specs.Prelude.{◌≡◌, ◌≢◌, ℕ, Bool, true, false, List, [], ◌∷◌, map, Contains}
-use Rattle.toll_sql.specs.Common.{Database, Row, State, Text, Bytes, Slice, Content}
+use Rattle.std.specs.Prelude.{◌≡◌, ◌≢◌, ℕ, Bool, true, false, List, [], ◌∷◌, map, Contains, Result, Err}
+use Rattle.toll_sql.specs.Common.{Database, Row, State, Text, Bytes, Slice, Content, KeepFault, Memory}
 use Rattle.toll_base.specs.Lots.{edge_cmp}
 use Rattle.toll_base.specs.declared.lot.Edge.{Edge}
 use Rattle.toll_sql.specs.Asked.{AreReadWith}
@@ -8,6 +8,7 @@ use Rattle.toll_sql.specs.Asking.{ForPart, OverOurs}
 use Rattle.toll_sql.specs.AskedTexts.{owners_text}
 use Rattle.toll_sql.specs.Cells.{columns_from}
 use Rattle.toll_sql.specs.Holds.{HoldsEach}
+use Rattle.toll_sql.specs.Shown.{FirstIs}
 use Rattle.toll_sql.specs.Valid.{IsLotId}
 use Rattle.toll_sql.specs.declared.table_kind.TableKind.{TableKind}
 use Rattle.toll_sql.specs.declared.table_kind.TableKind.TheVariants.{Moves, Voids}
@@ -44,7 +45,15 @@ IsNamedEdge e = IsLotId e.from × IsLotId e.to
 abbrev pub ShowsNoEdge : Row → Type 0
 ShowsNoEdge row = (e : Edge) → IsNamedEdge e → columns_from 0 4 row ≢ edge_cells e
 
--- one of the rows is such
+-- its cells are those of one
+abbrev pub ShowsEdge : Row → Type 0
+ShowsEdge row = (e : Edge) × IsNamedEdge e × (columns_from 0 4 row ≡ edge_cells e)
+
+-- want of memory is told of no row but one that shows an edge, nor behind one that shows none: so the first of them does
+abbrev pub LacksAtEdge : {X : Type 0} → List Row → Result X KeepFault → Type 0
+LacksAtEdge rows result = result ≡ Err Memory → FirstIs ShowsEdge rows
+
+-- one of the rows shows none
 abbrev pub HasNoEdge : List Row → Type 0
 HasNoEdge rows = (row : Row) × Contains rows row × ShowsNoEdge row
 

@@ -1,55 +1,65 @@
 -- Rows that show the batch that holds a unit.
-use Rattle.std.specs.Prelude.{◌≡◌, ◌≢◌, ◌&&◌, ℕ, pos, Option, Some, None, IsTrue, List, [], ◌∷◌, map, filter, Contains, Result, Err, IfOk}
-use Rattle.toll_sql.specs.Common.{is_eq, Database, Row, column, value_cmp, Trees, Int, Text, Bytes, is_name, IsBatchNo, Content, KeepFault, Damaged}
+use Rattle.std.specs.Prelude.{◌≡◌, ◌≢◌, ◌&&◌, ℕ, pos, Option, Some, None, IsTrue, List, [], ◌∷◌, map, filter, Contains, Result, Err, IfOk, OnOk}
+use Rattle.toll_sql.specs.Common.{AllByRecursion, is_eq, Database, Row, column, value_cmp, Trees, Int, Text, Bytes, is_name, BatchRow, Content, KeepFault, Damaged}
 use Rattle.toll_keep.specs.Holding.{IsHolder}
 use Rattle.toll_keep.specs.declared.holder.Holder.{Holder}
 use Rattle.toll_sql.specs.Asked.{AreReadWith}
 use Rattle.toll_sql.specs.AskedTexts.{unit_text}
 use Rattle.toll_sql.specs.Cells.{columns_from}
-use Rattle.toll_sql.specs.Tables.{tree_of}
+use Rattle.toll_sql.specs.Encode.{batch_cells}
+use Rattle.toll_sql.specs.Tables.{tree_of, width_of}
+use Rattle.toll_sql.specs.Valid.{IsBatch}
 use Rattle.toll_sql.specs.declared.table_kind.TableKind.TheVariants.{Batches}
 
--- the batch's owner, its order and its number
-abbrev pub holder_cells : Holder → Row
-holder_cells h = Text h.owner ∷ Text h.order ∷ Int (pos h.number) ∷ []
+-- the cells of a row of batches
+abbrev pub batch_columns : Row → Row
+batch_columns row = columns_from 0 (width_of Batches) row
 
--- they are values of their kinds
-pub record IsNamedHolder (h : Holder) : Type 0 where
+-- the row is that of this batch, with all that the table has of it, and its values are values of their kinds
+pub record IsRowOfBatch (row : Row) (h : Holder) : Type 0 where
+  pub batch : BatchRow
   pub owner : IsTrue (is_name h.owner)
-  pub order : IsTrue (is_name h.order)
-  pub number : IsBatchNo h.number
+  pub valid : IsBatch batch
+  pub cells : batch_columns row ≡ batch_cells h.owner batch
+  pub order : batch.order ≡ h.order
+  pub number : batch.number ≡ h.number
+
+-- each of the rows is that of a batch
+abbrev pub AreBatchRows : List Row → Type 0
+AreBatchRows rows = AllByRecursion (λ row. (h : Holder) × IsRowOfBatch row h) rows
 
 -- each row is that of a batch that holds the unit; where there is none, no batch does
 pub record ShowHolders (c : Content) (unit : Bytes) (rows : List Row) : Type 0 where
-  pub only : (row : Row) → Contains rows row → (h : Holder) × IsHolder c unit (Some h) × IsNamedHolder h × (row ≡ holder_cells h)
+  pub only : (row : Row) → Contains rows row → (h : Holder) × IsHolder c unit (Some h) × IsRowOfBatch row h × (row ≡ batch_columns row)
   pub none : rows ≡ [] → IsHolder c unit None
 
--- one of the rows shows this batch; where none is named, there are no rows
+-- one of the rows is that of this batch; where none is named, there are no rows
 abbrev pub IsShownIn : List Row → Option Holder → Type 0
-IsShownIn rows (Some h) = (row : Row) × Contains rows row × (columns_from 0 3 row ≡ holder_cells h)
+IsShownIn rows (Some h) = (row : Row) × Contains rows row × IsRowOfBatch row h
 IsShownIn rows None = rows ≡ []
 
--- the row's cells are not those of a batch
-abbrev pub ShowsNoHolder : Row → Type 0
-ShowsNoHolder row = (h : Holder) → IsNamedHolder h → columns_from 0 3 row ≢ holder_cells h
+-- the row is that of no batch
+abbrev pub ShowsNoBatch : Row → Type 0
+ShowsNoBatch row = (o : Bytes) (x : BatchRow) → IsTrue (is_name o) → IsBatch x → row ≢ batch_cells o x
 
 -- one of the rows is such
-abbrev pub HasNoHolder : List Row → Type 0
-HasNoHolder rows = (row : Row) × Contains rows row × ShowsNoHolder row
+abbrev pub HasNoBatch : List Row → Type 0
+HasNoBatch rows = (row : Row) × Contains rows row × ShowsNoBatch row
 
--- it is shown by one of the rows that the text reads, by sqlite's own account of it; or it reads none
+-- it is shown by one of the rows that the text reads, by sqlite's own account of it, each of which is that of a batch; or it reads none
 abbrev pub IsHolderOf : Database → List ℕ → Row → Option Holder → Type 0
-IsHolderOf db text params holder = (rows : List Row) × AreReadWith db text params rows × IsShownIn rows holder
+IsHolderOf db text params holder = (rows : List Row) × AreReadWith db text params rows × IsShownIn rows holder × AreBatchRows rows
 
 -- the rows are those that the text for the batches on this unit reads
 abbrev pub AreBatchesOn : Database → Bytes → List Row → Type 0
 AreBatchesOn db unit rows = AreReadWith db unit_text (Text unit ∷ []) rows
 
--- the cells that name each batch on the unit that is not closed
+-- the cells of each batch on the unit that is not closed
 abbrev pub open_on : Bytes → Trees → List Row
-open_on unit db = map (columns_from 1 3) (filter (λ row. is_eq (value_cmp (column row 4) (Text unit)) && is_eq (value_cmp (column row 6) (Int (pos 0)))) (db (tree_of Batches)))
+open_on unit db = map (columns_from 1 (width_of Batches)) (filter (λ row. is_eq (value_cmp (column row 4) (Text unit)) && is_eq (value_cmp (column row 6) (Int (pos 0)))) (db (tree_of Batches)))
 
--- what is told of the unit goes by these alone, whatever other rows the tables have: one of them shows the batch, or there are none; and damage is in one
+-- what is told of the unit goes by these alone, whatever other rows the tables have: one of them shows the batch, or there are none; and it is damage just where one is that of no batch
 pub record TellsHolder (unit : Bytes) (db : Trees) (result : Result (Option Holder) KeepFault) : Type 0 where
   pub told : IfOk result (IsShownIn (open_on unit db))
-  pub damaged : result ≡ Err Damaged → HasNoHolder (open_on unit db)
+  pub whole : OnOk result (AreBatchRows (open_on unit db))
+  pub damaged : result ≡ Err Damaged → HasNoBatch (open_on unit db)

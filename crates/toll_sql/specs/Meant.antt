@@ -5,13 +5,14 @@ use Rattle.toll_keep.specs.Meaning.{Meaning}
 use Rattle.toll_sql.specs.Causes.{HasCause}
 use Rattle.toll_sql.specs.Stores.{HoldsWhileOpen, LeavesIn, LiesOpen}
 
--- of a keep of which the store and the flag are given
-abbrev pub means : {K : Type 0} → (store : K → State) (closed : K → Bool) → Meaning K
-means store closed = record {
+-- of a keep of which the store and the two flags are given
+abbrev pub means : {K : Type 0} → (store : K → State) (closed unsure : K → Bool) → Meaning K
+means store closed unsure = record {
   holds = λ k c. HoldsWhileOpen (store k) c;
   is_honest = λ k. HasCleanDisk (store k);
   is_closed = closed;
   is_live = λ k. LiesOpen (store k);
+  is_unsure = unsure;
   has_cause = λ old new. HasCause (store old) (store new);
   leaves = λ k cs. LeavesIn (store k) cs;
 }

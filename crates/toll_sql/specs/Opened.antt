@@ -1,7 +1,6 @@
 -- A keep that was opened from files, before anything is asked of it.
 use Rattle.std.specs.Prelude.{◌≡◌, Bool}
 use Rattle.toll_sql.specs.Common.{Held, FileStore, Image}
-use Rattle.sqlite_disk.specs.declared.Disk as disk
 use Rattle.sqlite_trees.specs.declared.store.Store as store
 use Rattle.toll_keep.specs.Remembered.{IsNothing}
 use Rattle.toll_keep.specs.declared.keep.Keep as keep
@@ -10,10 +9,10 @@ use Rattle.toll_sql.specs.FromFiles.{IsKeptFrom}
 use Rattle.toll_sql.specs.declared.sql_keep.SqlKeep.{SqlKeep}
 
 -- the connection's tables were made in the files, or found there
-abbrev pub IsFound : {D : Type 0} {d : disk.Ghosts D} → Held (FileStore D d) → Type 0
+abbrev pub IsFound : {D : Type 0} {d : _} → Held (FileStore D d) → Type 0
 IsFound conn = (fresh : Bool) × (image : Image) × IsKeptFrom fresh image conn
 
 -- a keep that remembers nothing yet, around one whose tables were
-abbrev pub IsOpened : {D : Type 0} {d : disk.Ghosts D} {g : store.Ghosts (FileStore D d)} {h : keep.Ghosts (SqlKeep (FileStore D d) g)}
+abbrev pub IsOpened : {D : Type 0} {d : _} {g : store.Ghosts (FileStore D d)} {h : keep.Ghosts (SqlKeep (FileStore D d) g)}
     → Remembering (SqlKeep (FileStore D d) g) h → Type 0
 IsOpened {D} {d} {g} r = (inside : SqlKeep (FileStore D d) g) × (r.keep ≡ inside) × IsFound inside.conn × IsNothing r.recollection

@@ -1,10 +1,13 @@
 -- Rows of the plant, which owners do not part, as a table has them.
-use Rattle.std.specs.Prelude.{◌≡◌, List, map}
-use Rattle.toll_sql.specs.Common.{AllByRecursion, Row, State, OwnerRow, UnitRow}
+use Rattle.std.specs.Prelude.{◌≡◌, List, map, Result, Err}
+use Rattle.toll_sql.specs.Common.{AllByRecursion, Row, State, OwnerRow, UnitRow, KeepFault, Memory}
 use Rattle.toll_sql.specs.Asking.{OverOurs}
+use Rattle.toll_sql.specs.Cells.{columns_from}
 use Rattle.toll_sql.specs.Encode.{owner_cells, unit_cells}
 use Rattle.toll_sql.specs.Holds.{HoldsAll}
+use Rattle.toll_sql.specs.Shown.{FirstIs}
 use Rattle.toll_sql.specs.StoredLaws.{StandAlone}
+use Rattle.toll_sql.specs.Tables.{width_of}
 use Rattle.toll_sql.specs.Valid.{IsOwner, IsUnit}
 use Rattle.toll_sql.specs.declared.table_kind.TableKind.{TableKind}
 use Rattle.toll_sql.specs.declared.table_kind.TableKind.TheVariants.{Owners, Units}
@@ -27,3 +30,11 @@ ForRows k cells is_valid old new P = StandAlone k cells is_valid → ForAll k ce
 -- this is so of the rows of the office that have these cells
 abbrev pub ForCells : {X : Type 0} → TableKind → (X → Row) → (X → Type 0) → List Row → (List X → Type 0) → Type 0
 ForCells {X} k cells is_valid rows P = StandAlone k cells is_valid → (l : List X) → rows ≡ map cells l → AllByRecursion is_valid l → P l
+
+-- the cells are those of a row of this kind, with values of their kinds
+abbrev pub ShowsRow : {X : Type 0} → TableKind → (X → Row) → (X → Type 0) → Row → Type 0
+ShowsRow {X} k cells is_valid row = (x : X) × is_valid x × (columns_from 0 (width_of k) row ≡ cells x)
+
+-- want of memory is told of no row but one that is such, nor behind one that is not: so the first of them is
+abbrev pub LacksAtRow : {X Y : Type 0} → TableKind → (X → Row) → (X → Type 0) → List Row → Result Y KeepFault → Type 0
+LacksAtRow k cells is_valid rows result = result ≡ Err Memory → FirstIs (ShowsRow k cells is_valid) rows

@@ -16,6 +16,11 @@ use Rattle.toll_sql.specs.declared.table_kind.TableKind.TheVariants.{Meta, Owner
 abbrev pub IsRowOf : {X : Type 0} → TableKind → (Bytes → X → Row) → (X → Type 0) → Bytes → Row → Type 0
 IsRowOf {X} k cells is_valid o row = (x : X) × is_valid x × (columns_from 0 (width_of k) row ≡ cells o x)
 
+-- there is a first one, and it is such
+abbrev pub FirstIs : {X : Type 0} → (X → Type 0) → List X → Type 0
+FirstIs P [] = ⊥
+FirstIs P (x ∷ xs) = P x
+
 -- so are those of each row of the owner that the table has
 abbrev pub AreRowsOf : {X : Type 0} → TableKind → (Bytes → X → Row) → (X → Type 0) → Bytes → Trees → Type 0
 AreRowsOf k cells is_valid o db = AllByRecursion (IsRowOf k cells is_valid o) (map (columns_from 1 (width_of k)) (owned_by o (db (tree_of k))))

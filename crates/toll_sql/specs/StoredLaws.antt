@@ -9,7 +9,7 @@ use Rattle.toll_sql.specs.Encode.{table_for, cells_for, rows_for}
 use Rattle.toll_sql.specs.Fronts.{front}
 use Rattle.toll_sql.specs.Shown.{AreRowsIn, AreRowsOf}
 use Rattle.toll_sql.specs.Tables.{is_owned}
-use Rattle.toll_sql.specs.Valid.{AreValidIn}
+use Rattle.toll_sql.specs.Valid.{AreValidIn, IsRow}
 use Rattle.toll_sql.specs.declared.table_kind.TableKind.{TableKind}
 
 pub record StandIn {X : Type 0} (k : TableKind) (cells : Bytes → X → Row) (is_valid : X → Type 0) (row : X → OfficeRow) (rows : Slice → List X) : Type 0 where
@@ -18,6 +18,8 @@ pub record StandIn {X : Type 0} (k : TableKind) (cells : Bytes → X → Row) (i
   -- the row, whatever its kind, stands in the table, and has these cells
   pub its_table : (x : X) → table_for (row x) ≡ k
   pub its_cells : (o : Bytes) (x : X) → cells_for o (row x) ≡ cells o x
+  -- its values are values of their kinds, whatever its kind is
+  pub its_values : (x : X) → is_valid x → IsRow (row x)
   -- the table has the cells of these rows of a slice
   pub its_rows : (s : Slice) → rows_for k s ≡ map (cells s.owner) (rows s)
   -- their values are values of their kinds where those of the table are

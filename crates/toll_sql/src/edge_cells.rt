@@ -1,7 +1,7 @@
 //! Edges of genealogy as rows show them.
 ghost use Rattle.std.specs.Prelude.{◌≡◌, None, IfSome};
 ghost use Rattle.toll_sql.specs.Cells.{columns_from};
-ghost use Rattle.toll_sql.specs.EdgeRows.{edge_cells, ShowsNoEdge};
+ghost use Rattle.toll_sql.specs.EdgeRows.{IsNamedEdge, ShowsNoEdge, edge_cells};
 
 use crate::cells::lot_at;
 use sqlite::Row;
@@ -11,6 +11,7 @@ use toll_base::Edge;
 /// `None` where it shows none.
 pub fn edge_at(row: &Row) -> Option<Edge>
     ensures some { IfSome result (λ e. columns_from 0 4 row.now ≡ edge_cells e) }
+    ensures valid { IfSome result IsNamedEdge }
     ensures none { result ≡ None → ShowsNoEdge row.now }
 {
     Some(Edge {

@@ -8,7 +8,7 @@ ghost use Rattle.toll_sql.specs.Asked.{AreReadWith};
 ghost use Rattle.toll_sql.specs.AskedTexts.{all_text};
 ghost use Rattle.toll_sql.specs.Asking.{IsLooking, IsQuerying};
 ghost use Rattle.toll_sql.specs.Cells.{columns_from};
-ghost use Rattle.toll_sql.specs.EdgeRows.{AreEdgesOf, AreOwnersEdges, AreOwnersPairs, AreReadFrom, ForAllMoves, ForMoves, HasNoEdge, ShowEdges, edge_cells};
+ghost use Rattle.toll_sql.specs.EdgeRows.{AreEdgesOf, AreOwnersEdges, AreOwnersPairs, AreReadFrom, ForAllMoves, ForMoves, HasNoEdge, LacksAtEdge, ShowEdges, edge_cells};
 
 use crate::edge_cells::edge_at;
 use crate::fault::fault_of;
@@ -89,6 +89,7 @@ fn all_pairs<S: Alter>(conn: &mut Connection<S>) -> Result<Vec<Row>, Error>
 fn edges_shown(alloc: Global, rows: &[Row]) -> Result<Vec<Edge>, KeepFault>
     ensures read { IfOk result (λ edges. AreReadFrom rows.now edges.items) }
     ensures damaged { result ≡ Err KeepFault.Damaged → HasNoEdge rows.now }
+    ensures lacks { LacksAtEdge rows.now result }
     ensures disk { result ≢ Err KeepFault.Disk }
     ensures closed { result ≢ Err KeepFault.Closed }
 {
@@ -101,6 +102,7 @@ fn edges_shown(alloc: Global, rows: &[Row]) -> Result<Vec<Edge>, KeepFault>
 fn edges_in(alloc: Global, rows: &[Row]) -> Result<Vec<Edge>, KeepFault>
     ensures read { IfOk result (λ edges. map edge_cells edges.items ≡ map (columns_from 0 4) rows.now) }
     ensures damaged { result ≡ Err KeepFault.Damaged → HasNoEdge rows.now }
+    ensures lacks { LacksAtEdge rows.now result }
     ensures disk { result ≢ Err KeepFault.Disk }
     ensures closed { result ≢ Err KeepFault.Closed }
 {

@@ -1,26 +1,26 @@
 //! The batch that holds a unit, asked of the tables.
-ghost use Rattle.std.specs.Prelude.{◌≡◌, ◌≢◌, [], ◌∷◌, Err, None, IfOk, IfSome, IsPermutation};
+ghost use Rattle.std.specs.Prelude.{◌≡◌, ◌≢◌, [], ◌∷◌, Err, None, IfOk, IfSome, OnOk, IsPermutation};
 ghost use Rattle.sqlite.specs.Held.{state};
 ghost use Rattle.sqlite.specs.declared.types.Value.TheVariants.{Text};
 ghost use Rattle.sqlite.specs.State.{HasCleanDisk};
 ghost use Rattle.toll_keep.specs.Holding.{IsHolder};
 ghost use Rattle.toll_sql.specs.AskedTexts.{unit_text};
 ghost use Rattle.toll_sql.specs.Asking.{ForHeld, IsLooking, IsQuerying, OverOurs};
-ghost use Rattle.toll_sql.specs.Cells.{columns_from};
-ghost use Rattle.toll_sql.specs.HolderRows.{AreBatchesOn, HasNoHolder, IsHolderOf, IsShownIn, ShowHolders, ShowsNoHolder, TellsHolder, holder_cells, open_on};
+ghost use Rattle.toll_sql.specs.HolderRows.{AreBatchRows, AreBatchesOn, HasNoBatch, IsHolderOf, IsRowOfBatch, IsShownIn, ShowHolders, ShowsNoBatch, TellsHolder, open_on};
 
-use crate::cells::{bounded_at, name_at};
+use crate::cells::name_at;
 use crate::fault::fault_of;
+use crate::stored::StoredRow;
 use sqlite::types::ValueRef;
 use sqlite::{Alter, Connection, Error, Row};
-use toll_base::Name;
+use toll_base::{BatchRow, Name};
 use toll_keep::{Holder, KeepFault};
 
 /// The batch that holds the unit, of any owner: `None` where none does.
 ///
-/// Memory and Disk are faults of the store; Damaged is a row that names no batch. The batch is that of a row
-/// that the store gives, and where none is told it gives none, whatever its tables have: no row but those of
-/// open batches on this unit matters.
+/// Memory and Disk are faults of the store; Damaged is told where the store gives a row that is that of no
+/// batch, and only there. The batch is that of a row that the store gives, and where none is told it gives none,
+/// whatever its tables have: no row but those of open batches on this unit matters.
 pub fn read_holder<S: Alter>(
     conn: &mut Connection<S>,
     unit: &Name,
@@ -32,7 +32,7 @@ pub fn read_holder<S: Alter>(
     ensures alone { OverOurs (state S.Store conn.old) (state S.Store conn.new) (λ db. TellsHolder unit.now db result) }
 {
     match open_batches(conn, unit) {
-        Ok(rows) => first_holder(&rows),
+        Ok(rows) => holder_in(&rows),
         Err(error) => Err(fault_of(error)),
     }
 }
@@ -45,35 +45,40 @@ fn open_batches<S: Alter>(conn: &mut Connection<S>, unit: &Name) -> Result<Vec<R
     ensures found { OverOurs (state S.Store conn.old) (state S.Store conn.new) (λ db. IfOk result (λ rows. IsPermutation (open_on unit.now db) rows.items)) }
 {
     conn.query_all(
-        "SELECT owner, ord, number FROM batches WHERE unit = ?1 AND closed = 0",
+        "SELECT owner, ord, number, unit, state, closed FROM batches WHERE unit = ?1 AND closed = 0",
         &[ValueRef::Text(unit.as_bytes())],
     )
 }
 
-// The batch that the first row shows.
-fn first_holder(rows: &[Row]) -> Result<Option<Holder>, KeepFault>
-    ensures read { IfOk result (IsShownIn rows.now) }
-    ensures damaged { result ≡ Err KeepFault.Damaged → HasNoHolder rows.now }
+// The batch that the rows show, the last one's where there are several. Each has to be that of a batch.
+fn holder_in(rows: &[Row]) -> Result<Option<Holder>, KeepFault>
+    ensures shown { IfOk result (IsShownIn rows.now) }
+    ensures whole { OnOk result (AreBatchRows rows.now) }
+    ensures damaged { result ≡ Err KeepFault.Damaged → HasNoBatch rows.now }
+    ensures memory { result ≢ Err KeepFault.Memory }
     ensures disk { result ≢ Err KeepFault.Disk }
     ensures closed { result ≢ Err KeepFault.Closed }
 {
-    match rows.first() {
-        Some(row) => match holder_at(row) {
-            Some(holder) => Ok(Some(holder)),
-            None => Err(KeepFault::Damaged),
-        },
-        None => Ok(None),
+    let mut found = None;
+    for row in rows {
+        match holder_at(row) {
+            Some(holder) => found = Some(holder),
+            None => return Err(KeepFault::Damaged),
+        }
     }
+    Ok(found)
 }
 
-// The batch that the row shows.
+// The batch that the row is that of.
 fn holder_at(row: &Row) -> Option<Holder>
-    ensures some { IfSome result (λ h. columns_from 0 3 row.now ≡ holder_cells h) }
-    ensures none { result ≡ None → ShowsNoHolder row.now }
+    ensures some { IfSome result (IsRowOfBatch row.now) }
+    ensures none { result ≡ None → ShowsNoBatch row.now }
 {
+    let owner = name_at(row, 0)?;
+    let batch = BatchRow::read(row)?;
     Some(Holder {
-        owner: name_at(row, 0)?,
-        order: name_at(row, 1)?,
-        number: bounded_at(row, 2)?,
+        owner,
+        order: batch.order,
+        number: batch.number,
     })
 }

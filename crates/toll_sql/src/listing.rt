@@ -6,7 +6,7 @@ ghost use Rattle.std.specs.List.{AllByRecursion};
 ghost use Rattle.toll_sql.specs.Asking.{IsLooking};
 ghost use Rattle.toll_sql.specs.Cells.{columns_from};
 ghost use Rattle.toll_sql.specs.Encode.{owner_cells, unit_cells};
-ghost use Rattle.toll_sql.specs.PlantRows.{ForCells, ForOwners, ForRows, ForUnits};
+ghost use Rattle.toll_sql.specs.PlantRows.{ForCells, ForOwners, ForRows, ForUnits, LacksAtRow};
 ghost use Rattle.toll_sql.specs.Shown.{AreTold};
 ghost use Rattle.toll_sql.specs.StoredLaws.{StandAlone};
 ghost use Rattle.toll_sql.specs.Tables.{width_of};
@@ -70,6 +70,7 @@ fn list_rows<X: PlantRow>(alloc: Global, rows: &[Stored]) -> Result<Vec<X>, Keep
     ensures reads { ForCells X.kind X.cells X.is_valid rows.now (λ l. IfOk result (λ listed. listed.items ≡ l)) }
     ensures shown { IfOk result (λ listed. (map X.cells listed.items ≡ map (columns_from 0 (width_of X.kind)) rows.now) × AllByRecursion X.is_valid listed.items) }
     ensures whole { ForCells X.kind X.cells X.is_valid rows.now (λ _. result ≢ Err KeepFault.Damaged) }
+    ensures lacks { LacksAtRow X.kind X.cells X.is_valid rows.now result }
     ensures disk { result ≢ Err KeepFault.Disk }
     ensures closed { result ≢ Err KeepFault.Closed }
 {

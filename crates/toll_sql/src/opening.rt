@@ -4,7 +4,7 @@ ghost use Rattle.sqlite.specs.Held.{state};
 ghost use Rattle.sqlite.specs.Steps.{over_memory};
 ghost use Rattle.sqlite_wal.specs.Files.{image_at};
 ghost use Rattle.toll_keep.specs.Content.{nothing};
-ghost use Rattle.toll_sql.specs.FromFiles.{IsKeptFrom, IsLeftIn, IsOpenedFrom, IsRefusedFrom, IsUnclosed, IsUnopenedFrom, Takes, fault_of_files};
+ghost use Rattle.toll_sql.specs.FromFiles.{IsKeptFrom, IsLeftIn, IsOpenedFrom, IsUnclosed, RefusesFrom, Takes, UnopensFrom, fault_of_files};
 ghost use Rattle.toll_sql.specs.Opening.{Adopts, Creates, refuses, succeeds};
 ghost use Rattle.toll_sql.specs.Stores.{HoldsIn};
 
@@ -14,7 +14,6 @@ use crate::fault::fault_of;
 use crate::open_fault::OpenFault;
 use crate::sql_keep::SqlKeep;
 use sqlite::{Alter, Connection, Error, ErrorCode, FileFrom, FileStore, MemStore, Start};
-use sqlite_disk::Disk;
 use std::alloc::Global;
 use std::rt::HostRuntime;
 use toll_keep::KeepFault;
@@ -83,17 +82,6 @@ impl SqlKeep<MemStore> {
     }
 }
 
-impl<D: Disk + Drop> SqlKeep<FileStore<D>> {
-    /// Copies what was committed into the database file and closes both files. Memory where there is
-    /// none, Disk where the disk fails or refuses; what was committed stands in the two files.
-    pub fn close(self) -> Result<(), KeepFault>
-        ensures copied { OnOk result (IsLeftIn self.conn) }
-        ensures unclosed { IfErr result (λ fault. (last : _) × IsUnclosed self.conn last fault) }
-    {
-        close_connection(self.into_connection())
-    }
-}
-
 impl<S: Start> SqlKeep<FileStore<FileFrom<S>>> {
     /// A keep of the file: a `fresh` one has no tables yet, and they are made; else they are adopted.
     /// `start` stands for what the file holds. Memory where there is none, Disk where the file can't be
@@ -107,17 +95,26 @@ impl<S: Start> SqlKeep<FileStore<FileFrom<S>>> {
     ) -> Result<SqlKeep<FileStore<FileFrom<S>>>, OpenFault>
         ensures memory { path.now ≡ codes ":memory:" → result ≡ Err OpenFault.Disk }
         ensures made { IfOk result (λ keep. IsKeptFrom fresh (image_at S.Start) keep.conn × (keep.closed ≡ false)) }
-        ensures refused { IfErr result (IsRefusedFrom ⟦<FileFrom<S> as Disk>⟧ fresh (image_at S.Start)) }
+        ensures refused { RefusesFrom (λ keep. keep.conn) fresh (image_at S.Start) result }
     {
         match connect(rt, path, start) {
             Ok(conn) => keep_of(rt.alloc(), conn, fresh),
             Err(fault) => Err(fault),
         }
     }
+
+    /// Copies what was committed into the database file and closes both files. Memory where there is
+    /// none, Disk where the disk fails or refuses; what was committed stands in the two files.
+    pub fn close(self) -> Result<(), KeepFault>
+        ensures copied { OnOk result (IsLeftIn self.conn) }
+        ensures unclosed { IfErr result (λ fault. (last : _) × IsUnclosed self.conn last fault) }
+    {
+        close_connection(self.into_connection())
+    }
 }
 
 // Closes the files of a connection, after what was committed was copied into the database file.
-fn close_connection<D: Disk + Drop>(conn: Connection<FileStore<D>>) -> Result<(), KeepFault>
+fn close_connection<S: Start>(conn: Connection<FileStore<FileFrom<S>>>) -> Result<(), KeepFault>
     ensures copied { OnOk result (IsLeftIn conn) }
     ensures unclosed { IfErr result (λ fault. (last : _) × IsUnclosed conn last fault) }
 {
@@ -138,7 +135,7 @@ fn connect<S: Start>(
 ) -> Result<Connection<FileStore<FileFrom<S>>>, OpenFault>
     ensures memory { path.now ≡ codes ":memory:" → result ≡ Err OpenFault.Disk }
     ensures opened { IfOk result (IsOpenedFrom (image_at S.Start)) }
-    ensures unopened { IfErr result (IsUnopenedFrom ⟦<FileFrom<S> as Disk>⟧) }
+    ensures unopened { UnopensFrom (λ conn. conn) result }
 {
     match Connection::open_from(rt, path, false, start) {
         Ok(conn) => Ok(conn),

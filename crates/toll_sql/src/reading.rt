@@ -1,5 +1,5 @@
 //! An owner's rows, read from the tables into a slice.
-ghost use Rattle.std.specs.Prelude.{◌≡◌, ◌≢◌, Err, OnOk};
+ghost use Rattle.std.specs.Prelude.{◌≡◌, ◌≢◌, [], ◌∷◌, Err, OnOk};
 ghost use Rattle.sqlite.specs.Held.{state};
 ghost use Rattle.sqlite.specs.Order.{column};
 ghost use Rattle.sqlite.specs.declared.types.Value.TheVariants.{Text};
@@ -8,7 +8,7 @@ ghost use Rattle.toll_base.specs.Bytes.{Bytes};
 ghost use Rattle.toll_base.specs.Slice.{with_row};
 ghost use Rattle.toll_base.specs.SliceRules.{KeepsRules};
 ghost use Rattle.toll_sql.specs.Fronts.{past};
-ghost use Rattle.toll_sql.specs.Reading.{ForRow, ForStored, ReadsKind};
+ghost use Rattle.toll_sql.specs.Reading.{ForOwned, ForRow, ForStored, ReadsKind, TakesRows};
 ghost use Rattle.toll_sql.specs.Shown.{AreOwnedBy, IsRowOf};
 
 use crate::asking::owners_rows;
@@ -32,11 +32,13 @@ pub fn read_table<S: Alter, X: StoredRow>(
     }
 }
 
-// Puts the stored rows in, which are all rows of this kind.
+// Puts the stored rows in, which are all rows of this kind. Damaged is told of the first that is none or breaks
+// the rules, and Memory of none but one that fits.
 fn read_rows<X: StoredRow>(slice: &mut Slice, rows: &[Stored]) -> Result<(), KeepFault>
     ensures reads { ForStored X.kind X.cells X.is_valid X.any_row X.listed rows.now slice.old (λ s. OnOk result (slice.new ≡ past X.kind X.listed s)) }
     ensures shown { (o : Bytes) → AreOwnedBy o rows.now → OnOk result (AllByRecursion (IsRowOf X.kind X.cells X.is_valid o) rows.now) }
     ensures whole { ForStored X.kind X.cells X.is_valid X.any_row X.listed rows.now slice.old (λ s. KeepsRules s → result ≢ Err KeepFault.Damaged) }
+    ensures takes { ForOwned X.kind X.cells X.is_valid X.any_row X.listed rows.now (λ o. TakesRows X.kind o rows.now slice.old slice.new result) }
     ensures disk { result ≢ Err KeepFault.Disk }
     ensures closed { result ≢ Err KeepFault.Closed }
 {
@@ -51,6 +53,7 @@ fn read_row<X: StoredRow>(slice: &mut Slice, row: &Stored) -> Result<(), KeepFau
     ensures reads { ForRow X.kind X.cells X.is_valid X.any_row X.listed row.now (λ r. OnOk result (slice.new ≡ with_row slice.old r)) }
     ensures shown { (o : Bytes) → column row.now 0 ≡ Text o → OnOk result (IsRowOf X.kind X.cells X.is_valid o row.now) }
     ensures whole { ForRow X.kind X.cells X.is_valid X.any_row X.listed row.now (λ r. KeepsRules (with_row slice.old r) → result ≢ Err KeepFault.Damaged) }
+    ensures takes { ForOwned X.kind X.cells X.is_valid X.any_row X.listed (row.now ∷ []) (λ o. TakesRows X.kind o (row.now ∷ []) slice.old slice.new result) }
     ensures disk { result ≢ Err KeepFault.Disk }
     ensures closed { result ≢ Err KeepFault.Closed }
 {
@@ -64,6 +67,8 @@ fn read_row<X: StoredRow>(slice: &mut Slice, row: &Stored) -> Result<(), KeepFau
 fn put_read(slice: &mut Slice, row: Row) -> Result<(), KeepFault>
     ensures made { OnOk result (slice.new ≡ with_row slice.old row) }
     ensures whole { KeepsRules (with_row slice.old row) → result ≢ Err KeepFault.Damaged }
+    ensures fits { OnOk result (KeepsRules (with_row slice.old row)) }
+    ensures lacks { result ≡ Err KeepFault.Memory → KeepsRules (with_row slice.old row) × (slice.new ≡ slice.old) }
     ensures disk { result ≢ Err KeepFault.Disk }
     ensures closed { result ≢ Err KeepFault.Closed }
 {

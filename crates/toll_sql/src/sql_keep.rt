@@ -3,6 +3,7 @@ ghost use Rattle.std.specs.Prelude.{◌≡◌, ◌≢◌, Err, true, false, None
 ghost use Rattle.sqlite.specs.Held.{state};
 ghost use Rattle.sqlite.specs.State.{HasCleanDisk};
 ghost use Rattle.toll_keep.specs.Goes.{closes, IsReading};
+ghost use Rattle.toll_sql.specs.Asking.{IsAskedBehind};
 ghost use Rattle.toll_sql.specs.Meant.{means};
 
 use crate::asking::find_open;
@@ -22,7 +23,7 @@ use toll_keep::{Holder, Keep, KeepFault};
 pub struct SqlKeep<S: Alter> {
     pub(crate) conn: Connection<S>,
     pub(crate) closed: bool,
-    // Whether the store lies open is not known: nothing was answered yet, or the last call met a fault.
+    // Whether the store lies open is not known: nothing was answered yet, or there was no memory to ask it.
     pub(crate) unsure: bool,
     ghost idle: { conn.in_transaction ≡ false },
     ghost unlimited: { conn.step_limit ≡ None },
@@ -34,7 +35,7 @@ impl<S: Alter> SqlKeep<S> {
     // lies open, that is asked.
     fn begin(&mut self) -> Result<(), KeepFault>
         ensures unsure { OnOk result (self.new.unsure ≡ true) }
-        ensures reading { IsReading (means (λ k. state S.Store k.conn) (λ k. k.closed)) self.old self.new result }
+        ensures reading { IsReading (means (λ k. state S.Store k.conn) (λ k. k.closed) (λ k. k.unsure)) self.old self.new result }
     {
         if self.closed {
             return Err(KeepFault::Closed);
@@ -51,30 +52,47 @@ impl<S: Alter> SqlKeep<S> {
         found
     }
 
-    // Passes the answer on, and is closed from now on where it is a fault of the disk or damage.
-    fn told<X>(&mut self, answer: Result<X, KeepFault>) -> Result<X, KeepFault>
+    // Passes the answer on, and is closed from now on where it is a fault of the disk or damage. Behind want
+    // of memory the store may have shut itself: it is asked, and where it has, the answer is Disk.
+    fn pass_on<X>(&mut self, answer: Result<X, KeepFault>) -> Result<X, KeepFault>
         requires { HasCleanDisk (state S.Store self.old.conn) → OnOk answer (IsTrue (state S.Store self.old.conn).is_open) }
-        ensures same { result ≡ answer }
-        ensures conn { self.new.conn ≡ self.old.conn }
-        ensures closed { self.new.closed ≡ closes answer }
+        ensures same { answer ≢ Err KeepFault.Memory → (result ≡ answer) × (self.new.conn ≡ self.old.conn) }
+        ensures asked { answer ≡ Err KeepFault.Memory → IsAskedBehind (state S.Store self.old.conn) (state S.Store self.new.conn) result self.new.unsure }
+        ensures closed { self.new.closed ≡ closes result }
     {
-        self.closed = match &answer {
-            Ok(_) | Err(KeepFault::Memory) => false,
-            Err(_) => true,
+        let answer = match answer {
+            Err(KeepFault::Memory) => return self.ask_behind(),
+            answer => answer,
         };
+        self.closed = answer.is_err();
         self.unsure = answer.is_err();
         answer
+    }
+
+    // What is told behind want of memory.
+    fn ask_behind<X>(&mut self) -> Result<X, KeepFault>
+        ensures asked { IsAskedBehind (state S.Store self.old.conn) (state S.Store self.new.conn) result self.new.unsure }
+        ensures closed { self.new.closed ≡ closes result }
+    {
+        let found = find_open(&mut self.conn);
+        self.unsure = found.is_err();
+        let fault = match found {
+            Ok(()) => KeepFault::Memory,
+            Err(fault) => fault,
+        };
+        self.closed = fault != KeepFault::Memory;
+        Err(fault)
     }
 }
 
 impl<S: Alter> Keep for SqlKeep<S> {
-    ghost meaning = { means (λ k. state S.Store k.conn) (λ k. k.closed) };
+    ghost meaning = { means (λ k. state S.Store k.conn) (λ k. k.closed) (λ k. k.unsure) };
 
     fn slice(&mut self, alloc: Global, owner: &Name) -> Result<Option<Slice>, KeepFault> {
         match self.begin() {
             Ok(()) => {
                 let read = read_slice(&mut self.conn, alloc, owner);
-                self.told(read)
+                self.pass_on(read)
             }
             Err(fault) => Err(fault),
         }
@@ -84,7 +102,7 @@ impl<S: Alter> Keep for SqlKeep<S> {
         match self.begin() {
             Ok(()) => {
                 let read = read_owners(&mut self.conn, alloc);
-                self.told(read)
+                self.pass_on(read)
             }
             Err(fault) => Err(fault),
         }
@@ -94,7 +112,7 @@ impl<S: Alter> Keep for SqlKeep<S> {
         match self.begin() {
             Ok(()) => {
                 let read = read_units(&mut self.conn, alloc);
-                self.told(read)
+                self.pass_on(read)
             }
             Err(fault) => Err(fault),
         }
@@ -104,7 +122,7 @@ impl<S: Alter> Keep for SqlKeep<S> {
         match self.begin() {
             Ok(()) => {
                 let read = read_holder(&mut self.conn, unit);
-                self.told(read)
+                self.pass_on(read)
             }
             Err(fault) => Err(fault),
         }
@@ -114,7 +132,7 @@ impl<S: Alter> Keep for SqlKeep<S> {
         match self.begin() {
             Ok(()) => {
                 let read = read_edges(&mut self.conn, alloc, owner);
-                self.told(read)
+                self.pass_on(read)
             }
             Err(fault) => Err(fault),
         }
@@ -124,7 +142,7 @@ impl<S: Alter> Keep for SqlKeep<S> {
         match self.begin() {
             Ok(()) => {
                 let read = read_all_edges(&mut self.conn, alloc);
-                self.told(read)
+                self.pass_on(read)
             }
             Err(fault) => Err(fault),
         }
@@ -135,7 +153,7 @@ impl<S: Alter> Keep for SqlKeep<S> {
         match self.begin() {
             Ok(()) => {
                 let made = make_changes(&mut self.conn, changes);
-                self.told(made)
+                self.pass_on(made)
             }
             Err(fault) => Err(fault),
         }

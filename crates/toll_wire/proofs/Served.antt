@@ -1,11 +1,12 @@
 -- Requests that are served, over any keep.
-use Rattle.std.proofs.Common.{◌≡◌, ℕ, Bool, true, false, ◌&&◌, cond, List, [], ◌∷◌, Some, None, Result, Ok, Err, IfOk, refl, sym, ap, subst, inl, inr}
+use Rattle.std.proofs.Common.{◌≡◌, ℕ, Bool, true, false, ◌&&◌, cond, List, [], ◌∷◌, Some, None, Result, Ok, Err, IfOk, refl, sym, ap, subst, inl}
 use Rattle.toll_wire.proofs.Common.{Vec, starts_with, digits, false≢true, Bytes, History, Meaning, Content, ContentKeepsRules, Fits, after, Goes, IsReading, StandsFor, KeepFault, Memory, Damaged, Asked, Told, TellForbidden, TellOrders, TellOrder, TellBatch, TellStock, TellLot, TellTrace, TellRefused, has_key, IsReply, after_reply, is_granted, may_change, writes, finished, IsDone, reply_text, Forbidden}
 use Rattle.std.specs.Prelude.{◌≢◌, OnOk, OnErr, IsTrue, nat_eq, codes}
 use Rattle.toll_base.specs.declared.decision.Change.{Change}
+use Rattle.toll_desk.specs.Clauses.{IfPlacedAgain}
 use Rattle.toll_desk.specs.Plans.{IsPlan}
 use Rattle.toll_desk.specs.Reads.{Over}
-use Rattle.toll_keep.proofs.Calls.{Rests, goes_as, goes_fault, goes_memory, settles}
+use Rattle.toll_keep.proofs.Calls.{Rests, goes_as, goes_fault, goes_memory, settles, spared}
 use Rattle.toll_desk.proofs.Carried.{done_of, goes_on}
 use Rattle.toll_http.specs.declared.failure.Failure.{Failure}
 use Rattle.toll_wire.specs.declared.outgoing.Out.{Out}
@@ -13,7 +14,7 @@ use Rattle.toll_wire.specs.declared.outgoing.Out.TheVariants.{Text, Unavailable}
 use Rattle.toll_wire.specs.OutTexts.{IsText, text_if}
 use Rattle.toll_wire.specs.ReplyTexts.{text_of_failure, text_of_told, text_if_told}
 use Rattle.toll_wire.specs.Runs.{Asking, Asks, Fails, Saying, By, Nobody, IsTold, MayBeTold, after_saying}
-use Rattle.toll_wire.specs.Steps.{http, outcome_of, IsReplyWhere, IsGranted, IsServed, IsServing, OutGoes}
+use Rattle.toll_wire.specs.Steps.{http, outcome_of, IfSaidAgain, IsReplyWhere, IsGranted, IsServed, IsServing, OutGoes}
 
 -- ---- texts
 
@@ -70,6 +71,13 @@ so_of_reply : (out : Out) (text : Bytes) (P : Bytes → Type 0) → IsText out (
 so_of_reply (Text told) text P is so = subst P (sym is) so
 so_of_reply Unavailable text P is so = tt
 
+-- what is so at all is so where an order is placed again
+so_again : (c : Content) (saying : Saying) (P : Type 0) → P → IfSaidAgain c saying P
+so_again c (By o (Some key) (Asks q)) P p = λ order recipe batches is there. p
+so_again c (By o (Some key) (Fails text)) P p = tt
+so_again c (By o None asking) P p = tt
+so_again c (Nobody text) P p = tt
+
 module _ {K : Type 0} (meaning : Meaning K) where
   abbrev Serves : K → K → Saying → Out → Type 0
   Serves old new saying out = IsServing meaning old new saying out
@@ -88,6 +96,7 @@ module _ {K : Type 0} (meaning : Meaning K) where
     settles = λ now lived c held. inl (lived, settled c now lived held);
     asks = λ now c held none. held;
     quiet = λ now c held not. held;
+    once = λ now c held. tt;
     served = λ now c H held stands lawful. none_to_do (meaning.holds k) (meaning.is_live k) (meaning.leaves k) c held H (outcome_of out) (IsTold http H (Nobody text)) stands (λ live. settled c now live held) (so_of_text out text (IsTold http H (Nobody text)) is refl);
   }
 
@@ -99,6 +108,7 @@ module _ {K : Type 0} (meaning : Meaning K) where
     settles = λ now lived c held. inl (lived, settled c now lived held);
     asks = λ now c held none. held;
     quiet = λ now c held not. held;
+    once = λ now c held. tt;
     served = λ now c H held stands lawful. none_to_do (meaning.holds k) (meaning.is_live k) (meaning.leaves k) c held H (outcome_of out) (IsTold http H (By o None asking)) stands (λ live. settled c now live held) (so_of_text out (text_of_failure Forbidden) (IsTold http H (By o None asking)) is refl);
   }
 
@@ -112,17 +122,19 @@ module _ {K : Type 0} (meaning : Meaning K) where
     failed fault = Err fault
 
     -- calls that answered, or a fault of one, and then no reply
-    goes_untold : {X : Type 0} (r : Result X KeepFault) → ReadsTo old new r → GoesOut Unavailable
-    goes_untold (Ok x) reads = record {
+    goes_untold : {X : Type 0} → Rests meaning → (r : Result X KeepFault) → ReadsTo old new r → GoesOut Unavailable
+    goes_untold settled (Ok x) reads = record {
       outcome = Err Memory;
       is = (Memory, refl);
       goes = goes_memory meaning old new x reads.goes;
+      spared = λ is. spared meaning {X = Unit {0}} old new (Err Memory) settled is (goes_memory meaning old new x reads.goes) (λ now c held. (reads.keeps now).content c held);
       whole = λ now c held rules is. (cc is);
     }
-    goes_untold {X} (Err fault) reads = record {
+    goes_untold {X} settled (Err fault) reads = record {
       outcome = Err fault;
       is = (fault, refl);
       goes = goes_fault meaning old new fault reads.goes;
+      spared = λ is. spared meaning {X = Unit {0}} old new (Err fault) settled is (goes_fault meaning old new fault reads.goes) (λ now c held. (reads.keeps now).content c held);
       whole = λ now c held rules is. let same : fault ≡ Damaged = (cc is) in reads.whole now c held rules (ap (λ f. failed {X = X} f) same);
     }
 
@@ -132,6 +144,7 @@ module _ {K : Type 0} (meaning : Meaning K) where
       outcome = Ok tt;
       is = refl;
       goes = goes_as meaning old new x tt goes;
+      spared = λ is. absurd (cc is);
       whole = λ now c held rules is. (cc is);
     }
 
@@ -139,11 +152,12 @@ module _ {K : Type 0} (meaning : Meaning K) where
     pub untold : {X : Type 0} → Rests meaning → (asking : Asking) (r : Result X KeepFault) → ReadsTo old new r → Serves old new (By o (Some key) asking) Unavailable
     untold settled asking r reads = record {
       tells = tt;
-      goes = goes_untold r reads;
+      goes = goes_untold settled r reads;
       honest = reads.goes.honest;
       settles = settles meaning old new r settled reads.goes;
       asks = λ now c held none. (reads.keeps now).content c held;
       quiet = λ now c held not. (reads.keeps now).content c held;
+      once = λ now c held. so_again c (By o (Some key) asking) (meaning.holds new c) ((reads.keeps now).content c held);
       served = λ now c H held stands lawful.
           none_done (meaning.holds new) (meaning.is_live old) (meaning.leaves new) c ((reads.keeps now).content c held) (after_saying http H (By o (Some key) asking)) tt (IsTold http H (By o (Some key) asking)) (λ live. (reads.keeps now).crash live c held);
     }
@@ -162,6 +176,7 @@ module _ {K : Type 0} (meaning : Meaning K) where
         settles = settles meaning old new _ settled reads.goes;
         asks = λ now c held none. (reads.keeps now).content c held;
         quiet = λ now c held not. (reads.keeps now).content c held;
+        once = λ now c held. tt;
         served = λ now c H held stands lawful.
             none_to_do (meaning.holds new) (meaning.is_live old) (meaning.leaves new) c ((reads.keeps now).content c held) H (outcome_of (Text text)) (IsTold http H failing) stands (λ live. (reads.keeps now).crash live c held)
             (b, admits now c H held stands, is);
@@ -179,7 +194,7 @@ module _ {K : Type 0} (meaning : Meaning K) where
     pub whole : meaning.is_honest new → (c : Content) → meaning.holds middle c → ContentKeepsRules c → made ≢ Err Damaged
     pub crash : meaning.is_honest new → meaning.is_live middle → (c : Content) → meaning.holds middle c → Fits c changes → meaning.leaves new (c ∷ after changes c ∷ [])
 
-  module _ (old middle new : K) (o key : Bytes) (q : Asked) (told : Told) (changes : List Change) (reads : ReadsTo {X = Told} old middle (Ok told)) (quiet : may_change q (Ok told) ≡ false → changes ≡ [])
+  module _ (old middle new : K) (o key : Bytes) (q : Asked) (told : Told) (changes : List Change) (reads : ReadsTo {X = Told} old middle (Ok told)) (quiet : may_change q (Ok told) ≡ false → changes ≡ []) (once : meaning.is_honest middle → (c : Content) → meaning.holds old c → IfPlacedAgain (c.rows o) q (changes ≡ []))
       (plan : Over meaning old middle (λ c H. IsPlan c H o key q told changes)) (text : Vec ℕ) (is : text.items ≡ text_of_told told) where
     abbrev asking : Saying
     asking = By o (Some key) (Asks q)
@@ -190,15 +205,6 @@ module _ {K : Type 0} (meaning : Meaning K) where
     goes_made : (made : Result (Unit {0}) KeepFault) → Carries middle new changes made → Goes meaning old new (finished planned made)
     goes_made made carries = goes_on meaning old middle new planned changes made reads.goes tt carries.idle carries.goes
 
-    goes_out : (made : Result (Unit {0}) KeepFault) → Carries middle new changes made → OutGoes meaning old new (text_if text made)
-    goes_out (Ok done) carries = goes_told old new o key told text (goes_made (Ok done) carries)
-    goes_out (Err fault) carries = record {
-      outcome = Err fault;
-      is = (fault, refl);
-      goes = goes_fault meaning old new fault (goes_made (Err fault) carries);
-      whole = λ now c held rules damaged. let same : fault ≡ Damaged = (cc damaged) in carries.whole now c ((reads.keeps (carries.honest now)).content c held) rules (ap (λ f. Err f) same);
-    }
-
     -- where there was nothing to change, what was held is held
     still : (made : Result (Unit {0}) KeepFault) → Carries middle new changes made → meaning.is_honest new → (c : Content) → meaning.holds old c → changes ≡ [] → meaning.holds new c
     still made carries now c held none = subst (λ k. meaning.holds k c) (sym (carries.idle none).0) ((reads.keeps (carries.honest now)).content c held)
@@ -207,6 +213,16 @@ module _ {K : Type 0} (meaning : Meaning K) where
     quiet_out : (made : Result (Unit {0}) KeepFault) → Carries middle new changes made → meaning.is_honest new → (c : Content) → meaning.holds old c → ¬ (IsGranted (text_if text made)) → meaning.holds new c
     quiet_out (Ok done) carries now c held not = still (Ok done) carries now c held (quiet (grants_none q told text is not))
     quiet_out (Err fault) carries now c held not = carries.none now c ((reads.keeps (carries.honest now)).content c held)
+
+    goes_out : Rests meaning → (made : Result (Unit {0}) KeepFault) → Carries middle new changes made → OutGoes meaning old new (text_if text made)
+    goes_out settled (Ok done) carries = goes_told old new o key told text (goes_made (Ok done) carries)
+    goes_out settled (Err fault) carries = record {
+      outcome = Err fault;
+      is = (fault, refl);
+      goes = goes_fault meaning old new fault (goes_made (Err fault) carries);
+      spared = λ is. spared meaning {X = Unit {0}} old new (Err fault) settled is (goes_fault meaning old new fault (goes_made (Err fault) carries)) (λ now c held. quiet_out (Err fault) carries now c held (λ no. no));
+      whole = λ now c held rules damaged. let same : fault ≡ Damaged = (cc damaged) in carries.whole now c ((reads.keeps (carries.honest now)).content c held) rules (ap (λ f. Err f) same);
+    }
 
     tells_out : (made : Result (Unit {0}) KeepFault) → IsReplyWhere (MayBeTold http asking) (text_if text made)
     tells_out (Ok done) = (told, tt, is)
@@ -221,11 +237,12 @@ module _ {K : Type 0} (meaning : Meaning K) where
     pub told_after : Rests meaning → (made : Result (Unit {0}) KeepFault) → Carries middle new changes made → Serves old new asking (text_if text made)
     told_after settled made carries = record {
       tells = tells_out made;
-      goes = goes_out made carries;
+      goes = goes_out settled made carries;
       honest = λ now. reads.goes.honest (carries.honest now);
       settles = settles meaning old new (finished planned made) settled (goes_made made carries);
       asks = λ now c held none. still made carries now c held (quiet (asks_none q told none));
       quiet = quiet_out made carries;
+      once = λ now c held order recipe batches is_place there. still made carries now c held (once (carries.honest now) c held order recipe batches is_place there);
       served = λ now c H held stands lawful.
           let before = carries.honest now in
           let keeps = reads.keeps before in
@@ -237,8 +254,8 @@ module _ {K : Type 0} (meaning : Meaning K) where
     }
 
   -- the same for a plan that was told, whose changes are read through a reference
-  pub plan_told : Rests meaning → (old middle new : K) (o key : Bytes) (q : Asked) (planned : Result Told KeepFault) (changes made_of : List Change) → made_of ≡ changes → ReadsTo old middle planned → (may_change q planned ≡ false → changes ≡ []) →
+  pub plan_told : Rests meaning → (old middle new : K) (o key : Bytes) (q : Asked) (planned : Result Told KeepFault) (changes made_of : List Change) → made_of ≡ changes → ReadsTo old middle planned → (may_change q planned ≡ false → changes ≡ []) → (meaning.is_honest middle → (c : Content) → meaning.holds old c → IfPlacedAgain (c.rows o) q (changes ≡ [])) →
       Over meaning old middle (λ c H. IfOk planned (λ told. IsPlan c H o key q told changes)) → (text : Vec ℕ) → IsText (Text text) (text_if_told planned) → (made : Result (Unit {0}) KeepFault) → Carries middle new made_of made → Serves old new (By o (Some key) (Asks q)) (text_if text made)
-  plan_told settled old middle new o key q (Ok told) changes made_of same reads quiet plan text is made carries =
-      told_after old middle new o key q told changes reads quiet plan text is settled made (subst (λ changes. Carries middle new changes made) same carries)
-  plan_told settled old middle new o key q (Err fault) changes made_of same reads quiet plan text is made carries = absurd is
+  plan_told settled old middle new o key q (Ok told) changes made_of same reads quiet once plan text is made carries =
+      told_after old middle new o key q told changes reads quiet once plan text is settled made (subst (λ changes. Carries middle new changes made) same carries)
+  plan_told settled old middle new o key q (Err fault) changes made_of same reads quiet once plan text is made carries = absurd is

@@ -1,5 +1,5 @@
 -- Events of the office, one after another, are a run.
-use Rattle.std.proofs.Common.{◌≡◌, ◌⊎◌, Bool, false, List, [], ◌∷◌, ◌++◌, Result, Ok, Err, refl, sym, subst, ap, ◌∙◌, inl, inr}
+use Rattle.std.proofs.Common.{◌≡◌, ◌⊎◌, false, List, [], ◌∷◌, ◌++◌, Result, Ok, Err, refl, sym, subst, ap, ◌∙◌, inl, inr}
 use Rattle.toll_wire.proofs.Common.{Vec, AllByRecursion, false≢true, History, IsLawful, Meaning, Content, Goes, Settles, StandsFor, KeepFault, Memory, Disk, Damaged, Closed, PlantAsked, PlantTold, Does, AsksOrders, AsksStock, AsksBatch, AsksTrace, AsksRecall, CannotRead, IsPlantAnswer, after_plant, asked_by, plant_told, IsValidDeed, GoesFor, IsDone}
 use Rattle.std.specs.Prelude.{ℕ}
 use Rattle.toll_base.specs.declared.refusal.Refusal.{Refusal}

@@ -1,5 +1,5 @@
 -- Events of the office, and their answers, as a run.
-use Rattle.std.specs.Prelude.{◌≡◌, ◌⊎◌, Bool, List, [], ◌∷◌, Result, Ok, Err}
+use Rattle.std.specs.Prelude.{◌≡◌, ◌⊎◌, List, [], ◌∷◌, Result, Ok, Err}
 use Rattle.toll_wire.specs.Common.{History, IsLawful, Meaning, Content, KeepFault, Memory, PlantTold, asked_by, plant_told, HoldsFor, LeavesOr}
 use Rattle.toll_desk.specs.PlantServed.{IsPlantServed}
 use Rattle.toll_wire.specs.declared.event.Event.{Event}

@@ -1,8 +1,9 @@
 -- A request is one step of a run.
 use Rattle.std.specs.Prelude.{◌≡◌, ◌≢◌, ◌⊎◌, Bool, false, Some, None, List, Result, Ok, Err, IsTrue, nat_eq, codes}
 use Rattle.std.specs.List.{starts_with}
-use Rattle.toll_wire.specs.Common.{Bytes, History, Meaning, Content, ContentKeepsRules, KeepFault, Damaged, asked_of, writes, IsDone, Forbidden, Asks as AsksFor}
-use Rattle.toll_keep.specs.Goes.{Goes, Settles}
+use Rattle.toll_wire.specs.Common.{Bytes, History, Meaning, Content, ContentKeepsRules, KeepFault, Memory, Damaged, asked_of, writes, IsDone, Forbidden, Asks as AsksFor}
+use Rattle.toll_keep.specs.Goes.{Goes, IsSpared, Settles}
+use Rattle.toll_desk.specs.Clauses.{IfPlacedAgain}
 use Rattle.toll_desk.specs.Reads.{Over}
 use Rattle.toll_routes.specs.declared.asks.Asks.TheVariants.{Failing, For}
 use Rattle.toll_wire.specs.declared.outgoing.Out.{Out}
@@ -36,6 +37,11 @@ abbrev pub may_write : Saying → Bool
 may_write (By o (Some key) (Asks q)) = writes q
 may_write _ = false
 
+-- this is so where who gives a key asks to place an order that its owner has already
+abbrev pub IfSaidAgain : Content → Saying → Type 0 → Type 0
+IfSaidAgain c (By o (Some key) (Asks q)) P = IfPlacedAgain (c.rows o) q P
+IfSaidAgain c _ P = Unit {0}
+
 -- ---- what came of it
 
 -- the text of the reply, or that there is none
@@ -63,11 +69,12 @@ IsOutcome (Text text) outcome = outcome ≡ Ok tt
 IsOutcome Unavailable outcome = (fault : KeepFault) × (outcome ≡ Err fault)
 
 module _ {K : Type 0} (meaning : Meaning K) (old new : K) where
-  -- the keep was called and goes as after a call that answered so; and no damage is found in rows that keep the rules
+  -- the keep was called and goes as after a call that answered so; behind want of memory nothing changed; and no damage is found in rows that keep the rules
   pub record OutGoes (out : Out) : Type 0 where
     pub outcome : Result (Unit {0}) KeepFault
     pub is : IsOutcome out outcome
     pub goes : Goes meaning old new outcome
+    pub spared : outcome ≡ Err Memory → IsSpared meaning old new
     pub whole : meaning.is_honest new → (c : Content) → meaning.holds old c → ContentKeepsRules c → outcome ≢ Err Damaged
 
   -- the keep is called for who has a key, and for nobody else
@@ -87,6 +94,8 @@ module _ {K : Type 0} (meaning : Meaning K) (old new : K) where
     -- what asks for no change, and what isn't told 200, leaves what is held, whatever rows there are
     pub asks : meaning.is_honest new → (c : Content) → meaning.holds old c → may_write saying ≡ false → meaning.holds new c
     pub quiet : meaning.is_honest new → (c : Content) → meaning.holds old c → ¬ (IsGranted out) → meaning.holds new c
+    -- an order that is there is not placed again, whatever rows there are
+    pub once : meaning.is_honest new → (c : Content) → meaning.holds old c → IfSaidAgain c saying (meaning.holds new c)
     -- it is told what the definitions say, and what they say is held
     pub served : Over meaning old new (λ c H. IsServed (meaning.holds new) (meaning.is_live old) (meaning.leaves new) c H saying out)
 

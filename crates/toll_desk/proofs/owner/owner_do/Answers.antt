@@ -1,7 +1,7 @@
-use Rattle.std.proofs.Common.{sym, subst, ◌∙◌}
-use Rattle.toll_desk.proofs.Common.{IfOk-weaker, settles, IsReply, after_reply}
-use Rattle.toll_desk.specs.Asking.{asked_of, told_of, may_change}
-use Rattle.toll_desk.proofs.Carried.{done_out, goes_out, quiet_out}
+use Rattle.std.proofs.Common.{◌≡◌, false, OnErr, sym, subst, ◌∙◌}
+use Rattle.toll_desk.proofs.Common.{IfOk-weaker, settles, spared, IsReply, after_reply}
+use Rattle.toll_desk.specs.Asking.{asked_of, told_of, may_change, writes}
+use Rattle.toll_desk.proofs.Carried.{and_false, done_out, goes_out, quiet_out}
 use Rattle.toll_desk.proofs.owner.owner_do.Goals as goal
 
 pub returns-clause-goes : goal.returns-clause-goes
@@ -11,6 +11,17 @@ returns-clause-goes g c =
 
 pub returns-clause-settles : goal.returns-clause-settles
 returns-clause-settles g c = settles g.K.Keep.meaning c.args.keep.now c.carry-made.new.keep (told_of c.finished.result) g.met.K.Keep.settled (returns-clause-goes g c)
+
+pub returns-clause-spared : goal.returns-clause-spared
+returns-clause-spared g c lacks =
+    let K = g.K.Keep in
+    let q = asked_of c.args.request.now in
+    let new = c.carry-made.new.keep in
+    spared K.meaning c.args.keep.now new (told_of c.finished.result) g.met.K.Keep.settled lacks (returns-clause-goes g c)
+    (λ honest content held. subst (λ r. OnErr r (K.meaning.holds new content)) (sym lacks)
+    (quiet_out K.meaning c.args.keep.now c.owner_plan-planned.new.keep new (told_of c.owner_plan-planned.result.reply) _ c.owner_plan-planned.result.changes.items _ c.carry-made.result
+    c.deref.ensures.value c.finished.ensures c.owner_plan-planned.ensures.none c.owner_plan-planned.ensures.reads c.carry-made.ensures.idle c.carry-made.ensures.honest c.carry-made.ensures.all c.carry-made.ensures.none c.carry-made.ensures.crash honest content held
+    (may_change q) c.owner_plan-planned.ensures.quiet (subst (λ r. may_change q r ≡ false) (sym lacks) (and_false (writes q)))))
 
 pub returns-clause-quiet : goal.returns-clause-quiet
 returns-clause-quiet g c honest content held none =

@@ -1,7 +1,11 @@
-use Rattle.std.proofs.Common.{◌≡◌, take, map}
+use Rattle.std.proofs.Common.{◌≡◌, ◌≤◌, take, map}
 use Rattle.toll_sql.specs.Cells.{columns_from}
-use Rattle.toll_sql.specs.EdgeRows.{edge_cells}
+use Rattle.toll_sql.specs.EdgeRows.{ShowsEdge, edge_cells}
+use Rattle.toll_sql.specs.Shown.{FirstIs}
 use Rattle.toll_sql.proofs.edges.edges_in.Given as goal
 
 abbrev pub invariant-loop-row : goal.invariant-loop-row
-invariant-loop-row l = map edge_cells l.edges.items ≡ map (columns_from 0 4) (take l.row-index l.rows)
+invariant-loop-row l = record {
+  read : map edge_cells l.edges.items ≡ map (columns_from 0 4) (take l.row-index l.rows);
+  first : 1 ≤ l.row-index → FirstIs ShowsEdge l.rows;
+}

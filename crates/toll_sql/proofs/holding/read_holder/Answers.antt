@@ -1,23 +1,26 @@
-use Rattle.std.proofs.Common.{IfOk, subst}
-use Rattle.toll_sql.proofs.Common.{IfOk-weaker, state}
-use Rattle.toll_sql.specs.HolderRows.{HasNoHolder, IsShownIn, open_on}
-use Rattle.toll_sql.proofs.HolderShown.{each_named, read_from, told_too, unnamed_too}
+use Rattle.std.proofs.Common.{[], ◌∷◌, IfOk, OnOk, subst}
+use Rattle.toll_sql.proofs.Common.{state, Text}
+use Rattle.toll_sql.specs.AskedTexts.{unit_text}
+use Rattle.toll_sql.specs.HolderRows.{AreBatchRows, HasNoBatch, IsShownIn, open_on}
+use Rattle.toll_sql.proofs.HolderShown.{each_named, read_from, shown_whole, told_too, unnamed_too, whole_too}
 use Rattle.toll_sql.proofs.LookLemmas.{looking}
 use Rattle.toll_sql.proofs.holding.read_holder.Goals as goal
 
 pub returns-in-Ok : goal.returns-in-Ok
 returns-in-Ok g c =
-    let r = c.first_holder.result in
+    let r = c.holder_in.result in
     let rows = c.in-Ok.rows.items in
     let listed = open_on c.args.unit.now (state g.S.Store c.args.conn.now).now.trees in
-    let read = subst (λ rows. IfOk r (IsShownIn rows)) c.deref.ensures.value c.first_holder.ensures.read in
+    let read = subst (λ rows. IfOk r (IsShownIn rows)) c.deref.ensures.value c.holder_in.ensures.shown in
+    let whole = subst (λ rows. OnOk r (AreBatchRows rows)) c.deref.ensures.value c.holder_in.ensures.whole in
     record {
-      looks = looking (state g.S.Store c.args.conn.now) (state g.S.Store c.open_batches.new.conn) c.in-Ok.rows r c.in-Ok.ensures.asks.asks c.first_holder.ensures.disk c.first_holder.ensures.closed;
+      looks = looking (state g.S.Store c.args.conn.now) (state g.S.Store c.open_batches.new.conn) c.in-Ok.rows r c.in-Ok.ensures.asks.asks c.holder_in.ensures.disk c.holder_in.ensures.closed;
       reads = λ clean content held. read_from content c.args.unit.now rows (c.in-Ok.ensures.rows clean content held) r read;
-      shown = λ clean. IfOk-weaker r _ _ (λ holder it. (rows, c.in-Ok.ensures.read clean, it)) read;
-      whole = λ clean content held is. each_named content c.args.unit.now rows (c.in-Ok.ensures.rows clean content held) (subst HasNoHolder c.deref.ensures.value (c.first_holder.ensures.damaged is));
+      shown = λ clean. shown_whole (state g.S.Store c.args.conn.now).now unit_text (Text c.args.unit.now ∷ []) rows (c.in-Ok.ensures.read clean) r read whole;
+      whole = λ clean content held is. each_named content c.args.unit.now rows (c.in-Ok.ensures.rows clean content held) (subst HasNoBatch c.deref.ensures.value (c.holder_in.ensures.damaged is));
       alone = λ clean has. record {
         told = told_too listed rows (c.in-Ok.ensures.found clean has) r read;
-        damaged = λ is. unnamed_too listed rows (c.in-Ok.ensures.found clean has) (subst HasNoHolder c.deref.ensures.value (c.first_holder.ensures.damaged is));
+        whole = whole_too listed rows (c.in-Ok.ensures.found clean has) r whole;
+        damaged = λ is. unnamed_too listed rows (c.in-Ok.ensures.found clean has) (subst HasNoBatch c.deref.ensures.value (c.holder_in.ensures.damaged is));
       };
     }

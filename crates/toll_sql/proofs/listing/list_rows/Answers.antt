@@ -1,7 +1,9 @@
 use Rattle.std.proofs.Common.{◌∙◌, ap, map, rules}
 use Rattle.toll_sql.specs.Cells.{columns_from}
+use Rattle.toll_sql.specs.PlantRows.{ShowsRow}
 use Rattle.toll_sql.specs.Tables.{width_of}
 use Rattle.toll_sql.proofs.ListLemmas.{it, it_is, it_valid, more_shown, more_valid, read_it, take_past, with_it}
+use Rattle.toll_sql.proofs.SoFar.{first_good}
 use Rattle.toll_sql.proofs.listing.list_rows.Goals as goal
 
 pub loop-row-preserved : goal.loop-row-preserved
@@ -25,6 +27,7 @@ loop-row-preserved g c =
       valid =
           let more = more_valid X.is_valid c.loop-row.listed.items c.in-Some.it c.loop-row.invariant.valid c.in-Some.ensures.valid in
           search rules;
+      first = λ _. first_good (ShowsRow X.kind X.cells X.is_valid) rows i c.row-item.result lt c.row-item.is c.loop-row.invariant.first (c.in-Some.it, c.in-Some.ensures.valid, c.in-Some.ensures.some);
     }
 
 pub returns-clause-shown : goal.returns-clause-shown

@@ -1,7 +1,9 @@
-use Rattle.std.proofs.Common.{◌≡◌, ◌∙◌, rules}
+use Rattle.std.proofs.Common.{◌≡◌, ◌∙◌, Err, rules}
 use Rattle.toll_sql.proofs.Common.{column, Text}
+use Rattle.toll_sql.specs.Reading.{TakesRows}
 use Rattle.toll_sql.specs.Shown.{IsRowOf}
 use Rattle.toll_sql.proofs.SoFar.{all_behind, one_more, value_there}
+use Rattle.toll_sql.proofs.Taken.{all_taken, lacks_here, one_more_taken}
 use Rattle.toll_sql.proofs.RowsIn.{it, it_is, it_valid, with_it, with_it_keeps}
 use Rattle.toll_sql.proofs.reading.read_rows.Goals as goal
 
@@ -18,6 +20,7 @@ loop-row-preserved g c =
           let is = c.row-item.is ∙ it_is X.kind X.cells X.is_valid X.any_row X.listed stand s rows stored i lt row in
           c.in_ok-read_row.ensures.reads stand s.owner x (it_valid X.kind X.cells X.is_valid X.any_row X.listed stand s rows stored i lt) is
           ∙ with_it X.kind X.cells X.is_valid X.any_row X.listed stand s rows stored i lt c.loop-row.slice (c.loop-row.invariant.reads stand s stored first);
+      taken = λ stand o all. one_more_taken X.kind o rows i row lt c.row-item.is c.args.slice.now c.loop-row.slice c.read_row.new.slice (c.loop-row.invariant.taken stand o all) (c.in_ok-read_row.ensures.takes stand o (value_there (λ r. column r 0 ≡ Text o) rows i row lt c.row-item.is all, tt)).taken;
       shown = λ o all. one_more (IsRowOf X.kind X.cells X.is_valid o) rows i row lt c.row-item.is (c.loop-row.invariant.shown o all) (c.in_ok-read_row.ensures.shown o (value_there (λ r. column r 0 ≡ Text o) rows i row lt c.row-item.is all));
     }
 
@@ -38,3 +41,21 @@ pub returns-clause-shown : goal.returns-clause-shown
 returns-clause-shown g c = λ o all.
     let X = g.X.StoredRow in
     all_behind (IsRowOf X.kind X.cells X.is_valid o) c.args.rows.now c.loop-row.row-index c.loop-row-test.false (c.loop-row.invariant.shown o all)
+
+pub returns-clause-takes : goal.returns-clause-takes
+returns-clause-takes g c = λ stand o all. record { taken = all_taken g.X.StoredRow.kind o c.args.rows.now c.loop-row.row-index c.loop-row-test.false c.args.slice.now c.loop-row.slice (c.loop-row.invariant.taken stand o all); lacks = λ is. absurd (cc) }
+
+pub returns-in_err-read_row-clause-takes : goal.returns-in_err-read_row-clause-takes
+returns-in_err-read_row-clause-takes g c = λ stand o all.
+    let X = g.X.StoredRow in
+    let i = c.loop-row.row-index in
+    let lt = c.loop-row-test.true in
+    let rows = c.args.rows.now in
+    let row = c.row-item.result in
+    let one = c.in_err-read_row.ensures.takes stand o (value_there (λ r. column r 0 ≡ Text o) rows i row lt c.row-item.is all, tt) in
+    let q : TakesRows {X = Unit {0}} X.kind o rows c.args.slice.now c.read_row.new.slice (Err c.in_err-read_row.field-0.0) = record {
+      taken = tt;
+      lacks = λ is. lacks_here X.kind o rows i row lt c.row-item.is c.args.slice.now c.loop-row.slice c.read_row.new.slice (c.loop-row.invariant.taken stand o all) (one.lacks is);
+    } in
+    let f = c.from_residual.ensures in
+    search rules

@@ -1,4 +1,4 @@
-use Rattle.std.proofs.Common.{◌≡◌, ◌+◌, List, take, drop, length, Err, rules, ap, subst, arith}
+use Rattle.std.proofs.Common.{◌≡◌, ◌<◌, ◌+◌, List, take, drop, length, Err, rules, ap, subst, arith}
 use Rattle.sqlite.specs.Held.{state}
 use Rattle.toll_sql.specs.Fronts.{front}
 use Rattle.toll_sql.specs.Reading.{ReadsOn}
@@ -6,7 +6,7 @@ use Rattle.toll_sql.specs.Shown.{tables_of_owners}
 use Rattle.toll_sql.specs.Tables.{every_table}
 use Rattle.toll_sql.specs.declared.table_kind.TableKind.{TableKind}
 use Rattle.toll_sql.specs.declared.table_kind.TableKind.TheVariants.{Materials}
-use Rattle.toll_sql.proofs.ReadOn.{HasRead, kind_at, one_more_read, read_well, reads_not}
+use Rattle.toll_sql.proofs.ReadOn.{HasRead, kind_at, one_more_read, read_well, reads_not, step_at}
 use Rattle.toll_sql.proofs.slice_reading.read_tables.Goals as goal
 
 listed : (every : List TableKind) → every ≡ every_table → take 11 (drop 3 every) ≡ tables_of_owners
@@ -22,9 +22,10 @@ returns-in_err-read_kind g c =
     let now = state g.S.Store c.loop-table.conn in
     let next = state g.S.Store c.read_kind.new.conn in
     let n = c.loop-table.table-index in
+    let below : n < 11 = subst (λ all. n < length all) (listed _ c.every_table-every.ensures) c.loop-table-test.true in
     let p = one_more_read _ (listed _ c.every_table-every.ensures) n c.loop-table-test.true o first now next c.args.slice.now c.loop-table.slice c.read_kind.new.slice (Err c.in_err-read_kind.field-0.0) c.loop-table.invariant.reads c.in_err-read_kind.ensures in
     let q : ReadsOn (front Materials 0) (λ s. s) tables_of_owners o {X = Unit {0}} first next c.args.slice.now c.read_kind.new.slice (Err c.in_err-read_kind.field-0.0) =
-    reads_not (front Materials 0) (front (kind_at (n + 1)) 0) (λ s. s) o first next c.args.slice.now c.read_kind.new.slice c.in_err-read_kind.field-0.0 p in
+    reads_not (front Materials 0) (front (kind_at (n + 1)) 0) (λ s. s) o (drop (n + 1) tables_of_owners) (step_at n below).3 first next c.args.slice.now c.read_kind.new.slice c.in_err-read_kind.field-0.0 p in
     let f = c.from_residual.ensures in
     search rules
 

@@ -1,13 +1,13 @@
-use Rattle.std.proofs.Common.{ap}
 use Rattle.sqlite.specs.Held.{state}
 use Rattle.toll_sql.proofs.KeepLemmas.{read_out, unbegun}
+use Rattle.toll_sql.proofs.PassLemmas.{passing}
 use Rattle.toll_sql.proofs.sql_keep.SqlKeepKeep.units.Goals as goal
 
 pub returns-in-Err-clause-reading : goal.returns-in-Err-clause-reading
-returns-in-Err-clause-reading g c = unbegun (λ k. state g.S.Store k.conn) (λ k. k.closed) c.args.self.now c.begin.new.self c.in-Err.fault c.in-Err.ensures.reading
+returns-in-Err-clause-reading g c = unbegun (λ k. state g.S.Store k.conn) (λ k. k.closed) (λ k. k.unsure) c.args.self.now c.begin.new.self c.in-Err.fault c.in-Err.ensures.reading
 
 pub returns-in-Ok : goal.returns-in-Ok
 returns-in-Ok g c =
-    let out = read_out (λ k. state g.S.Store k.conn) (λ k. k.closed) (λ k live db may. g.met.S.Store.settled k.conn.store db live.is_open may) c.told.new.self c.in-Ok.ensures.reading (ap (state g.S.Store) c.told.ensures.conn) c.told.ensures.same c.told.ensures.closed
+    let out = read_out (λ k. state g.S.Store k.conn) (λ k. k.closed) (λ k. k.unsure) (λ k live db may. g.met.S.Store.settled k.conn.store db live.is_open may) c.pass_on.new.self c.in-Ok.ensures.reading (passing (state g.S.Store) c.read_units-read.new.conn c.pass_on.new.self.conn c.read_units-read.result c.pass_on.result c.pass_on.new.self.unsure c.pass_on.ensures.same c.pass_on.ensures.asked) c.pass_on.ensures.closed
     c.read_units-read.ensures.looks (λ clean content held keeps. c.read_units-read.ensures.whole clean held.ours.schema content.units held.rows.units) _ (λ clean content held. c.read_units-read.ensures.reads clean held.ours.schema content.units held.rows.units) in
     record { reading = out.0; reads = out.1 }

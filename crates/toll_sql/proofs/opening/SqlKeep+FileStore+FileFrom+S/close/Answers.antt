@@ -1,6 +1,6 @@
 use Rattle.std.proofs.Common.{OnOk, IfErr, subst}
 use Rattle.toll_sql.specs.FromFiles.{IsLeftIn, IsUnclosed}
-use Rattle.toll_sql.proofs.opening.SqlKeep+FileStore+D.close.Goals as goal
+use Rattle.toll_sql.proofs.opening.SqlKeep+FileStore+FileFrom+S.close.Goals as goal
 
 pub returns-clause-copied : goal.returns-clause-copied
 returns-clause-copied g c = subst (λ conn. OnOk c.close_connection.result (IsLeftIn conn)) c.into_connection.ensures c.close_connection.ensures.copied
