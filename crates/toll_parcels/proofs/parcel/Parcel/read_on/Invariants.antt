@@ -6,11 +6,10 @@ use Rattle.toll_parcels.proofs.parcel.Parcel.read_on.Given as goal
 
 abbrev pub invariant-loop-piece : goal.invariant-loop-piece
 invariant-loop-piece g l = record {
-  most : l.self.most ≡ l.initial.self.most;
   given : TakesIn (g.R.Source.unread l.initial.reader) (g.R.Source.unread l.reader) l.initial.self.bytes.items l.self.bytes.items;
   sound : Notes (g.R.Source.has_failed l.initial.reader) (g.R.Source.has_failed l.reader) false;
   beside : g.R.Source.beside l.reader ≡ g.R.Source.beside l.initial.reader;
 }
 
 abbrev pub decreases-loop-piece : goal.decreases-loop-piece
-decreases-loop-piece g l = l.self.most + HEAD_BYTES - length l.self.bytes.items
+decreases-loop-piece g l = l.most + HEAD_BYTES - length l.self.bytes.items

@@ -1,7 +1,7 @@
 use Rattle.std.proofs.Common.{◌≡◌, subst, ◌∙◌}
 use Rattle.toll_stock.proofs.Common.{lot_id, Slice, shipped, History, IsRowsOf, IsLawful}
 use Rattle.toll_stock.proofs.ShippedTotals.{shipped_is}
-use Rattle.toll_stock.proofs.lot_totals.LotTotals.shipped_of.Goals as goal
+use Rattle.toll_stock.proofs.totals_of_lots.LotTotals.shipped_of.Goals as goal
 
 pub returns-clause-amount : goal.returns-clause-amount
 returns-clause-amount c =

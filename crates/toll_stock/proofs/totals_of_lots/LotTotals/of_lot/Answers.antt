@@ -3,7 +3,7 @@ use Rattle.toll_stock.proofs.Common.{lot_id, Slice, lot_at, on_hand, History, Is
 use Rattle.toll_stock.specs.LotTotals.{totals_given}
 use Rattle.toll_stock.specs.declared.stock.Totals.{Totals}
 use Rattle.toll_stock.proofs.TotalsLaw.{none_given, given}
-use Rattle.toll_stock.proofs.lot_totals.LotTotals.of_lot.Goals as goal
+use Rattle.toll_stock.proofs.totals_of_lots.LotTotals.of_lot.Goals as goal
 
 pub returns-in-None-clause-totals : goal.returns-in-None-clause-totals
 returns-in-None-clause-totals c =
