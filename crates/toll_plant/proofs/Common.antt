@@ -13,10 +13,10 @@ unfoldable pub use Rattle.csv.specs.Records.{field_at}
 pub use Rattle.csv.specs.Records.{fields_of}
 pub use Rattle.std.proofs.Math.Seq.{drop-append-add, drop-cons}
 pub use Rattle.std.proofs.lemmas.Bool.{leb-true, not-false}
-pub use Rattle.std.proofs.lemmas.Bool.Decides.{Decides-eqb, nat_tests}
+pub use Rattle.std.proofs.lemmas.Bool.Decides.{nat_tests}
 pub use Rattle.std.proofs.lemmas.List.{append-nil, drop_all, drop_min, length-drop, length-map, length-take, length-take-le, map-append, map_more, take_all, take_min, take_more, take_rest}
 pub use Rattle.std.proofs.lemmas.List.Folds.{list_any-append}
-pub use Rattle.std.proofs.lemmas.Slice.Eq.{bytes_eq-Decides, slice_eq-Decides}
+pub use Rattle.std.proofs.lemmas.Slice.Eq.{bytes_eq-Decides}
 pub use Rattle.std.specs.Bool.{Decides, MatchBool}
 unfoldable pub use Rattle.std.specs.Fmt.{char_count, padded_integral}
 pub use Rattle.std.specs.Fmt.{format_spec, styled_decimal}

@@ -1,8 +1,7 @@
 -- What a file reads as.
-use Rattle.std.proofs.Common.{◌≡◌, ◌≤◌, ◌<◌, ℕ, Bool, List, [], ◌∷◌, ◌-◌, length, take, drop, get_or, arith, map, refl, sym, ap, subst, ◌∙◌, Some, None, Bor}
-use Rattle.std.specs.Prelude.{◌↔◌, IsTrue, ◌&&◌}
-use Rattle.toll_plant.proofs.Common.{Decides, slice_eq-Decides, length-drop, take_all, AreRecords, Reached, Bytes}
-use Rattle.std.specs.Cmp.Lexicographic.{pointwise}
+use Rattle.std.proofs.Common.{◌≡◌, ◌≤◌, ◌<◌, List, [], ◌∷◌, ◌-◌, length, take, drop, get_or, arith, map, refl, sym, ap, subst, ◌∙◌, Some, None}
+use Rattle.std.specs.Prelude.{◌≢◌}
+use Rattle.toll_plant.proofs.Common.{length-drop, take_all, AreRecords, Reached, Bytes}
 use Rattle.csv.specs.Machine.{Read, next_record}
 use Rattle.csv.specs.Records.{Row, fields_of}
 use Rattle.csv.specs.declared.parser.Config.{Config}
@@ -33,20 +32,23 @@ pub reads_once : (file : Bytes) (rows others : List Fields) → Reads file rows 
 reads_once file rows others = one_list _ _ _ rows others
 
 -- under the header come the actuals
-pub under_header : (file : Bytes) (items : List Row) (first : Row) (rest : List Row) → Reads file (map fields_of items) → items ≡ first ∷ rest → fields_of first ≡ header → HasActuals file (map fields_of rest)
-under_header file items first rest reads whole is = subst (Reads file) (ap (map fields_of) whole ∙ ap (λ f. f ∷ map fields_of rest) is) reads
+pub under_header : (file : Bytes) (items rest : List Row) → Reads file (map fields_of items) → map fields_of items ≡ header ∷ map fields_of rest → HasActuals file (map fields_of rest)
+under_header file items rest reads is = subst (Reads file) is reads
 
--- another first record is no header, and neither is none
-pub other_header : (file : Bytes) (items : List Row) (first : Row) (rest : List Row) → Reads file (map fields_of items) → items ≡ first ∷ rest → ¬ (fields_of first ≡ header) → ¬ (HasHeader file)
-other_header file items first rest reads whole is_not has =
-    let same : fields_of first ∷ map fields_of rest ≡ header ∷ has.0 = sym (ap (map fields_of) whole) ∙ reads_once file (map fields_of items) (header ∷ has.0) reads has.1 in
-    let first_same : fields_of first ≡ header = cc same in
+-- records whose first is not the header are those of a file without it
+pub no_header : (file : Bytes) (items : List Row) → Reads file (map fields_of items) → ((rows : List Fields) → map fields_of items ≢ header ∷ rows) → ¬ (HasHeader file)
+no_header file items reads other has = other has.0 (reads_once file (map fields_of items) (header ∷ has.0) reads has.1)
+
+-- so are none
+pub none_first : (items : List Row) → items ≡ [] → (rows : List Fields) → map fields_of items ≢ header ∷ rows
+none_first items none rows same = let never : [] ≡ header ∷ rows = sym (ap (map fields_of) none) ∙ same in cc never
+
+-- and those of which another is the first
+pub other_first : (items : List Row) (first : Row) (rest : List Row) → items ≡ first ∷ rest → ¬ (fields_of first ≡ header) → (rows : List Fields) → map fields_of items ≢ header ∷ rows
+other_first items first rest whole is_not rows same =
+    let both : fields_of first ∷ map fields_of rest ≡ header ∷ rows = sym (ap (map fields_of) whole) ∙ same in
+    let first_same : fields_of first ≡ header = cc both in
     is_not first_same
-
-pub no_header : (file : Bytes) (items : List Row) → Reads file (map fields_of items) → items ≡ [] → ¬ (HasHeader file)
-no_header file items reads none has =
-    let same : [] ≡ header ∷ has.0 = sym (ap (map fields_of) none) ∙ reads_once file (map fields_of items) (header ∷ has.0) reads has.1 in
-    cc same
 
 -- the first of rows, and those behind it
 pub first_there : (items : List Row) (first : Row) → 1 ≤ length items → first ≡ get_or items 0 first → items ≡ first ∷ drop 1 items
@@ -64,20 +66,3 @@ none_there (r ∷ items) none = absurd (omega arith)
 pub map-map : {X Y Z : Type 0} (f : X → Y) (g : Y → Z) (xs : List X) → map (λ x. g (f x)) xs ≡ map g (map f xs)
 map-map f g [] = refl
 map-map f g (x ∷ xs) = ap (λ rest. g (f x) ∷ rest) (map-map f g xs)
-
--- texts are compared one by one
-module _ {E : ℕ → ℕ → Bool} (decides : (a b : ℕ) → Decides (E a b) (a ≡ b)) where
-  abbrev same : List (Bor Bytes) → List (Bor Bytes) → Bool
-  same xs ys = pointwise (λ x y. pointwise E x.now y.now) xs ys
-
-  as_maps : (xs ys : List (Bor Bytes)) → same xs ys ≡ pointwise (pointwise E) (map (λ x. x.now) xs) (map (λ y. y.now) ys)
-  as_maps [] [] = refl
-  as_maps [] (y ∷ ys) = refl
-  as_maps (x ∷ xs) [] = refl
-  as_maps (x ∷ xs) (y ∷ ys) = ap (λ b. pointwise E x.now y.now && b) (as_maps xs ys)
-
-  -- and are found the same just where they are
-  pub same_texts : (xs ys : List (Bor Bytes)) (r : Bool) → r ≡ same xs ys → (fields names : List Bytes) → map (λ x. x.now) xs ≡ fields → map (λ y. y.now) ys ≡ names → IsTrue r ↔ (fields ≡ names)
-  same_texts xs ys r is fields names left right =
-      let test = slice_eq-Decides {E = pointwise E} (λ a b. slice_eq-Decides decides a b (pointwise E a b) refl) (map (λ x. x.now) xs) (map (λ y. y.now) ys) r (is ∙ as_maps xs ys) in
-      ((λ true. sym left ∙ (test.0 true ∙ right)), (λ equal. test.1 (left ∙ (equal ∙ sym right))))

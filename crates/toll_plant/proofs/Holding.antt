@@ -1,5 +1,5 @@
 -- Records that are held back, one by one.
-use Rattle.std.proofs.Common.{◌≡◌, ◌+◌, ◌<◌, ℕ, zero, suc, Bool, true, false, ◌||◌, Option, Some, None, List, [], ◌∷◌, ◌++◌, length, get_or, drop, Result, Ok, Err, refl, sym, subst, ap, ◌∙◌, inl, inr, append_assoc, arith}
+use Rattle.std.proofs.Common.{◌≡◌, ◌+◌, ◌<◌, ℕ, zero, suc, true, false, Option, Some, None, List, [], ◌∷◌, ◌++◌, length, get_or, drop, Result, Ok, Err, refl, sym, subst, ap, ◌∙◌, inl, inr, append_assoc, arith}
 use Rattle.std.specs.Prelude.{◌⊎◌, take, IsOk, IsSome}
 use mathlib.Core.Bool.{or-false}
 use Rattle.toll_plant.proofs.Common.{AllByRecursion, list_any, append-nil, take_more, list_any-append, false≢true, Verdict, Accepted, Repeated, Refused, History, IsLawful, Content, after, IsReading, Meaning, IsOver, IsReadThrough, ReadsThrough, IsKept, KeepFault, Memory, read_fault, StandsFor, CannotRead, Does, AsksOrders, AsksStock, AsksBatch, AsksTrace, AsksRecall, IsPlantAnswer, Judged, PlantAsked, PlantTold, after_plant, IsPlantHeld, IsToldOver, IsUnasked, IsVerdictOrMemory, IsValidDeed, asked_by, is_accepted as is_granted, plant_told, LeadsTo, Change, PlantCmd}

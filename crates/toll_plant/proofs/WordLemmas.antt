@@ -5,6 +5,7 @@ use Rattle.std.specs.Borrow.{Bor}
 use Rattle.toll_plant.proofs.Common.{list_all, bytes_eq, length-map, nat_tests, find-map, Bytes}
 use Rattle.toll_plant.specs.Lines.{Line, is_plain, line_of, takes_values}
 use Rattle.toll_plant.specs.Shown.{shown}
+use Rattle.toll_plant.specs.Usages.{named_by}
 use Rattle.toll_plant.specs.declared.line.Line.{Line as CodeLine}
 
 -- what words make of a line
@@ -17,6 +18,17 @@ pub line_at : (xs : List CodeLine) (words : List (Bor Bytes)) (name : Bor Bytes)
 line_at xs words name values o whole found =
     ap (λ ws. line_of (map shown xs) (map (λ w. w.now) ws)) whole
     ∙ ap (λ l. taken l (map (λ w. w.now) values)) (sym (ap (option_map shown) found ∙ find-map (λ (l : Line). bytes_eq l.name name.now) shown xs))
+
+shown_at : (o : Option (Bor CodeLine)) → option_map (λ l. shown l.now) o ≡ option_map shown (option_map (λ l. l.now) o)
+shown_at None = refl
+shown_at (Some l) = refl
+
+pub name_at : (xs : List CodeLine) (words : List (Bor Bytes)) (name : Bor Bytes) (values : List (Bor Bytes)) (o : Option (Bor CodeLine))
+    → words ≡ name ∷ values → option_map (λ l. l.now) o ≡ find (λ l. bytes_eq l.name.now name.now) xs
+    → option_map (λ l. shown l.now) o ≡ named_by (map shown xs) (map (λ w. w.now) words)
+name_at xs words name values o whole found =
+    shown_at o ∙ ap (option_map shown) found ∙ find-map (λ (l : Line). bytes_eq l.name name.now) shown xs
+    ∙ sym (ap (λ ws. named_by (map shown xs) (map (λ w. w.now) ws)) whole)
 
 pub takes_it : (line : CodeLine) (values : List Bytes) → true ≡ takes_values (shown line) values → Some (shown line) ≡ taken (Some (shown line)) values
 takes_it line values takes = rw (← takes) refl

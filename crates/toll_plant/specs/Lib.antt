@@ -4,6 +4,7 @@ pub mod Commands
 pub mod Lines
 pub mod Table
 pub mod Shown
+pub mod Usages
 pub mod Words
 pub mod ClapWords
 pub mod Unread

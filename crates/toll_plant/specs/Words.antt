@@ -1,11 +1,12 @@
 -- The commands that words ask for.
-use Rattle.std.specs.Prelude.{◌≡◌, ◌<◌, List, [], ◌∷◌, drop, length, Result, Ok, Err, Option, Some, None, option_and_then}
+use Rattle.std.specs.Prelude.{◌≡◌, List, [], ◌∷◌, drop, Result, Ok, Err, Option, Some, None, option_and_then}
 use Rattle.toll_plant.specs.Common.{Bytes, Refusal, PlantCmd}
 use Rattle.toll_desk.specs.declared.plant_cmd.PlantCmd.TheVariants.{Unread}
 use Rattle.toll_plant.specs.Commands.{command_from}
 use Rattle.toll_plant.specs.Lines.{Argument, Line, line_of}
 use Rattle.toll_plant.specs.Readings.{read_as}
 use Rattle.toll_plant.specs.Table.{plant_lines}
+use Rattle.toll_plant.specs.Usages.{usage_text}
 use Rattle.toll_plant.specs.declared.argument.Given.{Given}
 use Rattle.toll_plant.specs.declared.command.CommandName.{CommandName}
 use Rattle.toll_plant.specs.declared.fault.WordsFault.{WordsFault}
@@ -36,12 +37,12 @@ command_with line words = command_read line.command (values_read line.values wor
 abbrev pub command_of_words : List Bytes → Option PlantCmd
 command_of_words words = option_and_then (λ line. command_with line (drop 1 words)) (line_of plant_lines words)
 
+-- Usage tells how the command is written that the first of the words names, or how all are
+abbrev pub IsUsageOf : List Line → List Bytes → WordsFault → Type 0
+IsUsageOf lines words Memory = Unit {0}
+IsUsageOf lines words (Usage text) = text.items ≡ usage_text lines words
+
 -- Usage is answered to words that fit no line alone
 abbrev pub IsUsageOnlyOf : List Bytes → WordsFault → Type 0
 IsUsageOnlyOf words Memory = Unit {0}
 IsUsageOnlyOf words (Usage text) = line_of plant_lines words ≡ None
-
--- what Usage says is not empty
-abbrev pub HasText : WordsFault → Type 0
-HasText Memory = Unit {0}
-HasText (Usage text) = 0 < length text.items

@@ -1,6 +1,6 @@
 //! The actuals of a file.
-ghost use Rattle.std.specs.Prelude.{◌≡◌, ◌↔◌, IsTrue, IfOk, IfErr, List, Option, map};
-ghost use Rattle.csv.specs.Records.{fields_of};
+ghost use Rattle.std.specs.Prelude.{◌≡◌, ◌≢◌, ◌↔◌, ◌∷◌, IsTrue, IfOk, IfErr, IsErr, List, Option, Some, map};
+ghost use Rattle.csv.specs.Records.{field_at, fields_of};
 ghost use Rattle.toll_plant.specs.Files.{Fields, HasActuals, command_in, header};
 ghost use Rattle.toll_plant.specs.ImportFaults.{IsNoActualsOf};
 
@@ -35,21 +35,51 @@ pub fn actuals(alloc: Global, file: &[u8]) -> Result<Vec<Option<PlantCmd>>, Impo
     ensures fault { IfErr result (IsNoActualsOf file.now) }
 {
     let records = records(alloc, file)?;
-    let [first, rest @ ..] = records.as_slice() else {
+    match under_header(records.as_slice()) {
+        Ok(rest) => Ok(commands(alloc, rest)?),
+        Err(fault) => Err(fault),
+    }
+}
+
+// What stands under the header, where that is the first of these records. It takes no memory: where it is
+// refused, the file has no header.
+fn under_header(records: &[ByteRecord]) -> Result<&[ByteRecord], ImportFault>
+    ensures under { IfOk result (λ rest. map fields_of records.now ≡ header ∷ map fields_of rest.now) }
+    ensures fault { IfErr result (λ fault. fault ≡ ImportFault.BadHeader) }
+    ensures refused { IsErr result → (rows : List Fields) → map fields_of records.now ≢ header ∷ rows }
+{
+    let [first, rest @ ..] = records else {
         return Err(ImportFault::BadHeader);
     };
-    if is_header(alloc, first)? {
-        Ok(commands(alloc, rest)?)
+    if is_header(first) {
+        Ok(rest)
     } else {
         Err(ImportFault::BadHeader)
     }
 }
 
-fn is_header(alloc: Global, row: &ByteRecord) -> Result<bool, AllocError>
-    ensures { IfOk result (λ is. IsTrue is ↔ (fields_of row.now ≡ header)) }
+fn is_header(row: &ByteRecord) -> bool
+    ensures { IsTrue result ↔ (fields_of row.now ≡ header) }
 {
-    let fields = fields(alloc, row)?;
-    Ok(fields.as_slice() == HEADER.as_slice())
+    let names = HEADER.as_slice();
+    let mut place = 0;
+    for name in names {
+        if !is_field(row, place, name) {
+            return false;
+        }
+        place += 1;
+    }
+    row.len() == names.len()
+}
+
+// Whether the record has this field at this place.
+fn is_field(row: &ByteRecord, place: usize, name: &[u8]) -> bool
+    ensures { IsTrue result ↔ (field_at (fields_of row.now) place ≡ Some name.now) }
+{
+    match row.get(place) {
+        Some(field) => field == name,
+        None => false,
+    }
 }
 
 // The command of each record.

@@ -1,18 +1,16 @@
 //! The words, as `clap` takes them.
-ghost use Rattle.std.specs.Prelude.{◌≡◌, ◌↔◌, ◌∷◌, ◌<◌, [], IfOk, IsErr, Some, true, false, is_some, map, length, drop, string_bytes};
-ghost use Rattle.clap.specs.Words.{app_of, first_value, found_of, kind_of, shape_of};
+ghost use Rattle.std.specs.Prelude.{◌≡◌, ◌∷◌, ◌<◌, [], IfOk, Some, true, false, is_some, map, length, drop};
+ghost use Rattle.clap.specs.Words.{app_of, first_value, found_of, shape_of};
 ghost use Rattle.clap.specs.declared.builder.command.Command.TheViews.{out-Command};
 ghost use Rattle.std.specs.List.{list_all};
 ghost use Rattle.toll_plant.specs.ClapWords.{is_sound, line_shape, office, start};
 ghost use Rattle.toll_plant.specs.Lines.{line_of};
 ghost use Rattle.toll_plant.specs.Shown.{shown};
-ghost use Rattle.toll_plant.specs.Words.{HasText};
 
 use crate::argument::Argument;
-use crate::fault::WordsFault;
 use crate::line::Line;
 use clap::error::ErrorKind;
-use clap::{Arg, ArgMatches, Command, Error};
+use clap::{Arg, ArgMatches, Command};
 use std::alloc::{AllocError, Global};
 use std::slice;
 
@@ -58,69 +56,6 @@ fn values_in<'a>(
         }
     }
     Ok(values)
-}
-
-/// What `clap` says of words that are no command. It is given all of them.
-pub fn usage_of<'a>(alloc: Global, lines: &'a [Line<'a>], words: &'a [&'a str]) -> WordsFault
-    requires { 0 < length lines.now }
-    ensures { HasText result }
-{
-    match usage_text(alloc, lines, words) {
-        Ok(text) => WordsFault::Usage(text.into_bytes()),
-        Err(AllocError) => WordsFault::Memory,
-    }
-}
-
-// What is wrong with the words, or how commands are written, where `clap` would take them.
-fn usage_text<'a>(
-    alloc: Global,
-    lines: &'a [Line<'a>],
-    words: &'a [&'a str],
-) -> Result<String, AllocError>
-    requires { 0 < length lines.now }
-    ensures { IfOk result (λ text. 0 < length (string_bytes text)) }
-{
-    let text = match error_of(alloc, lines, words)? {
-        Some(why) => text_of(alloc, &why)?,
-        None => office(alloc, lines)?.render_usage()?,
-    };
-    ended(text)
-}
-
-// The text, which ends its last line.
-fn ended(mut text: String) -> Result<String, AllocError>
-    ensures { IfOk result (λ text. 0 < length (string_bytes text)) }
-{
-    if !text.as_bytes().ends_with(b"\n") {
-        text.push('\n')?;
-    }
-    Ok(text)
-}
-
-// What `clap` finds wrong with the words, if anything.
-fn error_of<'a>(
-    alloc: Global,
-    lines: &'a [Line<'a>],
-    words: &'a [&'a str],
-) -> Result<Option<Error>, AllocError>
-    requires { 0 < length lines.now }
-{
-    Ok(office(alloc, lines)?.try_get_matches_from(words).err())
-}
-
-fn text_of(alloc: Global, why: &Error) -> Result<String, AllocError> {
-    refused(why)?;
-    format!(in alloc; "{why}")
-}
-
-// Whether `clap` refused the words for a reason of its own: if not, there was no memory.
-fn refused(why: &Error) -> Result<(), AllocError>
-    ensures { IsErr result ↔ (kind_of why.now ≡ ErrorKind.OutOfMemory) }
-{
-    match why.kind() {
-        ErrorKind::OutOfMemory => Err(AllocError),
-        _ => Ok(()),
-    }
 }
 
 // All commands.

@@ -23,6 +23,7 @@ mod records;
 mod report;
 mod sums;
 mod taken;
+mod usage;
 mod values;
 mod words;
 

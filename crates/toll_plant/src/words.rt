@@ -4,13 +4,16 @@ ghost use Rattle.std.specs.List.{list_all};
 ghost use Rattle.std.specs.Str.{bytes_eq};
 ghost use Rattle.toll_plant.specs.Lines.{is_plain, line_of, takes_values};
 ghost use Rattle.toll_plant.specs.Shown.{shown};
-ghost use Rattle.toll_plant.specs.Words.{HasText, IsUsageOnlyOf, command_of_words};
+ghost use Rattle.toll_plant.specs.Table.{plant_lines};
+ghost use Rattle.toll_plant.specs.Usages.{named_by};
+ghost use Rattle.toll_plant.specs.Words.{IsUsageOf, IsUsageOnlyOf, command_of_words};
 
-use crate::clap_words::{usage_of, values_of};
+use crate::clap_words::values_of;
 use crate::fault::WordsFault;
 use crate::line::{LINES, Line};
+use crate::usage::{usage_of_all, usage_of_line};
 use crate::values::read;
-use std::alloc::Global;
+use std::alloc::{AllocError, Global};
 use toll_desk::PlantCmd;
 
 /// The command that these words ask for: [`PlantCmd::Unread`] with the refusal of the first value,
@@ -19,11 +22,12 @@ use toll_desk::PlantCmd;
 ///
 /// Words that are a command's name and as many words as it has values are never
 /// [`WordsFault::Usage`], if none of these is empty, begins with `-` or is `help`. All other words
-/// give no command. The text of Usage is `clap`'s own, and not empty.
+/// give no command. The text of Usage tells how the command is written that the first word names, or, where
+/// it names none, how all are.
 pub fn command_of(alloc: Global, words: &[&str]) -> Result<PlantCmd, WordsFault>
     ensures command { IfOk result (λ command. command_of_words (map (λ w. w.now) words.entry.now) ≡ Some command) }
     ensures usage { IfErr result (IsUsageOnlyOf (map (λ w. w.now) words.entry.now)) }
-    ensures text { IfErr result HasText }
+    ensures text { IfErr result (IsUsageOf plant_lines (map (λ w. w.now) words.entry.now)) }
 {
     let lines = &LINES;
     match fitting(lines, words) {
@@ -32,6 +36,30 @@ pub fn command_of(alloc: Global, words: &[&str]) -> Result<PlantCmd, WordsFault>
             Ok(read(alloc, line, values.as_slice())?)
         }
         None => Err(usage_of(alloc, lines, words)),
+    }
+}
+
+// How the command is written that the first word names, or how all are.
+fn usage_of(alloc: Global, lines: &[Line<'_>], words: &[&str]) -> WordsFault
+    ensures { IsUsageOf (map shown lines.now) (map (λ w. w.now) words.now) result }
+{
+    let text = match first_named(lines, words) {
+        Some(line) => usage_of_line(alloc, line),
+        None => usage_of_all(alloc, lines),
+    };
+    match text {
+        Ok(text) => WordsFault::Usage(text),
+        Err(AllocError) => WordsFault::Memory,
+    }
+}
+
+// The line with the name that the first word is.
+fn first_named<'l, 'a>(lines: &'l [Line<'a>], words: &[&str]) -> Option<&'l Line<'a>>
+    ensures { option_map (λ l. shown l.now) result ≡ named_by (map shown lines.entry.now) (map (λ w. w.now) words.now) }
+{
+    match words.split_first() {
+        None => None,
+        Some((name, _)) => named(lines, name),
     }
 }
 

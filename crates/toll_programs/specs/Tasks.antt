@@ -1,5 +1,5 @@
 -- What the words behind the program's name ask for.
-use Rattle.std.specs.Prelude.{ℕ, List, [], ◌∷◌, codes, Option, Some, None, if◌then◌else◌, option_map, option_and_then}
+use Rattle.std.specs.Prelude.{ℕ, List, [], ◌∷◌, codes, Option, Some, None, if◌then◌else◌, option_map, option_and_then, unwrap_or}
 use Rattle.toll_programs.specs.Common.{bytes_eq, Bytes}
 use Rattle.toll_plant.specs.Readings.{number_within}
 use Rattle.toll_programs.specs.declared.task.TheConstants.{IMPORT_USAGE, MOST_CONNECTIONS, SERVE_USAGE, USAGE}
@@ -37,8 +37,12 @@ asked_for (word ∷ []) = if bytes_eq word (codes "script") then Some Script els
 asked_for (word ∷ file ∷ words) = if bytes_eq word (codes "--db") then asked_of_office file words else None
 asked_for _ = None
 
--- how the program is called, for words that ask for nothing: of all its forms, or of the one that stands behind the file
+-- how the form is called that stands behind the file, where it has a usage of its own
+abbrev pub usage_for_form : List Bytes → Option Bytes
+usage_for_form (word ∷ file ∷ form ∷ words) =
+    if bytes_eq form (codes "import") then Some IMPORT_USAGE.now else (if bytes_eq form (codes "serve") then Some SERVE_USAGE.now else None)
+usage_for_form _ = None
+
+-- how the program is called, for words that ask for nothing: in that form, or in all its forms
 abbrev pub usage_for : List Bytes → Bytes
-usage_for (word ∷ file ∷ form ∷ words) =
-    if bytes_eq form (codes "import") then IMPORT_USAGE.now else (if bytes_eq form (codes "serve") then SERVE_USAGE.now else USAGE.now)
-usage_for _ = USAGE.now
+usage_for words = unwrap_or (usage_for_form words) USAGE.now

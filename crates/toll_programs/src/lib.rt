@@ -20,7 +20,7 @@ pub use commands::plant_line;
 pub use ending::tell_end;
 pub use imports::{plant_import, show_import};
 pub use input::{FrontFault, read_front};
-pub use laws::limits_are_those_defined;
+pub use laws::{limits_are_those_defined, the_usage_has_every_command};
 pub use request_line::RequestLine;
 pub use scripts::{ScriptEnd, script};
 pub use status::Status;

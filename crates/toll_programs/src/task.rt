@@ -1,7 +1,7 @@
 //! The words that the program is called with.
 ghost use Rattle.std.specs.Prelude.{◌≡◌, map, option_map};
 ghost use Rattle.toll_programs.specs.ShownTask.{shown_task};
-ghost use Rattle.toll_programs.specs.Tasks.{asked_for, asked_of_import, asked_of_office, asked_of_serving, usage_for};
+ghost use Rattle.toll_programs.specs.Tasks.{asked_for, asked_of_import, asked_of_office, asked_of_serving, usage_for, usage_for_form};
 
 use toll_base::number;
 
@@ -34,10 +34,34 @@ pub const MOST_CONNECTIONS: u64 = 1_000_000;
 /// How the program is called.
 pub const USAGE: &str = "toll 1.0, office format 2
 usage: toll script
-       toll --db FILE COMMAND ..
        toll --db FILE import CSV
        toll --db FILE serve PORT COUNT
-The commands and questions of the plant are told by the manual: man toll, or docs/commands.md.
+       toll --db FILE owner-add OWNER KEY
+       toll --db FILE unit-add UNIT
+       toll --db FILE material-add OWNER MATERIAL MEASURE
+       toll --db FILE test-add OWNER MATERIAL TEST LOW HIGH
+       toll --db FILE recipe-add OWNER RECIPE SEGMENTS
+       toll --db FILE require OWNER RECIPE SEGMENT USE SOURCE MATERIAL AMOUNT
+       toll --db FILE order ORDER RECIPE BATCHES
+       toll --db FILE cancel ORDER
+       toll --db FILE open OWNER ORDER UNIT
+       toll --db FILE do OWNER ORDER BATCH COMMAND
+       toll --db FILE close OWNER ORDER BATCH
+       toll --db FILE receive OWNER KEY MATERIAL LOT SUBLOT AMOUNT DAY
+       toll --db FILE split OWNER KEY LOT SUBLOT TARGET AMOUNT DAY
+       toll --db FILE ship OWNER KEY LOT SUBLOT AMOUNT DAY
+       toll --db FILE scrap OWNER KEY LOT SUBLOT AMOUNT DAY
+       toll --db FILE result OWNER LOT TEST VALUE DAY
+       toll --db FILE release LOT
+       toll --db FILE reject LOT
+       toll --db FILE actual KEY OWNER ORDER BATCH SEGMENT USE MATERIAL LOT-OWNER LOT SUBLOT AMOUNT DAY
+       toll --db FILE void OWNER KEY
+       toll --db FILE orders OWNER
+       toll --db FILE stock OWNER
+       toll --db FILE batch OWNER ORDER BATCH
+       toll --db FILE trace OWNER LOT WAY
+       toll --db FILE recall OWNER LOT
+What each does is told by the manual: man toll, or docs/commands.md.
 ";
 
 /// How a file of actuals is imported.
@@ -102,9 +126,19 @@ fn task_of_serving<'a>(file: &'a str, words: &'a [&'a str]) -> Option<Task<'a>>
 pub fn usage_of(words: &[&str]) -> &'static str
     ensures { result.now ≡ usage_for (map (λ w. w.now) words.now) }
 {
+    match usage_of_form(words) {
+        Some(usage) => usage,
+        None => USAGE,
+    }
+}
+
+// How the form is called that the words begin with, if it has a usage of its own.
+fn usage_of_form(words: &[&str]) -> Option<&'static str>
+    ensures { option_map (λ usage. usage.now) result ≡ usage_for_form (map (λ w. w.now) words.now) }
+{
     match words {
-        [_, _, form, ..] if *form == "import" => IMPORT_USAGE,
-        [_, _, form, ..] if *form == "serve" => SERVE_USAGE,
-        _ => USAGE,
+        [_, _, form, ..] if *form == "import" => Some(IMPORT_USAGE),
+        [_, _, form, ..] if *form == "serve" => Some(SERVE_USAGE),
+        _ => None,
     }
 }

@@ -1,27 +1,19 @@
-use Rattle.std.proofs.Common.{◌≡◌, ap, sym, ◌∙◌, map, drop, true, false}
+use Rattle.std.proofs.Common.{ap, refl, sym, ◌∙◌, subst, map}
 use Rattle.csv.specs.Records.{fields_of}
 use Rattle.toll_plant.specs.Files.{command_in}
-use Rattle.toll_plant.proofs.FileLemmas.{map-map, no_header, none_there, other_header, first_there, rest_whole, under_header}
+use Rattle.toll_plant.specs.ImportFaults.{IsNoActualsOf}
+use Rattle.toll_plant.proofs.FileLemmas.{map-map, no_header, under_header}
 use Rattle.toll_plant.proofs.actuals.actuals.Goals as goal
 
-pub returns-in_default-clause-fault : goal.returns-in_default-clause-fault
-returns-in_default-clause-fault c =
-    no_header c.args.file.now c.in_ok-records.records.items c.in_ok-records.ensures (sym c.as_slice.ensures.value ∙ none_there c.as_slice.result.now c.in_default.len_below)
-
-pub returns-then-branch-clause-commands : goal.returns-then-branch-clause-commands
-returns-then-branch-clause-commands c =
-    let items = c.as_slice.result.now in
-    let first = c.first-item.result in
-    let whole = sym c.as_slice.ensures.value ∙ first_there items first c.in-len1-up.len_at_least c.first-item.is in (
-      map fields_of (drop 1 items),
-      under_header c.args.file.now c.in_ok-records.records.items first (drop 1 items) c.in_ok-records.ensures whole (c.in_ok-is_header.ensures.0 c.if-branch.true),
-      c.in_ok-commands.ensures ∙ (ap (map (λ r. command_in (fields_of r))) (rest_whole items) ∙ map-map fields_of command_in (drop 1 items)),
+pub returns-in-Ok-clause-commands : goal.returns-in-Ok-clause-commands
+returns-in-Ok-clause-commands c =
+    let rest = c.in-Ok.rest.now in (
+      map fields_of rest,
+      under_header c.args.file.now c.in_ok-records.records.items rest c.in_ok-records.ensures (ap (map fields_of) (sym c.as_slice.ensures.value) ∙ c.in-Ok.ensures.under),
+      c.in_ok-commands-in-Ok.ensures ∙ map-map fields_of command_in rest,
     )
 
 pub returns-clause-fault : goal.returns-clause-fault
 returns-clause-fault c =
-    let items = c.as_slice.result.now in
-    let first = c.first-item.result in
-    let whole = sym c.as_slice.ensures.value ∙ first_there items first c.in-len1-up.len_at_least c.first-item.is in
-    other_header c.args.file.now c.in_ok-records.records.items first (drop 1 items) c.in_ok-records.ensures whole
-    (λ is. let never : false ≡ true = sym c.if-branch.false ∙ c.in_ok-is_header.ensures.1 is in cc never)
+    subst (IsNoActualsOf c.args.file.now) (sym c.in-Err.ensures.fault)
+    (no_header c.args.file.now c.in_ok-records.records.items c.in_ok-records.ensures (λ rows same. c.in-Err.ensures.refused refl rows (ap (map fields_of) c.as_slice.ensures.value ∙ same)))
