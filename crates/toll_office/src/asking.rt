@@ -1,40 +1,28 @@
-//! Asking the server of a file.
-ghost use Rattle.std.specs.Prelude.{◌≡◌, IfSome, IsNone};
-ghost use Rattle.toll_programs.specs.Told.{streams_of};
-ghost use Rattle.toll_served.specs.Asking.{IsServerTold};
-
+//! The server of a file, as a command asks it.
 use crate::plant_door::socket_path;
 use std::fs;
 use std::os::unix::fs::{FileTypeExt, MetadataExt};
 use std::os::unix::net::UnixStream;
-use toll_served::{Noted, hand_over};
-use toll_streams::Sink;
+use toll_served::{Connector, Noted};
 
-/// Asks the server of the office in this file, for whose answer it waits as long as it takes, writes what
-/// it told, and gives the exit status, as [`hand_over`] does. `None` where no server of this build took what
-/// was asked: nothing was done or written.
-pub fn ask_server<W: Sink, E: Sink>(
-    rt: &HostRuntime,
-    office: &str,
-    words: &[&str],
-    file: Option<&[u8]>,
-    output: &mut W,
-    error: &mut E,
-) -> Option<u64>
-    ensures told { IfSome result (IsServerTold (streams_of W.Sink E.Sink output.old output.new error.old error.new)) }
-    ensures untold { IsNone result → (output.new ≡ output.old) × (error.new ≡ error.old) }
-{
-    let mut stream = connect(rt, office)?;
-    hand_over(rt.alloc(), &mut stream, words, file, output, error)
+/// Connects to the server of a file, by the socket file beside it.
+#[derive(Drop)]
+pub struct FileServer;
+
+impl Connector<Noted<UnixStream>> for FileServer {
+    fn connect(&mut self, rt: &HostRuntime, path: &str) -> Option<Noted<UnixStream>> {
+        let stream = connect(rt, path)?;
+        Some(Noted::new(stream))
+    }
 }
 
-fn connect(rt: &HostRuntime, office: &str) -> Option<Noted<UnixStream>> {
+// A connection to the server of the office in this file, if it has one.
+fn connect(rt: &HostRuntime, office: &str) -> Option<UnixStream> {
     let path = socket_path(rt, office).ok()?;
     if !is_of_its_owner(rt, office, path.as_str()) {
         return None;
     }
-    let stream = UnixStream::connect(rt, path.as_str()).ok()?;
-    Some(Noted::new(stream))
+    UnixStream::connect(rt, path.as_str()).ok()
 }
 
 // Whether a socket file stands there that belongs to the user whose file the office's is: whoever may put

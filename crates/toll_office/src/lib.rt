@@ -14,7 +14,6 @@ mod sockets;
 mod stream;
 mod timed;
 
-pub use asking::ask_server;
 pub use doing::do_script;
 pub use office::{Tables, place_of};
 pub use programs::run;

@@ -6,13 +6,18 @@ ghost use Rattle.toll_sql.specs.Opening.{name_of};
 
 use sqlite::{File as StoreFile, FileStore, Unknown};
 use std::fs;
+use std::fs::{File, OpenOptions};
 use std::io::ErrorKind;
+use std::os::unix::fs::OpenOptionsExt;
 use toll_keep::Remembering;
-use toll_served::{OfficeFault, Opener, Place};
+use toll_served::{FILE_MODE, OfficeFault, Opener, Place, take_lock};
 use toll_sql::{OpenFault, SqlKeep};
 
 /// The keep of an office on a file.
 pub type FileKeep = Remembering<SqlKeep<FileStore<StoreFile>>>;
+
+/// The path that names no file for `sqlite`.
+const NO_FILE: &str = ":memory:";
 
 /// Opens an office whose rows stand in tables. Where there is no office in the file yet, one is made.
 #[derive(Clone, Copy)]
@@ -33,10 +38,17 @@ pub fn place_of<'a>(rt: &'a HostRuntime, path: &'a str) -> Place<'a, Tables> {
 impl Opener<FileKeep> for Tables {
     ghost is_opened = { λ keep. IsOpened keep };
 
-    fn open(&self, rt: &HostRuntime, path: &str) -> Result<FileKeep, OfficeFault> {
+    fn lock(&mut self, rt: &HostRuntime, path: &str) -> Result<File, OfficeFault> {
+        take_lock(rt, path)
+    }
+
+    fn open(&mut self, rt: &HostRuntime, path: &str) -> Result<FileKeep, OfficeFault> {
         let is_fresh = is_absent_or_empty(rt, path);
         if is_fresh && was_moved_away(rt, path)? {
             return Err(OfficeFault::NotOurs);
+        }
+        if is_fresh {
+            make_private(rt, path);
         }
         match open_as(rt, path, is_fresh) {
             Err(OfficeFault::NotOurs) => open_as(rt, path, !is_fresh),
@@ -44,9 +56,22 @@ impl Opener<FileKeep> for Tables {
         }
     }
 
-    fn close(&self, keep: FileKeep) {
+    fn close(&mut self, keep: FileKeep) {
         let _ = keep.inside().close();
     }
+}
+
+// Makes a file that isn't there, which only its user may read and write, whatever the umask: `sqlite` gives
+// its log the same mode. Where it can't be made, opening it tells why.
+fn make_private(rt: &HostRuntime, path: &str) {
+    if path == NO_FILE {
+        return;
+    }
+    let _ = OpenOptions::new()
+        .write(true)
+        .create_new(true)
+        .mode(FILE_MODE)
+        .open(rt, path);
 }
 
 // The keep in a file whose tables are to be made, where it is fresh, or to be found.

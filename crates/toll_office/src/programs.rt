@@ -1,5 +1,5 @@
 //! The programs.
-use crate::asking::ask_server;
+use crate::asking::FileServer;
 use crate::doing::do_script;
 use crate::office::place_of;
 use crate::serving::serve_all;
@@ -10,11 +10,9 @@ use std::fs::{File, OpenOptions};
 use std::io::ErrorKind;
 use std::{env, io};
 use toll_peers::Served;
-use toll_plant::{MOST_FILE_BYTES, WordsFault, command_of};
-use toll_programs::{
-    FrontFault, Status, Task, read_front, task_of, tell, tell_end, usage_of, warn,
-};
-use toll_served::{OfficeFault, do_command, do_import};
+use toll_plant::MOST_FILE_BYTES;
+use toll_programs::{FrontFault, Status, Task, read_front, task_of, tell_end, usage_of, warn};
+use toll_served::{do_file, do_words};
 
 /// How many standard streams there are.
 const STREAMS: usize = 3;
@@ -84,17 +82,14 @@ fn run_script(rt: &HostRuntime) -> u64 {
 }
 
 fn run_words(rt: &HostRuntime, file: &str, words: &[&str]) -> u64 {
-    let command = match command_of(rt.alloc(), words) {
-        Ok(command) => command,
-        Err(WordsFault::Memory) => return fail(rt, Status::Failed, "fault Memory"),
-        Err(WordsFault::Usage(text)) => return tell(&mut rt.stderr(), &text, Status::Unread),
-    };
     let (mut output, mut error) = (io::writer(rt), rt.stderr());
-    if let Some(status) = ask_server(rt, file, words, None, &mut output, &mut error) {
-        return status;
-    }
-    let done = do_command(&place_of(rt, file), &command, &mut output, &mut error);
-    status_of(rt, done)
+    do_words(
+        &mut place_of(rt, file),
+        &mut FileServer,
+        words,
+        &mut output,
+        &mut error,
+    )
 }
 
 fn run_import(rt: &HostRuntime, file: &str, actuals: &str) -> u64 {
@@ -103,19 +98,13 @@ fn run_import(rt: &HostRuntime, file: &str, actuals: &str) -> u64 {
         Err(fault) => return fail(rt, Status::Failed, format_args!("fault {fault}")),
     };
     let (mut output, mut error) = (io::writer(rt), rt.stderr());
-    if let Some(status) = ask_server(rt, file, &["import"], Some(&text), &mut output, &mut error) {
-        return status;
-    }
-    let done = do_import(&place_of(rt, file), &text, &mut output, &mut error);
-    status_of(rt, done)
-}
-
-// The exit status of what was done over an office, or why it was not opened.
-fn status_of(rt: &impl Eprint, done: Result<u64, OfficeFault>) -> u64 {
-    match done {
-        Ok(status) => status,
-        Err(fault) => fail(rt, Status::Failed, format_args!("fault {fault}")),
-    }
+    do_file(
+        &mut place_of(rt, file),
+        &mut FileServer,
+        &text,
+        &mut output,
+        &mut error,
+    )
 }
 
 // A file of actuals, of which no more is read than shows that it is too long.

@@ -29,7 +29,7 @@ pub fn serve_one(rt: &HostRuntime, listener: &TcpListener, path: &str) -> Served
         return Served::AcceptFault;
     };
     match take_request(rt, &socket) {
-        Ok(request) => give(rt, &socket, &answer_once(&place_of(rt, path), &request)),
+        Ok(request) => give(rt, &socket, &answer_once(&mut place_of(rt, path), &request)),
         Err(_) => Served::ReadFault,
     }
 }

@@ -5,14 +5,12 @@ use std::fs::Permissions;
 use std::io::ErrorKind;
 use std::os::unix::fs::{FileTypeExt, MetadataExt, PermissionsExt};
 use std::{fs, io};
-
-/// Only the user whose server it is may connect.
-const MODE: u32 = 0o600;
+use toll_served::FILE_MODE;
 
 /// How many may wait before the file has its mode.
 const MOST_EARLY: usize = 8192;
 
-/// A socket file at which a server listens. It is removed when the listening ends.
+/// A socket file at which a server listens, where only the user may connect whose server it is. It is removed when the listening ends.
 pub struct SocketFile<'a> {
     rt: &'a HostRuntime,
     path: String,
@@ -65,7 +63,7 @@ impl<'a> SocketFile<'a> {
             made,
             listener,
         };
-        fs::set_permissions(rt, file.path.as_str(), Permissions::from_mode(MODE))?;
+        fs::set_permissions(rt, file.path.as_str(), Permissions::from_mode(FILE_MODE))?;
         file.turn_away_early();
         Ok(file)
     }

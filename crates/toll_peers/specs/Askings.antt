@@ -2,6 +2,7 @@
 use Rattle.std.specs.Prelude.{ℕ, List}
 use Rattle.toll_http.specs.Arriving.{IsSettled}
 use Rattle.toll_parcels.specs.Parcels.{IsEnough}
+use Rattle.toll_parcels.specs.declared.asked.TheConstants.{MOST_ASKED_BYTES}
 use Rattle.toll_peers.specs.declared.asking.Asking.{Asking}
 use Rattle.toll_peers.specs.declared.asking.Asking.TheVariants.{Owner, Plant as Parcelled}
 use Rattle.toll_peers.specs.declared.door.Door.{Door}
@@ -20,4 +21,4 @@ door_of (Parcelled parcel) = Plant
 -- what comes behind it changes nothing
 abbrev pub IsWhole : Asking → Type 0
 IsWhole (Owner incoming) = IsSettled incoming
-IsWhole (Parcelled parcel) = IsEnough parcel.most parcel.bytes.items
+IsWhole (Parcelled parcel) = IsEnough MOST_ASKED_BYTES parcel.bytes.items

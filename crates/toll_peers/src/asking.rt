@@ -28,7 +28,7 @@ impl Asking {
                 Ok(incoming) => Ok(Asking::Owner(incoming)),
                 Err(e) => Err(e),
             },
-            Door::Plant => Ok(Asking::Plant(Parcel::new(alloc, MOST_ASKED_BYTES))),
+            Door::Plant => Ok(Asking::Plant(Parcel::new(alloc))),
         }
     }
 
@@ -63,7 +63,7 @@ impl Asking {
     {
         match self {
             Asking::Owner(incoming) => incoming.read_on(reader),
-            Asking::Plant(parcel) => parcel.read_on(reader),
+            Asking::Plant(parcel) => parcel.read_on(reader, MOST_ASKED_BYTES),
         }
     }
 }

@@ -56,7 +56,7 @@ module _ {K : Type 0} (meaning : Meaning K) (settled : (k : K) (c : Content) →
       one_ran old new (Command command) (CommandReply reply) (λ events answers. IsPrintedOf (Does command) events answers s status) (new, served, refl) (refl, told)
   done_ran old new (Imports file) s status (same, (fault, why, told)) =
       nothing old new (λ events answers. IsPrintedOf (Imports file) events answers s status) same (Err fault, (refl, refl), told)
-  done_ran old new Unknown s status (same, usage) = nothing old new (λ events answers. IsPrintedOf Unknown events answers s status) same usage
+  done_ran old new (Unknown words) s status (same, usage) = nothing old new (λ events answers. IsPrintedOf (Unknown words) events answers s status) same usage
 
   asked_ran : (old new : K) (door : Door) (asked : Bytes) (progress : Progress UnderWay) → IsServedIfRoom meaning old new door asked progress → Ran old new (AreTurnEvents (Request door asked) progress)
   asked_ran old new Owners asked (Told told) (inl (goes_on, s)) =

@@ -2,7 +2,8 @@
 use Rattle.std.proofs.Common.{◌≡◌, ◌⊎◌, ◌∙◌, ◌≤◌, ap, List, [], ◌∷◌, Option, None, Some, refl, sym, subst, inl, inr, arith}
 use Rattle.toll_keep.specs.Content.{Content}
 use Rattle.toll_keep.specs.Meaning.{Meaning}
-use Rattle.toll_served.specs.Sittings.{AnswersBy, AreThoseTaken, GoesOnBy, IsAtHand, IsLeft, IsSitting, IsToldOver, Standing}
+use Rattle.toll_served.specs.Openings.{IsRefusedAfter, Openings}
+use Rattle.toll_served.specs.Sittings.{AnswersBy, AreThoseTaken, GoesOnBy, IsAtHand, IsLeft, IsSitting, IsToldFor, IsToldOver, Standing}
 use Rattle.toll_peers.specs.Runs.{Handed, Request, Task, ComesTo, Runs, Turn}
 use Rattle.toll_peers.specs.declared.progress.Progress.{Progress}
 use Rattle.toll_plant.specs.UnderWay.{UnderWay}
@@ -95,25 +96,31 @@ module _ {K : Type 0} (meaning : Meaning K) (is_opened : K → Type 0) where
       ]
 
   -- what is told by who has an office, as what is told over it
-  told_by : {O : Type 0} (standing : O → Standing K) (old new : O) (handed : Handed UnderWay) (progress : Progress UnderWay)
-      → ComesTo (AnswersBy meaning is_opened standing) (GoesOnBy meaning is_opened standing) old handed progress new
-      → IsToldOver meaning is_opened (standing old) handed progress (standing new)
-  told_by standing old new (Request door asked) progress one = one
-  told_by standing old new (Task import) progress one = one
+  told_for : (cause : Type 0) (old new : Standing K) (handed : Handed UnderWay) (progress : Progress UnderWay)
+      → IsToldFor meaning is_opened cause old handed progress new → IsToldOver meaning is_opened old handed progress new
+  told_for cause old new handed progress (inl one) = inl one
+  told_for cause old new handed progress (inr (idle, turned, why)) = inr (idle, turned)
 
-  told_over : {O : Type 0} (standing : O → Standing K) (old new : O) (turns : List (Turn UnderWay))
-      → Runs (AnswersBy meaning is_opened standing) (GoesOnBy meaning is_opened standing) old turns new
+  told_by : {O : Type 0} (standing : O → Standing K) (tally : O → Option Openings) (old new : O) (handed : Handed UnderWay) (progress : Progress UnderWay)
+      → ComesTo (AnswersBy meaning is_opened standing tally) (GoesOnBy meaning is_opened standing tally) old handed progress new
+      → IsToldOver meaning is_opened (standing old) handed progress (standing new)
+  told_by standing tally old new (Request door asked) progress one = told_for (IsRefusedAfter (standing old).openings (tally old) (tally new)) (standing old) (standing new) (Request door asked) progress one
+  told_by standing tally old new (Task import) progress one = told_for (IsRefusedAfter (standing old).openings (tally old) (tally new)) (standing old) (standing new) (Task import) progress one
+
+  told_over : {O : Type 0} (standing : O → Standing K) (tally : O → Option Openings) (old new : O) (turns : List (Turn UnderWay))
+      → Runs (AnswersBy meaning is_opened standing tally) (GoesOnBy meaning is_opened standing tally) old turns new
       → Told (standing old) turns (standing new)
-  told_over standing old new [] same = ap standing same
-  told_over standing old new (t ∷ turns) (middle, one, rest) = (standing middle, told_by standing old middle t.handed t.progress one, told_over standing middle new turns rest)
+  told_over standing tally old new [] same = ap standing same
+  told_over standing tally old new (t ∷ turns) (middle, one, rest) =
+      (standing middle, told_by standing tally old middle t.handed t.progress one, told_over standing tally middle new turns rest)
 
   -- what came in while one office stood open was a run over it
   pub sitting : {O : Type 0} → ((k : K) (c : Content) → meaning.is_honest k → meaning.is_live k → meaning.holds k c → meaning.leaves k (c ∷ []))
-      → (standing : O → Standing K) (old new : O) (turns : List (Turn UnderWay)) (first : K)
-      → Runs (AnswersBy meaning is_opened standing) (GoesOnBy meaning is_opened standing) old turns new
+      → (standing : O → Standing K) (tally : O → Option Openings) (old new : O) (turns : List (Turn UnderWay)) (first : K)
+      → Runs (AnswersBy meaning is_opened standing tally) (GoesOnBy meaning is_opened standing tally) old turns new
       → (standing old).keep ≡ Some first → (standing new).openings ≡ (standing old).openings → IsSitting meaning first turns (standing new)
-  sitting settled standing old new turns first told there count =
-      let over = sat (standing old) (standing new) turns first (told_over standing old new turns told) there count in
+  sitting settled standing tally old new turns first told there count =
+      let over = sat (standing old) (standing new) turns first (told_over standing tally old new turns told) there count in
       record {
         last = over.last;
         taken = over.taken;

@@ -4,6 +4,8 @@ use Rattle.toll_served.proofs.Common.{Bytes, PlantReply, Meaning, IsAskedBy, imp
 use Rattle.toll_desk.specs.declared.plant_cmd.PlantReply.TheVariants.{Accepted, Repeated, Refused, Text, Fault}
 use Rattle.toll_plant.specs.declared.import_fault.ImportFault.{ImportFault}
 use Rattle.toll_plant.specs.declared.report.ImportReport.{ImportReport}
+use Rattle.toll_plant.specs.Table as table
+use Rattle.toll_plant.specs.Usages.{usage_text}
 use Rattle.toll_programs.specs.Printing.{plant_lines, refusal_line}
 use Rattle.toll_programs.specs.Statuses.{after_lines, after_reply, code_of}
 use Rattle.toll_programs.specs.declared.status.Status.{Status}
@@ -57,7 +59,7 @@ done_unwritten : {K : Type 0} (meaning : Meaning K) (old new : K) (wanted : Want
     → IsDone meaning old new wanted (lists_of output error) status → IsDone meaning old new wanted (lists_of [] []) (unwritten output status)
 done_unwritten meaning old new (Does command) output error status (reply, served, how) = (reply, served, reply_told output error reply status how)
 done_unwritten meaning old new (Imports file) output error status (same, (fault, why, how)) = (same, (fault, why, import_told output error (Err fault) status how))
-done_unwritten meaning old new Unknown output error status (same, (usage, some, how)) = (same, (usage, some, failing output error usage Unread status how))
+done_unwritten meaning old new (Unknown words) output error status (same, how) = (same, failing output error (usage_text table.plant_lines words) Unread status how)
 
 -- a parcel was answered, whether or not there was memory for all that is printed
 plant_served : {K : Type 0} (meaning : Meaning K) (old new : K) (asked told : Bytes) (goes_on : Bool) (words : List Bytes) (file : Option Bytes)

@@ -1,9 +1,11 @@
 -- What is answered at the two doors of a server, over a keep.
-use Rattle.std.specs.Prelude.{◌≡◌, ◌≢◌, ◌⊎◌, ◌<◌, ◌==◌, ℕ, Bool, true, false, not, List, [], length, Option, Some, None, Ok, Err}
+use Rattle.std.specs.Prelude.{◌≡◌, ◌≢◌, ◌⊎◌, ◌==◌, ℕ, Bool, true, false, not, List, [], Option, Some, None, Ok, Err}
 use Rattle.std.specs.Global.{Vec}
 use Rattle.toll_served.specs.Common.{Bytes, Meaning, IsAskedBy, IsToldBy, Door, Owners, Plant, Progress, Told, Left, AreNumbered, GoesOn, IsBegun, UnderWay, ImportFault, ImportReport, code_of, IsFailing, IsImportTold, Stream, Streams, Failed, Unread, out_bytes}
 use Rattle.toll_plant.specs.ImportFaults.{IsRefusedFor}
 use Rattle.toll_plant.specs.ImportTexts.{import_text}
+use Rattle.toll_plant.specs.Table.{plant_lines}
+use Rattle.toll_plant.specs.Usages.{usage_text}
 use Rattle.toll_plant.specs.declared.report.ImportLine.{ImportLine}
 use Rattle.toll_programs.specs.Done.{IsCommandDone}
 use Rattle.toll_served.specs.declared.printout.Printout.{Printout}
@@ -27,9 +29,9 @@ lists_of output error = record { output = list_of output; error = list_of error 
 abbrev pub lists_in : Printout → Streams
 lists_in p = lists_of p.output.items p.error.items
 
--- how commands are written goes to the error, and the program ends as for words that are none
-abbrev pub IsUsageTold : Streams → ℕ → Type 0
-IsUsageTold s status = (usage : Bytes) × (0 < length usage) × IsFailing s usage Unread status
+-- how these words' command is written, or how all are, goes to the error, and the program ends as for words that are none
+abbrev pub IsUsageTold : List Bytes → Streams → ℕ → Type 0
+IsUsageTold words s status = IsFailing s (usage_text plant_lines words) Unread status
 
 -- the parcel tells this, and the keep goes on but after a failure
 abbrev pub IsTelling : (told : Bytes) (goes_on : Bool) (status : ℕ) (output error : Bytes) → Type 0
@@ -121,7 +123,7 @@ module _ {K : Type 0} (meaning : Meaning K) (old new : K) where
   abbrev pub IsDone : Wanted → Streams → ℕ → Type 0
   IsDone (Does command) s status = IsCommandDone meaning old new command s status
   IsDone (Imports file) s status = (new ≡ old) × ((fault : ImportFault) × IsRefusedFor file fault × IsImportTold s (Err fault) status)
-  IsDone Unknown s status = (new ≡ old) × IsUsageTold s status
+  IsDone (Unknown words) s status = (new ≡ old) × IsUsageTold words s status
 
   -- what the parcel asks for was done, and what the program would have printed of it is told, with its exit status
   pub record IsPlantServed (asked told : Bytes) (goes_on : Bool) : Type 0 where

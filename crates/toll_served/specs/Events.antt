@@ -37,7 +37,7 @@ abbrev pub IsPrintedOf : Wanted → List Event → List Answer → Streams → �
 IsPrintedOf (Does command) (Command c ∷ []) (CommandReply reply ∷ []) s status = (c ≡ command) × IsReplyTold s reply status
 IsPrintedOf (Imports file) events answers s status =
     (imported : Result ImportReport ImportFault) × AreImportEvents file imported events answers × IsImportTold s imported status
-IsPrintedOf Unknown [] [] s status = IsUsageTold s status
+IsPrintedOf (Unknown words) [] [] s status = IsUsageTold words s status
 IsPrintedOf _ _ _ s status = ⊥
 
 -- a parcel of the plant asks for these events, and tells what is printed of their answers

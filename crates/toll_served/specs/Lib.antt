@@ -8,4 +8,5 @@ pub mod Whole
 pub mod Faults
 pub mod Asking
 pub mod Sittings
+pub mod Openings
 pub mod Doing

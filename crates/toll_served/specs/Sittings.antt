@@ -3,6 +3,7 @@ use Rattle.std.specs.Prelude.{◌≡◌, ◌⊎◌, ◌↔◌, ◌+◌, ◌-◌,
 use Rattle.toll_base.specs.Bytes.{Bytes}
 use Rattle.toll_keep.specs.Meaning.{Meaning}
 use Rattle.toll_served.specs.Faults.{fault_text}
+use Rattle.toll_served.specs.Openings.{IsRefusedAfter, Openings}
 use Rattle.toll_served.specs.declared.office_fault.OfficeFault.{OfficeFault}
 use Rattle.toll_served.specs.declared.session.Session.{Session}
 use Rattle.toll_parcels.specs.Messages.{IsToldBy}
@@ -42,6 +43,11 @@ IsGivenUp import told = (fault : OfficeFault) × IsBrokenOff import.lines (fault
 abbrev pub IsUnserved : Handed UnderWay → Bytes → Type 0
 IsUnserved (Request door asked) told = IsTurnedAway door told
 IsUnserved (Task import) told = IsGivenUp import told
+
+-- this is the cause, unless nothing was asked at the plant's door
+abbrev pub IsCaused : (cause : Type 0) → Handed UnderWay → Type 0
+IsCaused cause (Request door asked) = cause ⊎ ((door ≡ Plant) × (asked ≡ []))
+IsCaused cause (Task import) = cause
 
 -- how many imports are under way, if a request begins one; and if one has ended
 abbrev pub begun : Progress UnderWay → ℕ → ℕ
@@ -104,13 +110,19 @@ module _ {K : Type 0} (meaning : Meaning K) (is_opened : K → Type 0) where
   abbrev pub IsToldOver : Standing K → Handed UnderWay → Progress UnderWay → Standing K → Type 0
   IsToldOver old handed progress new = IsTakenOver old handed progress new ⊎ (IsIdle old new × IsToldSo progress (IsUnserved handed))
 
-  -- who has an office answers so
-  abbrev pub AnswersBy : {O : Type 0} → (O → Standing K) → O → Door → Bytes → Progress UnderWay → O → Type 0
-  AnswersBy standing old door asked progress new = IsToldOver (standing old) (Request door asked) progress (standing new)
+  -- so it was told over an office; or none could be asked, and there is this cause, unless nothing was asked at the plant's door
+  abbrev pub IsToldFor : (cause : Type 0) → Standing K → Handed UnderWay → Progress UnderWay → Standing K → Type 0
+  IsToldFor cause old handed progress new = IsTakenOver old handed progress new ⊎ (IsIdle old new × IsToldSo progress (IsUnserved handed) × IsCaused cause handed)
+
+  -- who has an office answers so, and turns away only where it was refused one
+  abbrev pub AnswersBy : {O : Type 0} → (O → Standing K) → (O → Option Openings) → O → Door → Bytes → Progress UnderWay → O → Type 0
+  AnswersBy standing tally old door asked progress new =
+      IsToldFor (IsRefusedAfter (standing old).openings (tally old) (tally new)) (standing old) (Request door asked) progress (standing new)
 
   -- and goes on so with an import
-  abbrev pub GoesOnBy : {O : Type 0} → (O → Standing K) → O → UnderWay → Progress UnderWay → O → Type 0
-  GoesOnBy standing old import progress new = IsToldOver (standing old) (Task import) progress (standing new)
+  abbrev pub GoesOnBy : {O : Type 0} → (O → Standing K) → (O → Option Openings) → O → UnderWay → Progress UnderWay → O → Type 0
+  GoesOnBy standing tally old import progress new =
+      IsToldFor (IsRefusedAfter (standing old).openings (tally old) (tally new)) (standing old) (Task import) progress (standing new)
 
 -- those turns in which an office was asked, in order; in all others none could be, and that was told
 abbrev pub AreThoseTaken : List (Turn UnderWay) → List (Turn UnderWay) → Type 0
@@ -130,5 +142,5 @@ pub record IsSitting {K : Type 0} (meaning : Meaning K) (first : K) (turns : Lis
 -- what is told by who has an office, while one office stands open and none is opened, is a run over it
 abbrev pub AreSittings : {K : Type 0} → Meaning K → (K → Type 0) → Type 0 → Type 0
 AreSittings {K} meaning is_opened O =
-    (standing : O → Standing K) (old new : O) (turns : List (Turn UnderWay)) (first : K)
-    → Runs (AnswersBy meaning is_opened standing) (GoesOnBy meaning is_opened standing) old turns new → IsOneOffice first (standing old) (standing new) → IsSitting meaning first turns (standing new)
+    (standing : O → Standing K) (tally : O → Option Openings) (old new : O) (turns : List (Turn UnderWay)) (first : K)
+    → Runs (AnswersBy meaning is_opened standing tally) (GoesOnBy meaning is_opened standing tally) old turns new → IsOneOffice first (standing old) (standing new) → IsSitting meaning first turns (standing new)

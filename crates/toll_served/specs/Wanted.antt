@@ -9,7 +9,7 @@ use Rattle.toll_plant.specs.Words.{command_of_words}
 pub data Wanted : Type 0 where
   Does : (command : PlantCmd) → Wanted
   Imports : (file : Bytes) → Wanted
-  Unknown : Wanted
+  Unknown : (words : List Bytes) → Wanted
 
 -- the first word is `import`
 abbrev pub is_import : List Bytes → Bool
@@ -17,13 +17,13 @@ is_import [] = false
 is_import (first ∷ words) = bytes_eq first (codes "import")
 
 -- the command of words, if they are one
-abbrev pub wanted_in : Option PlantCmd → Wanted
-wanted_in None = Unknown
-wanted_in (Some command) = Does command
+abbrev pub wanted_in : List Bytes → Option PlantCmd → Wanted
+wanted_in words None = Unknown words
+wanted_in words (Some command) = Does command
 
 -- words without a file
 abbrev pub wanted_alone : List Bytes → Wanted
-wanted_alone words = wanted_in (command_of_words words)
+wanted_alone words = wanted_in words (command_of_words words)
 
 -- words of which the first is `import`, where a file came with them, ask for its import, and all others for a command or a question
 abbrev pub wanted_of : List Bytes → Option Bytes → Wanted

@@ -49,11 +49,11 @@ impl<'a, K: Keep + Drop, O: Opener<K>> Desk<'a, K, O> {
     /// Closes the file, if it is open.
     pub fn close(self) {
         let Desk {
-            place,
+            mut place,
             session,
             watch: _,
         } = self;
-        session.close(&place);
+        session.close(&mut place);
     }
 }
 
@@ -62,6 +62,7 @@ impl<K: Drop, O: Drop> Desk<'_, K, O> {
     fn noted(&mut self, reply: Reply) -> Progress<Importing>
         ensures progress { result ≡ reply.progress }
         ensures session { self.new.session ≡ self.old.session }
+        ensures place { self.new.place ≡ self.old.place }
     {
         let fault = (!reply.goes_on).then_some(ServingFault::Unavailable);
         self.watch.note(self.place.rt, fault);
@@ -70,7 +71,8 @@ impl<K: Drop, O: Drop> Desk<'_, K, O> {
 
     // The operator is told of an office that can't be opened.
     fn note_closed(&mut self, fault: OfficeFault)
-        ensures { self.new.session ≡ self.old.session }
+        ensures session { self.new.session ≡ self.old.session }
+        ensures place { self.new.place ≡ self.old.place }
     {
         self.watch
             .note(self.place.rt, Some(ServingFault::Office(fault)));
@@ -80,16 +82,16 @@ impl<K: Drop, O: Drop> Desk<'_, K, O> {
 impl<K: Keep + Drop, O: Opener<K>> Office for Desk<'_, K, O> {
     type Task = Importing;
 
-    ghost answers = { AnswersBy K.meaning O.is_opened (λ desk. standing_of desk.session) };
+    ghost answers = { AnswersBy K.meaning O.is_opened (λ desk. standing_of desk.session) (λ desk. O.openings desk.place.opener) };
 
-    ghost goes_on = { GoesOnBy K.meaning O.is_opened (λ desk. standing_of desk.session) };
+    ghost goes_on = { GoesOnBy K.meaning O.is_opened (λ desk. standing_of desk.session) (λ desk. O.openings desk.place.opener) };
 
     // Who came in at the plant's door and asked nothing only looked whether somebody is there.
     fn answer(&mut self, alloc: Global, door: Door, asked: &[u8]) -> Progress<Importing> {
         if door == Door::Plant && asked.is_empty() {
             return Progress::Told(Vec::new(alloc));
         }
-        match self.session.answer(&self.place, door, asked) {
+        match self.session.answer(&mut self.place, door, asked) {
             Ok(reply) => self.noted(reply),
             Err(fault) => {
                 self.note_closed(fault);
@@ -99,7 +101,7 @@ impl<K: Keep + Drop, O: Opener<K>> Office for Desk<'_, K, O> {
     }
 
     fn go_on(&mut self, alloc: Global, task: Importing) -> Progress<Importing> {
-        match self.session.go_on(&self.place, task) {
+        match self.session.go_on(&mut self.place, task) {
             Ok(reply) => self.noted(reply),
             Err(stuck) => {
                 self.note_closed(stuck.fault);

@@ -90,8 +90,8 @@ fn is_greeted<S: Noting>(alloc: Global, stream: &mut S, version: &str) -> bool
     ensures greeted { IsTrue result → IsGreetedBy version.now (S.Source.unread stream.old) }
     ensures unsent { S.Sink.held stream.new ≡ S.Sink.held stream.old }
 {
-    let mut parcel = Parcel::new(alloc, MOST_GREETING_BYTES);
-    match parcel.read_on(stream) {
+    let mut parcel = Parcel::new(alloc);
+    match parcel.read_on(stream, MOST_GREETING_BYTES) {
         Arriving::Complete => is_greeting(&parcel.bytes, version),
         Arriving::Waiting | Arriving::Failed => false,
     }
@@ -102,8 +102,8 @@ fn answer_of<S: Noting>(alloc: Global, stream: &mut S) -> Heard
     ensures told { CanBeTold S.Source stream.old stream.new result }
     ensures unsent { S.Sink.held stream.new ≡ S.Sink.held stream.old }
 {
-    let mut parcel = Parcel::new(alloc, MOST_TOLD_BYTES);
-    match parcel.read_on(stream) {
+    let mut parcel = Parcel::new(alloc);
+    match parcel.read_on(stream, MOST_TOLD_BYTES) {
         Arriving::Complete if Told::read(&parcel.bytes).is_some() => Heard::Told(parcel.bytes),
         Arriving::Complete => Heard::Lost,
         Arriving::Waiting | Arriving::Failed if stream.has_failed() => Heard::Lost,

@@ -5,6 +5,7 @@
 #![tactic(auto)]
 
 mod answering;
+mod asking;
 mod desk;
 mod doing;
 mod handing;
@@ -28,8 +29,10 @@ mod session;
 mod stuck;
 mod version;
 mod watch;
+mod words;
 
 pub use answering::answer_at;
+pub use asking::{Connector, ask_server};
 pub use desk::Desk;
 pub use doing::{answer_once, do_command, do_import};
 pub use handing::hand_over;
@@ -39,7 +42,7 @@ pub use laws::{
     what_is_served_between_two_openings_is_a_run, what_one_asks_is_all_of_its_turns,
     what_peers_ask_over_a_keep_is_a_run,
 };
-pub use lock::take_lock;
+pub use lock::{FILE_MODE, take_lock};
 pub use noting::{Noted, Noting};
 pub use office_fault::OfficeFault;
 pub use place::{Opener, Place};
@@ -47,3 +50,4 @@ pub use reply::Reply;
 pub use serving::{serve_keep, serve_place};
 pub use version::VERSION;
 pub use watch::{ServingFault, Watch};
+pub use words::{do_file, do_words};

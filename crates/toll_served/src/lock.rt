@@ -1,6 +1,10 @@
 //! The lock of an office's file.
 use crate::office_fault::OfficeFault;
 use std::fs::{File, OpenOptions};
+use std::os::unix::fs::OpenOptionsExt;
+
+/// The mode of each file of an office that is made: only its user may read and write it.
+pub const FILE_MODE: u32 = 0o600;
 
 /// The lock of the file, `FILE.lock`, asked for once.
 pub fn take_lock(rt: &HostRuntime, path: &str) -> Result<File, OfficeFault> {
@@ -11,6 +15,7 @@ pub fn take_lock(rt: &HostRuntime, path: &str) -> Result<File, OfficeFault> {
         .read(true)
         .write(true)
         .create(true)
+        .mode(FILE_MODE)
         .open(rt, name.as_str())
     else {
         return Err(OfficeFault::Locked);

@@ -1,5 +1,6 @@
 //! An office that was opened.
-ghost use Rattle.std.specs.Prelude.{◌≡◌, IfOk, IfSome};
+ghost use Rattle.std.specs.Prelude.{◌≡◌, IfOk, IfSome, OnErr};
+ghost use Rattle.toll_served.specs.Openings.{IsOneRefused};
 
 use crate::lending::Lending;
 use crate::office_fault::OfficeFault;
@@ -27,8 +28,9 @@ struct Files {
 
 impl<K: Drop> Opened<K> {
     /// The office at this place.
-    pub fn at<O: Opener<K>>(place: &Place<'_, O>) -> Result<Self, OfficeFault>
-        ensures { IfOk result (λ opened. O.is_opened opened.keep) }
+    pub fn at<O: Opener<K>>(place: &mut Place<'_, O>) -> Result<Self, OfficeFault>
+        ensures opened { IfOk result (λ opened. O.is_opened opened.keep) }
+        ensures refused { OnErr result (IsOneRefused (O.openings place.old.opener) (O.openings place.new.opener)) }
     {
         let keep = place.opener.open(place.rt, place.path)?;
         Ok(Opened {
@@ -38,7 +40,7 @@ impl<K: Drop> Opened<K> {
     }
 
     /// Lends the files to others: none is left open where they can't be lent.
-    pub fn lend<O: Opener<K>>(mut self, place: &Place<'_, O>) -> Option<Self>
+    pub fn lend<O: Opener<K>>(mut self, place: &mut Place<'_, O>) -> Option<Self>
         ensures { IfSome result (λ lent. lent.keep ≡ self.keep) }
     {
         let is_lent = match &mut self.files {
@@ -50,7 +52,7 @@ impl<K: Drop> Opened<K> {
         if is_lent {
             return Some(self);
         }
-        self.close(&place.opener);
+        self.close(&mut place.opener);
         None
     }
 
@@ -65,7 +67,7 @@ impl<K: Drop> Opened<K> {
     }
 
     /// Closes them.
-    pub fn close<O: Opener<K>>(self, opener: &O) {
+    pub fn close<O: Opener<K>>(self, opener: &mut O) {
         let Opened { keep, files: _ } = self;
         opener.close(keep);
     }

@@ -1,12 +1,12 @@
 //! What the program would print of what the plant asks.
-ghost use Rattle.std.specs.Prelude.{◌≡◌, ◌<◌, [], length};
+ghost use Rattle.std.specs.Prelude.{◌≡◌, []};
 ghost use Rattle.toll_parcels.specs.Messages.{IsToldBy};
 ghost use Rattle.toll_plant.specs.ImportTexts.{import_text};
 ghost use Rattle.toll_programs.specs.Done.{IsCommandDone};
 ghost use Rattle.toll_programs.specs.Statuses.{code_of};
-ghost use Rattle.toll_programs.specs.Told.{IsImportTold};
+ghost use Rattle.toll_programs.specs.Told.{IsFailing, IsImportTold};
 ghost use Rattle.toll_programs.specs.declared.status.Status.{Status};
-ghost use Rattle.toll_served.specs.Doors.{IsTellingIfRoom, IsTextIfRoom, IsToldSo, IsUsageTold, lists_in};
+ghost use Rattle.toll_served.specs.Doors.{IsTellingIfRoom, IsTextIfRoom, IsToldSo, lists_in};
 ghost use Rattle.toll_served.specs.Unwritten.{unwritten};
 
 use crate::reply::Reply;
@@ -79,8 +79,7 @@ impl Printout {
 
     /// How commands are written, for words that are none.
     pub fn of_usage(alloc: Global, usage: &[u8]) -> Self
-        requires { 0 < length usage.now }
-        ensures { IsUsageTold (lists_in result) result.status }
+        ensures { IsFailing (lists_in result) usage.now Status.Unread result.status }
     {
         let mut error = Vec::new(alloc);
         let status = warn(&mut error, usage, Status::Unread);

@@ -2,11 +2,11 @@
 ghost use Rattle.std.specs.Prelude.{◌≡◌, ◌+◌, ◌-◌, ◌<◌, false, None, Some, IfErr, IfOk, IfSome, IsSome, OnErr, OnOk};
 ghost use Rattle.toll_peers.specs.Runs.{Request, Task};
 ghost use Rattle.toll_served.specs.Doors.{IsServedIfRoom};
+ghost use Rattle.toll_served.specs.Openings.{IsOneRefused, IsRefusedAfter, IsUnasked};
 ghost use Rattle.toll_served.specs.Sittings.{IsAtHand, IsIdle, IsLeft, IsLockKept, IsUnopened, Takes, begun, ended, standing_of};
 
 use crate::answering::answer_at;
 use crate::importing::Importing;
-use crate::lock::take_lock;
 use crate::office_fault::OfficeFault;
 use crate::opened::Opened;
 use crate::place::{Opener, Place};
@@ -60,7 +60,7 @@ impl<K: Keep + Drop> Session<K> {
     /// an answer that tells a fault, the file is opened anew.
     pub fn answer<O: Opener<K>>(
         &mut self,
-        place: &Place<'_, O>,
+        place: &mut Place<'_, O>,
         door: Door,
         asked: &[u8],
     ) -> Result<Reply, OfficeFault>
@@ -68,6 +68,7 @@ impl<K: Keep + Drop> Session<K> {
         ensures closed { IfOk result (λ reply. reply.goes_on ≡ false → self.new.opened ≡ None) }
         ensures imports { IfOk result (λ reply. self.new.imports ≡ begun reply.progress self.old.imports) }
         ensures err { OnErr result (IsIdle (standing_of self.old) (standing_of self.new) × (self.new.imports ≡ self.old.imports)) }
+        ensures refused { OnErr result (IsRefusedAfter self.old.openings (O.openings place.old.opener) (O.openings place.new.opener)) }
         ensures lock { IsLockKept self.old → IsLockKept self.new }
     {
         match self.take(place) {
@@ -91,13 +92,14 @@ impl<K: Keep + Drop> Session<K> {
     /// opened anew.
     pub fn go_on<O: Opener<K>>(
         &mut self,
-        place: &Place<'_, O>,
+        place: &mut Place<'_, O>,
         import: Importing,
     ) -> Result<Reply, Stuck>
         ensures ok { IfOk result (λ reply. Takes K.meaning O.is_opened self.old (Task import) reply self.new) }
         ensures closed { IfOk result (λ reply. reply.goes_on ≡ false → self.new.opened ≡ None) }
         ensures imports { IfOk result (λ reply. self.new.imports ≡ ended reply.progress self.old.imports) }
         ensures err { OnErr result (IsIdle (standing_of self.old) (standing_of self.new)) }
+        ensures refused { OnErr result (IsRefusedAfter self.old.openings (O.openings place.old.opener) (O.openings place.new.opener)) }
         ensures stuck { IfErr result (λ stuck. (stuck.import ≡ import) × (self.new.imports ≡ self.old.imports - 1)) }
         ensures lock { IsLockKept self.old → IsLockKept self.new }
     {
@@ -119,9 +121,10 @@ impl<K: Keep + Drop> Session<K> {
     }
 
     // The office as it was left, or opened anew, under the lock.
-    fn take<O: Opener<K>>(&mut self, place: &Place<'_, O>) -> Result<Opened<K>, OfficeFault>
+    fn take<O: Opener<K>>(&mut self, place: &mut Place<'_, O>) -> Result<Opened<K>, OfficeFault>
         ensures ok { IfOk result (λ o. IsAtHand O.is_opened (standing_of self.old) (standing_of self.new) o.keep) }
         ensures err { OnErr result (IsIdle (standing_of self.old) (standing_of self.new)) }
+        ensures refused { OnErr result (IsRefusedAfter self.old.openings (O.openings place.old.opener) (O.openings place.new.opener)) }
         ensures imports { self.new.imports ≡ self.old.imports }
         ensures lock { OnOk result (IsSome self.new.lock) }
         ensures kept { IsSome self.old.lock → IsSome self.new.lock }
@@ -134,16 +137,21 @@ impl<K: Keep + Drop> Session<K> {
     }
 
     // The office as it was left, under the lock, if one was left open and nobody else has changed it.
-    fn take_left<O>(&mut self, place: &Place<'_, O>) -> Result<Option<Opened<K>>, OfficeFault>
+    fn take_left<O: Opener<K>>(
+        &mut self,
+        place: &mut Place<'_, O>,
+    ) -> Result<Option<Opened<K>>, OfficeFault>
         ensures left { IfOk result (λ left. IfSome left (λ o. (standing_of self.old).keep ≡ Some o.keep)) }
         ensures ok { OnOk result ((self.new.opened ≡ None) × IsSome self.new.lock) }
         ensures err { OnErr result (self.new ≡ self.old) }
+        ensures refused { OnErr result (IsOneRefused (O.openings place.old.opener) (O.openings place.new.opener)) }
+        ensures unasked { OnOk result (IsUnasked (O.openings place.old.opener) (O.openings place.new.opener)) }
         ensures openings { self.new.openings ≡ self.old.openings }
         ensures imports { self.new.imports ≡ self.old.imports }
     {
         let is_kept = self.lock.is_some();
         if !is_kept {
-            match take_lock(place.rt, place.path) {
+            match place.opener.lock(place.rt, place.path) {
                 Ok(lock) => self.lock = Some(lock),
                 Err(fault) => return Err(fault),
             }
@@ -155,9 +163,10 @@ impl<K: Keep + Drop> Session<K> {
     }
 
     // The office, opened once more.
-    fn open<O: Opener<K>>(&mut self, place: &Place<'_, O>) -> Result<Opened<K>, OfficeFault>
+    fn open<O: Opener<K>>(&mut self, place: &mut Place<'_, O>) -> Result<Opened<K>, OfficeFault>
         ensures opened { IfOk result (λ o. O.is_opened o.keep × (self.new.openings ≡ self.old.openings + 1)) }
         ensures err { OnErr result (self.new.openings ≡ self.old.openings) }
+        ensures refused { OnErr result (IsRefusedAfter self.old.openings (O.openings place.old.opener) (O.openings place.new.opener)) }
         ensures beside { self.new ≡ record self.old { openings = self.new.openings } }
     {
         let Some(openings) = self.openings.checked_add(1) else {
@@ -177,7 +186,7 @@ impl<K: Keep + Drop> Session<K> {
     }
 
     // Leaves the office open where it goes on: to others too, where no import is under way.
-    fn leave<O: Opener<K>>(&mut self, place: &Place<'_, O>, opened: Opened<K>, goes_on: bool)
+    fn leave<O: Opener<K>>(&mut self, place: &mut Place<'_, O>, opened: Opened<K>, goes_on: bool)
         ensures left { IsLeft opened.keep (standing_of self.new) }
         ensures closed { goes_on ≡ false → self.new.opened ≡ None }
         ensures openings { self.new.openings ≡ self.old.openings }
@@ -208,9 +217,9 @@ impl<K: Keep + Drop> Session<K> {
 
     /// Closes the file, if it is open and the lock is got. What was answered stands in the file whether or
     /// not it is closed.
-    pub fn close<O: Opener<K>>(mut self, place: &Place<'_, O>) {
+    pub fn close<O: Opener<K>>(mut self, place: &mut Place<'_, O>) {
         if let Ok(Some(opened)) = self.take_left(place) {
-            opened.close(&place.opener);
+            opened.close(&mut place.opener);
         }
         if let Some(lock) = self.lock.take() {
             let _ = lock.unlock();

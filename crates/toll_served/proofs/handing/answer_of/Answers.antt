@@ -1,12 +1,9 @@
-use Rattle.std.proofs.Common.{◌≡◌, ◌⊎◌, ◌∙◌, ◌++◌, ℕ, Bool, false, Option, None, Some, ap, inr, refl, subst}
-use Rattle.std.specs.Io.KnownBytes.{IsAtEnd}
+use Rattle.std.proofs.Common.{◌≡◌, ◌∙◌, ◌++◌, ℕ, Bool, false, Option, None, Some, ap, inr, refl, subst}
 use Rattle.std.specs.Prelude.{IfNone, is_some}
 use Rattle.toll_base.specs.Bytes.{Bytes}
 use Rattle.toll_served.specs.Asking.{IsAnswer, IsNoAnswer}
 use Rattle.toll_parcels.specs.Messages.{IsToldBy}
-use Rattle.toll_parcels.specs.Parcels.{IsEnough}
 use Rattle.toll_parcels.specs.declared.told.Told.{Told}
-use Rattle.toll_parcels.specs.declared.told.TheConstants.{MOST_TOLD_BYTES}
 use Rattle.toll_served.proofs.handing.answer_of.Goals as goal
 
 -- what can't be read is no answer
@@ -19,10 +16,8 @@ pub returns-in-Complete-2-clause-told : goal.returns-in-Complete-2-clause-told
 returns-in-Complete-2-clause-told g c =
     let read = c.read_on.new.self in
     let (text, gave, behind) = c.read_on.ensures.given in
-    let is : read.bytes.items ≡ text = behind ∙ ap (λ front. front ++ text) c.new-parcel.ensures.none in
-    let most : read.most ≡ MOST_TOLD_BYTES = c.read_on.ensures.most ∙ c.new-parcel.ensures.most in
+    let is : read.bytes.items ≡ text = behind ∙ ap (λ front. front ++ text) c.new-parcel.ensures in
     let never = no_answer c.deref.result.now c.read.result c.is_some.result c.is_some.ensures c.if-is_some.false c.read.ensures.none in
-    let end : IsEnough MOST_TOLD_BYTES read.bytes.items ⊎ IsAtEnd (g.S.Source.unread c.read_on.new.reader) =
-    subst (λ m. IsEnough m read.bytes.items ⊎ IsAtEnd (g.S.Source.unread c.read_on.new.reader)) most (c.in-Complete.ensures.complete refl) in
-    let no_answer : IsNoAnswer g.S.Source c.args.stream.now c.read_on.new.reader read.bytes.items = (subst (λ t. ¬ (IsAnswer t)) c.deref.ensures.value never, end) in
+    let no_answer : IsNoAnswer g.S.Source c.args.stream.now c.read_on.new.reader read.bytes.items =
+    (subst (λ t. ¬ (IsAnswer t)) c.deref.ensures.value never, c.in-Complete.ensures.complete refl) in
     inr (text, gave, subst (λ t. IsNoAnswer g.S.Source c.args.stream.now c.read_on.new.reader t) is no_answer)
