@@ -6,3 +6,4 @@ mod handing;
 mod parcels;
 mod peers;
 mod served;
+mod words;

@@ -2,6 +2,7 @@
 
 mod counting;
 mod first_version;
+mod holders;
 mod rows;
 mod segments;
 mod tables;

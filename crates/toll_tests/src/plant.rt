@@ -6,3 +6,4 @@ mod files;
 mod imports;
 pub(crate) mod lines;
 mod tests;
+mod usages;

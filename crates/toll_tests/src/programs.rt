@@ -7,6 +7,7 @@ pub mod fakes;
 mod faults;
 mod files;
 mod lines;
+mod long;
 mod movements;
 mod office;
 mod prints;

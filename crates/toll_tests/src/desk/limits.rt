@@ -1,7 +1,7 @@
 //! Stories of how many rows there may be.
 use crate::desk::lines::Asked;
 use crate::desk::setups::WITH_BATCH;
-use crate::stories::{Line, Teller, WITH_RECIPE, check_said_over, plant_said};
+use crate::stories::{Line, Teller, WITH_RECIPE, check, check_said_over, plant_said};
 use std::alloc::{AllocError, Global};
 use std::test::Fail;
 use toll_base::{Amount, Day, Name};
@@ -134,6 +134,16 @@ fn an_owner_has_20000_movements(rt: HostRuntime) -> Result<(), Fail> {
     check_said_over::<Asked, _>(rt.alloc(), &mut keep, &[ONE_MOVEMENT_MORE])
 }
 
+// Says it with each number from 1 to 99, which is accepted.
+fn check_each(alloc: Global, keep: &mut MemKeep, pieces: &[&str]) -> Result<(), Fail> {
+    for number in 1..100 {
+        let line = line_of(alloc, pieces, number)?;
+        let said = Asked::say(alloc, keep, &line)?;
+        check(said.as_str() == "accepted", &line)?;
+    }
+    Ok(())
+}
+
 const WITH_99_BATCHES: &[Line] = &[("> ACME ACMEKEY1 place O R 99", "order O R 99 open")];
 
 #[test]
@@ -152,6 +162,31 @@ fn an_order_has_its_batches_and_no_more(rt: HostRuntime) -> Result<(), Fail> {
         &["open ACME O U-", ""],
         "99, refused NoMoreBatches",
     )
+}
+
+// What is said to each batch on its way from open to closed.
+const UP_TO_CLOSED: &[&[&str]] = &[
+    &["do ACME O ", " start"],
+    &["do ACME O ", " done"],
+    &["close ACME O ", ""],
+];
+
+const NO_BATCH_MORE: &[Line] = &[
+    ("close ACME O 99", "refused BatchClosed"),
+    ("open ACME O U-0", "refused NoMoreBatches"),
+    ("open ACME O U-9999", "refused NoMoreBatches"),
+];
+
+#[test]
+fn an_order_whose_batches_are_closed_has_no_more(rt: HostRuntime) -> Result<(), Fail> {
+    let mut keep = MemKeep::new(rt.alloc());
+    check_said_over::<Asked, _>(rt.alloc(), &mut keep, &[WITH_RECIPE, WITH_99_BATCHES])?;
+    fill(rt.alloc(), &mut keep, &["unit-add U-", ""])?;
+    fill(rt.alloc(), &mut keep, &["open ACME O U-", ""])?;
+    for pieces in UP_TO_CLOSED {
+        check_each(rt.alloc(), &mut keep, pieces)?;
+    }
+    check_said_over::<Asked, _>(rt.alloc(), &mut keep, &[NO_BATCH_MORE])
 }
 
 // A voided actual counts as before.

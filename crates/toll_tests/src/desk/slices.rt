@@ -8,7 +8,7 @@ use std::alloc::Global;
 use std::test::Fail;
 use toll_base::{Decision, Name, Refusal, Slice};
 use toll_keep::{Keep, MemKeep};
-use toll_stock::on_hand;
+use toll_stock::{lot_totals, on_hand};
 use toll_work::open_batch;
 
 fn told(alloc: Global, story: &[&[Line]]) -> Result<MemKeep, Fail> {
@@ -42,6 +42,38 @@ fn a_sublot_at_zero_stays(rt: HostRuntime) -> Result<(), Fail> {
     let slice = slice_of(rt.alloc(), &mut keep, b"ACME")?;
     check_on_hand(&slice, b"S2", Some(0))?;
     check_on_hand(&slice, b"S3", None)
+}
+
+fn check_totals(slice: &Slice, lot: &[u8], wanted: Option<(u64, u64)>) -> Result<(), Fail> {
+    let totals = lot_totals(slice, &Name::parse(lot)?);
+    let told = totals.map(|totals| (totals.on_hand, totals.shipped));
+    check(told == wanted, "another total")
+}
+
+const SHIPPED_IN_PARTS: &[Line] = &[
+    ("receive ACME K8 M AB S1 9 12", "accepted"),
+    ("receive ACME K9 M AB S2 4 12", "accepted"),
+    (
+        "> ACME ACMEKEY1 release AB",
+        "lot AB M kg receipts released, S1 9, S2 4",
+    ),
+    ("ship ACME K10 AB S1 2 13", "accepted"),
+    ("ship ACME K11 AB S2 1 13", "accepted"),
+];
+
+#[test]
+fn a_lot_has_what_is_left_and_what_was_shipped(rt: HostRuntime) -> Result<(), Fail> {
+    let story: &[&[Line]] = &[
+        WITH_RECIPE,
+        WITH_BATCH,
+        SPLIT_AND_SCRAPPED,
+        SHIPPED_IN_PARTS,
+    ];
+    let mut keep = told(rt.alloc(), story)?;
+    let slice = slice_of(rt.alloc(), &mut keep, b"ACME")?;
+    check_totals(&slice, b"A", Some((0, 70)))?;
+    check_totals(&slice, b"AB", Some((10, 3)))?;
+    check_totals(&slice, b"S1", None)
 }
 
 #[test]

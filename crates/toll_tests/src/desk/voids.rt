@@ -3,7 +3,7 @@ use crate::desk::lines::Asked;
 use crate::desk::setups::{RELEASED_AND_PLACED, WITH_BATCH};
 use crate::stories::{
     A_CONSUMED, CONSUMED_AND_PRODUCED, CONSUMPTION_VOIDED, Line, P1_PRODUCED, WITH_HOUSE,
-    WITH_RECIPE, check_said,
+    WITH_RECIPE, check_said_and_joined,
 };
 use std::test::Fail;
 
@@ -40,7 +40,7 @@ const KEYS_STAY_TAKEN: &[Line] = &[
 
 #[test]
 fn a_voided_consumption_gives_back(rt: HostRuntime) -> Result<(), Fail> {
-    check_said::<Asked>(
+    check_said_and_joined::<Asked>(
         rt.alloc(),
         &[
             WITH_RECIPE,
@@ -68,7 +68,7 @@ const GIVEN_BACK_TO_HOUSE: &[Line] = &[
 
 #[test]
 fn a_void_gives_back_to_house(rt: HostRuntime) -> Result<(), Fail> {
-    check_said::<Asked>(
+    check_said_and_joined::<Asked>(
         rt.alloc(),
         &[
             WITH_HOUSE,

@@ -1,6 +1,8 @@
 //! A keep that is asked at both doors, and peers that ask it side by side.
 mod desks;
+mod given_up;
 mod imports;
+mod long;
 mod street;
 
 use crate::doors::served::street::{Log, Street};

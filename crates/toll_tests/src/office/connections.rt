@@ -1,5 +1,7 @@
 //! Connections to an office in a file.
+use crate::programs::fakes::run;
 use crate::stories::check;
+use sqlite::Unknown;
 use std::fs;
 use std::fs::File;
 use std::io::{Read, Write};
@@ -7,7 +9,9 @@ use std::net::{Ipv4Addr, Shutdown, SocketAddrV4, TcpListener, TcpStream};
 use std::test::Fail;
 use toll_office::{Served, place_of, serve_one};
 use toll_plant::command_of;
+use toll_programs::ScriptEnd;
 use toll_served::{do_command, take_lock};
+use toll_sql::{OpenFault, SqlKeep};
 
 const ADDED: &[&[&str]] = &[
     &["owner-add", "ACME", "ACMEKEY1"],
@@ -60,7 +64,7 @@ fn is_done(rt: &HostRuntime, path: &str, words: &[&str]) -> Result<bool, Fail> {
     let command = command_of(rt.alloc(), words)?;
     let mut output = page_of(rt, path, "out")?;
     let mut error = page_of(rt, path, "err")?;
-    let status = do_command(&place_of(rt, path), &command, &mut output, &mut error)?;
+    let status = do_command(&mut place_of(rt, path), &command, &mut output, &mut error)?;
     Ok(status == 0)
 }
 
@@ -90,9 +94,32 @@ fn check_told(rt: &HostRuntime, path: &str, bytes: &[u8], wanted: &[u8]) -> Resu
     check(is_told, "told otherwise")
 }
 
+const SCRIPT: &[u8] =
+    b"owner-add ACME ACMEKEY1\nrecipe-add ACME R-1 2\n> ACME ACMEKEY1 POST /orders {\"order\":\"O-1\",\"recipe\":\"R-1\",\"batches\":2}\n";
+
+const PRINTED: &[u8] =
+    b"accepted\naccepted\n200 {\"batches\":2,\"order\":\"O-1\",\"recipe\":\"R-1\",\"status\":\"open\"}\n";
+
+// Makes an office in the file by a script, and closes it: whether all of it is done.
+fn is_scripted(rt: &HostRuntime, path: &str) -> Result<bool, OpenFault> {
+    let mut keep = SqlKeep::open_from(rt, path, true, Unknown)?;
+    let (end, printed) = run(rt.alloc(), &mut keep, SCRIPT);
+    let is_closed = keep.close().is_ok();
+    Ok(is_closed && end == ScriptEnd::Done && printed.as_slice() == PRINTED)
+}
+
 #[test]
 fn a_peer_is_served_from_a_file(rt: HostRuntime) -> Result<(), Fail> {
-    check_told(&rt, "a_peer_is_served.db", ASKED, TOLD)
+    let path = "a_peer_is_served.db";
+    remove(&rt, path)?;
+    let is_told = is_scripted(&rt, path)? && is_told(&rt, path, ASKED, TOLD)?;
+    remove(&rt, path)?;
+    check(is_told, "told otherwise")
+}
+
+#[test]
+fn a_peer_is_served_what_commands_made(rt: HostRuntime) -> Result<(), Fail> {
+    check_told(&rt, "what_commands_made.db", ASKED, TOLD)
 }
 
 #[test]

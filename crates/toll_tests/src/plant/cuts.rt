@@ -1,14 +1,16 @@
 //! Files that are cut.
+use crate::stories::REPEATED_FILE;
 use csv::{ByteRecord, Error, ReaderBuilder};
 use std::alloc::Global;
 use std::test::Fail;
 use toll_keep::MemKeep;
 use toll_plant::{ImportFault, ImportReport, Outcome, import_actuals};
 
-const FILE: &[u8] =
-    b"key,owner,order,batch,segment,use,material,lot_owner,lot,sublot,amount,day\nK2,ACME,O,1,1,consumed,M,ACME,A,S1,40,11\r\nK3,ACME,O,1,1\n\"K,4\",ACME,O,1,1,produced,P,ACME,P1,S1,\"30\",11";
+// Records of other kinds: one with too few fields, one with quotes, and one without a line end.
+const MIXED_FILE: &str =
+    "key,owner,order,batch,segment,use,material,lot_owner,lot,sublot,amount,day\nK2,ACME,O,1,1,consumed,M,ACME,A,S1,40,11\r\nK3,ACME,O,1,1\n\"K,4\",ACME,O,1,1,produced,P,ACME,P1,S1,\"30\",11";
 
-// How many bytes of it are its header.
+// How many bytes of each are its header.
 const HEADER_LEN: usize = 74;
 
 // How many fields each record of the file has, as `csv` reads it.
@@ -49,11 +51,19 @@ fn is_imported(alloc: Global, file: &[u8]) -> Result<bool, Fail> {
     )
 }
 
-#[test]
-fn a_cut_file_has_lines_for_its_own_records_alone(rt: HostRuntime) -> Result<(), Fail> {
-    for size in 0..FILE.len() + 1 {
-        let is_imported = is_imported(rt.alloc(), &FILE[..size])?;
-        assert!(rt; is_imported, "cut at {size}");
+// Cuts the file at each of its bytes, and fails at one where it is imported otherwise.
+fn check_cuts(alloc: Global, file: &str) -> Result<(), Fail> {
+    let bytes = file.as_bytes();
+    for size in 0..bytes.len() + 1 {
+        if !is_imported(alloc, &bytes[..size])? {
+            return Err(format!(in alloc; "cut at {size}: {file}")?.into());
+        }
     }
     Ok(())
+}
+
+#[test]
+fn a_cut_file_has_lines_for_its_own_records_alone(rt: HostRuntime) -> Result<(), Fail> {
+    check_cuts(rt.alloc(), REPEATED_FILE)?;
+    check_cuts(rt.alloc(), MIXED_FILE)
 }

@@ -5,7 +5,7 @@ use crate::stories::{Line, WITH_RECIPE, check_said, check_said_over, empty_table
 use std::alloc::{AllocError, Global};
 use std::test::Fail;
 use toll_keep::{Keep, MemKeep, Refused, Refusing};
-use toll_plant::GROUP_RECORDS;
+use toll_plant::{GROUP_RECORDS, MOST_FILE_BYTES};
 
 const IMPORTED: &[Line] = &[
     (
@@ -223,6 +223,51 @@ fn groups_before_a_refused_one_stand(rt: HostRuntime) -> Result<(), Fail> {
         &mut keep,
         "   501 accepted\naccepted 1 repeated 1 refused 0 bad 499 fault 0\n",
     )
+}
+
+// How many records the longest of these files has.
+const MANY: u64 = 12_000;
+
+// A file with so many records that give no command.
+fn bad_file(alloc: Global) -> Result<String, AllocError> {
+    let mut file = String::from_str(alloc, HEADER)?;
+    for _ in 0..MANY {
+        file.push_str("x\n")?;
+    }
+    Ok(file)
+}
+
+// What is said to it: a line for each record, and their number.
+fn bad_lines(alloc: Global) -> Result<String, AllocError> {
+    let mut lines = String::new(alloc);
+    for number in 1..MANY + 1 {
+        lines.push_str(&format!(in alloc; "{number:>6} bad-record\n")?)?;
+    }
+    lines.push_str(&format!(in alloc; "accepted 0 repeated 0 refused 0 bad {MANY} fault 0\n")?)?;
+    Ok(lines)
+}
+
+// Whether all lines are told of a file of so many bad records.
+fn is_told_whole(alloc: Global) -> Result<bool, AllocError> {
+    let file = bad_file(alloc)?;
+    let said = say_to_file(alloc, &mut MemKeep::new(alloc), file.as_bytes())?;
+    Ok(said == bad_lines(alloc)?)
+}
+
+#[test]
+fn each_record_of_a_long_file_has_its_line(rt: HostRuntime) -> Result<(), Fail> {
+    let is_told = is_told_whole(rt.alloc())?;
+    assert!(rt; is_told);
+    Ok(())
+}
+
+// A file as long as one may be, whose first record is no header.
+#[test]
+fn a_long_file_without_its_header_is_no_want_of_memory(rt: HostRuntime) -> Result<(), Fail> {
+    let file = vec![in rt.alloc(); b'x'; MOST_FILE_BYTES]?;
+    let said = say_to_file(rt.alloc(), &mut MemKeep::new(rt.alloc()), &file)?;
+    assert!(&rt; said.as_str() == "BadHeader", "{said}");
+    Ok(())
 }
 
 const FAULTY: &[Line] = &[(

@@ -2,7 +2,7 @@
 use crate::programs::day::MORNING;
 use crate::programs::office::BEGUN;
 use crate::programs::prints::check_prints_over;
-use crate::stories::{check, empty_tables, say_to_file};
+use crate::stories::{REPEATED_FILE, check, empty_tables, say_to_file};
 use std::alloc::Global;
 use std::test::Fail;
 use toll_keep::{Keep, MemKeep};
@@ -39,12 +39,6 @@ fn check_shown<K: Keep>(alloc: Global, keep: &mut K, file: &str, wanted: &str) -
     check(said.as_str() == wanted, file)
 }
 
-const FILE: &str = "key,owner,order,batch,segment,use,material,lot_owner,lot,sublot,amount,day
-K2,ACME,O,1,1,consumed,M,ACME,A,S1,40,11
-K3,ACME,O,1,1,produced,P,ACME,P1,S1,30,11
-K2,ACME,O,1,1,consumed,M,ACME,A,S1,40,11
-";
-
 const IMPORTED: &str = "     1 accepted
      2 accepted
      3 repeated
@@ -66,7 +60,7 @@ const STOCK: (&str, &str) = (
 fn a_file_counts_once(rt: HostRuntime) -> Result<(), Fail> {
     let story = Story {
         scripts: &[BEGUN],
-        files: &[(FILE, IMPORTED), (FILE, IMPORTED_AGAIN)],
+        files: &[(REPEATED_FILE, IMPORTED), (REPEATED_FILE, IMPORTED_AGAIN)],
         behind: &[STOCK],
     };
     story.check(rt.alloc())

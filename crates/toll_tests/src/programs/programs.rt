@@ -2,9 +2,11 @@
 use crate::programs::fakes::Page;
 use crate::programs::office::BEGUN;
 use crate::programs::prints::check_prints_over;
-use crate::stories::{check, plant_cmd};
+use crate::stories::{REPEATED_FILE, check, empty_tables, plant_cmd};
 use std::alloc::Global;
 use std::test::Fail;
+use toll_base::Refusal;
+use toll_desk::PlantCmd;
 use toll_keep::{Keep, MemKeep};
 use toll_programs::{plant_import, plant_line};
 
@@ -71,33 +73,101 @@ const COMMANDS: &[(&[&str], Ended)] = &[
     (&["stock", "BOLT"], ("refused 3 UnknownOwner\n", "", 1)),
 ];
 
-#[test]
-fn a_command_ends_with_its_status(rt: HostRuntime) -> Result<(), Fail> {
-    let mut keep = MemKeep::new(rt.alloc());
+fn check_commands<K: Keep>(alloc: Global, keep: &mut K) -> Result<(), Fail> {
     for row in COMMANDS {
         let (words, wanted) = *row;
-        check_command(rt.alloc(), &mut keep, words, wanted)?;
+        check_command(alloc, keep, words, wanted)?;
     }
     Ok(())
 }
 
-// Fails where an import over a keep in which a batch runs ends otherwise.
-fn check_import(alloc: Global, file: &str, wanted: Ended) -> Result<(), Fail> {
+#[test]
+fn a_command_ends_with_its_status(rt: HostRuntime) -> Result<(), Fail> {
+    check_commands(rt.alloc(), &mut MemKeep::new(rt.alloc()))?;
+    check_commands(rt.alloc(), &mut empty_tables(rt.alloc())?)
+}
+
+// The line of each refusal.
+const REFUSALS: &[(Refusal, &'static str)] = &[
+    (Refusal::BadName, "refused 1 BadName\n"),
+    (Refusal::BadAmount, "refused 2 BadAmount\n"),
+    (Refusal::UnknownOwner, "refused 3 UnknownOwner\n"),
+    (Refusal::OwnerExists, "refused 4 OwnerExists\n"),
+    (Refusal::UnitExists, "refused 5 UnitExists\n"),
+    (Refusal::UnknownUnit, "refused 6 UnknownUnit\n"),
+    (Refusal::UnitBusy, "refused 7 UnitBusy\n"),
+    (Refusal::MaterialExists, "refused 8 MaterialExists\n"),
+    (Refusal::UnknownMaterial, "refused 9 UnknownMaterial\n"),
+    (Refusal::MaterialInUse, "refused 10 MaterialInUse\n"),
+    (Refusal::TestExists, "refused 11 TestExists\n"),
+    (Refusal::RecipeExists, "refused 12 RecipeExists\n"),
+    (Refusal::UnknownRecipe, "refused 13 UnknownRecipe\n"),
+    (Refusal::RecipeInUse, "refused 14 RecipeInUse\n"),
+    (Refusal::BadSegment, "refused 15 BadSegment\n"),
+    (Refusal::RequirementExists, "refused 16 RequirementExists\n"),
+    (Refusal::OrderExists, "refused 17 OrderExists\n"),
+    (Refusal::UnknownOrder, "refused 18 UnknownOrder\n"),
+    (Refusal::OrderCancelled, "refused 19 OrderCancelled\n"),
+    (Refusal::OrderStarted, "refused 20 OrderStarted\n"),
+    (Refusal::NoMoreBatches, "refused 21 NoMoreBatches\n"),
+    (Refusal::UnknownBatch, "refused 22 UnknownBatch\n"),
+    (Refusal::BadState, "refused 23 BadState\n"),
+    (Refusal::BatchClosed, "refused 24 BatchClosed\n"),
+    (Refusal::BatchIdle, "refused 25 BatchIdle\n"),
+    (Refusal::NotInRecipe, "refused 26 NotInRecipe\n"),
+    (Refusal::UnknownLot, "refused 27 UnknownLot\n"),
+    (Refusal::UnknownSublot, "refused 28 UnknownSublot\n"),
+    (Refusal::WrongMaterial, "refused 29 WrongMaterial\n"),
+    (Refusal::WrongOrigin, "refused 30 WrongOrigin\n"),
+    (Refusal::NotReleased, "refused 31 NotReleased\n"),
+    (Refusal::NotQuarantined, "refused 32 NotQuarantined\n"),
+    (Refusal::NotEnough, "refused 33 NotEnough\n"),
+    (Refusal::SameSublot, "refused 34 SameSublot\n"),
+    (Refusal::KeyConflict, "refused 35 KeyConflict\n"),
+    (Refusal::TestsOpen, "refused 36 TestsOpen\n"),
+    (Refusal::UnknownTest, "refused 37 UnknownTest\n"),
+    (Refusal::CrossOwner, "refused 38 CrossOwner\n"),
+    (Refusal::LimitReached, "refused 39 LimitReached\n"),
+    (Refusal::UnknownKey, "refused 40 UnknownKey\n"),
+    (Refusal::Voided, "refused 41 Voided\n"),
+    (Refusal::Rejected, "refused 42 Rejected\n"),
+];
+
+// Fails where another line is told of the refusal, or the command doesn't end as a refused one.
+fn check_refusal(alloc: Global, why: Refusal, wanted: &'static str) -> Result<(), Fail> {
     let mut keep = MemKeep::new(alloc);
-    check_prints_over(alloc, &mut keep, &[BEGUN])?;
+    let mut to = Written::new(alloc);
+    let command = PlantCmd::Unread(why);
+    let status = plant_line(alloc, &mut keep, &command, &mut to.output, &mut to.error);
+    to.check(status, (wanted, "", 1))
+}
+
+#[test]
+fn each_refusal_is_told_by_its_line(rt: HostRuntime) -> Result<(), Fail> {
+    for row in REFUSALS {
+        let (why, wanted) = *row;
+        check_refusal(rt.alloc(), why, wanted)?;
+    }
+    Ok(())
+}
+
+// Fails where an import over an empty keep, once a batch runs in it, ends otherwise.
+fn check_import<K: Keep>(
+    alloc: Global,
+    keep: &mut K,
+    file: &str,
+    wanted: Ended,
+) -> Result<(), Fail> {
+    check_prints_over(alloc, keep, &[BEGUN])?;
     let mut to = Written::new(alloc);
     let file = file.as_bytes();
-    let status = plant_import(alloc, &mut keep, file, &mut to.output, &mut to.error);
+    let status = plant_import(alloc, keep, file, &mut to.output, &mut to.error);
     to.check(status, wanted)
 }
 
 const IMPORTS: &[(&str, Ended)] = &[
     (
-        "key,owner,order,batch,segment,use,material,lot_owner,lot,sublot,amount,day
-K2,ACME,O,1,1,consumed,M,ACME,A,S1,40,11
-K3,ACME,O,1,1,produced,P,ACME,P1,S1,30,11
-K2,ACME,O,1,1,consumed,M,ACME,A,S1,40,11
-",
+        REPEATED_FILE,
         (
             "     1 accepted
      2 accepted
@@ -129,7 +199,8 @@ accepted 1 repeated 0 refused 0 bad 1 fault 0
 fn an_import_ends_with_its_status(rt: HostRuntime) -> Result<(), Fail> {
     for row in IMPORTS {
         let (file, wanted) = *row;
-        check_import(rt.alloc(), file, wanted)?;
+        check_import(rt.alloc(), &mut MemKeep::new(rt.alloc()), file, wanted)?;
+        check_import(rt.alloc(), &mut empty_tables(rt.alloc())?, file, wanted)?;
     }
     Ok(())
 }

@@ -7,6 +7,14 @@ use toll_sql::{OpenFault, SqlKeep};
 /// An office over tables in memory, as the program keeps one.
 pub type TableKeep = Remembering<SqlKeep<MemStore>>;
 
+/// An office over tables in memory that remembers nothing: each call is asked of the tables.
+pub type BareKeep = SqlKeep<MemStore>;
+
+/// Such an office without rows. Memory where there is none.
+pub fn bare_tables(alloc: Global) -> Result<BareKeep, OpenFault> {
+    SqlKeep::in_memory(alloc)
+}
+
 /// An office without rows. Memory where there is none.
 pub fn empty_tables(alloc: Global) -> Result<TableKeep, OpenFault> {
     match SqlKeep::in_memory(alloc) {

@@ -1,6 +1,6 @@
 //! Lines of what is asked, and what is said to each.
 use crate::stories::commands::plant_cmd;
-use crate::stories::keeps::{TableKeep, empty_tables, taken_over};
+use crate::stories::keeps::{BareKeep, TableKeep, bare_tables, empty_tables, taken_over};
 use crate::stories::said::{plant_said, said_text};
 use std::alloc::{AllocError, Global};
 use std::test::Fail;
@@ -99,6 +99,12 @@ pub fn check_said_over<T: Teller, K: Keep>(
 pub fn check_said<T: Teller>(alloc: Global, chapters: &[&[Line]]) -> Result<(), Fail> {
     check_said_over_lists::<T>(alloc, chapters)?;
     check_said_over_tables::<T>(alloc, chapters)
+}
+
+/// The same, and over tables of which nothing is remembered, so that edges are asked for by their joins.
+pub fn check_said_and_joined<T: Teller>(alloc: Global, chapters: &[&[Line]]) -> Result<(), Fail> {
+    check_said::<T>(alloc, chapters)?;
+    check_said_over::<T, BareKeep>(alloc, &mut bare_tables(alloc)?, chapters)
 }
 
 /// The same over an empty office that is kept in lists.

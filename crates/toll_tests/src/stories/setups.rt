@@ -111,3 +111,11 @@ pub const BOTH_RUN: &[Line] = &[
     ("do ACME X 1 start", "accepted"),
     ("do ACME Y 1 start", "accepted"),
 ];
+
+/// A file of three actuals, of which the last one repeats the first.
+pub const REPEATED_FILE: &str =
+    "key,owner,order,batch,segment,use,material,lot_owner,lot,sublot,amount,day
+K2,ACME,O,1,1,consumed,M,ACME,A,S1,40,11
+K3,ACME,O,1,1,produced,P,ACME,P1,S1,30,11
+K2,ACME,O,1,1,consumed,M,ACME,A,S1,40,11
+";

@@ -5,8 +5,8 @@ use toll_base::{
     StateCommand, Value,
 };
 use toll_stock::{
-    LotTotals, Totals, add_material, add_test, on_hand, receive, record_result, reject, release,
-    scrap, ship, split,
+    LotTotals, Totals, add_material, add_test, lot_totals, on_hand, receive, record_result, reject,
+    release, scrap, ship, split,
 };
 use toll_work::{
     BatchView, add_recipe, batch_view, cancel_order, close_batch, command_batch, next, open_batch,
@@ -85,6 +85,10 @@ pub fn dispositions(alloc: Global, slice: &Slice, lot: Name) -> (Decided, Decide
 
 pub fn amounts(slice: &Slice, lot: &Name, sublot: &Name) -> Option<u64> {
     on_hand(slice, lot, sublot)
+}
+
+pub fn one_lot(slice: &Slice, lot: &Name) -> Option<Totals> {
+    lot_totals(slice, lot)
 }
 
 pub fn totals(alloc: Global, slice: Slice) -> Result<LotTotals, AllocError> {

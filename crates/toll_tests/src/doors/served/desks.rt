@@ -43,12 +43,16 @@ impl Opener<MemKeep> for Shelf<'_> {
 
     ghost is_opened = { λ _. ⊤ };
 
-    fn open(&self, rt: &HostRuntime, _path: &str) -> Result<MemKeep, OfficeFault> {
+    fn lock(&mut self, rt: &HostRuntime, path: &str) -> Result<File, OfficeFault> {
+        take_lock(rt, path)
+    }
+
+    fn open(&mut self, rt: &HostRuntime, _path: &str) -> Result<MemKeep, OfficeFault> {
         add_one(&self.counts.opened);
         Ok(MemKeep::new(rt.alloc()))
     }
 
-    fn close(&self, _keep: MemKeep) {
+    fn close(&mut self, _keep: MemKeep) {
         add_one(&self.counts.closed);
     }
 }

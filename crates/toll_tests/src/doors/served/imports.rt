@@ -28,8 +28,8 @@ pub fn import_of_records(alloc: Global) -> Result<Vec<u8>, PackFault> {
     Asked::packed(alloc, &["import"], Some(file.as_bytes()))
 }
 
-// What is printed of this import, where so many records behind these come to that.
-fn push_lines(
+/// What is printed of this import, where so many records behind these come to that.
+pub fn push_lines(
     alloc: Global,
     text: &mut String,
     first: usize,

@@ -1,0 +1,96 @@
+//! An import that is given up, since its office was closed and can't be opened.
+use crate::doors::served::imports::{import_of_records, push_lines};
+use crate::doors::served::{ADD_OWNER, NO_MEMORY, Visit};
+use std::alloc::Global;
+use std::fs;
+use std::fs::File;
+use std::test::Fail;
+use toll_keep::{MemKeep, Refused, Refusing};
+use toll_parcels::{PackFault, Told};
+use toll_peers::{Door, Office, Progress};
+use toll_plant::GROUP_RECORDS;
+use toll_served::{Desk, OfficeFault, Opener, Place, take_lock};
+
+/// Opens one office, which refuses one change, and then none.
+#[derive(Drop)]
+struct Once {
+    is_opened: bool,
+}
+
+impl Opener<Refusing<MemKeep>> for Once {
+    ghost use Rattle.std.specs.Prelude.{⊤};
+
+    ghost is_opened = { λ _. ⊤ };
+
+    fn lock(&mut self, rt: &HostRuntime, path: &str) -> Result<File, OfficeFault> {
+        take_lock(rt, path)
+    }
+
+    fn open(&mut self, rt: &HostRuntime, _path: &str) -> Result<Refusing<MemKeep>, OfficeFault> {
+        if self.is_opened {
+            return Err(OfficeFault::Disk);
+        }
+        self.is_opened = true;
+        Ok(Refusing::new(MemKeep::new(rt.alloc()), Refused::Apply))
+    }
+
+    fn close(&mut self, _keep: Refusing<MemKeep>) {}
+}
+
+// What the plant is told: what came of the first group, and why no more act.
+fn wanted(alloc: Global) -> Result<Vec<u8>, PackFault> {
+    let mut text = String::new(alloc);
+    push_lines(alloc, &mut text, 1, GROUP_RECORDS, "refused 3 UnknownOwner")?;
+    text.push_str("accepted 0 repeated 0 refused 500 bad 0 fault 0\n")?;
+    let told = Told {
+        status: 3,
+        output: text.as_bytes(),
+        error: b"fault Disk\n",
+    };
+    told.packed(alloc)
+}
+
+// What one more turn comes to, where something is left.
+fn go_on<O: Office>(
+    alloc: Global,
+    office: &mut O,
+    progress: Progress<O::Task>,
+) -> Progress<O::Task> {
+    match progress {
+        Progress::Left(task) => office.go_on(alloc, task),
+        Progress::Told(bytes) => Progress::Told(bytes),
+    }
+}
+
+fn is_told<T: Drop>(progress: &Progress<T>, wanted: &[u8]) -> bool {
+    match progress {
+        Progress::Told(bytes) => bytes.as_slice() == wanted,
+        Progress::Left(_) => false,
+    }
+}
+
+// Whether that is told of the import, behind whose first group somebody meets a fault.
+fn is_given_up<O: Office>(alloc: Global, office: &mut O, asked: &[u8], wanted: &[u8]) -> bool {
+    let progress = office.answer(alloc, Door::Plant, asked);
+    let progress = go_on(alloc, office, progress);
+    let Visit { door, asked, .. } = ADD_OWNER;
+    let between = office.answer(alloc, door, asked);
+    let progress = go_on(alloc, office, progress);
+    is_told(&between, NO_MEMORY) && is_told(&progress, wanted)
+}
+
+#[test]
+fn what_came_of_an_import_that_is_given_up_is_told(rt: HostRuntime) -> Result<(), Fail> {
+    let asked = import_of_records(rt.alloc())?;
+    let wanted = wanted(rt.alloc())?;
+    let mut desk = Desk::new(Place {
+        rt: &rt,
+        path: "given_up.db",
+        opener: Once { is_opened: false },
+    });
+    let is_given_up = is_given_up(rt.alloc(), &mut desk, &asked, &wanted);
+    desk.close();
+    let _ = fs::remove_file(&rt, "given_up.db.lock");
+    assert!(rt; is_given_up);
+    Ok(())
+}

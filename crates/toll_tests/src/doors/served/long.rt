@@ -1,0 +1,76 @@
+//! What is long: a stock of more than 1,048,576 bytes that is told, and a file of just so many that is
+//! imported.
+use crate::doors::served::street::{Log, Street};
+use crate::doors::served::{Visit, tells};
+use crate::stories::{told_stock, with_much_stock};
+use std::alloc::{AllocError, Global};
+use std::test::Fail;
+use toll_keep::MemKeep;
+use toll_parcels::{Asked, PackFault, Told};
+use toll_peers::Door;
+use toll_served::{KeptOffice, Reply, answer_at, serve_keep};
+
+/// How long a file of actuals may be.
+const FILE_BYTES: usize = 1_048_576;
+
+const HEADER: &[u8] =
+    b"key,owner,order,batch,segment,use,material,lot_owner,lot,sublot,amount,day\n";
+
+/// What is told of one record that is none.
+const ONE_BAD: Told<'static> = Told {
+    status: 1,
+    output: b"     1 bad-record\naccepted 0 repeated 0 refused 0 bad 1 fault 0\n",
+    error: b"",
+};
+
+#[test]
+fn a_stock_of_a_megabyte_is_told(rt: HostRuntime) -> Result<(), Fail> {
+    let mut keep = with_much_stock(rt.alloc())?;
+    let stock = told_stock(rt.alloc())?;
+    let asked = Asked::packed(rt.alloc(), &["stock", "ACME"], None)?;
+    let reply = answer_at(rt.alloc(), &mut keep, Door::Plant, &asked)?;
+    assert!(rt; stock.len() > FILE_BYTES);
+    assert!(rt; is_whole(rt.alloc(), &reply, stock.as_bytes())?);
+    Ok(())
+}
+
+// Whether all of this output is told, of something that is done.
+fn is_whole(alloc: Global, reply: &Reply, output: &[u8]) -> Result<bool, PackFault> {
+    let told = Told {
+        status: 0,
+        output,
+        error: b"",
+    };
+    Ok(tells(reply, &told.packed(alloc)?, true))
+}
+
+// A file that is as long as one may be, of one record that is none.
+fn longest_file(alloc: Global) -> Result<Vec<u8>, AllocError> {
+    let mut file = Vec::from_slice(alloc, HEADER)?;
+    while file.len() < FILE_BYTES {
+        file.push(b'x')?;
+    }
+    Ok(file)
+}
+
+#[test]
+fn the_longest_file_is_imported_whole(rt: HostRuntime) -> Result<(), Fail> {
+    let file = longest_file(rt.alloc())?;
+    let asked = Asked::packed(rt.alloc(), &["import"], Some(&file))?;
+    let told = ONE_BAD.packed(rt.alloc())?;
+    let visit = Visit {
+        door: Door::Plant,
+        asked: &asked,
+        told: &told,
+    };
+    let keep = MemKeep::new(rt.alloc());
+    let log = Log::new();
+    let _ = serve_keep(
+        rt.alloc(),
+        &mut Street::new(&[visit], &log),
+        &mut KeptOffice { keep },
+        1,
+    );
+    assert_eq!(rt; log.told.get(), 1);
+    Ok(())
+}

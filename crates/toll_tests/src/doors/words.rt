@@ -1,0 +1,114 @@
+//! Words of the plant over an office in a file that has no server.
+use std::fs;
+use std::fs::File;
+use std::test::Fail;
+use toll_keep::MemKeep;
+use toll_served::{Connector, Noted, OfficeFault, Opener, Place, do_words, take_lock};
+
+/// Opens an office without rows, and counts how many.
+#[derive(Drop)]
+struct Counting {
+    opened: u32,
+}
+
+impl Opener<MemKeep> for Counting {
+    ghost use Rattle.std.specs.Prelude.{⊤};
+
+    ghost is_opened = { λ _. ⊤ };
+
+    fn lock(&mut self, rt: &HostRuntime, path: &str) -> Result<File, OfficeFault> {
+        take_lock(rt, path)
+    }
+
+    fn open(&mut self, rt: &HostRuntime, _path: &str) -> Result<MemKeep, OfficeFault> {
+        self.opened = self.opened.saturating_add(1);
+        Ok(MemKeep::new(rt.alloc()))
+    }
+
+    fn close(&mut self, _keep: MemKeep) {}
+}
+
+/// Connects to no server.
+#[derive(Drop)]
+struct NoServer;
+
+impl Connector<Noted<File>> for NoServer {
+    fn connect(&mut self, _rt: &HostRuntime, _path: &str) -> Option<Noted<File>> {
+        None
+    }
+}
+
+/// What is written, the exit status, and how many offices were opened.
+#[derive(Clone, Copy)]
+struct End {
+    output: &'static str,
+    error: &'static str,
+    status: u64,
+    opened: u32,
+}
+
+const ENDS: &[(&[&str], End)] = &[
+    (
+        &["owner-add", "ACME", "ACMEKEY1"],
+        End {
+            output: "accepted\n",
+            error: "",
+            status: 0,
+            opened: 1,
+        },
+    ),
+    (
+        &["stock", "ACME"],
+        End {
+            output: "refused 3 UnknownOwner\n",
+            error: "",
+            status: 1,
+            opened: 1,
+        },
+    ),
+    (
+        &["stock"],
+        End {
+            output: "",
+            error: "usage: toll --db FILE stock OWNER\nNo value is empty, is help or begins with a dash: a negative one is written M5.\n",
+            status: 2,
+            opened: 0,
+        },
+    ),
+];
+
+const LOCKED: End = End {
+    output: "",
+    error: "fault Locked\n",
+    status: 3,
+    opened: 0,
+};
+
+// Whether these words come to such an end.
+fn come_to(rt: &HostRuntime, words: &[&str], end: &End) -> bool {
+    let mut place = Place {
+        rt,
+        path: "words.db",
+        opener: Counting { opened: 0 },
+    };
+    let mut output = Vec::new(rt.alloc());
+    let mut error = Vec::new(rt.alloc());
+    let status = do_words(&mut place, &mut NoServer, words, &mut output, &mut error);
+    (status, place.opener.opened) == (end.status, end.opened)
+        && output.as_slice() == end.output.as_bytes()
+        && error.as_slice() == end.error.as_bytes()
+}
+
+#[test]
+fn words_of_the_plant_end_with_their_status(rt: HostRuntime) -> Result<(), Fail> {
+    for row in ENDS {
+        let (words, end) = *row;
+        assert!(rt; come_to(&rt, words, &end), "at {words:?}");
+    }
+    let lock = take_lock(&rt, "words.db")?;
+    let is_locked = come_to(&rt, &["stock", "ACME"], &LOCKED);
+    lock.unlock()?;
+    fs::remove_file(&rt, "words.db.lock")?;
+    assert!(rt; is_locked);
+    Ok(())
+}

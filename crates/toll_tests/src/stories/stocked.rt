@@ -1,0 +1,67 @@
+//! An office with much in stock.
+use crate::stories::plant_cmd;
+use std::alloc::{AllocError, Global};
+use std::test::Fail;
+use toll_base::{Amount, Day, Name};
+use toll_desk::{PlantCmd, PlantReply, plant_do};
+use toll_keep::MemKeep;
+
+/// The numbers of its sublots, each of five digits.
+const FIRST: u64 = 10_000;
+
+const LAST: u64 = 23_000;
+
+const WITH_MATERIAL: [&[&str]; 2] = [
+    &["owner-add", "ACME", "ACMEKEY1"],
+    &["material-add", "ACME", "M", "kg"],
+];
+
+// Fails where this command is not accepted.
+fn accept(alloc: Global, keep: &mut MemKeep, command: &PlantCmd) -> Result<(), Fail> {
+    match plant_do(alloc, keep, command) {
+        PlantReply::Accepted => Ok(()),
+        _ => Err("not accepted".into()),
+    }
+}
+
+// A receipt of the sublot with this number.
+fn receipt(alloc: Global, number: u64) -> Result<PlantCmd, Fail> {
+    let sublot = format!(in alloc; "S{number}")?;
+    let sublot = Name::parse(sublot.as_bytes())?;
+    Ok(PlantCmd::Receive {
+        owner: Name::parse(b"ACME")?,
+        key: sublot,
+        material: Name::parse(b"M")?,
+        lot: Name::parse(b"A")?,
+        sublot,
+        amount: Amount::new(1)?,
+        day: Day::new(10)?,
+    })
+}
+
+/// An office whose stock is told in more than 1,048,576 bytes.
+pub fn with_much_stock(alloc: Global) -> Result<MemKeep, Fail> {
+    let mut keep = MemKeep::new(alloc);
+    for words in WITH_MATERIAL {
+        if let Some(command) = plant_cmd(alloc, words)? {
+            accept(alloc, &mut keep, &command)?;
+        }
+    }
+    for number in FIRST..LAST {
+        accept(alloc, &mut keep, &receipt(alloc, number)?)?;
+    }
+    Ok(keep)
+}
+
+/// What is told of its stock.
+pub fn told_stock(alloc: Global) -> Result<String, AllocError> {
+    let mut text = String::new(alloc);
+    for number in FIRST..LAST {
+        text.push_str("A                S")?;
+        let line = format!(in alloc;
+            "{number}           M                quarantined              1 kg\n"
+        )?;
+        text.push_str(line.as_str())?;
+    }
+    Ok(text)
+}
