@@ -1,0 +1,72 @@
+"""Folders for what is made, which go at the end, also where a signal ends this process; what a kill left goes with the next."""
+import contextlib
+import fcntl
+import os
+import shutil
+import signal
+import sys
+import tempfile
+import time
+from collections.abc import Iterator
+from types import FrameType
+
+from .failure import Failure
+
+PREFIX = ".hilpoven."
+LEFT_SINCE = 60  # seconds since a folder was made that nobody works in
+ENDING = (signal.SIGHUP, signal.SIGINT, signal.SIGTERM)
+
+
+def end_by_signals() -> None:
+    """Has the signals that end a program raise SystemExit, so that what it made is removed."""
+    def leave(number: int, _: FrameType | None) -> None:
+        for it in ENDING:
+            signal.signal(it, signal.SIG_IGN)  # a second one would break off the removing
+        sys.exit(128 + number)
+
+    for it in ENDING:
+        signal.signal(it, leave)
+
+
+@contextlib.contextmanager
+def room(parent: str) -> Iterator[str]:
+    """A folder in `parent`, for this user alone, that is removed at the end."""
+    try:
+        remove_left(parent)
+        folder = tempfile.TemporaryDirectory(prefix=PREFIX, dir=parent, ignore_cleanup_errors=True)
+    except OSError as error:
+        raise Failure(f"nothing can be made in {parent}: {error.strerror}") from error
+    with folder as path, held(path):
+        yield path
+
+
+@contextlib.contextmanager
+def held(folder: str) -> Iterator[None]:
+    """Holds a folder, which shows that somebody works in it; fails with BlockingIOError where another holds it."""
+    descriptor = os.open(folder, os.O_RDONLY | os.O_DIRECTORY | os.O_CLOEXEC | os.O_NOFOLLOW)
+    try:
+        fcntl.flock(descriptor, fcntl.LOCK_EX | fcntl.LOCK_NB)
+        yield
+    finally:
+        os.close(descriptor)
+
+
+def remove_left(parent: str) -> None:
+    """Removes the folders of this user that a kill left, which nobody holds."""
+    found = []
+    with contextlib.suppress(PermissionError):
+        found = [os.path.join(parent, it) for it in os.listdir(parent) if it.startswith(PREFIX)]
+    for folder in found:
+        with contextlib.suppress(OSError), held(folder):
+            made = os.stat(folder)
+            if made.st_uid == os.geteuid() and made.st_mtime < time.time() - LEFT_SINCE:
+                shutil.rmtree(folder)
+
+
+def sync(path: str) -> None:
+    """Has a file, or the names in a folder, on the disk."""
+    descriptor = os.open(path, os.O_RDONLY | os.O_CLOEXEC)
+    try:
+        os.fsync(descriptor)
+    finally:
+        os.close(descriptor)

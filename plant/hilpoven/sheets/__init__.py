@@ -1,0 +1,1 @@
+"""Sheets: what a spreadsheet saved, as records of actuals, receipts or results."""

@@ -1,0 +1,271 @@
+"""What the tests share: the built program, offices in folders of their own, and the plant's command over them."""
+import contextlib
+import http.client
+import json
+import os
+import pathlib
+import re
+import shutil
+import sqlite3
+import subprocess
+import sys
+import tempfile
+import time
+from collections.abc import Callable, Iterator
+from typing import NamedTuple
+
+import pytest
+from click.testing import CliRunner
+
+ROOT = pathlib.Path(__file__).resolve().parent.parent.parent
+TOLL = os.environ.get("TOLL", "")
+HILPOVEN = ROOT / "plant" / "bin" / "hilpoven"
+PATIENCE = 60  # seconds
+
+sys.path.insert(0, str(ROOT / "plant"))
+from hilpoven import settings as site  # noqa: E402
+from hilpoven.cli import hilpoven  # noqa: E402
+
+
+class Told(NamedTuple):
+    """What a program told."""
+
+    status: int
+    out: str
+    err: str = ""
+
+
+# An office at work: each line is accepted, or answered 200.
+AT_WORK = """
+owner-add ACME ACMEKEY1
+owner-add BOLT BOLTKEY1
+unit-add KETTLE
+unit-add MIXER
+material-add HOUSE WATER liter
+material-add ACME SALT kg
+material-add ACME BRINE kg
+test-add ACME BRINE DENSITY 1100 1250
+test-add ACME BRINE PH M5 9
+recipe-add ACME BRINE-10 2
+require ACME BRINE-10 1 consumed ACME SALT 300
+require ACME BRINE-10 1 consumed HOUSE WATER 700
+require ACME BRINE-10 2 produced ACME BRINE 1000
+receive HOUSE K1 WATER W-101 TANK 10000 101
+release W-101
+receive ACME K1 SALT S-1 BAY1 5000 101
+> ACME POST /lots/S-1/release
+> ACME POST /orders {"order":"O-1","recipe":"BRINE-10","batches":3}
+open ACME O-1 KETTLE
+do ACME O-1 1 start
+actual K2 ACME O-1 1 1 consumed SALT ACME S-1 BAY1 300 101
+actual K3 ACME O-1 1 1 consumed WATER HOUSE W-101 TANK 700 101
+actual K4 ACME O-1 1 2 produced BRINE ACME B-1 TOTE1 980 101
+result ACME B-1 DENSITY 1180 102
+split ACME K6 B-1 TOTE1 TOTE2 80 102
+material-add BOLT PIGMENT kg
+receive BOLT K1 PIGMENT P-1 BAY2 80 101
+"""
+
+
+@pytest.fixture(scope="session")
+def program() -> str:
+    """The built program: that of TOLL, or of this checkout, where `./toll` builds it first if it isn't built."""
+    if not TOLL and subprocess.run([ROOT / "toll", "script"], stdin=subprocess.DEVNULL).returncode:
+        pytest.exit("./toll can't be run", 3)
+    found = shutil.which(TOLL or ROOT / "crates" / "toll" / "out" / "toll")
+    if not found:
+        pytest.exit(f"{TOLL} is no program", 3)
+    return os.path.abspath(found)
+
+
+class Server:
+    """A server of an office, at a port that it takes itself."""
+
+    def __init__(self, program: str, db: pathlib.Path) -> None:
+        self.it = subprocess.Popen([program, "--db", db, "serve", "0", "1000000"], stdout=subprocess.PIPE, stderr=subprocess.PIPE, text=True)
+        self.port = int(self.it.stdout.readline().split()[1])
+
+    def ask(self, owner: str, method: str, path: str, body: str = "") -> tuple[int, dict]:
+        """The status and the body of the reply to an owner's request."""
+        peer = http.client.HTTPConnection("127.0.0.1", self.port, timeout=PATIENCE)
+        with contextlib.closing(peer):
+            peer.request(method, path, body or None, {"toll-owner": owner, "toll-key": f"{owner}KEY1"})
+            reply = peer.getresponse()
+            return reply.status, json.loads(reply.read() or b"{}")
+
+    def end(self) -> str:
+        """Ends it, and gives what it wrote on standard error."""
+        self.it.terminate()
+        return self.it.communicate()[1]
+
+
+class Plant:
+    """An office's file in a folder of its own, with the program and the plant's command over it."""
+
+    def __init__(self, program: str, folder: pathlib.Path) -> None:
+        self.program, self.folder, self.db = program, folder, folder / "office.db"
+        self.journal = folder / "office.journal"
+
+    def toll(self, *words: object, db: pathlib.Path | None = None) -> Told:
+        """What `toll` tells of these words."""
+        done = subprocess.run([self.program, "--db", db or self.db, *map(str, words)], capture_output=True, text=True, timeout=PATIENCE)
+        return Told(done.returncode, done.stdout, done.stderr)
+
+    def run(self, *words: object, stdin: str | None = None, db: pathlib.Path | None = None, options: tuple[str, ...] = ()) -> Told:
+        """What the plant's command tells of these words, called within this process."""
+        umask = os.umask(0o077)
+        try:
+            done = CliRunner(mix_stderr=False, env={"TOLL": self.program}).invoke(hilpoven, ["--db", str(db or self.db), *options, *map(str, words)], input=stdin)
+        finally:
+            os.umask(umask)
+        if done.exception and not isinstance(done.exception, SystemExit):
+            raise done.exception
+        return Told(done.exit_code, done.stdout, done.stderr)
+
+    def begun(self, *words: object, **more: object) -> subprocess.Popen:
+        """The plant's command, begun as a process of its own."""
+        return subprocess.Popen([HILPOVEN, "--db", self.db, *map(str, words)], stdout=subprocess.PIPE, stderr=subprocess.PIPE, text=True,
+                                env={**os.environ, "TOLL": self.program}, **more)
+
+    def serve(self) -> contextlib.AbstractContextManager[Server]:
+        """A server of the office, which is ended at the end."""
+        @contextlib.contextmanager
+        def served():
+            server = Server(self.program, self.db)
+            try:
+                yield server
+            finally:
+                server.end()
+        return served()
+
+    def lay(self, lines: str) -> "Plant":
+        """Gives each line to the office: a command of the plant, or a request of an owner."""
+        if not self.db.exists():
+            assert self.toll("stock", "HOUSE").status == 0
+        with self.serve() as server:
+            for line in filter(None, lines.splitlines()):
+                if line.startswith("> "):
+                    told = server.ask(*line[2:].split(" ", 3))
+                    assert told[0] == 200, (line, told)
+                else:
+                    told = self.toll(*line.split())
+                    assert told == Told(0, "accepted\n"), (line, told)
+        return self
+
+    def rows(self, sql: str, db: pathlib.Path | None = None) -> list[tuple]:
+        """Rows of the file with its log, read from a copy."""
+        copy = self.folder / "looked-at.db"
+        for end in ("", "-wal"):
+            with contextlib.suppress(FileNotFoundError):
+                shutil.copyfile(f"{db or self.db}{end}", f"{copy}{end}")
+        try:
+            with contextlib.closing(sqlite3.connect(copy)) as base:
+                return base.execute(sql).fetchall()
+        finally:
+            for end in ("", "-wal", "-shm"):
+                pathlib.Path(f"{copy}{end}").unlink(missing_ok=True)
+
+    def content(self, db: pathlib.Path | None = None) -> dict[str, list[tuple]]:
+        """All rows of all tables, but for the keys of owners."""
+        names = [it for it, in self.rows("SELECT name FROM sqlite_master WHERE type = 'table' ORDER BY name", db)]
+        return {it: sorted(self.rows(f"SELECT {'owner' if it == 'owners' else '*'} FROM {it}", db)) for it in names}
+
+    def lines(self) -> list[dict]:
+        """The lines of the journal."""
+        return [json.loads(it) for it in self.journal.read_text().splitlines()] if self.journal.exists() else []
+
+
+# The command as a process of its own, and programs that stand in for `toll`
+
+def environment(**more: object) -> dict[str, str]:
+    """The environment with these variables."""
+    return {**os.environ, **{name: str(it) for name, it in more.items()}}
+
+
+def command(*words: object, **more: object) -> subprocess.CompletedProcess:
+    """What the plant's command tells of these words."""
+    return subprocess.run([HILPOVEN, *map(str, words)], **{"capture_output": True, "text": True, "timeout": PATIENCE, **more})
+
+
+def is_told(done: subprocess.CompletedProcess, status: int) -> bool:
+    """Whether the command ended with this status, and told why in a line, with advice at most under it."""
+    first, *rest = done.stderr.splitlines() or [""]
+    is_failure = first.startswith(("hilpoven: ", "Usage: ", "row "))
+    return done.returncode == status and done.stdout == "" and is_failure and len(rest) <= 5 and "Traceback" not in done.stderr
+
+
+def script(path: pathlib.Path, text: str) -> pathlib.Path:
+    """A program of these lines of a shell."""
+    path.write_text(f"#!/bin/sh\n{text}\n")
+    path.chmod(0o755)
+    return path
+
+
+def eventually(holds: Callable[[], bool], seconds: float = 20) -> bool:
+    """Whether it comes to hold within so many seconds."""
+    end = time.monotonic() + seconds
+    while not holds():
+        if time.monotonic() > end:
+            return False
+        time.sleep(0.02)
+    return True
+
+
+def make_office(path: pathlib.Path, **rows: list[tuple]) -> pathlib.Path:
+    """A file with the office's tables, and these rows of them, in the order of each table's columns."""
+    tables = re.findall(r'"(CREATE TABLE [^"]*)"', (ROOT / "crates" / "toll_sql" / "src" / "table_kind.rt").read_text())
+    assert len(tables) == 14
+    with contextlib.closing(sqlite3.connect(path)) as base, base:
+        for it in tables:
+            base.execute(it)
+        for name, lines in {"meta": [("toll", 2)], **rows}.items():
+            for line in lines:
+                base.execute(f"INSERT INTO {name} VALUES ({','.join('?' * len(line))})", line)
+    return path
+
+
+@pytest.fixture(autouse=True)
+def no_site(monkeypatch, tmp_path):
+    """The machine's own settings are not looked at."""
+    monkeypatch.setattr(site.load, "__defaults__", (tmp_path / "hilpoven.toml", ""))
+    monkeypatch.setattr(site, "OFFICES", tmp_path)
+
+
+@pytest.fixture(scope="session")
+def laid(program, tmp_path_factory) -> Plant:
+    """An office at work, which no test changes."""
+    return Plant(program, tmp_path_factory.mktemp("laid")).lay(AT_WORK)
+
+
+@pytest.fixture
+def plant(program, tmp_path) -> Plant:
+    """A folder with no office yet."""
+    return Plant(program, tmp_path)
+
+
+def copied(laid: Plant, plant: Plant) -> Plant:
+    """A copy of an office in the folder of another."""
+    for end in ("", "-wal"):
+        if pathlib.Path(f"{laid.db}{end}").exists():
+            shutil.copyfile(f"{laid.db}{end}", f"{plant.db}{end}")
+    return plant
+
+
+@pytest.fixture
+def at_work(laid, plant) -> Plant:
+    """An office at work, for one test."""
+    return copied(laid, plant)
+
+
+@pytest.fixture
+def open_folder() -> Iterator[pathlib.Path]:
+    """A folder that other users reach: pytest's own are closed to them whenever it is begun once more."""
+    with tempfile.TemporaryDirectory(prefix="hilpoven-test.") as folder:
+        os.chmod(folder, 0o755)
+        yield pathlib.Path(folder)
+
+
+@pytest.fixture
+def reachable(laid, open_folder) -> Plant:
+    """An office at work in such a folder."""
+    return copied(laid, Plant(laid.program, open_folder))

@@ -1,0 +1,168 @@
+"""What is wrong with papers: held against queries, against `toll`, and against what their reader may know."""
+import contextlib
+import pathlib
+import re
+import sqlite3
+from typing import Any
+
+import figures
+from offices import HOUSE, Filled
+
+FIGURE = 10_000  # numbers from here on are figures: no other number of a page is so large
+
+
+class Papers:
+    """The papers of an office, made and looked at."""
+
+    def __init__(self, office: Filled, prints: bool) -> None:
+        self.office, self.plant, self.prints, self.count = office, office.plant, prints, 0
+        self.base = office.plant.folder / "looked-at.db"
+        office.plant.rows("SELECT 1")  # the file is opened once before, so that it is as `toll` leaves it
+
+    def make(self, *words: object) -> pathlib.Path:
+        """The folder of a paper."""
+        self.count += 1
+        folder = self.plant.folder / f"papers{self.count}"
+        told = self.plant.run("papers", *words, folder, *(() if self.prints else ("--no-pdf",)))
+        assert (told.status, told.err) == (0, ""), (words, told)
+        return folder
+
+    def rows(self, sql: str, **words: Any) -> list[tuple]:
+        """The rows of a query over the file."""
+        if not self.base.exists():
+            for end in ("", "-wal"):
+                with contextlib.suppress(FileNotFoundError):
+                    pathlib.Path(f"{self.base}{end}").write_bytes(pathlib.Path(f"{self.plant.db}{end}").read_bytes())
+        with contextlib.closing(sqlite3.connect(self.base)) as base:
+            return base.execute(sql, words).fetchall()
+
+    def look_at_table(self, folder: pathlib.Path, name: str, wanted: list[tuple], columns: int = 99) -> None:
+        """A table beside a paper has these rows, and the paper has what stands in them."""
+        found = [it[:columns] for it in figures.read_csv(folder / f"{name}.csv")]
+        assert sorted(found) == figures.as_texts(wanted), (folder, name)
+
+    def look_at_page(self, folder: pathlib.Path, paper: str, without: tuple[str, ...] = ()) -> None:
+        """Each figure and name of the tables is on the page and on the paper."""
+        wanted = {word for it in folder.glob("*.csv") if it.stem not in without for word in figures.words_of_table(it)}
+        pages = [figures.words_of_page(folder / f"{paper}.html"), *([figures.words_of_pdf(folder / f"{paper}.pdf")] if self.prints else [])]
+        for words in pages:
+            assert wanted <= words, (folder, wanted - words)
+
+    def look_for_figures(self, folder: pathlib.Path, paper: str, known: set[str]) -> None:
+        """No figure is on a page that isn't in its tables, or known otherwise."""
+        cells = {word for it in folder.glob("*.csv") for row in figures.read_csv(it) for cell in row for word in re.findall(r"\d+", cell)}
+        pages = [figures.words_of_page(folder / f"{paper}.html"), *([figures.words_of_pdf(folder / f"{paper}.pdf")] if self.prints else [])]
+        for words in pages:
+            numbers = {it for it in words if it.isdecimal() and int(it) >= FIGURE}
+            assert numbers <= cells | known, (folder, numbers - cells - known)
+
+    def foreign(self, owner: str) -> set[str]:
+        """The names that an owner's papers may not have: those of others, and of HOUSE what the owner's batches had nothing to do with."""
+        others = [it for it in self.office.owners if it != owner]
+        touched = {it for it, in self.rows("SELECT lot FROM moves WHERE owner = :owner AND lot_owner = 'HOUSE'", owner=owner)}
+        found = {*others, *(it for whose in others for it in [*self.office.materials[whose], *self.office.lots[whose], *self.office.batches[whose]])}
+        found |= {it for it in self.office.lots[HOUSE] if it not in touched} | set(self.office.batches[HOUSE])
+        found |= {test for (whose, _), test in self.office.tests.items() if whose != owner}
+        found |= {it for it, in self.rows("SELECT unit FROM batches WHERE owner <> :owner EXCEPT SELECT unit FROM batches WHERE owner = :owner", owner=owner)}
+        return found | {f"{it}KEY1" for it in self.office.owners}
+
+    def look_for_others(self, folder: pathlib.Path, owner: str) -> None:
+        """No name of others is in an owner's folder, in no file, in no text of a PDF and in nothing that is told of it."""
+        foreign = self.foreign(owner)
+        for file in filter(pathlib.Path.is_file, folder.rglob("*")):
+            texts = [file.read_bytes().decode(errors="replace")]
+            if file.suffix == ".pdf":
+                texts += [figures.text_of_pdf(file), figures.metadata_of_pdf(file)]
+            for text in texts:
+                found = foreign & set(re.findall(r"[A-Z0-9-]+", text))
+                assert not found, (file, found)
+                assert "office.db" not in text, file
+
+    def recall(self, owner: str, lot: str) -> None:
+        """The papers of a recall."""
+        folder, key = self.make("recall", owner, lot), {"owner": owner, "lot": lot}
+        told = self.plant.toll("recall", owner, lot).out
+        assert (folder / "plant" / "recall.txt").read_text() == told
+        wanted = {name: self.rows(sql, **key) for name, sql in figures.RECALL.items()}
+        lines = [it.split() for it in told.splitlines()[1:]]
+        rows = [(str(it[0]), it[1], it[2], it[4], str(it[12]), str(it[10])) for it in wanted["lots"]]
+        assert sorted(map(tuple, lines)) == sorted(rows) and all(it[13] == 0 for it in wanted["lots"])
+        concerned = {it[1] for it in wanted["lots"]} | {it[1] for it in wanted["flows"]}
+        owners = sorted(it.name for it in (folder / "owners").iterdir()) if (folder / "owners").exists() else []
+        assert owners == sorted(concerned - {HOUSE})
+        self.part_of_recall(folder / "plant", wanted)
+        for it in owners:
+            self.part_of_recall(folder / "owners" / it, wanted, it)
+            self.look_for_others(folder / "owners" / it, it)
+            self.look_for_figures(folder / "owners" / it, "recall", set())
+
+    def part_of_recall(self, folder: pathlib.Path, wanted: dict[str, list[tuple]], owner: str = "") -> None:
+        """The paper of one reader has the rows of that reader."""
+        place = {"lots": 1, "sublots": 1, "shipments": 1, "flows": 1, "released": 0, "running": 0, "sums": 0}
+        columns = {"released": 5, "running": 4}
+        for name, rows in wanted.items():
+            if owner:
+                rows = [it if name == "flows" else (*it[:place[name]], *it[place[name] + 1:]) for it in rows if it[place[name]] == owner]
+            self.look_at_table(folder, name, rows, columns.get(name, 99) - bool(owner and name in columns))
+        batches = {(it[0], *([] if owner else [it[1]]), it[2], it[3]) for it in wanted["flows"] if not owner or it[1] == owner}
+        found = [tuple(it[:3 if owner else 4]) for it in figures.read_csv(folder / "batches.csv")]
+        assert sorted(found) == sorted(tuple(map(str, it)) for it in batches)
+        self.look_at_page(folder, "recall", ("flows",))
+
+    def batch(self, owner: str, order: str) -> None:
+        """The record of a batch."""
+        folder, key = self.make("batch", owner, order, 1), {"owner": owner, "order": order, "number": 1}
+        for name, sql in figures.BATCH.items():
+            self.look_at_table(folder, name, self.rows(sql, **key))
+        told = [it.split() for it in self.plant.toll("batch", owner, order, 1).out.splitlines()[1:]]
+        assert sorted(told) == sorted(it[:6] for it in figures.read_csv(folder / "requirements.csv"))
+        self.look_at(folder, "batch", owner)
+
+    def certificate(self, owner: str, lot: str) -> None:
+        """The certificate of a lot: it says that it isn't released unless it is."""
+        folder = self.make("certificate", owner, lot)
+        self.look_at_table(folder, "tests", self.rows(figures.TESTS, owner=owner, lot=lot))
+        (disposition,), = self.rows("SELECT disposition FROM lots WHERE owner = :owner AND lot = :lot", owner=owner, lot=lot)
+        for text in [(folder / "certificate.html").read_text(), *([figures.text_of_pdf(folder / "certificate.pdf")] if self.prints else [])]:
+            assert ("not released" in text, "This lot is released" in text) == (disposition != 1, disposition == 1)
+        self.look_at(folder, "certificate", owner)
+
+    def lot(self, owner: str, lot: str) -> None:
+        """The card of a lot."""
+        folder, key = self.make("lot", owner, lot), {"owner": owner, "lot": lot}
+        for name, sql in figures.LOT.items():
+            self.look_at_table(folder, name, self.rows(sql, **key), 11)
+        first, = [it for it in self.rows(figures.RECALL["lots"], **key) if it[0] == 0]
+        beside = {way: {(it.split()[1], it.split()[2]) for it in self.plant.toll("trace", owner, lot, way).out.splitlines() if it.split()[0] == "1"} for way in ("back", "forward")}
+        found = figures.read_csv(folder / "beside.csv")
+        assert {(way, *it) for way, lots in (("made of", beside["back"]), ("went into", beside["forward"])) for it in lots} == set(map(tuple, found))
+        assert [it[11] for it in figures.read_csv(folder / "ledger.csv")][-1:] == [str(first[12])]
+        page = figures.words_of_page(folder / "lot.html")
+        assert {str(it) for it in first[7:14]} <= page
+        near = [(whose, name) for whose, name in {*beside["back"], *beside["forward"]} if owner in (whose, HOUSE)]
+        held = {str(sum(amount for _, amount in self.rows(figures.LOT["sublots"], owner=whose, lot=name))) for whose, name in near}
+        self.look_at(folder, "lot", owner, {str(it) for it in first[7:14]} | held)
+
+    def statement(self, owner: str, first: int, last: int) -> None:
+        """The statement of an owner."""
+        folder, key = self.make("statement", owner, "--from", first, "--to", last), {"owner": owner, "first": first, "last": last}
+        wanted = {name: self.rows(sql, **key) for name, sql in figures.STATEMENT.items()}
+        wanted["lots"] = [it for it in wanted["lots"] if any(it[3:])]
+        sums: dict[tuple, list[int]] = {}
+        for it in wanted["lots"]:
+            sums[it[:2]] = [a + b for a, b in zip(sums.get(it[:2], [0] * 8), it[3:])]
+            assert it[3] + it[4] + it[5] - it[6] - it[7] - it[8] == it[9]
+        wanted["sums"] = [(*it, *amounts) for it, amounts in sums.items()]
+        for name, rows in wanted.items():
+            self.look_at_table(folder, name, rows)
+        if last == 9_999_999:
+            stock = [it.split() for it in self.plant.toll("stock", owner).out.splitlines()]
+            assert sum(int(it[4]) for it in stock) == sum(it[9] for it in wanted["lots"])
+        self.look_at(folder, "statement", owner, {str(first), str(last)})
+
+    def look_at(self, folder: pathlib.Path, paper: str, owner: str, known: set[str] = frozenset()) -> None:
+        """A paper of one reader has what its tables have; an owner's has nothing of others."""
+        self.look_at_page(folder, paper, ("beside",))
+        if owner != HOUSE:
+            self.look_for_others(folder, owner)
+            self.look_for_figures(folder, paper, known)

@@ -1,0 +1,149 @@
+"""Offices that are filled by chance, of which papers are made."""
+import pathlib
+import random
+import string
+
+from conftest import Plant
+
+HOUSE = "HOUSE"
+HEADER = "key,owner,order,batch,segment,use,material,lot_owner,lot,sublot,amount,day"
+MEASURES = ("kg", "liter", "piece")
+ROUNDS = 3
+
+
+class Filled:
+    """An office of one to four owners, with batches of two segments that stay open over several rounds."""
+
+    def __init__(self, program: str, folder: pathlib.Path, seed: int) -> None:
+        folder.mkdir(exist_ok=True)
+        self.plant, self.chance = Plant(program, folder), random.Random(seed)
+        self.lots_of_batch = 14 if seed % 10 == 3 else 2
+        self.owners = [self.name() for _ in range(self.chance.randint(1, 4))]
+        self.materials: dict[str, list[str]] = {}
+        self.tests: dict[tuple[str, str], str] = {}
+        self.lots: dict[str, dict[str, str]] = {}
+        self.batches: dict[str, list[str]] = {}
+        self.count = 0
+        self.fill()
+
+    def name(self) -> str:
+        """A name that nothing else has."""
+        return "".join(self.chance.choices(string.ascii_uppercase, k=self.chance.choice((9, 10, 16))))
+
+    def day(self) -> int:
+        """A day: mostly a date, and now and then a number that is none."""
+        return self.chance.choice((261101, 261107, 261112, 261119, 261126, 261130, 7, 999_999))
+
+    def tell(self, *words: object) -> str:
+        """What a command is told; a refusal is part of the day."""
+        told = self.plant.toll(*words)
+        assert told.status in (0, 1), (words, told)
+        return told.out
+
+    def ask(self, requests: list[tuple[str, str, str]]) -> None:
+        """Asks a server: who, the path and the body of each."""
+        with self.plant.serve() as server:
+            for owner, path, body in requests:
+                server.ask(owner, "POST", path, body)
+
+    def fill(self) -> None:
+        """All of it."""
+        self.tell("unit-add", "U0")
+        for owner in self.owners:
+            self.tell("owner-add", owner, f"{owner}KEY1")
+        for owner in [HOUSE, *self.owners]:
+            self.set_up(owner)
+        for owner in [HOUSE, *self.owners]:
+            self.add_recipe(owner)
+        self.release()
+        for turn in range(ROUNDS):
+            self.work(turn)
+        self.finish()
+
+    def set_up(self, owner: str) -> None:
+        """The materials of an owner, some with a test, and lots of them."""
+        self.materials[owner] = [self.name(), self.name()]
+        self.lots[owner], self.batches[owner] = {}, []
+        for material in self.materials[owner]:
+            self.tell("material-add", owner, material, self.chance.choice(MEASURES))
+            if self.chance.random() < 0.5:
+                self.tests[owner, material] = self.name()
+                self.tell("test-add", owner, material, self.tests[owner, material], "M50", "150")
+        for number in range(3):
+            lot, material = self.name(), self.chance.choice(self.materials[owner])
+            for part in range(self.chance.randint(1, 2)):
+                self.tell("receive", owner, f"R{number}{part}", material, lot, f"S{part}", self.chance.randint(200_000, 900_000), self.day())
+            self.lots[owner][lot] = material
+
+    def add_recipe(self, owner: str) -> None:
+        """A recipe of two segments, which takes the owner's materials and HOUSE's, and makes the owner's."""
+        self.tell("recipe-add", owner, "R", 2)
+        for segment in (1, 2):
+            for source in sorted({owner, HOUSE}):
+                for material in self.materials[source]:
+                    self.tell("require", owner, "R", segment, "consumed", source, material, self.chance.randint(10_000, 90_000))
+            for material in self.materials[owner]:
+                self.tell("require", owner, "R", segment, "produced", owner, material, self.chance.randint(10_000, 900_000))
+
+    def release(self) -> None:
+        """Records results, and releases what can be released: the plant HOUSE's, and the owners theirs over HTTP."""
+        for owner, lots in self.lots.items():
+            for lot, material in lots.items():
+                if (owner, material) in self.tests and self.chance.random() < 0.6:
+                    self.tell("result", owner, lot, self.tests[owner, material], self.chance.choice(("M50", "M7", "0", "99", "150", "151")), self.day())
+        for lot in self.lots[HOUSE]:
+            self.tell("release", lot)
+        self.ask([(owner, f"/lots/{lot}/release", "") for owner in self.owners for lot in self.lots[owner] if self.chance.random() < 0.8])
+
+    def open_batch(self, owner: str) -> str:
+        """A batch of the owner's: a new one, or one that is open still."""
+        if self.batches[owner] and self.chance.random() < 0.4:
+            return self.chance.choice(self.batches[owner])
+        self.count += 1
+        order, unit = f"O{self.count}X{self.name()}"[:16], f"U{self.count}X{self.name()}"[:16]
+        self.tell("unit-add", unit)
+        if owner == HOUSE:
+            self.tell("order", order, "R", 2)
+        else:
+            self.ask([(owner, "/orders", f'{{"order":"{order}","recipe":"R","batches":2}}')])
+        self.tell("open", owner, order, unit)
+        self.tell("do", owner, order, 1, "start")
+        self.batches[owner].append(order)
+        return order
+
+    def actuals_of(self, owner: str, order: str, turn: int) -> list[str]:
+        """Records of a batch: what it takes of lots, and the lots that it makes."""
+        given = [(whose, lot, material) for whose in sorted({owner, HOUSE}) for lot, material in self.lots[whose].items()]
+        found = []
+        for number in range(self.chance.randint(2, 5)):
+            whose, lot, material = self.chance.choice(given)
+            found.append(f"C{turn}X{number},{owner},{order},1,{self.chance.randint(1, 2)},consumed,{material},{whose},{lot},S0,{self.chance.randint(10_000, 30_000)},{self.day()}")
+        for number in range(self.lots_of_batch):
+            lot, material = self.name(), self.chance.choice(self.materials[owner])
+            self.lots[owner][lot] = material
+            found.append(f"P{turn}X{number},{owner},{order},1,{self.chance.randint(1, 2)},produced,{material},{owner},{lot},S0,{self.chance.randint(100_000, 900_000)},{self.day()}")
+        return found
+
+    def work(self, turn: int) -> None:
+        """A round: each owner's batch does something, some of it is taken back, lots are released, divided, shipped and scrapped."""
+        records = [it for owner in [HOUSE, *self.owners] for it in self.actuals_of(owner, self.open_batch(owner), turn)]
+        sheet = self.plant.folder / "actuals.csv"
+        sheet.write_text("\n".join([HEADER, *records]) + "\n")
+        self.tell("import", sheet)
+        for record in self.chance.sample(records, len(records) // 5):
+            key, owner = record.split(",")[:2]
+            self.tell("void", owner, key)
+        self.release()
+        for owner in [HOUSE, *self.owners]:
+            for number, (word, *more) in enumerate((("ship",), ("scrap",), ("split", "S1"), ("ship",))):
+                lot = self.chance.choice(list(self.lots[owner]))
+                self.tell(word, owner, f"M{turn}{number}", lot, "S0", *more, self.chance.randint(10_000, 50_000), self.day())
+
+    def finish(self) -> None:
+        """Some batches are closed, and some lots rejected."""
+        for owner, orders in self.batches.items():
+            for order in self.chance.sample(orders, len(orders) // 2):
+                self.tell("do", owner, order, 1, "done")
+                self.tell("close", owner, order, 1)
+        self.tell("reject", self.chance.choice(list(self.lots[HOUSE])))
+        self.ask([(it, f"/lots/{self.chance.choice(list(self.lots[it]))}/reject", "") for it in self.owners])

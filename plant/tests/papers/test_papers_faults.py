@@ -1,0 +1,203 @@
+"""No room, no rights, no WeasyPrint, a stop at any moment: one line, nothing half made, and no copy of the file is left."""
+import importlib.util
+import os
+import pathlib
+import resource
+import shutil
+import signal
+import subprocess
+import tarfile
+import time
+
+import pytest
+from conftest import HILPOVEN, ROOT, Plant
+
+KILLED = ROOT / "plant" / "tests" / "killed.py"
+RECALL = ("papers", "recall", "HOUSE", "W-101")
+NOBODY = 65534
+PATIENCE = 60  # seconds
+
+
+def lines_of(told: str) -> list[str]:
+    """The lines that tell what is wrong, without those that advise."""
+    return [it for it in told.splitlines() if not it.startswith("  ")]
+
+
+def left(plant: Plant) -> list[str]:
+    """What lies in the office's folder besides its files and what was asked for, once those that clean up have done so. A folder
+    with nothing in it is what a kill leaves before anything was copied."""
+    ends = time.monotonic() + 5
+    while time.monotonic() < ends:
+        found = [it for it in os.listdir(plant.folder) if it.startswith("made") or it.startswith(".hilpoven.") and has_files(plant.folder / it)]
+        if not any(it.startswith(".") for it in found):
+            break
+        time.sleep(0.05)
+    return sorted(found)
+
+
+def has_files(folder: pathlib.Path) -> bool:
+    """Whether anything is in a folder, which may go meanwhile."""
+    try:
+        return bool(os.listdir(folder))
+    except FileNotFoundError:
+        return False
+
+
+def test_papers_are_for_their_user_alone(at_work):
+    assert at_work.run(*RECALL, at_work.folder / "made", "--no-pdf").status == 0
+    for it in [at_work.folder / "made", *(at_work.folder / "made").rglob("*")]:
+        assert it.stat().st_mode & 0o077 == 0, it
+
+
+def test_a_tar_has_the_same_files(at_work):
+    with at_work.begun(*RECALL, "--no-pdf", at_work.folder / "made") as made:
+        assert made.communicate()[1] == "" and made.returncode == 0
+    with open(at_work.folder / "x.tar", "wb") as out:
+        subprocess.run([HILPOVEN, "--db", at_work.db, *RECALL, "--no-pdf", "--tar"], stdout=out, env={**os.environ, "TOLL": at_work.program}, check=True)
+    with tarfile.open(at_work.folder / "x.tar") as tar:
+        names = {it.name.removeprefix("recall-HOUSE-W-101/") for it in tar.getmembers() if it.isfile()}
+    assert names == {str(it.relative_to(at_work.folder / "made")) for it in (at_work.folder / "made").rglob("*") if it.is_file()}
+
+
+def test_where_papers_go_is_told_once(at_work):
+    for words in ((), ("made", "--tar")):
+        told = at_work.run(*RECALL, *words)
+        assert told.status == 2 and lines_of(told.err) == ["hilpoven: either FOLDER or --tar says where the papers go"]
+    (at_work.folder / "made").mkdir()
+    for folder, why in ((at_work.folder / "made", "is there already"), (at_work.folder / "absent" / "made", "is no folder")):
+        told = at_work.run(*RECALL, folder)
+        assert told.status == 2 and why in told.err and len(lines_of(told.err)) == 1
+
+
+def test_without_weasyprint_nothing_is_made(at_work, monkeypatch):
+    found = importlib.util.find_spec
+    monkeypatch.setattr(importlib.util, "find_spec", lambda name, *more: None if name == "weasyprint" else found(name, *more))
+    told = at_work.run(*RECALL, at_work.folder / "made")
+    assert told.status == 3 and lines_of(told.err) == ["hilpoven: WeasyPrint isn't here, which makes the PDF"] and left(at_work) == []
+    assert at_work.run(*RECALL, at_work.folder / "made", "--no-pdf").status == 0 and not list(at_work.folder.rglob("*.pdf"))
+
+
+def test_without_graphviz_the_tables_stand_alone(at_work, monkeypatch):
+    which = shutil.which
+    monkeypatch.setattr(shutil, "which", lambda name, *more, **others: None if name == "dot" else which(name, *more, **others))
+    assert at_work.run(*RECALL, at_work.folder / "made", "--no-pdf").status == 0
+    page = (at_work.folder / "made" / "plant" / "recall.html").read_text()
+    assert "<svg" not in page and "A step is a batch" in page
+
+
+@pytest.mark.parametrize("most", (0, 3_000, 30_000, 200_000))
+def test_without_room_nothing_is_made(at_work, most):
+    def no_room() -> None:
+        resource.setrlimit(resource.RLIMIT_FSIZE, (most, most))
+        signal.signal(signal.SIGXFSZ, signal.SIG_IGN)
+    at_work.folder.joinpath("target").mkdir()
+    with at_work.begun(*RECALL, at_work.folder / "target" / "made", preexec_fn=no_room) as made:
+        told = made.communicate()[1]
+    if made.returncode == 0:
+        assert most == 200_000 and told == ""
+        return
+    assert made.returncode == 3 and len(lines_of(told)) == 1 and told.startswith("hilpoven: "), told
+    assert left(at_work) == [] and os.listdir(at_work.folder / "target") == []
+
+
+def test_a_full_disk_leaves_nothing(at_work):
+    room = at_work.folder / "room"
+    room.mkdir()
+    if subprocess.run(["mount", "-t", "tmpfs", "-o", "size=60k", "none", room], capture_output=True).returncode:
+        pytest.skip("nothing can be mounted here")
+    try:
+        with at_work.begun(*RECALL, room / "made") as made:
+            told = made.communicate()[1]
+        assert made.returncode == 3 and lines_of(told) == [told.splitlines()[0]] and "No space left" in told, told
+        assert os.listdir(room) == [] and left(at_work) == []
+    finally:
+        subprocess.run(["umount", room], check=True)
+
+
+def test_without_rights_nothing_is_made(at_work):
+    if os.geteuid() != 0:
+        pytest.skip("only root can become another user")
+    target = at_work.folder / "locked"
+    target.mkdir(mode=0o755)
+    for it in [at_work.folder, *at_work.folder.glob("office.db*")]:
+        os.chown(it, NOBODY, NOBODY)
+    for parent in at_work.folder.parents[:3]:
+        os.chmod(parent, 0o755)
+    with at_work.begun(*RECALL, target / "made", user=NOBODY) as made:
+        told = made.communicate()[1]
+    assert made.returncode == 3 and len(lines_of(told)) == 1 and "can't write in" in told and "--tar" in told, told
+    assert left(at_work) == [] and os.listdir(target) == []
+
+
+def test_a_lock_that_is_taken_is_told(at_work):
+    with subprocess.Popen(["flock", f"{at_work.db}.lock", "sleep", "60"]) as holder:
+        time.sleep(0.3)
+        told = at_work.run(*RECALL, at_work.folder / "made", options=("--wait", "0"))
+        subprocess.run(["kill", *subprocess.run(["pgrep", "-P", str(holder.pid)], capture_output=True, text=True).stdout.split(), str(holder.pid)], check=True)
+    assert told.status == 3 and "somebody else has the lock" in told.err and len(lines_of(told.err)) == 1 and left(at_work) == []
+
+
+def kill_at(plant: Plant, step: int, words: list[str]) -> int:
+    """Kills the command at a step; how many there were, where it ended by itself, and else 0."""
+    count = plant.folder / "count"
+    count.unlink(missing_ok=True)
+    subprocess.run(["/usr/bin/python3", "-IB", KILLED, str(step), str(count), "--db", plant.db, *words], capture_output=True, cwd=plant.folder,
+                   env={**os.environ, "TOLL": plant.program}, timeout=PATIENCE)
+    return int(count.read_text()) if count.exists() else 0
+
+
+def try_kills(plant: Plant, kills: int, *more: str) -> int:
+    """Kills a recall at so many steps: nothing of it is left, or all of it is made; how often it was killed."""
+    before = sorted(it.name for it in plant.folder.iterdir())
+    whole, done = kill_at(plant, 0, [*RECALL, "whole", *more]), 0
+    made = sorted(it.name for it in (plant.folder / "whole").rglob("*"))
+    shutil.rmtree(plant.folder / "whole")
+    for step in sorted({1 + at * (whole - 1) // (kills - 1) for at in range(kills)}):
+        done += not kill_at(plant, step, [*RECALL, "made", *more])
+        assert left(plant) in ([], ["made"]), step
+        if (plant.folder / "made").exists():
+            assert sorted(it.name for it in (plant.folder / "made").rglob("*")) == made, step
+            shutil.rmtree(plant.folder / "made")
+        rest = {it.name for it in plant.folder.iterdir()} - {"count", "office.db.lock", *(it.name for it in plant.folder.glob(".hilpoven.*"))}
+        assert rest <= set(before), (step, rest)
+    return done
+
+
+def test_a_kill_leaves_nothing(at_work):
+    assert try_kills(at_work, 12, "--no-pdf") >= 10
+
+
+@pytest.mark.long
+def test_many_kills_leave_nothing(at_work):
+    assert try_kills(at_work, 300, "--no-pdf") >= 250
+    assert try_kills(at_work, 60) >= 50
+
+
+@pytest.mark.parametrize("number", (signal.SIGINT, signal.SIGTERM, signal.SIGHUP, signal.SIGKILL))
+@pytest.mark.parametrize("after", (0, 0.2, 0.5, 1.0))
+def test_a_signal_leaves_nothing(at_work, number, after):
+    with at_work.begun(*RECALL, at_work.folder / "made") as made:
+        while made.poll() is None and not list(at_work.folder.glob(".hilpoven.*")):
+            time.sleep(0.01)
+        time.sleep(after)
+        made.send_signal(number)
+        told = made.communicate()[1]
+    assert made.returncode in (0, -number, 128 + number) and told == "", told
+    assert left(at_work) == (["made"] if made.returncode == 0 else [])
+
+
+def test_no_key_is_in_a_copy(at_work, monkeypatch):
+    from hilpoven.papers import copies
+
+    seen = []
+    taken = copies.version
+
+    def look(office):
+        rooms = list(at_work.folder.glob(".hilpoven.*"))
+        seen.extend(it for room in rooms for it in room.rglob("*") if it.is_file())
+        assert seen and all(b"ACMEKEY1" not in it.read_bytes() and b"BOLTKEY1" not in it.read_bytes() for it in seen)
+        return taken(office)
+
+    monkeypatch.setattr(copies, "version", look)
+    assert at_work.run(*RECALL, at_work.folder / "made", "--no-pdf").status == 0 and seen and left(at_work) == ["made"]
+    assert pathlib.Path(at_work.db).exists()

@@ -1,0 +1,45 @@
+"""What is told of a word is what `toll` thinks of it."""
+import pytest
+from hilpoven import forms
+from hypothesis import HealthCheck, given, settings, strategies
+
+WORDS = strategies.one_of(
+    strategies.text("ABZ019-az_. ,M\u00e9", min_size=1, max_size=18), strategies.text("0123456789", min_size=1, max_size=12),
+    strategies.from_regex(r"M?[0-9]{1,11}", fullmatch=True), strategies.sampled_from(["consumed", "Consumed", "back", "start", "help", "999999999", "1000000000",
+                                                                                       "1000000001", "0", "M0", "M1000000001", "9999999", "10000000", "50", "51", "99", "100"]))
+# For each form a line of words in which one value is of the form, and by which no row is made.
+LINES = {
+    "NAME": (forms.NAME, ["orders", "{}"]), "MEASURE": (forms.MEASURE, ["material-add", "NOBODY", "M", "{}"]),
+    "SECRET": (forms.SECRET, ["owner-add", "HOUSE", "{}"]), "AMOUNT": (forms.AMOUNT, ["scrap", "NOBODY", "K", "L", "S", "{}", "1"]),
+    "DAY": (forms.DAY, ["scrap", "NOBODY", "K", "L", "S", "1", "{}"]), "SEGMENT": (forms.SEGMENT, ["recipe-add", "NOBODY", "R", "{}"]),
+    "BATCH": (forms.BATCH, ["close", "NOBODY", "O", "{}"]), "VALUE": (forms.VALUE, ["result", "NOBODY", "L", "T", "{}", "1"]),
+    "USE": (forms.USE, ["require", "NOBODY", "R", "1", "{}", "S", "M", "1"]), "WAY": (forms.WAY, ["trace", "NOBODY", "L", "{}"]),
+    "COMMAND": (forms.COMMAND, ["do", "NOBODY", "O", "1", "{}"]),
+}
+
+
+@pytest.mark.parametrize("name", LINES)
+@settings(max_examples=20, deadline=None, suppress_health_check=[HealthCheck.function_scoped_fixture])
+@given(word=WORDS)
+def test_a_word_is_a_value_where_toll_reads_it(laid, tmp_path_factory, name, word):
+    form, line = LINES[name]
+    if word.startswith("-") or word == "help" or not word:
+        return
+    told = laid.toll(*(word if it == "{}" else it for it in line))
+    assert told.out.startswith(("refused 1 ", "refused 2 ")) == bool(form.fault(word)), (word, told, form.fault(word))
+
+
+def test_a_fault_is_a_sentence_behind_the_value():
+    for name, (form, _) in LINES.items():
+        for word in ("", "a_b", "1234567890123456789012345678901234567", "1.000", "x" * 40, "-", "é", "\t", "\u00a0", "\x00"):
+            fault = form.fault(word)
+            assert fault and not fault.endswith(".") and "\n" not in fault and fault[0].islower(), (name, word, fault)
+
+
+def test_bounds_are_told():
+    assert forms.AMOUNT.fault("0") == "is below 1"
+    assert forms.AMOUNT.fault("1000000001") == "is above 1,000,000,000"
+    assert forms.BATCH.fault("100") == "is above 99"
+    assert forms.VALUE.fault("M1000000001") == "is above 1,000,000,000; `M5` is -5"
+
+

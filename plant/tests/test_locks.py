@@ -1,0 +1,56 @@
+"""A lock that somebody has is waited for, and told apart from one that can't be opened."""
+import contextlib
+import fcntl
+import os
+import threading
+import time
+
+import pytest
+from conftest import command, environment
+
+
+@contextlib.contextmanager
+def locked(plant):
+    """The lock of the office, held by this process."""
+    with open(f"{plant.db}.lock", "a") as lock:
+        fcntl.flock(lock, fcntl.LOCK_EX)
+        yield lock
+
+
+def test_a_lock_that_is_given_back_is_waited_for(at_work):
+    with locked(at_work) as lock:
+        timer = threading.Timer(1.0, fcntl.flock, (lock, fcntl.LOCK_UN))
+        timer.start()
+        begun = time.monotonic()
+        assert at_work.run("unit-add", "PRESS", options=("--wait", "20")).out == "accepted\n"
+        assert time.monotonic() - begun >= 0.9
+        timer.join()
+
+
+@pytest.mark.parametrize("words", [("unit-add", "PRESS"), ("stock", "ACME")])
+def test_a_lock_that_is_kept_is_told_with_who_has_it(at_work, words):
+    with locked(at_work):
+        done = at_work.run(*words, options=("--wait", "0.2"))
+    assert done.status == 3 and "fault Locked\n" in done.err and "another program has the lock" in done.err
+    assert f"process {os.getpid()}" in done.err
+
+
+def test_reading_waits_for_the_lock_too(at_work):
+    with locked(at_work):
+        done = at_work.run("list", "lots", options=("--wait", "0.2"))
+    assert done.status == 3 and "somebody else has the lock" in done.err
+
+
+def test_a_lock_that_cannot_be_opened_is_told_at_once(at_work):
+    os.mkdir(f"{at_work.db}.lock")
+    begun = time.monotonic()
+    done = at_work.run("stock", "ACME", options=("--wait", "30"))
+    assert done.status == 3 and "office.db.lock can't be opened" in done.err and time.monotonic() - begun < 10
+
+
+@pytest.mark.skipif(os.geteuid() != 0, reason="only root can be another user")
+def test_a_stranger_is_told_whose_it_is(reachable):
+    os.chmod(reachable.db, 0o600)
+    done = command("--db", reachable.db, "stock", "ACME", env=environment(TOLL=reachable.program), user=65534, group=65534, extra_groups=[])
+    assert done.returncode == 3 and "can't be opened: Permission denied" in done.stderr and "as nobody" in done.stderr and "sudo -u toll hilpoven --db" in done.stderr
+    assert not os.path.exists(f"{reachable.db}.lock")

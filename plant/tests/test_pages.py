@@ -1,0 +1,99 @@
+"""What the command knows of the office is what the pages say."""
+import re
+
+import hilpoven
+import pytest
+from conftest import ROOT
+from hilpoven import forms, gauge, grammar, meanings
+from hilpoven.tables import DISPOSITIONS, KINDS, LISTINGS, STATES, USES
+
+COMMANDS = (ROOT / "docs" / "commands.md").read_text()
+REFUSALS = (ROOT / "docs" / "refusals.md").read_text()
+TABLES = (ROOT / "docs" / "tables.md").read_text()
+
+
+def test_the_lines_are_those_of_the_page():
+    lines = re.findall(r"^    ([a-z-]+(?: [A-Z-]+)+)$", COMMANDS, re.M)
+    assert lines == [it.usage() for it in grammar.LINES.values()]
+
+
+def test_the_words_of_values_are_those_of_the_page():
+    for name, form in (("USE", forms.USE), ("WAY", forms.WAY), ("COMMAND", forms.COMMAND)):
+        row = re.search(rf"^\| {name} \| (.*) \|$", COMMANDS, re.M)[1]
+        assert tuple(re.findall(r"`(\w+)`", row)) == form.choices
+
+
+def test_each_refusal_means_what_the_page_says():
+    rows = re.findall(r"^\| (\d+) \| (\w+) \| (.*?) \|", REFUSALS, re.M)
+    assert len(rows) == 42
+    assert [(int(number), word, means) for number, word, means in rows] == [(it["number"], word, it["means"]) for word, it in meanings.table("refusals").items()]
+
+
+def test_each_limit_is_that_of_the_page():
+    rows = dict(re.findall(r"^\| (.+?) \| ([\d,]+) \|$", REFUSALS.split("## How many")[1], re.M))
+    told = {what.split()[0]: int(most.replace(",", "")) for what, most in rows.items() if not what.startswith(("owners", "units", "actuals"))}
+    assert told == {what: most for what, (most, _) in gauge.OF_OWNER.items()}
+    assert [int(rows[it]) for it in ("owners besides HOUSE", "units", "actuals of a batch")] == [gauge.OWNERS, gauge.UNITS, gauge.ACTUALS]
+
+
+@pytest.mark.parametrize("column, words", [("disposition", DISPOSITIONS), ("state", STATES), ("kind", KINDS), ("role", USES)])
+def test_numbers_stand_for_the_words_of_the_page(column, words):
+    row = re.search(rf"^\| {column} \| (.*) \|$", TABLES, re.M)[1]
+    assert re.findall(r"\d+ (\w+)", row) == list(words)
+
+
+def test_each_advice_names_commands_that_are_there():
+    from hilpoven.cli import hilpoven as group
+
+    for kind in ("refusals", "faults"):
+        for word, it in meanings.table(kind).items():
+            for told in re.findall(r"`hilpoven ([^`]*)`", it["look"]):
+                names = told.split()
+                command = group.commands[names[0]]
+                if hasattr(command, "commands"):
+                    assert names[1] in command.commands, (word, told)
+                    command = command.commands[names[1]]
+                known = {option for it in command.params for option in it.opts}
+                assert set(re.findall(r"--[a-z-]+", told)) <= known, (word, told)
+
+
+def commands_of(group, names=()):
+    """All commands below a group, each with the words that call it."""
+    for name, it in group.commands.items():
+        yield (*names, name), it
+        if hasattr(it, "commands"):
+            yield from commands_of(it, (*names, name))
+
+
+def test_each_command_has_an_example_of_itself():
+    from hilpoven.cli import hilpoven as group
+
+    for names, command in commands_of(group):
+        example = re.search(r"Example: hilpoven ([^\n]*)", command.help)
+        assert example and example[1].split()[:len(names)] == list(names), names
+        assert command.get_short_help_str(), names
+
+
+def test_the_clerks_page_says_of_each_command_what_its_mistake_can_still_be():
+    part = (ROOT / "docs" / "hilpoven.md").read_text().split("## I recorded it wrongly")[1].split("\n## ")[0]
+    first = " ".join(re.findall(r"^\| (.+?) \|", part, re.M))
+    assert {it.name for it in grammar.LINES.values() if not it.is_question} <= set(re.findall(r"`([a-z-]+)`", first))
+
+
+def test_the_version_is_the_newest_of_the_changes():
+    assert re.search(r"^## (\S+)$", (ROOT / "CHANGELOG.md").read_text(), re.M)[1] == hilpoven.VERSION
+
+
+def test_each_value_in_an_advice_is_one_of_a_line():
+    for it in meanings.table("refusals").values():
+        assert set(re.findall(r"\{([A-Z-]+)\}", it["look"])) <= set(grammar.FORMS)
+
+
+def test_every_example_of_help_is_a_command():
+    from hilpoven.cli import hilpoven as group
+
+    for name, line in grammar.LINES.items():
+        words = line.example.split()
+        assert words[0] == name and not grammar.faults(line, words[1:]), line.example
+        assert line.example in group.commands[name].help
+    assert set(LISTINGS) >= {"owners", "units", "materials", "tests", "recipes", "orders", "batches", "lots", "sublots", "moves", "results", "voids"}

@@ -1,0 +1,106 @@
+"""`status`: is it well, how full is it, and what monitoring reads."""
+import os
+import re
+import sys
+import time
+import types
+
+import pytest
+from conftest import ROOT, Plant
+from hilpoven import gauge
+
+sys.path.insert(0, str(ROOT / "tools"))
+
+
+def settings(plant: Plant, **more) -> None:
+    """Has the settings say so."""
+    lines = {"file": str(plant.db), **more}
+    (plant.folder / "hilpoven.toml").write_text("".join(f"{name} = {value!r}\n".replace("'", '"') for name, value in lines.items()))
+
+
+def test_a_new_office_is_well(at_work):
+    done = at_work.run("status")
+    assert done.status == 0 and f"file: {at_work.db} opens" in done.out and "none takes the plant's commands" in done.out
+    assert "ATTENTION" not in done.out and "NOT WELL" not in done.out
+
+
+def test_a_server_is_seen_and_asked_nothing(at_work):
+    with at_work.serve() as server:
+        settings(at_work, port=server.port)
+        done = at_work.run("status")
+        assert done.status == 0 and f"answers at port {server.port}; takes the plant's commands (toll 1.0, office format 2)" in done.out
+    done = at_work.run("status")
+    assert done.status == 3 and f"NOT WELL: the server at port {server.port} doesn't answer" in done.out
+
+
+def test_a_file_that_cannot_be_read_is_not_well(at_work):
+    done = at_work.run("status", db=at_work.folder / "absent.db")
+    assert done.status == 3 and "NOT WELL: there is no file" in done.out
+    done = at_work.run("status", "--prometheus", db=at_work.folder / "absent.db")
+    assert done.status == 3 and "hilpoven_file_opens 0\n" in done.out
+
+
+def test_the_newest_backup_is_told_and_its_age(at_work):
+    folder = at_work.folder / "backups"
+    folder.mkdir()
+    settings(at_work, backups=str(folder))
+    done = at_work.run("status")
+    assert done.status == 1 and f"ATTENTION: there is no backup in {folder}" in done.out
+    at_work.run("backup")
+    assert at_work.run("status").status == 0
+    made = next(folder.iterdir())
+    old = time.time() - 50 * 3600
+    os.utime(made, (old, old))
+    done = at_work.run("status")
+    assert done.status == 1 and "ATTENTION: the newest backup is 50 hours old" in done.out
+    assert f"hilpoven_last_backup_timestamp_seconds {int(old)}\n" in at_work.run("status", "--prometheus").out
+
+
+def test_what_is_nearly_full_is_told_first(at_work):
+    at_work.lay("\n".join(f"unit-add U{number}" for number in range(160)))
+    done = at_work.run("status")
+    assert done.status == 1 and "ATTENTION: units: 162 of 200, 81 %" in done.out
+    table = [it for it in done.out.splitlines() if "%" in it and "ATTENTION" not in it]
+    assert table[0].split() == ["(plant)", "units", "162", "200", "81", "%"]
+
+
+def test_metrics_are_read_by_prometheus(at_work):
+    done = at_work.run("status", "--prometheus")
+    for line in done.out.splitlines():
+        assert re.fullmatch(r'# (HELP|TYPE) \S+ .+|\w+(\{(\w+="[^"]*",?)+\})? -?\d+', line), line
+    rows = re.findall(r'hilpoven_rows\{owner="ACME",of="movements"\} (\d+)', done.out)
+    assert rows == [str(at_work.rows("SELECT count(*) FROM moves WHERE owner = 'ACME'")[0][0])]
+    assert 'hilpoven_rows_limit{owner="ACME",of="movements"} 20000\n' in done.out
+
+
+def test_an_offices_own_settings_are_those_of_its_units(at_work):
+    (at_work.folder / "acme.env").write_text(f"PORT=801\nFILE={at_work.db}\n#BACKUPS=/nowhere\nBACKUPS=\"{at_work.folder}\"\n")
+    done = at_work.run("status", options=("--office", "acme", "--db", ""))
+    assert f"file: {at_work.db} opens" in done.out and "NOT WELL: the server at port 801 doesn't answer" in done.out
+    done = at_work.run("status", options=("--office", "bolt"))
+    assert done.status == 2 and "there is no office bolt" in done.err and "there are: acme" in done.err
+
+
+def test_settings_that_are_none_are_told(at_work):
+    for text, told in (("nonsense = 1\n", "nonsense is no setting"), ("port = \"x\"\n", "port is to be a int"), ("file = \n", "hilpoven.toml")):
+        (at_work.folder / "hilpoven.toml").write_text(text)
+        done = at_work.run("status")
+        assert done.status == 2 and told in done.err
+
+
+@pytest.mark.long
+def test_a_full_office_is_told_in_five_seconds_and_its_server_goes_on(program, tmp_path):
+    from measuring import offices
+
+    plant = Plant(program, tmp_path)
+    offices.at_the_limits(types.SimpleNamespace(plant=plant.toll, db=plant.db), gauge.OWNERS)
+    with plant.serve() as server:
+        server.ask("OWNER-01", "GET", "/orders")
+        begun = time.monotonic()
+        it = plant.begun("status")
+        out, err = it.communicate()
+        took = time.monotonic() - begun
+        assert it.returncode == 1 and out.count("100 %") > 64, err
+        server.ask("OWNER-01", "GET", "/orders")
+        assert "opened anew" not in server.end()
+    assert took < 5, took

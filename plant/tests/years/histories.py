@@ -1,0 +1,298 @@
+"""Generated histories: what two owners and the plant record, with moments at which the office is carried over.
+
+A history grows over one file: what that accepts is the history. It names no lot that was empty at a moment gone by, and no order
+that was begun before it, as nothing can be recorded of these behind a seam.
+"""
+import pathlib
+from dataclasses import dataclass, field
+from random import Random
+
+from hilpoven.years import content
+from hilpoven.years.door import Door
+
+OWNERS = ("ACME", "BOLT")
+KEYS = {it: f"{it}KEY1" for it in OWNERS}
+SUBLOTS = ("BAY1", "BAY2", "BAY3")
+UNITS = ("KETTLE", "MIXER", "PRESS")
+CUT = "cut"
+SETUP = """
+owner-add ACME ACMEKEY1
+owner-add BOLT BOLTKEY1
+unit-add KETTLE
+unit-add MIXER
+unit-add PRESS
+material-add HOUSE WATER liter
+material-add HOUSE SOFT liter
+test-add HOUSE SOFT LIME M5 5
+recipe-add HOUSE SOFTEN 1
+require HOUSE SOFTEN 1 consumed HOUSE WATER 10
+require HOUSE SOFTEN 1 produced HOUSE SOFT 10
+""" + "".join(f"""
+material-add {owner} RAW kg
+material-add {owner} MID kg
+material-add {owner} END kg
+test-add {owner} END DENSITY 1100 1250
+test-add {owner} END PH M5 9
+recipe-add {owner} MAKE 3
+require {owner} MAKE 1 consumed {owner} RAW 10
+require {owner} MAKE 1 consumed HOUSE WATER 10
+require {owner} MAKE 2 consumed HOUSE SOFT 10
+require {owner} MAKE 2 consumed {owner} MID 10
+require {owner} MAKE 3 consumed {owner} END 10
+require {owner} MAKE 1 produced {owner} MID 10
+require {owner} MAKE 2 produced {owner} MID 10
+require {owner} MAKE 3 produced {owner} END 10
+""" for owner in OWNERS)
+TAKES = {"HOUSE": [("1", "HOUSE", "WATER")], **{it: [("1", it, "RAW"), ("1", "HOUSE", "WATER"), ("2", "HOUSE", "SOFT"), ("2", it, "MID"), ("3", it, "END")] for it in OWNERS}}
+MAKES = {"HOUSE": [("1", "SOFT")], **{it: [("1", "MID"), ("2", "MID"), ("3", "END")] for it in OWNERS}}
+TESTS = {"SOFT": ("LIME",), "END": ("DENSITY", "PH")}
+VALUES = {"LIME": ("M5", "0", "6"), "DENSITY": ("1100", "1180", "1300"), "PH": ("M5", "7", "10")}
+RECIPES = {"HOUSE": "SOFTEN", "ACME": "MAKE", "BOLT": "MAKE"}
+
+
+def said(door: Door, step: content.Step) -> bool:
+    """Whether a step is accepted."""
+    if step.owner:
+        return door.request(step.owner, KEYS[step.owner], step.path, step.body)[0] == 200
+    return door.ask(*step.words).output == "accepted\n"
+
+
+@dataclass
+class Growing:
+    """A history that grows over one file."""
+
+    door: Door
+    random: Random
+    path: pathlib.Path
+    steps: list[content.Step | str] = field(default_factory=list)
+    lots: dict[tuple[str, str], str] = field(default_factory=dict)  # with their materials
+    orders: list[tuple[str, str]] = field(default_factory=list)
+    sublots: dict[tuple[str, str], list[str]] = field(default_factory=dict)
+    batches: list[tuple[str, str, str]] = field(default_factory=list)
+    actuals: list[tuple[str, str]] = field(default_factory=list)
+    stayed: list[list[tuple[str, str]]] = field(default_factory=list)  # the lots that stay behind at each moment
+    count: int = 0
+    day: int = 260101
+
+    def say(self, *words: object) -> bool:
+        """Gives the plant's words, which are of the history where they are accepted."""
+        return self.take(content.Step(tuple(map(str, words))))
+
+    def take(self, step: content.Step) -> bool:
+        """Takes a step, which is of the history where it is accepted."""
+        accepted = said(self.door, step)
+        if accepted:
+            self.steps.append(step)
+        return accepted
+
+    def name(self, letter: str) -> str:
+        """A name that nothing has yet."""
+        self.count += 1
+        return f"{letter}-{self.count}"
+
+    def some(self, choices: list) -> object:
+        """One of a list."""
+        return self.random.choice(choices)
+
+    def amount(self) -> str:
+        """An amount, small and large."""
+        return str(self.random.choice((1, 2, 5, 10, 40)))
+
+    def sublot(self, owner: str, lot: str) -> str:
+        """A sublot of a lot, seldom one that it may not have."""
+        there = self.sublots.get((owner, lot))
+        return self.some(there) if there and self.random.random() < 0.9 else self.some(SUBLOTS)
+
+    def came(self, owner: str, lot: str, material: str, sublot: str) -> None:
+        """Something came into a sublot of a lot, which is mostly released then, where it may be."""
+        self.lots[owner, lot] = material
+        self.sublots.setdefault((owner, lot), []).append(sublot)
+        if self.random.random() < 0.8:
+            for test in TESTS.get(material, ()):
+                self.say("result", owner, lot, test, VALUES[test][1], self.day)
+            self.judge(owner, lot, "release")
+
+    # what may happen
+
+    def receive(self) -> None:
+        """A lot comes, or more of one."""
+        owner, material = self.some([("HOUSE", "WATER"), ("ACME", "RAW"), ("BOLT", "RAW"), ("ACME", "END")])
+        there = [lot for (whose, lot), of in self.lots.items() if (whose, of) == (owner, material)]
+        lot = self.some(there) if there and self.random.random() < 0.4 else self.name("L")
+        sublot, amount = self.some(SUBLOTS), self.some(["3", "100", "5000", "1000000000"])
+        if self.say("receive", owner, self.name("K"), material, lot, sublot, amount, self.day):
+            self.came(owner, lot, material, sublot)
+
+    def judge(self, owner: str, lot: str, word: str) -> None:
+        """A lot is released or rejected by whose it is."""
+        self.take(content.Step((word, lot)) if owner == "HOUSE" else content.Step(owner=owner, path=f"/lots/{lot}/{word}"))
+
+    def dispose(self) -> None:
+        """A lot is released, now and then rejected."""
+        if self.lots:
+            self.judge(*self.some(list(self.lots)), "reject" if self.random.random() < 0.15 else "release")
+
+    def test(self) -> None:
+        """A result of a lot."""
+        there = [it for it, material in self.lots.items() if material in TESTS]
+        if there:
+            owner, lot = self.some(there)
+            good = self.random.random() < 0.8
+            for test in TESTS[self.lots[owner, lot]]:
+                value = VALUES[test][self.random.randrange(2)] if good else self.some(VALUES[test])
+                self.say("result", owner, lot, test, value, self.day)
+            if good:
+                self.judge(owner, lot, "release")
+
+    def move(self) -> None:
+        """A lot is split, shipped or scrapped."""
+        if self.lots:
+            owner, lot = self.some(list(self.lots))
+            word, sublot = self.some(["split", "ship", "scrap"]), self.sublot(owner, lot)
+            target = [self.some(SUBLOTS)] if word == "split" else []
+            if self.say(word, owner, self.name("K"), lot, sublot, *target, self.amount(), self.day) and target:
+                self.sublots[owner, lot] += target
+
+    def empty(self) -> None:
+        """All of a lot goes."""
+        if self.lots:
+            owner, lot = self.some([*[it for it in self.lots if self.lots[it] not in ("WATER", "RAW")] * 3, *self.lots])
+            for line in self.door.ask("stock", owner).output.splitlines():
+                there, sublot, *_, amount, _ = line.split()
+                if there == lot and amount != "0":
+                    self.say(self.some(["scrap", "ship"]), owner, self.name("K"), lot, sublot, amount, self.day)
+
+    def order(self) -> None:
+        """An order is placed, now and then cancelled, and a batch of one is opened."""
+        owner = self.some(["HOUSE", *OWNERS])
+        name, batches = self.name("O"), self.random.randint(1, 3)
+        placed = content.Step(("order", name, RECIPES[owner], str(batches))) if owner == "HOUSE" else content.Step(
+            owner=owner, path="/orders", body={"order": name, "recipe": RECIPES[owner], "batches": batches})
+        if self.take(placed):
+            self.orders.append((owner, name))
+        if self.random.random() < 0.15:
+            self.take(content.Step(("cancel", name)) if owner == "HOUSE" else content.Step(owner=owner, path=f"/orders/{name}/cancel"))
+
+    def open(self) -> None:
+        """A batch is opened and started."""
+        if self.orders:
+            owner, order = self.some(self.orders)
+            if self.say("open", owner, order, self.some(UNITS)):
+                number = str(1 + sum(it[:2] == (owner, order) for it in self.batches))
+                self.batches.append((owner, order, number))
+                self.say("do", owner, order, number, "start")
+
+    def work(self) -> None:
+        """A batch consumes and produces."""
+        if self.batches:
+            owner, order, number = self.some(self.batches[-4:])
+            for _ in range(self.random.randint(1, 6)):
+                if self.random.random() < 0.55:
+                    segment, whose, material = self.some(TAKES[owner] + TAKES[owner][2:] * 2)
+                    there = [lot for (of, lot), made_of in self.lots.items() if (of, made_of) == (whose, material)]
+                    if there:
+                        self.actual(owner, order, number, segment, "consumed", material, whose, self.some(there))
+                else:
+                    segment, material = self.some(MAKES[owner])
+                    there = [lot for (of, lot), made_of in self.lots.items() if (of, made_of) == (owner, material)]
+                    lot = self.some(there) if there and self.random.random() < 0.3 else self.name("L")
+                    self.actual(owner, order, number, segment, "produced", material, owner, lot)
+
+    def actual(self, owner: str, order: str, number: str, segment: str, use: str, material: str, whose: str, lot: str) -> None:
+        """What a batch consumed or produced."""
+        key, is_made = self.name("K"), use == "produced"
+        sublot = self.some(SUBLOTS) if is_made else self.sublot(whose, lot)
+        amount = self.some(["20", "300", "4000"]) if is_made else self.amount()
+        if self.say("actual", key, owner, order, number, segment, use, material, whose, lot, sublot, amount, self.day):
+            self.actuals.append((owner, key))
+            if is_made:
+                self.came(owner, lot, material, sublot)
+
+    def void(self) -> None:
+        """An actual is taken back."""
+        if self.actuals:
+            self.say("void", *self.some(self.actuals[-6:]))
+
+    def end(self) -> None:
+        """A batch is ended and closed."""
+        if self.batches:
+            self.close(*self.some(self.batches[-4:]))
+
+    def close(self, *batch: str) -> None:
+        """Ends and closes a batch, whatever its state."""
+        for word in ("done", "done", "stop", "done"):
+            if not self.say("close", *batch):
+                self.say("do", *batch, word)
+            else:
+                return
+        self.say("close", *batch)
+
+    def next_day(self) -> None:
+        """A day is over."""
+        self.day += 1
+
+    def cut(self) -> None:
+        """All batches are closed, and the office is carried over: what is empty or begun is named no more."""
+        for batch in self.batches:
+            self.close(*batch)
+        lying = {(owner, line.split()[0]) for owner in ("HOUSE", *OWNERS) for line in self.door.ask("stock", owner).output.splitlines() if line.split()[4] != "0"}
+        self.stayed.append([it for it in self.lots if it not in lying])
+        self.lots = {it: material for it, material in self.lots.items() if it in lying}
+        begun = {it[:2] for it in self.batches}
+        self.orders = [it for it in self.orders if it not in begun]
+        self.batches, self.actuals = [], []
+        self.steps.append(CUT)
+        self.begin()
+
+    def begin(self) -> None:
+        """What there is at the beginning, and behind a seam: some material, and a batch of each."""
+        for _ in range(4):
+            self.receive()
+        for _ in range(3):
+            self.order()
+            self.open()
+
+    def grow(self, size: int, cuts: int) -> None:
+        """Lets so many things happen, and so many moments come at which the office is carried over."""
+        for line in filter(None, SETUP.splitlines()):
+            assert self.say(*line.split()), line
+        self.begin()
+        things = [self.receive] * 4 + [self.work] * 10 + [self.open] * 4 + [self.order, self.test, self.move] * 2 + [
+            self.dispose, self.empty, self.void, self.end, self.next_day]
+        at = set(self.random.sample(range(size // 5, size), cuts))
+        for it in range(size):
+            self.some(things)()
+            if it in at:
+                self.cut()
+
+
+def named_again(growing: Growing, parts: list[list[content.Step]], chance: float) -> dict[str, tuple[str, int]]:
+    """For some lots that come behind a seam the name of a lot of the same owner that stayed behind, and after how many moments."""
+    found: dict[str, tuple[str, int]] = {}
+    free: dict[str, list[tuple[str, int]]] = {}
+    for number, part in enumerate(parts):
+        for step in part:
+            made = {"receive": (1, 4), "actual": (8, 9)}.get(step.words[0]) if step.words else None
+            if not made or (step.words[0] == "actual" and step.words[6] != "produced"):
+                continue
+            owner, lot = step.words[made[0]], step.words[made[1]]
+            is_new = not any(lot in it.words for before in parts[:number] for it in before)
+            if number and is_new and lot not in found and free.get(owner) and growing.random.random() < chance:
+                found[lot] = free[owner].pop()
+        for owner, lot in growing.stayed[number] if number < len(growing.stayed) else ():
+            free.setdefault(owner, []).append((found[lot][0] if lot in found else lot, number + 1))
+    return found
+
+
+def called_again(again: dict[str, tuple[str, int]]) -> dict[str, str]:
+    """Of names by which lots are told over all files, those by which they stand in the one file."""
+    found: dict[str, str] = {}
+    for lot, (name, number) in again.items():
+        found[f"{name} (office-{number}.db)"] = found.get(name, name)
+        found[name] = lot
+    return found
+
+
+def renamed(step: content.Step, names: dict[str, str]) -> content.Step:
+    """The same step with other names of lots."""
+    return content.Step(tuple(names.get(it, it) for it in step.words), step.owner, "/".join(names.get(it, it) for it in step.path.split("/")), step.body)

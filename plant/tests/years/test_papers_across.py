@@ -1,0 +1,59 @@
+"""Papers of an office that was carried over are those of the same history in one file."""
+import pathlib
+import re
+import tempfile
+from random import Random
+
+import pytest
+import test_histories
+from conftest import Plant
+from histories import OWNERS
+from hilpoven.office import Office
+from hilpoven.years import chain
+
+EVERYBODY = ("HOUSE", *OWNERS)
+MADE = re.compile(r"Made on [^<]*")
+
+
+def papers_of(plant: Plant, db: pathlib.Path, *words: object) -> dict[str, str]:
+    """What is in a paper's folder, but for when and of which files it was made."""
+    with tempfile.TemporaryDirectory(dir=plant.folder) as folder:
+        made = pathlib.Path(folder) / "made"
+        told = plant.run("papers", *words, made, "--no-pdf", db=db)
+        assert told.status == 0, (words, told)
+        return {str(it.relative_to(made)): MADE.sub("", it.read_text()) for it in made.rglob("*") if it.is_file()}
+
+
+def try_papers(program: str, seed: int, each: int) -> None:
+    """Papers of lots, batches and owners of a history that was cut, and of the same in one file."""
+    def compare(plant, one, served, cuts, called):
+        random = Random(seed)
+        with chain.opened(Office(str(one), program, 10.0)) as whole:
+            lots = whole.base.execute("SELECT owner, lot FROM lots ORDER BY rowid").fetchall()
+            batches = whole.base.execute("SELECT owner, ord, number FROM batches ORDER BY rowid").fetchall()
+        asked = [(word, *it) for word in ("recall", "lot", "certificate") for it in random.sample(lots, min(each, len(lots)))]
+        asked += [("batch", *it) for it in random.sample(batches, min(each, len(batches)))]
+        asked += [("statement", owner, "--from", first, "--to", last) for owner in EVERYBODY for first, last in ((0, 9_999_999), (260103, 260108))]
+        for words in asked:
+            found = papers_of(plant, plant.db, *words)
+            assert found and found == papers_of(plant, one, *words), words
+        told = plant.run("papers", "recall", *lots[0], plant.folder / "told", "--no-pdf")
+        page = (plant.folder / "told" / "plant" / "recall.html").read_text()
+        with chain.opened(Office(str(plant.db), program, 10.0)) as history:
+            assert told.status == 0 and all(f"office-{it.number}.db, sha256 {it.hash}" in page for it in history.parts[:-1])
+
+    memory = "/dev/shm" if pathlib.Path("/dev/shm").is_dir() else None
+    with pytest.MonkeyPatch.context() as patched, tempfile.TemporaryDirectory(dir=memory) as folder:
+        patched.setattr(test_histories, "compare", compare)
+        test_histories.try_history(Plant(program, pathlib.Path(folder)), Random(seed), 120, 2 + seed % 2)
+
+
+@pytest.mark.parametrize("seed", range(2))
+def test_papers_of_a_cut_history(program, seed):
+    try_papers(program, seed, 3)
+
+
+@pytest.mark.long
+@pytest.mark.parametrize("seed", range(2, 32))
+def test_papers_of_many_cut_histories(program, seed):
+    try_papers(program, seed, 6)
