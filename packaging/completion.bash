@@ -1,4 +1,5 @@
 # Completion of toll for bash. Its tables are those of the plant's commands; tools/bash-completion fills them in.
+# shellcheck shell=bash disable=SC2190 # lines stand there for the marks
 _toll() {
     local -A values=(
 @LINES@
