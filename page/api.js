@@ -25,7 +25,8 @@ export class Away extends Error {
 /** An answer that the interface doesn't have. */
 export class Strange extends Error {}
 
-const AT_A_TIME = 4;
+// the site lets an address ask four things at once
+const AT_A_TIME = 3;
 const LONGEST_REQUEST = 70_000;
 const BUSY = new Set([429, 503]);
 const AWAY = new Set([502, 504]);

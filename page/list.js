@@ -1,5 +1,6 @@
 /** Lists: tables that are searched, filtered, sorted and drawn in parts. */
 
+import { downloadButton } from "./csv.js";
 import { html } from "./dom.js";
 import { count, number } from "./values.js";
 
@@ -46,8 +47,10 @@ const line = (columns, row) => html("tr", { role: "row" }, columns.map((it, i) =
  * A list of many rows with a field to search, choices, and heads that sort. What is searched, chosen and
  * sorted stands in the page's address, so that reload and the back button bring it back.
  *
- * `columns`: name, title, cell(row), and compare(a, b) where it sorts. `search(row)`: the text that is
- * searched. `choices`: name, title, options, of(row). `what`: one and many of the rows.
+ * `columns`: name, title, cell(row), compare(a, b) where it sorts, and `values` where it stands in the file
+ * (csv.js), which has the rows that are found. `search(row)`: the text that is searched. `choices`: name,
+ * title, options, of(row). `what`: one and many of the rows. `file`: what
+ * the file is called by.
  */
 export class Finder {
   #page;
@@ -62,7 +65,8 @@ export class Finder {
     this.#page = page;
     this.#given = given;
     this.#query = Object.fromEntries(page.route.query);
-    this.element = html("div", { class: "finder" }, this.#fields(), this.#count, this.#table());
+    const download = downloadButton(page, given.file, given.columns, () => this.#rows());
+    this.element = html("div", { class: "finder" }, this.#fields(), html("div", { class: "line" }, this.#count, download), this.#table());
     this.#draw();
   }
 
@@ -118,11 +122,17 @@ export class Finder {
     return this.#given.rows.filter(row => this.#given.search(row).toUpperCase().includes(wanted) && choices.every(it => it.of(row) === this.#query[it.name]));
   }
 
+  /** The rows that are found, as they are sorted. */
+  #rows() {
+    const by = this.#sorted();
+    return this.#found().sort((a, b) => (this.#query.down ? by.compare(b, a) : by.compare(a, b)));
+  }
+
   #draw() {
     this.#drawing?.abort();
     this.#drawing = new AbortController();
     const by = this.#sorted();
-    const rows = this.#found().sort((a, b) => (this.#query.down ? by.compare(b, a) : by.compare(a, b)));
+    const rows = this.#rows();
     for (const [name, head] of this.#heads) {
       if (name === by.name) head.setAttribute("aria-sort", this.#query.down ? "descending" : "ascending");
       else head.removeAttribute("aria-sort");

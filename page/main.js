@@ -1,13 +1,16 @@
-/** The page: who enters and leaves, what stands around the views, and which view is shown. */
+/** The page: who logs in and off, what stands around the views, and which view is shown. */
 
 import { Forbidden, Office } from "./api.js";
 import { html } from "./dom.js";
-import { failed, tell, waits } from "./notices.js";
+import { IdleWatch } from "./idle.js";
+import { failed, tell, waits, warnIdle } from "./notices.js";
 import { isActing, Page } from "./page.js";
 import { read, toOrders, toStock } from "./router.js";
 import { goBackTo, leaving, stoodAt } from "./scrolling.js";
-import { forget, giveUp, keep, whoAsks } from "./session.js";
-import { enter } from "./views/enter.js";
+import { forget, giveUp, keep, see, seenAt, whoAsks } from "./session.js";
+import { readSettings } from "./settings.js";
+import { time } from "./values.js";
+import { logIn } from "./views/log-in.js";
 import { lot } from "./views/lot.js";
 import { nowhere } from "./views/nowhere.js";
 import { order } from "./views/order.js";
@@ -19,18 +22,22 @@ const VIEWS = { orders, order, stock, lot, plant, nowhere };
 const PARTS = [["orders", "Orders", toOrders(), ["orders", "order"]], ["stock", "Stock", toStock(), ["stock", "lot", "plant"]]];
 const TITLES = { orders: "Orders", order: "Order", stock: "Stock", lot: "Lot", plant: "Lot" };
 
+const UNKNOWN = "Whether the last thing was done isn't known.";
+
 const at = id => document.getElementById(id);
 
 const app = { office: new Office({ waits }), show, sendAway, isShown: page => page === current };
 
 let current = null;
 
-// Entering and leaving
+const settings = await readSettings();
 
-/** The owner whose key wasn't taken any more. */
+// Logging in and off
+
+/** The owner who was logged off by the office or for doing nothing. */
 let sentAway = null;
 
-async function enterAs(who, signal) {
+async function logInAs(who, signal) {
   await app.office.ask(who, "GET", "/orders", { signal });
   keep(who);
   const back = sentAway === who.owner;
@@ -39,24 +46,37 @@ async function enterAs(who, signal) {
   await show();
 }
 
-function leave() {
+function logOff() {
   const unanswered = isActing();
   forget();
   sentAway = null;
   history.replaceState(null, "", "#/");
   show();
-  if (unanswered) tell("You left before the office had answered. Whether the last thing was done isn't known.", true);
+  if (unanswered) tell(`You logged off before the office had answered. ${UNKNOWN}`, "bad");
 }
 
-/** The key isn't taken any more: the owner enters again, and comes back to where it was. */
-function sendAway() {
+/** The owner is logged off by somebody else, logs in again, and comes back to where it was. */
+function logOffAnd(text) {
   // several requests may be told so
   if (!whoAsks()) return;
+  const unanswered = isActing();
   sentAway = whoAsks().owner;
   forget();
   show();
-  tell("The office doesn't take this name and key any more. Enter again.", true);
+  tell(unanswered ? `${text} ${UNKNOWN}` : text, "bad");
 }
+
+/** The key isn't taken any more. */
+function sendAway() {
+  logOffAnd("The office doesn't take this name and key any more. Log in again.");
+}
+
+const watch = new IdleWatch({
+  minutes: settings.idleMinutes,
+  session: { isOn: () => whoAsks() !== null, seenAt, see },
+  warn: warnIdle,
+  end: () => logOffAnd(`You were logged off after ${time(settings.idleMinutes)} without a key or a click.`),
+});
 
 // Showing a view
 
@@ -77,7 +97,7 @@ async function show({ anew = false } = {}) {
 
 async function viewOf(page) {
   try {
-    return page.who ? await VIEWS[page.route.view](page) : enter({ enterAs, tell, owner: sentAway, signal: page.signal });
+    return page.who ? await VIEWS[page.route.view](page) : logIn({ logInAs, tell, owner: sentAway, idleMinutes: settings.idleMinutes, signal: page.signal });
   } catch (it) {
     if (page.signal.aborted) return null;
     if (it instanceof Forbidden) return sendAway();
@@ -107,7 +127,7 @@ function readAt({ owner }) {
 function drawBar({ who, route }) {
   const parts = PARTS.map(([, title, address, views]) => html("a", { href: address, "aria-current": views.includes(route.view) && "page" }, title));
   at("nav").replaceChildren(...(who ? parts : []));
-  at("who").replaceChildren(...(who ? [html("span", { class: "owner" }, who.owner), html("button", { type: "button", click: leave }, "Leave")] : []));
+  at("who").replaceChildren(...(who ? [html("span", { class: "owner" }, who.owner), html("button", { type: "button", click: logOff }, "Log off")] : []));
 }
 
 // What the browser does with the page
@@ -117,7 +137,7 @@ addEventListener("hashchange", () => {
   show();
 });
 
-// A browser may keep the page as it stands, and bring it back when another owner has entered in the window.
+// A browser may keep the page as it stands, and bring it back when another owner has logged in in the window.
 addEventListener("pagehide", () => {
   current?.leave();
   giveUp();
@@ -140,4 +160,5 @@ addEventListener("beforeprint", () => {
 });
 addEventListener("afterprint", () => opened.forEach(it => { it.open = false; }));
 
-show();
+watch.begin();
+if (watch.look()) show();

@@ -31,12 +31,18 @@ function drawSign() {
   at("sign").replaceChildren(...(last ? [sign()] : []));
 }
 
-/** Says what was done, or what went wrong, in place of what was told before. */
-export function tell(text, wrong = false) {
-  const notice = tone => html("div", { class: `notice ${tone}` }, html("p", {}, text),
+/** Says what was done ("good"), what is to be noticed ("wait"), or what went wrong ("bad"), in place of what was told before. */
+export function tell(text, tone = "good") {
+  const notice = () => html("div", { class: `notice ${tone}` }, html("p", {}, text),
     html("button", { type: "button", class: "close", "aria-label": "Close this notice", click: () => tell("") }, "×"));
-  at("told").replaceChildren(...(text && !wrong ? [notice("good")] : []));
-  at("wrong").replaceChildren(...(text && wrong ? [notice("bad")] : []));
+  at("told").replaceChildren(...(text && tone !== "bad" ? [notice()] : []));
+  at("wrong").replaceChildren(...(text && tone === "bad" ? [notice()] : []));
+}
+
+/** Says that the owner is logged off soon, or no more. */
+export function warnIdle(isWarned) {
+  const notice = () => html("p", { class: "notice wait" }, "You did nothing for a while, and are logged off within a minute. Press a key or click to stay.");
+  at("idle").replaceChildren(...(isWarned ? [notice()] : []));
 }
 
 /** What is said of an error, its number and word too where the office refused. */

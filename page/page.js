@@ -7,6 +7,9 @@ import { untilEnd, whoAsks } from "./session.js";
 
 const UNKNOWN = "Whether this was done isn't known: look before you do it again.";
 
+/** What was read before something was to be changed. Where that fails, nothing was changed, and the error says so. */
+const asBefore = reading => reading?.catch(it => { throw Object.assign(it, { isBefore: true }); });
+
 let acting = 0;
 
 /** Whether something that changes rows wasn't answered yet. */
@@ -43,19 +46,19 @@ export class Page {
 
   /**
    * Does what a button asks for, and draws the view anew, refused or not: it may be that another window
-   * changed it. `stands` tells whether it is done already, where a reply was lost. Once the owner has left,
-   * it is given up, and nothing is told of it.
+   * changed it. `before` reads what stands before; `said(reply, stood)` gives the text and the tone of what is
+   * told, and a bad one is as good as a refusal. `stands` tells whether it is done already, where a reply was
+   * lost. Once the owner has logged off, it is given up, and nothing is told of it.
    */
-  async act(button, path, { body, stands, said, refused }) {
-    const { office } = this.#app;
-    const get = it => office.ask(this.who, "GET", it, { signal: this.#over });
+  async act(button, path, { body, before, stands, said, refused }) {
+    const get = it => this.#app.office.ask(this.who, "GET", it, { signal: this.#over });
     button.disabled = true;
     acting += 1;
     tell("");
     try {
-      await office.carry(this.who, path, { body, signal: this.#over, stands: stands && (() => stands(get)) });
-      await this.#showAnew();
-      this.#tell(said);
+      const stood = await asBefore(before?.(get));
+      const reply = await this.#app.office.carry(this.who, path, { body, signal: this.#over, stands: stands && (() => stands(get)) });
+      await this.#done(said(reply, stood), refused);
     } catch (it) {
       await this.#notDone(it, refused);
     } finally {
@@ -64,11 +67,19 @@ export class Page {
     }
   }
 
+  async #done({ text, tone = "good" }, refused) {
+    const isRefused = tone === "bad" && refused;
+    if (!isRefused) await this.#showAnew();
+    this.#tell(text, tone);
+    if (isRefused) refused({});
+  }
+
   async #notDone(error, refused) {
     if (this.#over.aborted) return;
     if (error instanceof Forbidden) return this.#app.sendAway();
     if (error instanceof Refused && !refused) await this.#showAnew();
-    this.#tell(error instanceof Refused ? wordsOf(error) : `${error.message} ${UNKNOWN}`, true);
+    const isKnown = error instanceof Refused || error.isBefore;
+    this.#tell(isKnown ? wordsOf(error) : `${error.message} ${UNKNOWN}`, "bad");
     refused?.(error);
   }
 
@@ -76,9 +87,9 @@ export class Page {
     if (this.#app.isShown(this)) await this.#app.show({ anew: true });
   }
 
-  /** Tells the owner who asked, and nobody who entered after it. */
-  #tell(text, wrong) {
-    if (!this.#over.aborted) tell(text, wrong);
+  /** Tells the owner who asked, and nobody who logged in after it. */
+  #tell(text, tone) {
+    if (!this.#over.aborted) tell(text, tone);
   }
 
   /** Draws a part of the view that comes later; what goes wrong stands in its place. */

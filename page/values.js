@@ -26,6 +26,9 @@ export const amount = (value, measure) => `${number(value)} ${measure}`;
 /** How many there are of something: 1 lot, 2,000 lots. */
 export const count = (n, one, many = `${one}s`) => `${number(n)} ${n === 1 ? one : many}`;
 
+/** A time in minutes, which may be less than one: 15 minutes, 30 seconds. */
+export const time = minutes => (Number.isInteger(minutes) ? count(minutes, "minute") : count(Math.round(minutes * 60), "second"));
+
 /** How much of what is required is there: 98 %, 100.2 %. It is rounded down, so that 100 % is never less. */
 export function share(actual, required) {
   const tenths = (BigInt(actual) * 1000n) / BigInt(required);

@@ -7,13 +7,18 @@ import { SIZES } from "./layout.js";
 const TIP = 7;
 const LINE = 30;
 
+/** Some eight layers: what is wider can't be read on a sheet. */
+const WIDEST_ON_PAPER = 2200;
+
 /**
  * The picture. `layout` is what layered gives; `boxes` has of each id what stands in its box: title, lines,
- * word (its disposition, or that it is the plant's), address where it leads somewhere, `asked`, `fold`.
+ * word (its disposition, or that it is the plant's), address where it leads somewhere, `asked`, `fold`, and
+ * which of a lot's boxes it is (`nth`, `of`).
  */
 export function picture(layout, boxes, name) {
   const { width, height } = layout;
-  return svg("svg", { class: "genealogy", viewBox: `0 0 ${width} ${height}`, width, height, role: "group", "aria-label": name },
+  const isWide = width > WIDEST_ON_PAPER;
+  return svg("svg", { class: `genealogy${isWide ? " wide" : ""}`, viewBox: `0 0 ${width} ${height}`, width, height, role: "group", "aria-label": name },
     svg("g", { class: "edges", "aria-hidden": "true" }, layout.edges.map(it => edge(it, boxes))),
     [...layout.boxes].map(([id, at]) => box(boxes.get(id), at)));
 }
@@ -34,7 +39,7 @@ function edge({ from, to, path }, boxes) {
   const near = boxes.get(from)?.asked || boxes.get(to)?.asked;
   const dashed = boxes.get(from)?.fold || boxes.get(to)?.fold;
   const back = path.at(-1)[0] < path[0][0];
-  return svg("g", { class: `edge${near ? " near" : ""}${dashed ? " folded" : ""}`, "data-from": from, "data-to": to },
+  return svg("g", { class: `edge${near ? " near" : ""}${dashed ? " folded" : ""}`, "data-from": boxes.get(from)?.id, "data-to": boxes.get(to)?.id },
     svg("path", { class: "way", d: curve(path) }),
     svg("path", { class: "tip", d: tip(path.at(-1), back ? -TIP : TIP) }));
 }
@@ -44,7 +49,7 @@ const tip = ([x, y], long) => `M${x} ${y}l${-long} -4v8z`;
 
 function box(it, at) {
   const kind = it.fold ? "fold" : `${toneOf(it.word)}${it.plant ? " plant" : ""}${it.asked ? " asked" : ""}`;
-  const name = [it.title, ...it.lines, !it.plant && it.word, it.asked && "the lot that was asked for"].filter(Boolean).join(", ");
+  const name = [it.title, ...it.lines, !it.plant && it.word, it.asked && "the lot that was asked for", it.of > 1 && `box ${it.nth} of ${it.of}`].filter(Boolean).join(", ");
   const inner = [outline(it, at), it.fold ? folded(it, at) : written(it, at)];
   const given = { class: `box ${kind}`, "aria-label": name, "data-id": it.id };
   if (it.fold) return svg("g", { ...given, role: "button", tabindex: 0, "data-key": it.id, click: it.fold, keydown: pressed(it.fold) }, inner);
@@ -73,6 +78,7 @@ function written(it, { x, y }) {
     svg("text", { class: "title", x: x + 34, y: y + 22 }, it.title),
     svg("text", { x: x + 11, y: y + 40 }, it.lines[0]),
     !it.plant && svg("text", { class: "word", x: x + 11, y: y + 57 }, lastLine(it)),
+    it.of > 1 && svg("text", { class: "nth", x: x + SIZES.width - 9, y: y + 22, "text-anchor": "end" }, `${it.nth} of ${it.of}`),
     it.asked && flag(x, y),
   ];
 }

@@ -24,7 +24,7 @@ export const SIZES = { width: 190, height: 66, lane: 8, apart: 26, gap: 64, marg
  */
 export function layered(ids, edges, sizes = SIZES) {
   const straight = withoutRings(ids, simpleEdges(ids, edges));
-  const layerOf = layersOf(ids, straight);
+  const layerOf = layersOfStraight(ids, straight);
   const graph = withLanes(ids, straight, layerOf, sizes);
   const layers = ordered(graph.layers);
   settle(layers, sizes);
@@ -69,8 +69,11 @@ function withoutRings(ids, edges) {
   return edges.map(([from, to]) => (closing.has(`${from}\n${to}`) ? { from: to, to: from, turned: true } : { from, to, turned: false }));
 }
 
-/** The layer of each box. Edges lead to a later layer. */
-function layersOf(ids, edges) {
+/** The layer of each box: a map of ids to numbers from 0. */
+export const layersOf = (ids, edges) => layersOfStraight(ids, withoutRings(ids, simpleEdges(ids, edges)));
+
+/** The layer of each box, where edges lead to a later layer. */
+function layersOfStraight(ids, edges) {
   const pairs = edges.map(it => [it.from, it.to]);
   const outs = listsOf(ids, pairs, [0, 1]);
   const ins = listsOf(ids, pairs, [1, 0]);

@@ -64,6 +64,9 @@ export function shownOf(back, forward, shown) {
   return lotsOf(back.slice(0, shown.back + 1), forward.slice(0, shown.forward + 1));
 }
 
+/** The lots at one step of a trace: what the asked lot was directly made of, or directly went into. */
+export const directOf = trace => trace.filter(it => it.steps === 1);
+
 /** The box that stands for the lots of a way that aren't shown. */
 export const foldOf = way => `fold/${way}`;
 

@@ -1,16 +1,22 @@
 /** A lot's genealogy: the picture, what unfolds it, and the same lots as a table. */
 
 import { chip } from "../chips.js";
+import { downloadButton } from "../csv.js";
 import { html, link } from "../dom.js";
 import { table } from "../list.js";
 import { toLot, toPlantLot } from "../router.js";
 import { amount, count, number, PLANT } from "../values.js";
+import { besideWhatTheyFed } from "./copies.js";
 import { picture } from "./draw.js";
-import { layered } from "./layout.js";
-import { atFirst, edgesOf, foldOf, further, hiddenOf, idOf, lotsOf, mostOf, MOST, shownOf, waysAsked } from "./lots.js";
+import { layered, SIZES } from "./layout.js";
+import { atFirst, directOf, edgesOf, foldOf, further, hiddenOf, idOf, lotsOf, mostOf, MOST, shownOf, waysAsked } from "./lots.js";
+import { beginning } from "./sight.js";
 
 const WAYS = [["back", "further back"], ["forward", "further on"]];
 const addressOf = it => (it.owner === PLANT ? toPlantLot(it.lot) : toLot(it.lot));
+
+/** The most lots that are named one by one above the picture. */
+const NAMED = 12;
 const LEGEND = ["released", "quarantined", "rejected", "the plant's"];
 
 /**
@@ -24,10 +30,12 @@ export class Genealogy {
   #shown;
   #neighbours = new Map();
   #drawing = null;
+  #layout = null;
   #details;
   #place = html("div", { class: "picture", tabindex: 0, role: "region", "aria-label": "Picture of the genealogy" });
   #tools = html("div", { class: "buttons tools" });
   #sign = html("p", { class: "soft", role: "status" });
+  #note = html("span", { class: "soft" });
 
   constructor(page, { back, forward, stock }) {
     this.#page = page;
@@ -38,6 +46,7 @@ export class Genealogy {
     this.#know(idOf(back[0]), "forward", forward);
     this.element = html("section", { class: "card genealogy-card" },
       html("h2", {}, "Where it comes from and where it went"),
+      this.#direct(),
       html("p", { class: "soft" }, this.#summary()),
       this.#tools, this.#sign, this.#place, this.#legend(), this.#table());
     this.drawn = this.#redraw();
@@ -50,8 +59,29 @@ export class Genealogy {
     return `${made}Went into: ${told(forward)}. Arrows lead from a lot to what it went into.`;
   }
 
+  /** What the lot was directly made of and directly went into, in words. */
+  #direct() {
+    const { back, forward } = this.#traces;
+    const part = (title, trace) => html("div", {}, html("dt", {}, title), html("dd", {}, this.#named(directOf(trace))));
+    return html("dl", { class: "direct" },
+      back[0].owner !== PLANT && part("Directly made of", back), part("Directly went into", forward));
+  }
+
+  #named(lots) {
+    if (lots.length === 0) return "nothing";
+    const name = it => [link(addressOf(it), it.lot), it.owner === PLANT && " (the plant's)"];
+    const names = lots.slice(0, NAMED).flatMap((it, i) => [i > 0 && ", ", name(it)]);
+    const rest = lots.length - NAMED;
+    return [names, rest > 0 && [" and ", html("button", { type: "button", class: "quiet", click: () => this.#showTable() }, `${number(rest)} more`)]];
+  }
+
+  #showTable() {
+    this.#details.open = true;
+    this.#details.querySelector("summary").focus();
+  }
+
   #legend() {
-    return html("p", { class: "legend" }, LEGEND.map(it => chip(it)));
+    return html("p", { class: "legend" }, LEGEND.map(it => chip(it)), this.#note);
   }
 
   // What is shown
@@ -71,22 +101,23 @@ export class Genealogy {
   #openFold(way) {
     const more = this.#more(way);
     if (more[way] > this.#shown[way]) this.#unfold(more);
-    else {
-      this.#details.open = true;
-      this.#details.querySelector("summary").focus();
-    }
+    else this.#showTable();
   }
 
   #drawTools(hidden) {
     const { back, forward } = this.#traces;
     const [first, most] = [atFirst(back, forward), mostOf(back, forward)];
-    const button = (key, title, shown) => html("button", { type: "button", class: "small", "data-key": key, click: () => this.#unfold(shown) }, title);
+    const does = (key, title, click) => html("button", { type: "button", class: "small", "data-key": key, click }, title);
+    const button = (key, title, shown) => does(key, title, () => this.#unfold(shown));
     const more = WAYS.map(([way, words]) => [way, words, this.#more(way)]).filter(([way, , then]) => then[way] > this.#shown[way])
       .map(([way, words, then]) => button(`more-${way}`, `${number(then[way] - this.#shown[way])} more ${words}`, then));
     const whole = most.back + most.forward === back.length + forward.length - 2;
     const all = more.length > 0 && button("all", whole ? `All ${number(hidden.size)} more` : `As many as ${MOST}`, most);
     const fewer = (this.#shown.back > first.back || this.#shown.forward > first.forward) && button("fewer", "Fewer", first);
-    this.#tools.replaceChildren(...[more, all, fewer].flat().filter(Boolean));
+    const { scrollWidth, scrollHeight, clientWidth, clientHeight } = this.#place;
+    const isLarge = scrollWidth > clientWidth || scrollHeight > clientHeight;
+    const asked = isLarge && does("asked", `Show ${back[0].lot}`, () => this.#showAsked());
+    this.#tools.replaceChildren(...[more, all, fewer, asked].flat().filter(Boolean));
   }
 
   async #redraw() {
@@ -99,18 +130,30 @@ export class Genealogy {
     await this.#page.fill(this.#sign, async () => {
       await this.#readNeighbours(shown, hidden, drawing.signal);
       if (drawing.signal.aborted) return;
-      this.#drawTools(hidden);
       this.#place.replaceChildren(this.#picture(shown, hidden));
+      this.#drawTools(hidden);
       this.#showAsked();
-      if (focused) (this.element.querySelector(`[data-key="${CSS.escape(focused)}"]`) ?? this.#place).focus();
+      if (focused) (this.element.querySelector(`[data-key="${CSS.escape(focused)}"]`) ?? this.#place).focus({ preventScroll: true });
     });
   }
 
-  /** Brings the asked lot into sight, where the picture is wider than its place. */
+  /** Brings the asked lot into sight, with those that it is joined to, where the picture is larger than its place. */
   #showAsked() {
-    const asked = this.#place.querySelector(".asked");
-    const [box, place] = [asked.getBoundingClientRect(), this.#place.getBoundingClientRect()];
-    this.#place.scrollLeft += box.left + box.width / 2 - place.left - place.width / 2;
+    const { boxes, edges } = this.#layout;
+    const asked = idOf(this.#traces.back[0]);
+    const ends = (mine, others) => edges.filter(it => it[mine] === asked).map(it => boxes.get(it[others]));
+    const [ins, outs] = [ends("to", "from"), ends("from", "to")];
+    const [frame, drawn] = [this.#place.getBoundingClientRect(), this.#place.firstChild.getBoundingClientRect()];
+    const place = (length, corner, size, shift) => {
+      const range = it => [it[corner], it[corner] + size];
+      return shift + beginning(length, range(boxes.get(asked)), ins.map(range), outs.map(range));
+    };
+    const { scrollLeft, scrollTop, clientWidth, clientHeight } = this.#place;
+    this.#place.scrollTo({
+      left: place(clientWidth, "x", SIZES.width, drawn.left - frame.left + scrollLeft),
+      top: place(clientHeight, "y", SIZES.height, drawn.top - frame.top + scrollTop),
+      behavior: "instant",
+    });
   }
 
   // The edges
@@ -144,8 +187,12 @@ export class Genealogy {
       const id = foldOf(way);
       if (n > 0) boxes.set(id, { id, title: `${number(n)} more`, lines: [words], word: "", fold: () => this.#openFold(way) });
     }
-    const layout = layered([...boxes.keys()], edgesOf(shown, this.#neighbours, hidden));
-    return picture(layout, boxes, `Genealogy of ${shown[0].lot}: ${count(boxes.size, "box", "boxes")}`);
+    const asked = shown[0].id;
+    const { ids, edges, copies } = besideWhatTheyFed([...boxes.keys()], edgesOf(shown, this.#neighbours, hidden), id => id === asked || boxes.get(id).fold);
+    this.#layout = layered(ids, edges);
+    this.#note.textContent = copies.size > boxes.size ? "A lot that fed several steps stands beside each: “1 of 2” is the first of two places." : "";
+    const drawn = new Map([...copies].map(([box, { id, nth, of }]) => [box, { ...boxes.get(id), nth, of }]));
+    return picture(this.#layout, drawn, `Genealogy of ${shown[0].lot}: ${count(boxes.size, "box", "boxes")}`);
   }
 
   #boxOf(it) {
@@ -164,18 +211,17 @@ export class Genealogy {
     const lineOf = it => (it.owner === PLANT ? undefined : this.#stock.get(it.lot));
     const amountOf = line => line && amount(line.amount, line.measure);
     const word = it => (it.owner === PLANT ? "the plant's" : lineOf(it)?.disposition);
-    return this.#details = html("details", {}, html("summary", {}, "The same as a table"), table({
-      caption: "The lots of the genealogy, with their fewest steps",
-      signal: this.#page.signal,
-      rows: lotsOf(back, forward),
-      columns: [
-        { title: "Lot", cell: it => link(addressOf(it), it.lot) },
-        { title: "Steps back", number: true, cell: it => it.back !== null && number(it.back) },
-        { title: "Steps forward", number: true, cell: it => it.forward !== null && number(it.forward) },
-        { title: "Material", cell: it => lineOf(it)?.material },
-        { title: "On hand", number: true, cell: it => amountOf(lineOf(it)) },
-        { title: "Disposition", cell: it => word(it) && chip(word(it)) },
-      ],
-    }));
+    const rows = lotsOf(back, forward);
+    const columns = [
+      { title: "Lot", cell: it => link(addressOf(it), it.lot), values: { Lot: it => it.lot, Owner: it => it.owner } },
+      { title: "Steps back", number: true, cell: it => it.back !== null && number(it.back), values: { "Steps back": it => it.back } },
+      { title: "Steps forward", number: true, cell: it => it.forward !== null && number(it.forward), values: { "Steps forward": it => it.forward } },
+      { title: "Material", cell: it => lineOf(it)?.material, values: { Material: it => lineOf(it)?.material } },
+      { title: "On hand", number: true, cell: it => amountOf(lineOf(it)), values: { "On hand": it => lineOf(it)?.amount, Measure: it => lineOf(it)?.measure } },
+      { title: "Disposition", cell: it => word(it) && chip(word(it)), values: { Disposition: it => lineOf(it)?.disposition } },
+    ];
+    return this.#details = html("details", {}, html("summary", {}, "The same as a table"),
+      html("div", { class: "buttons" }, downloadButton(this.#page, `${back[0].lot}-genealogy`, columns, () => rows)),
+      table({ caption: "The lots of the genealogy, with their fewest steps", signal: this.#page.signal, rows, columns }));
   }
 }

@@ -5,8 +5,8 @@ import { Away, Forbidden, Office, Refused, RESTS, Strange } from "../api.js";
 import { known, meaning } from "../refusals.js";
 import { isReply } from "../replies.js";
 import { read, toLot, toOrder, toOrders, toPlantLot, toStock } from "../router.js";
-import { forget, giveUp, keep, untilEnd, whoAsks } from "../session.js";
-import { compareNumbers, count, isName, number, parse, share } from "../values.js";
+import { forget, giveUp, keep, see, seenAt, untilEnd, whoAsks } from "../session.js";
+import { compareNumbers, count, isName, number, parse, share, time } from "../values.js";
 
 const PAGE = new URL("..", import.meta.url);
 const WHO = { owner: "ACME", key: "ACMEKEY1" };
@@ -106,7 +106,7 @@ test("an order is sent as JSON", async () => {
   assert.deepEqual(it.asked, [["POST", "/orders", "ACME", '{"order":"O-1","recipe":"R","batches":2}']]);
 });
 
-test("at most four are asked at a time", async () => {
+test("at most three are asked at a time, as the site lets an address ask four", async () => {
   let [now, most] = [0, 0];
   const it = new Office({
     fetch: async () => {
@@ -117,7 +117,9 @@ test("at most four are asked at a time", async () => {
     },
   });
   await Promise.all(Array.from({ length: 25 }, () => it.ask(WHO, "GET", "/stock")));
-  assert.equal(most, 4);
+  assert.equal(most, 3);
+  const site = readFileSync(new URL("../packaging/nginx.conf", PAGE), "utf8");
+  assert.ok(most < Number(site.match(/limit_conn toll_at_once (\d+);/)[1]));
 });
 
 test("what changes something is asked before all that waits to be read", async () => {
@@ -131,7 +133,7 @@ test("what changes something is asked before all that waits to be read", async (
   });
   const reads = Array.from({ length: 9 }, () => it.ask(WHO, "GET", "/stock"));
   await Promise.all([...reads, it.carry(WHO, "/orders", { body: {} })]);
-  assert.equal(asked.indexOf("/orders"), 4);
+  assert.equal(asked.indexOf("/orders"), 3);
 });
 
 test("what was left is asked no more", async () => {
@@ -152,7 +154,7 @@ test("what was given up between two tries is asked no more, and not looked up", 
 
 // Who asks
 
-test("a session ends when its owner leaves, and when another enters", () => {
+test("a session ends when its owner logs off, and when another logs in", () => {
   const kept = new Map();
   globalThis.sessionStorage = { getItem: name => kept.get(name) ?? null, setItem: (name, it) => kept.set(name, it), removeItem: name => kept.delete(name) };
   const ends = [];
@@ -167,8 +169,13 @@ test("a session ends when its owner leaves, and when another enters", () => {
   giveUp();
   begin();
   assert.deepEqual([whoAsks().owner, ends.map(it => it.aborted)], ["BOLT", [true, true, true, false]]);
+  see(1234);
+  assert.deepEqual([whoAsks(), seenAt()], [{ owner: "BOLT", key: "BOLTKEY1" }, 1234]);
+  keep(WHO, 5678);
+  assert.deepEqual([whoAsks(), seenAt()], [WHO, 5678]);
   forget();
-  assert.deepEqual([whoAsks(), kept.size, ends.every(it => it.aborted)], [null, 0, true]);
+  see(9999);
+  assert.deepEqual([whoAsks(), seenAt(), kept.size, ends.every(it => it.aborted)], [null, 0, 0, true]);
   for (const wrong of ["", "null", "{", "[]", '{"owner":"ACME"}', '{"owner":1,"key":2}']) {
     kept.set("hilpoven", wrong);
     assert.equal(whoAsks(), null, wrong);
@@ -218,6 +225,7 @@ test("numbers that a Number can't hold are kept", () => {
 
 test("numbers and names in words", () => {
   assert.deepEqual([number(1000), number(-5), count(1, "lot"), count(2000, "lot")], ["1,000", "-5", "1 lot", "2,000 lots"]);
+  assert.deepEqual([time(15), time(1), time(0.1)], ["15 minutes", "1 minute", "6 seconds"]);
   assert.deepEqual([share(980, 1000), share(9999, 10000), share(1002, 1000), share(0, 7), share("20000000000000000", 1)], ["98 %", "99.9 %", "100.2 %", "0 %", "2,000,000,000,000,000,000 %"]);
   assert.deepEqual(["A", "A-1", "-A", "a", "", "A".repeat(17), "A/B", 5].map(isName), [true, true, false, false, false, false, false, false]);
 });

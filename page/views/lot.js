@@ -1,6 +1,7 @@
 /** A lot: its disposition and what decides it, its sublots and results, and its genealogy. */
 
 import { chip } from "../chips.js";
+import { downloadButton } from "../csv.js";
 import { fact, html, link, unseen } from "../dom.js";
 import { Genealogy } from "../genealogy/view.js";
 import { table } from "../list.js";
@@ -24,7 +25,7 @@ export async function lot(page) {
     title: `Lot ${told.lot}`,
     mark: chip(told.disposition),
     drawn,
-    body: [facts(page, told), html("div", { class: "two" }, sublots(told), results(told)), place],
+    body: [facts(page, told), html("div", { class: "two" }, sublots(page, told), results(page, told)), place],
   };
 }
 
@@ -56,7 +57,7 @@ function origin(told) {
 }
 
 const decision = (page, name, way, done) => button => page.act(button, `/lots/${name}/${way}`, {
-  said: `Lot ${name} is ${done}.`,
+  said: () => ({ text: `Lot ${name} is ${done}.` }),
   stands: async get => (await get(`/lots/${name}`)).disposition === done,
 });
 
@@ -77,29 +78,39 @@ function rejectButton(page, name) {
 }
 
 /** A part of the view with its table, or what is said where it has no rows. */
-const part = (title, rows, none, shown) => html("section", { class: "card" },
-  html("h2", {}, title), rows.length === 0 ? html("p", { class: "soft" }, none) : shown());
+function part(page, { title, file, rows, columns, none, more }) {
+  const shown = () => [table({ caption: title, rows, columns }), more];
+  return html("section", { class: "card" },
+    html("div", { class: "line" }, html("h2", {}, title), rows.length > 0 && downloadButton(page, file, columns, () => rows)),
+    rows.length === 0 ? html("p", { class: "soft" }, none) : shown());
+}
 
-const sublots = told => part("Sublots", told.sublots, "It has none.", () => table({
-  caption: "Sublots",
+const sublots = (page, told) => part(page, {
+  title: "Sublots",
+  file: `${told.lot}-sublots`,
+  none: "It has none.",
   rows: told.sublots,
   columns: [
-    { title: "Sublot", cell: it => it.sublot },
-    { title: "On hand", number: true, cell: it => amount(it.amount, told.measure) },
+    { title: "Sublot", cell: it => it.sublot, values: { Sublot: it => it.sublot } },
+    { title: "On hand", number: true, cell: it => amount(it.amount, told.measure), values: { "On hand": it => it.amount, Measure: () => told.measure } },
   ],
-}));
+});
 
 /** All results, as they came. The last of each test is the one that counts for the release. */
-function results(told) {
+function results(page, told) {
   const counts = new Set(new Map(told.results.map(it => [it.test, it])).values());
-  return part("Results", told.results, "None was recorded.", () => [table({
-    caption: "Results of tests",
+  const word = it => (counts.has(it) ? "counts" : "earlier");
+  return part(page, {
+    title: "Results",
+    file: `${told.lot}-results`,
+    none: "None was recorded.",
     rows: told.results,
     columns: [
-      { title: "Test", cell: it => it.test },
-      { title: "Value", number: true, cell: it => number(it.value) },
-      { title: "Day", number: true, cell: it => String(it.day) },
-      { title: unseen("Whether it counts"), cell: it => (counts.has(it) ? "counts" : html("span", { class: "soft" }, "earlier")) },
+      { title: "Test", cell: it => it.test, values: { Test: it => it.test } },
+      { title: "Value", number: true, cell: it => number(it.value), values: { Value: it => it.value } },
+      { title: "Day", number: true, cell: it => String(it.day), values: { Day: it => it.day } },
+      { title: unseen("Whether it counts"), cell: it => (counts.has(it) ? word(it) : html("span", { class: "soft" }, word(it))), values: { Counts: word } },
     ],
-  }), html("p", { class: "soft" }, "All that were recorded, in the order in which they came. The last of each test counts.")]);
+    more: html("p", { class: "soft" }, "All that were recorded, in the order in which they came. The last of each test counts."),
+  });
 }

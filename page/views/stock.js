@@ -32,6 +32,7 @@ function lotsOf(page, rows) {
   return new Finder(page, {
     caption: "Lots in stock",
     what: ["lot", "lots"],
+    file: "stock",
     rows,
     search: it => `${it.lot} ${it.material}`,
     choices: [
@@ -39,10 +40,10 @@ function lotsOf(page, rows) {
       { name: "disposition", title: "Disposition", options: DISPOSITIONS, of: it => it.disposition },
     ],
     columns: [
-      { name: "lot", title: "Lot", cell: it => link(toLot(it.lot), it.lot), compare: byLot },
-      { name: "material", title: "Material", cell: it => it.material, compare: (a, b) => compareNames(a.material, b.material) || byLot(a, b) },
-      { name: "amount", title: "On hand", number: true, cell: it => amount(it.amount, it.measure), compare: byAmount },
-      { name: "disposition", title: "Disposition", cell: it => chip(it.disposition), compare: byDisposition },
+      { name: "lot", title: "Lot", cell: it => link(toLot(it.lot), it.lot), compare: byLot, values: { Lot: it => it.lot } },
+      { name: "material", title: "Material", cell: it => it.material, compare: (a, b) => compareNames(a.material, b.material) || byLot(a, b), values: { Material: it => it.material } },
+      { name: "amount", title: "On hand", number: true, cell: it => amount(it.amount, it.measure), compare: byAmount, values: { "On hand": it => it.amount, Measure: it => it.measure } },
+      { name: "disposition", title: "Disposition", cell: it => chip(it.disposition), compare: byDisposition, values: { Disposition: it => it.disposition } },
     ],
   });
 }
@@ -64,15 +65,17 @@ function materialsOf(page, lots) {
   const byMaterial = (a, b) => compareNames(a.material, b.material);
   const sum = (name, title) => ({
     name, title, number: true, cell: it => amount(it[name], it.measure), compare: (a, b) => compareNumbers(a[name], b[name]) || byMaterial(a, b),
+    values: { [title]: it => it[name] },
   });
   return new Finder(page, {
     caption: "Stock by material",
     what: ["material", "materials"],
+    file: "stock-by-material",
     rows: sums(lots),
     search: it => it.material,
     columns: [
-      { name: "material", title: "Material", cell: it => link(toStock({ material: it.material }), it.material), compare: byMaterial },
-      { name: "lots", title: "Lots", number: true, cell: it => number(it.lots), compare: (a, b) => a.lots - b.lots || byMaterial(a, b) },
+      { name: "material", title: "Material", cell: it => link(toStock({ material: it.material }), it.material), compare: byMaterial, values: { Material: it => it.material, Measure: it => it.measure } },
+      { name: "lots", title: "Lots", number: true, cell: it => number(it.lots), compare: (a, b) => a.lots - b.lots || byMaterial(a, b), values: { Lots: it => it.lots } },
       sum("released", "Released"), sum("quarantined", "Quarantined"), sum("rejected", "Rejected"), sum("all", "On hand"),
     ],
   });

@@ -2,9 +2,9 @@
 
 import { Forbidden } from "../api.js";
 import { html } from "../dom.js";
-import { KEY_TYPED, NAME_TYPED } from "../values.js";
+import { KEY_TYPED, NAME_TYPED, time } from "../values.js";
 
-export function enter({ enterAs, tell, owner, signal }) {
+export function logIn({ logInAs, tell, owner, idleMinutes, signal }) {
   const name = html("input", {
     name: "owner", required: true, pattern: NAME_TYPED, title: "1 to 16 letters, digits and -", value: owner,
     autocomplete: "username", autocapitalize: "characters", spellcheck: "false",
@@ -12,17 +12,17 @@ export function enter({ enterAs, tell, owner, signal }) {
   const key = html("input", {
     name: "key", type: "password", required: true, pattern: KEY_TYPED, title: "8 to 32 letters or digits", autocomplete: "current-password",
   });
-  const button = html("button", { class: "main" }, "Enter");
+  const button = html("button", { class: "main" }, "Log in");
 
   async function submit(event) {
     event.preventDefault();
     button.disabled = true;
     tell("");
     try {
-      await enterAs({ owner: name.value.toUpperCase(), key: key.value }, signal);
+      await logInAs({ owner: name.value.toUpperCase(), key: key.value }, signal);
     } catch (it) {
       if (signal.aborted) return;
-      tell(it.message, true);
+      tell(it.message, "bad");
       if (it instanceof Forbidden) key.select();
     } finally {
       button.disabled = false;
@@ -30,13 +30,13 @@ export function enter({ enterAs, tell, owner, signal }) {
   }
 
   return {
-    title: "Enter",
+    title: "Log in",
     focus: owner ? key : name,
     body: html("section", { class: "card enter" },
       html("p", {}, "Your orders, your stock, and where each of your lots comes from and went."),
       html("form", { class: "fields upright", submit },
         html("label", {}, "Owner", name), html("label", {}, "Key", key), button),
-      html("p", { class: "soft" }, "The key stays in this window until you leave. Leave before others use it: ",
-        "a browser can bring back a window that was closed.")),
+      html("p", { class: "soft" }, "The key stays in this window until you log off. Log off before others use it",
+        idleMinutes > 0 && `; after ${time(idleMinutes)} without a key or a click you are logged off`, ".")),
   };
 }

@@ -1,0 +1,22 @@
+/** What the site sets for the page, in settings.json beside it. */
+
+const LONGEST_REQUEST = 5000;
+
+/** What holds where the site sets nothing. */
+export const DEFAULTS = Object.freeze({ idleMinutes: 15 });
+
+/** What these settings say. Whatever is no setting is as in DEFAULTS. */
+export function settingsOf(value) {
+  const minutes = value?.idle_minutes;
+  return { idleMinutes: Number.isFinite(minutes) && minutes >= 0 ? minutes : DEFAULTS.idleMinutes };
+}
+
+/** The settings of the site. */
+export async function readSettings(fetch = (...it) => globalThis.fetch(...it)) {
+  try {
+    const reply = await fetch("settings.json", { cache: "no-cache", credentials: "omit", signal: AbortSignal.timeout(LONGEST_REQUEST) });
+    return settingsOf(reply.ok ? await reply.json() : null);
+  } catch {
+    return DEFAULTS;
+  }
+}

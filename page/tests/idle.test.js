@@ -1,0 +1,85 @@
+import assert from "node:assert/strict";
+import { readFileSync } from "node:fs";
+import test from "node:test";
+import { IdleWatch, stateOf } from "../idle.js";
+import { DEFAULTS, readSettings, settingsOf } from "../settings.js";
+
+const MINUTE = 60_000;
+
+/** A watch over a window in which somebody is logged in, with a clock that is set by hand. */
+function window(minutes, seen = 0) {
+  const it = { now: seen, seen, isOn: true, told: [] };
+  it.watch = new IdleWatch({
+    minutes,
+    session: { isOn: () => it.isOn, seenAt: () => it.seen, see: now => { it.seen = now; } },
+    warn: isWarned => it.told.push(isWarned ? "warned" : "not warned"),
+    end: () => { it.isOn = false; it.told.push("over"); },
+    now: () => it.now,
+  });
+  it.at = minutesLater => { it.now = minutesLater * MINUTE; return it.watch; };
+  return it;
+}
+
+test("who does nothing is warned a minute before, and logged off", () => {
+  const it = window(15);
+  for (const minutes of [1, 13.9, 14, 14.5, 15, 16]) it.at(minutes).look();
+  assert.deepEqual(it.told, ["warned", "over", "not warned"]);
+});
+
+test("a key or a click begins anew, also after the warning", () => {
+  const it = window(15);
+  it.at(10).touch();
+  it.at(24.5).look();
+  it.at(24.6).touch();
+  it.at(38).look();
+  assert.deepEqual(it.told, ["warned", "not warned"]);
+  it.at(39.6).look();
+  assert.deepEqual(it.told.slice(2), ["over"]);
+});
+
+test("what is done after the end, as when a machine wakes up, is no way back", () => {
+  const it = window(15);
+  it.at(600).touch();
+  assert.deepEqual([it.told, it.isOn, it.seen], [["over"], false, 0]);
+});
+
+test("a window that is brought back after the time isn't shown", () => {
+  const it = window(15, 5 * MINUTE);
+  it.now = 21 * MINUTE;
+  assert.equal(it.watch.look(), false);
+  assert.equal(window(15).watch.look(), true);
+});
+
+test("nobody is logged off where nobody is logged in, nor where the site sets 0", () => {
+  const off = window(15);
+  off.isOn = false;
+  off.at(100).look();
+  off.at(101).touch();
+  const never = window(0);
+  never.at(10_000).look();
+  assert.deepEqual([off.told, never.told, off.seen], [[], [], 0]);
+});
+
+test("a time below two minutes warns half way", () => {
+  assert.deepEqual([0, 2.9, 3, 5.9, 6].map(it => stateOf(it * 1000, 6000)), ["active", "active", "warned", "warned", "over"]);
+});
+
+test("settings that are none are as if there were none", () => {
+  assert.deepEqual(settingsOf({ idle_minutes: 5 }), { idleMinutes: 5 });
+  assert.deepEqual(settingsOf({ idle_minutes: 0 }), { idleMinutes: 0 });
+  for (const it of [null, [], "15", {}, { idle_minutes: -1 }, { idle_minutes: "5" }, { idle_minutes: null }, { idle_minutes: Infinity }]) assert.deepEqual(settingsOf(it), DEFAULTS);
+});
+
+test("the settings are read from the site, and where they can't be, the page goes on", async () => {
+  const reply = (text, status = 200) => async () => new Response(text, { status });
+  assert.deepEqual(await readSettings(reply('{"idle_minutes":3}')), { idleMinutes: 3 });
+  for (const fetch of [reply("<html>", 404), reply("{"), reply('{"idle_minutes":3}', 500), async () => { throw new TypeError("Failed to fetch"); }]) {
+    assert.deepEqual(await readSettings(fetch), DEFAULTS);
+  }
+});
+
+test("the site's setting is what the page has where there is none", () => {
+  const site = readFileSync(new URL("../../packaging/nginx.conf", import.meta.url), "utf8");
+  const [, text] = site.match(/location = \/owner\/settings\.json {[^}]*return 200 '(.*)';/);
+  assert.deepEqual(settingsOf(JSON.parse(text)), DEFAULTS);
+});
