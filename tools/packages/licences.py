@@ -41,10 +41,14 @@ def licences(crates):
     return texts
 
 
+def own_text(root):
+    """What a package says of the rights to what is Hilpoven's own."""
+    return f"Hilpoven, the order and lot genealogy office of a toll manufacturer.\n\n{(root / 'LICENSE').read_text().strip()}\n"
+
+
 def copyright_text(root):
-    """What a package says of rights."""
-    parts = ["Hilpoven, the order and lot genealogy office of a toll manufacturer.", (root / "LICENSE").read_text().strip(),
-             "The program has parts of these libraries, under these licences."]
+    """What the package of the program says of rights, with those of the libraries that are linked into it."""
+    parts = [own_text(root).strip(), "The program has parts of these libraries, under these licences."]
     for text, libraries in licences(root / "crates.txt").items():
         parts.append(f"{', '.join(libraries)}:\n\n{text}")
     return "\n\n".join(parts) + "\n"

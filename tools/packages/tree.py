@@ -8,17 +8,20 @@ import sys
 import tempfile
 from typing import NamedTuple
 
-from . import licences, manual
+from . import documents, licences
 
 ROOT = pathlib.Path(__file__).resolve().parent.parent.parent
 PACKAGING = ROOT / "packaging"
-OPERATORS_TOOLS = ("backup", "change-key", "recall-report", "to-csv")
 UNITS = {
-    "toll.service": "toll.service",
-    "toll-backup.service": "toll-backup.service",
-    "toll-backup.timer": "toll-backup.timer",
-    "hardening.conf": "toll.service.d/hardening.conf toll-backup.service.d/hardening.conf",
+    "toll@.service": ["toll@.service"],
+    "toll-failed@.service": ["toll-failed@.service"],
+    "office.conf": ["toll@.service.d/office.conf"],
+    "hardening.conf": ["toll@.service.d/hardening.conf", "toll.service.d/hardening.conf"],
+    # those of a machine with one office, as version 1.0 had them
+    "single/toll.service": ["toll.service"],
+    "single/closed.conf": ["toll.service.d/closed.conf"],
 }
+EXAMPLES = {"nginx.conf": PACKAGING / "nginx.conf", "office.env": PACKAGING / "office.env"}
 DOCUMENTS = "share/doc/toll"
 
 
@@ -27,6 +30,7 @@ class Entry(NamedTuple):
     content: bytes = b""
     is_program: bool = False
     link: str | None = None
+    mode: int = 0  # where it is neither a program's nor that of a file for all to read
 
 
 def zipped(content):
@@ -42,46 +46,43 @@ def stripped(program):
         return pathlib.Path(target).read_bytes()
 
 
-def tools():
-    """The operators' tools that the repository has."""
-    return [it for it in OPERATORS_TOOLS if (ROOT / "tools" / it).exists()]
-
-
-def tool_entries(date):
-    """The tools, with what they import and their manual pages, and the names by which they are called."""
-    for tool in tools():
-        source = (ROOT / "tools" / tool).read_text()
-        name = f"toll-{tool}"
-        yield f"bin/{name}", Entry(link=f"../lib/toll/tools/{tool}")
-        yield f"lib/toll/tools/{tool}", Entry(source.replace("#!/usr/bin/env python3", "#!/usr/bin/python3", 1).encode(), True)
-        yield f"share/man/man1/{name}.1.gz", Entry(zipped(manual.page(name, tool, source, date).encode()))
-        for file in sorted((ROOT / "tools" / tool.replace("-", "_")).glob("*.py")):
-            yield f"lib/toll/tools/{file.parent.name}/{file.name}", Entry(file.read_bytes())
-    yield "lib/toll/toll", Entry(link="../../bin/toll")
-
-
 def page_entries():
-    """The owner's page, without its tests."""
+    """The owner's page, without its tests, and the contract of its interface beside it."""
     page = ROOT / "page"
     for file in sorted(page.rglob("*")):
         inner = file.relative_to(page)
         if file.suffix in (".html", ".css", ".svg", ".js") and inner.parts[0] != "tests":
             yield f"share/toll/page/{inner}", Entry(file.read_bytes())
+    for name in ("openapi.yaml", "http.md"):
+        yield f"share/toll/page/{name}", document_entry(ROOT / "docs" / name)
+
+
+def units(sources):
+    """The units of these sources, each with the names by which it is installed."""
+    for source, targets in sources.items():
+        for target in targets:
+            yield f"lib/systemd/system/{target}", Entry((PACKAGING / source).read_bytes())
 
 
 def unit_entries():
-    for source, targets in UNITS.items():
-        for target in targets.split():
-            yield f"lib/systemd/system/{target}", Entry((PACKAGING / source).read_bytes())
+    yield from units(UNITS)
     yield "lib/sysusers.d/toll.conf", Entry((PACKAGING / "sysusers.conf").read_bytes())
+
+
+def document_entry(file):
+    """A document, a page with the names of what is installed."""
+    content = file.read_bytes()
+    return Entry(documents.installed(content.decode()).encode() if file.suffix == ".md" else content)
 
 
 def document_entries():
     for file in [ROOT / "README.md", *sorted(it for it in (ROOT / "docs").iterdir() if it.is_file() and it.name != "toll.1")]:
-        yield f"{DOCUMENTS}/{file.relative_to(ROOT)}", Entry(file.read_bytes())
+        yield f"{DOCUMENTS}/{file.relative_to(ROOT)}", document_entry(file)
     yield f"{DOCUMENTS}/changelog.gz", Entry(zipped((ROOT / "CHANGELOG.md").read_bytes()))
     yield f"{DOCUMENTS}/copyright", Entry(licences.copyright_text(ROOT).encode())
-    yield f"{DOCUMENTS}/examples/nginx.conf", Entry((PACKAGING / "nginx.conf").read_bytes())
+    for name, file in EXAMPLES.items():
+        yield f"{DOCUMENTS}/examples/{name}", Entry(file.read_bytes())
+    yield f"{DOCUMENTS}/examples/demo", Entry((ROOT / "demo" / "run").read_bytes(), True)
 
 
 def completion():
@@ -89,13 +90,12 @@ def completion():
     return Entry(done.stdout.encode())
 
 
-def tree(program, date):
+def tree(program):
     """All files by their paths."""
     return {
         "bin/toll": Entry(stripped(program), True),
         "share/man/man1/toll.1.gz": Entry(zipped((ROOT / "docs" / "toll.1").read_bytes())),
         "share/bash-completion/completions/toll": completion(),
-        **dict(tool_entries(date)),
         **dict(page_entries()),
         **dict(unit_entries()),
         **dict(document_entries()),
@@ -111,7 +111,7 @@ def write(entries, folder, moment):
             target.symlink_to(entry.link)
         else:
             target.write_bytes(entry.content)
-            target.chmod(0o755 if entry.is_program else 0o644)
+            target.chmod(entry.mode or (0o755 if entry.is_program else 0o644))
     for it in [folder, *folder.rglob("*")]:
         if it.is_dir() and not it.is_symlink():
             it.chmod(0o755)

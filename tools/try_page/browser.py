@@ -12,6 +12,8 @@ ELEMENT = "element-6066-11e4-a52e-4f735466cecf"
 PATIENCE = 30
 # milliseconds: to look at all of a long list takes a while, where the machine is busy
 SCRIPT_PATIENCE = 110_000
+# seconds
+LONGEST_COMMAND = 120
 KEYS = {"tab": "\ue004", "enter": "\ue007", "escape": "\ue00c", "space": " ", "shift": "\ue008"}
 
 
@@ -52,10 +54,12 @@ class Browser:
             return False
 
     def _send(self, method, path, body=None):
-        line = http.client.HTTPConnection("127.0.0.1", self.port, timeout=120)
+        line = http.client.HTTPConnection("127.0.0.1", self.port, timeout=LONGEST_COMMAND)
         try:
             line.request(method, path, None if body is None else json.dumps(body), {"content-type": "application/json"})
             value = json.loads(line.getresponse().read())["value"]
+        except TimeoutError as why:
+            raise Failed(f"{method} {path}: the browser didn't answer within {LONGEST_COMMAND} s") from why
         finally:
             line.close()
         if isinstance(value, dict) and "error" in value:

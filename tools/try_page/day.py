@@ -46,6 +46,7 @@ class Clicks:
 
     def __init__(self, t):
         self.t, self.b, self.home, self.windows, self.done, self.none = t, t.browser, t.browser.window(), {}, 0, 0
+        self.placed = set()
 
     def close(self):
         for handle in self.windows.values():
@@ -68,7 +69,7 @@ class Clicks:
         self.window_of(owner)
         what = " ".join(filter(None, [owner, method, target, body]))
         if method == "POST":
-            doing = self.post(target, body and json.loads(body), status, told)
+            doing = self.post(owner, target, body and json.loads(body), status, told)
         else:
             doing = self.look(method, target, status, told)
         self.t.expect(doing is not False, f"the day by clicks: {what}")
@@ -80,8 +81,8 @@ class Clicks:
         self.b.new_window()
         if owner == "-":
             self.b.go(self.t.proxy.address)
-            self.b.heading("Enter")
-            self.b.click("button", "Enter")
+            self.b.heading("Log in")
+            self.b.click("button", "Log in")
             self.t.expect(self.b.js("return document.querySelector('input:invalid').name") == "owner", "who gives no name enters")
         else:
             self.t.enter(owner, key)
@@ -89,7 +90,7 @@ class Clicks:
         self.b.close_window(before)
         self.done += 1
 
-    def post(self, target, body, status, told):
+    def post(self, owner, target, body, status, told):
         """Whether the page says what was told; None where no click asks for it."""
         _, first, *rest = target.split("/")
         if target == "/orders":
@@ -98,7 +99,7 @@ class Clicks:
                 self.b.click("button", "Place the order")
                 return self.b.js("return document.querySelector('input:invalid').name") == "recipe"
             self.t.place(body["order"], body["recipe"], body["batches"])
-            return self.says(f"Order {body['order']} is placed" if status == 200 else str(told["code"]))
+            return self.says(self.told_of_order(owner, told) if status == 200 else str(told["code"]))
         if first == "orders":
             self.b.click("tbody a", rest[0])
             return self.press("Cancel", "Cancel the order", f"Order {rest[0]} is cancelled.", status, told)
@@ -108,6 +109,15 @@ class Clicks:
                 return self.press("Release", None, f"Lot {rest[0]} is released.", status, told)
             return self.press("Reject…", "Reject the lot", f"Lot {rest[0]} is rejected.", status, told)
         return None
+
+    def told_of_order(self, owner, told):
+        """What the page says of an order that is told as it stands."""
+        name = told["order"]
+        was_there = (owner, name) in self.placed
+        self.placed.add((owner, name))
+        if told["status"] == "cancelled":
+            return f"{name} was cancelled; choose another name."
+        return f"Order {name} was placed before" if was_there else f"Order {name} is placed"
 
     def press(self, button, answer, said, status, told):
         if status == 409 and told["error"] == "NotQuarantined":

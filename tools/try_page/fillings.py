@@ -112,27 +112,37 @@ def fill_small(office):
 
 
 BATCHES, LOTS_EACH, CHAIN = 11, 199, 32
-LARGE_LOTS = BATCHES * LOTS_EACH + CHAIN + 2
+# drums and the salt; casks with the first one, a yeast for each, and the sugar
+LARGE_LOTS = BATCHES * LOTS_EACH + 1 + 2 * CHAIN + 2
 
 LARGE_SETUP = """
 owner-add ACME ACMEKEY1
 material-add ACME SALT kg
 material-add ACME DRUM pc
 material-add ACME CASK liter
+material-add ACME SUGAR kg
+material-add ACME YEAST kg
+material-add HOUSE WATER liter
 recipe-add ACME FILL 1
 require ACME FILL 1 consumed ACME SALT 199
 require ACME FILL 1 produced ACME DRUM 199
 recipe-add ACME AGE 1
 require ACME AGE 1 consumed ACME CASK 1
+require ACME AGE 1 consumed ACME SUGAR 1
+require ACME AGE 1 consumed ACME YEAST 1
+require ACME AGE 1 consumed HOUSE WATER 1
 require ACME AGE 1 produced ACME CASK 1
 receive ACME R1 SALT S-1 BAY1 100000 101
 receive ACME R2 CASK C-0 BAY1 100 101
-""" + "".join(f"unit-add U-{it}\n" for it in range(1, BATCHES + CHAIN + 1))
+receive ACME R3 SUGAR SU-1 BAY1 1000 101
+receive HOUSE R1 WATER W-1 TANK 1000 101
+release W-1
+""" + "".join(f"receive ACME Y{it} YEAST Y-{it} BAY1 10 101\n" for it in range(1, CHAIN + 1)) + "".join(f"unit-add U-{it}\n" for it in range(1, BATCHES + CHAIN + 1))
 
 
 def fill_large(office):
-    """2,000 orders; a lot of salt that went into 2,189 lots of drums; and a chain of 32 casks."""
-    office.asks("ACME", ("POST", "/lots/S-1/release"), ("POST", "/lots/C-0/release"),
+    """2,000 orders; a lot of salt that went into 2,189 lots of drums; and a chain of 32 casks, each made of four lots."""
+    office.asks("ACME", *(("POST", f"/lots/{it}/release") for it in ("S-1", "C-0", "SU-1", *(f"Y-{it}" for it in range(1, CHAIN + 1)))),
                 ("POST", "/orders", {"order": "BIG", "recipe": "FILL", "batches": BATCHES}),
                 ("POST", "/orders", {"order": "CHAIN", "recipe": "AGE", "batches": CHAIN}),
                 *(("POST", "/orders", {"order": f"ORDER-{it:04}", "recipe": "FILL" if it % 3 else "AGE", "batches": 1 + it % 20}) for it in range(1, 1999)))
@@ -141,10 +151,13 @@ def fill_large(office):
     office.actuals([record for batch in range(1, BATCHES + 1) for record in drums(batch)])
     for batch in range(1, CHAIN + 1):
         office.plants(f"open ACME CHAIN U-{BATCHES + batch}\ndo ACME CHAIN {batch} start")
-    casks = lambda key, use, behind: [f"{key}{it},ACME,CHAIN,{it},1,{use},CASK,ACME,C-{it - behind},BAY1,1,102" for it in range(1, CHAIN + 1)]
-    office.actuals(casks("D", "produced", 0))
+    actuals = lambda key, use, what: [f"{key}{it},ACME,CHAIN,{it},1,{use},{what(it)},1,102" for it in range(1, CHAIN + 1)]
+    office.actuals(actuals("D", "produced", lambda it: f"CASK,ACME,C-{it},BAY1"))
     office.asks("ACME", *(("POST", f"/lots/C-{it}/release") for it in range(1, CHAIN + 1)))
-    office.actuals(casks("C", "consumed", 1))
+    office.actuals(actuals("C", "consumed", lambda it: f"CASK,ACME,C-{it - 1},BAY1"))
+    office.actuals(actuals("G", "consumed", lambda it: "SUGAR,ACME,SU-1,BAY1"))
+    office.actuals(actuals("V", "consumed", lambda it: f"YEAST,ACME,Y-{it},BAY1"))
+    office.actuals(actuals("W", "consumed", lambda it: "WATER,HOUSE,W-1,TANK"))
 
 
 def drums(batch):

@@ -68,10 +68,41 @@ function names() {
   return wrong;
 }
 
-/** Nothing is wider than the window, but what scrolls by itself. */
+/** Nothing is wider than the window but a picture, and no table or chip is cut. */
 function widths() {
   const wide = document.documentElement.scrollWidth;
-  return wide > innerWidth ? [`the page is ${wide} wide, the window ${innerWidth}`] : [];
+  const wrong = wide > innerWidth ? [`the page is ${wide} wide, the window ${innerWidth}`] : [];
+  const far = farRows();
+  for (const it of document.querySelectorAll(".table")) if (it.scrollWidth > it.clientWidth + 1) wrong.push(`a table is ${it.scrollWidth} wide, its place ${it.clientWidth}`);
+  for (const it of document.querySelectorAll("td .chip, td button")) {
+    if (far.has(it.closest("tr")) || !isSeen(it)) continue;
+    const beyond = it.getBoundingClientRect().right - it.closest("td").getBoundingClientRect().right;
+    if (beyond > 1) wrong.push(`"${words(it)}" is ${beyond.toFixed(0)} px wider than its cell`);
+  }
+  return wrong;
+}
+
+/** The heads of columns of numbers end where the numbers end. */
+function heads() {
+  const wrong = [];
+  const rightOf = it => { const range = document.createRange(); range.selectNodeContents(it); return Math.max(...[...range.getClientRects()].map(box => box.right)); };
+  for (const table of document.querySelectorAll("table")) {
+    const row = table.tBodies[0]?.rows[0];
+    if (!row || !isSeen(row) || getComputedStyle(row).gridAutoFlow === "row" && getComputedStyle(row).display === "grid") continue;
+    for (const head of table.tHead.rows[0].cells) {
+      if (!head.matches(".number")) continue;
+      const apart = rightOf(head.querySelector("button")?.firstChild ?? head) - rightOf(row.cells[head.cellIndex]);
+      if (Math.abs(apart) > 1) wrong.push(`the head "${words(head)}" ends ${apart.toFixed(1)} px from its numbers`);
+    }
+  }
+  return wrong;
+}
+
+/** The boxes of the picture that are wholly in sight, within its place and the window's width. */
+function inSight() {
+  const place = document.querySelector(".picture").getBoundingClientRect();
+  const isWithin = box => box.left >= Math.max(0, place.left) - 1 && box.right <= Math.min(innerWidth, place.right) + 1 && box.top >= place.top - 1 && box.bottom <= place.bottom + 1;
+  return [...document.querySelectorAll(".genealogy .box")].filter(it => isWithin(it.querySelector(".outline").getBoundingClientRect())).map(it => it.dataset.id);
 }
 
 /** Edges of the picture pass behind no box, boxes don't overlap, and texts stay within their boxes. */

@@ -1,7 +1,8 @@
-"""Owners who are competitors, at one browser: each sees its own rows alone, also who enters after another."""
+"""Owners who are competitors, at one browser: each sees its own rows alone, also who logs in after another."""
 import time
 
-from .site import Office
+from .browser import until
+from .site import Office, Proxy
 from .troubles import AWAY
 from .trial import TOLL
 from .views import row
@@ -19,11 +20,11 @@ def windows(t):
     b.new_window()
     t.enter("ACME")
     b.heading("Orders")
-    b.click("button[data-key=cancel-O-TWO]")
+    t.cancel("O-TWO")
     b.click("dialog button", "Cancel the order")
     b.wait("Order O-TWO is cancelled.")
     b.turn(first)
-    b.click("button[data-key=cancel-O-TWO]")
+    t.cancel("O-TWO")
     b.click("dialog button", "Cancel the order")
     b.wait("The order is cancelled already.")
     t.expect("cancelled" in row(b, "O-TWO"), "a refusal doesn't read the list anew")
@@ -43,28 +44,80 @@ def windows(t):
 
 
 def leaving(t):
-    """Nothing of an owner stays in the window for who enters after it."""
+    """Nothing of an owner stays in the window for who logs in after it."""
     b = t.browser
     t.entered()
     t.to_lot("BL-1")
     t.pictured()
-    b.click("#who button", "Leave")
-    b.heading("Enter")
-    nothing_of_acme(t, "after leaving")
+    b.click("#who button", "Log off")
+    b.heading("Log in")
+    nothing_of_acme(t, "after logging off")
     for _ in range(2):
         b.back()
-        b.heading("Enter")
+        b.heading("Log in")
         nothing_of_acme(t, "after going back")
-    t.shot("40-left", "the owner left and went back in the window's history: there is nothing but the form to enter")
+    t.shot("40-left", "the owner logged off and went back in the window's history: there is nothing but the form to log in")
     t.fill_in("BOLT")
     b.wait("No orders yet.")
-    nothing_of_acme(t, "when another has entered")
+    nothing_of_acme(t, "when another has logged in")
     b.js("location.hash = '#/lots/BL-1'")
     b.wait("You have no lot of this name")
     nothing_of_acme(t, "at an address of the other's")
     late_reply(t)
     kept_page(t)
     open_question(t)
+
+
+def idle(t):
+    """A site that logs owners off after six seconds without a key or a click."""
+    b = t.browser
+    t.entered()
+    b.click("#who button", "Log off")
+    b.heading("Log in")
+    t.proxy.end()
+    folder = t.folder / "idle"
+    folder.mkdir()
+    quick = Proxy(folder, t.office_port, changes=[(r'"idle_minutes":\d+', '"idle_minutes":0.1')], port=t.proxy.port)
+    quick.start()
+    try:
+        t.enter("ACME")
+        b.heading("Orders")
+        t.to_lot("B-1")
+        doing_nothing(t)
+        brought_back(t)
+    finally:
+        quick.end()
+        t.proxy.start()
+    t.entered()
+
+
+def doing_nothing(t):
+    b = t.browser
+    b.wait("are logged off within a minute", "#idle")
+    t.shot("42-idle", "nobody did anything for a while: a warning before the owner is logged off", whole=False)
+    b.press("shift")
+    until(lambda: b.text("#idle") == "", "a key takes the warning away")
+    t.expect(b.text("h1").startswith("Lot B-1"), "a key doesn't keep the owner logged in")
+    b.wait("You were logged off after 6 seconds without a key or a click.")
+    b.heading("Log in")
+    t.expect(b.js("return sessionStorage.length") == 0, "the key stays after the time is over")
+    shown = b.js("return document.title + document.body.innerText")
+    t.expect(not [it for it in ("B-1", "BRINE", "980") if it in shown], "rows are seen after the time is over")
+    t.shot("43-logged-off", "the owner was logged off; its name is there, and it comes back to where it was", whole=False)
+
+
+def brought_back(t):
+    """A window that is brought back later, as a browser does after it was closed."""
+    b = t.browser
+    b.type("input[name=key]", "ACMEKEY1")
+    b.click("button", "Log in")
+    b.heading("Lot B-1")
+    b.js("""addEventListener('pagehide', () => {
+            const it = JSON.parse(sessionStorage.hilpoven);
+            sessionStorage.hilpoven = JSON.stringify({...it, seen: it.seen - 60000});
+        }); location.reload()""")
+    b.heading("Log in")
+    b.wait("You were logged off after 6 seconds")
 
 
 def nothing_of_acme(t, when):
@@ -80,9 +133,9 @@ def late_reply(t):
     t.office.end()
     t.place("O-LATE", "FILL", 1)
     b.wait(AWAY, "#sign")
-    b.click("#who button", "Leave")
-    b.wait("You left before the office had answered.")
-    t.shot("41-left-early", "the owner left while the page still asked: what isn't known is told, without a name")
+    b.click("#who button", "Log off")
+    b.wait("You logged off before the office had answered.")
+    t.shot("41-left-early", "the owner logged off while the page still asked: what isn't known is told, without a name")
     t.office.serve()
     t.fill_in("BOLT")
     b.wait("No orders yet.")
@@ -103,7 +156,7 @@ def kept_page(t):
     b.go(f"{t.proxy.address}icon.svg")
     b.go(t.proxy.address)
     b.heading("Orders")
-    b.click("#who button", "Leave")
+    b.click("#who button", "Log off")
     t.fill_in("BOLT")
     b.wait("No orders yet.")
     b.back()
@@ -116,7 +169,7 @@ def kept_page(t):
     t.to_lot("BL-1")
     t.pictured()
     b.js("dispatchEvent(new PageTransitionEvent('pagehide', {persisted: true}))")
-    b.js("sessionStorage.setItem('hilpoven', JSON.stringify({owner: 'BOLT', key: 'BOLTKEY1'}))")
+    b.js("sessionStorage.setItem('hilpoven', JSON.stringify({owner: 'BOLT', key: 'BOLTKEY1', seen: Date.now()}))")
     nothing_of_acme(t, "on a page that is put aside")
     b.js("dispatchEvent(new PageTransitionEvent('pageshow', {persisted: true}))")
     b.wait("You have no lot of this name")
@@ -141,6 +194,6 @@ def open_question(t):
     other.plants("owner-add ACME OTHERKEY1")
     t.serve(other)
     b.js("document.querySelector('[data-key=again]').click()")
-    b.heading("Enter")
+    b.heading("Log in")
     b.gone("dialog")
     t.serve(small)

@@ -5,6 +5,7 @@ import json
 import os
 import pathlib
 import re
+import shutil
 import socket
 import subprocess
 
@@ -25,16 +26,27 @@ http {{
     fastcgi_temp_path {folder}/fastcgi;
     uwsgi_temp_path {folder}/uwsgi;
     scgi_temp_path {folder}/scgi;
-    {too_many}
+    {around}
     {site}
 }}
 """
+# What packages put beside the page's files.
+CONTRACT = ("openapi.yaml", "http.md")
 
 
 def free_port():
     with socket.socket() as it:
         it.bind(("127.0.0.1", 0))
         return it.getsockname()[1]
+
+
+def has_ipv6():
+    try:
+        with socket.socket(socket.AF_INET6) as it:
+            it.bind(("::1", 0))
+            return True
+    except OSError:
+        return False
 
 
 def listens(port):
@@ -129,33 +141,45 @@ def taken(lock):
 
 
 class Proxy:
-    """nginx with the site of packaging/nginx.conf, on a port and with a certificate of its own."""
+    """nginx with the site of packaging/nginx.conf for the host localhost, on a port and with a certificate of its own.
 
-    def __init__(self, folder, office_port):
-        self.folder, self.port, self.it = pathlib.Path(folder), free_port(), None
+    `around` stands beside the site, as an administrator's other settings do. `changes` are pairs of a pattern
+    and what stands in its place.
+    """
+
+    def __init__(self, folder, office_port, around="", changes=(), port=None):
+        self.folder, self.port, self.it = pathlib.Path(folder), port or free_port(), None
         self._certify()
-        user, site = "user root;" if os.geteuid() == 0 else "", self._site(office_port)
-        # a site that leaves it open would tell 503, and that is tried by the lock
-        too_many = "" if "limit_req_status" in site else "limit_req_status 429;"
-        (self.folder / "nginx.conf").write_text(WRAPPER.format(folder=self.folder, user=user, too_many=too_many, site=site))
+        self._lay_out_page()
+        user = "user root;" if os.geteuid() == 0 else ""
+        (self.folder / "nginx.conf").write_text(
+            WRAPPER.format(folder=self.folder, user=user, around=around, site=self._site(office_port, changes)))
 
     @property
     def address(self):
-        return f"https://127.0.0.1:{self.port}/owner/"
+        return f"https://localhost:{self.port}/owner/"
 
     def _certify(self):
-        subprocess.run(["openssl", "req", "-x509", "-newkey", "rsa:2048", "-nodes", "-days", "2", "-subj", "/CN=127.0.0.1",
+        subprocess.run(["openssl", "req", "-x509", "-newkey", "rsa:2048", "-nodes", "-days", "2", "-subj", "/CN=localhost",
                         "-keyout", self.folder / "key.pem", "-out", self.folder / "certificate.pem"], check=True, capture_output=True)
 
-    def _site(self, office_port):
-        """The site as packages have it; ports, the certificate and the page's folder are those of the trial."""
+    def _lay_out_page(self):
+        """The page's files and the contract, as packages have them."""
+        page = self.folder / "page"
+        shutil.copytree(ROOT / "page", page, ignore=shutil.ignore_patterns("tests"), dirs_exist_ok=True)
+        for name in CONTRACT:
+            shutil.copyfile(ROOT / "docs" / name, page / name)
+
+    def _site(self, office_port, changes):
+        """The site as packages have it; host, ports, the certificate, the page's folder and the logs are those of the trial."""
         site = (ROOT / "packaging" / "nginx.conf").read_text()
-        for pattern, ours in ((r"listen \[::\][^;]*;", ""), (r"listen 443 ssl", f"listen 127.0.0.1:{self.port} ssl"),
-                              (r"listen 80\b", f"listen 127.0.0.1:{free_port()}"),
+        also = rf"listen [::1]:{self.port}\1;" if has_ipv6() else ""
+        for pattern, ours in (*changes, (r"listen \[::\]:443([^;]*);", also), (r"listen 443", f"listen 127.0.0.1:{self.port}"),
+                              (r"server_name [^;]*;", "server_name localhost;"),
                               (r"ssl_certificate [^;]*;", f"ssl_certificate {self.folder}/certificate.pem;"),
                               (r"ssl_certificate_key [^;]*;", f"ssl_certificate_key {self.folder}/key.pem;"),
-                              (r"127\.0\.0\.1:8080", f"127.0.0.1:{office_port}"), (r"alias [^;]*/page/;", f"alias {ROOT}/page/;"),
-                              (r"(access|error)_log [^;]*;", "")):
+                              (r"proxy_pass http://127\.0\.0\.1:\d+", f"proxy_pass http://127.0.0.1:{office_port}"),
+                              (r"alias [^;]*/page/;", f"alias {self.folder}/page/;"), (r"/var/log/nginx/", f"{self.folder}/")):
             site = re.sub(pattern, ours, site)
         return site
 
@@ -163,7 +187,7 @@ class Proxy:
         self.it = Process("nginx", "-e", self.folder / "error.log", "-p", self.folder, "-c", self.folder / "nginx.conf")
         until(lambda: self.it.it.poll() is not None or listens(self.port), "nginx listens")
         if self.it.it.poll() is not None:
-            raise SystemExit(f"try-page: nginx ended: {(self.folder / 'error.log').read_text()[-600:]}")
+            raise SystemExit(f"nginx ended: {(self.folder / 'error.log').read_text()[-600:]}")
 
     def end(self):
         if self.it:

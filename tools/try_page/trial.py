@@ -1,6 +1,9 @@
 """What all situations share: the browser, the office that is served, and what was wrong."""
+import csv
+import io
 import os
 import pathlib
+import shutil
 
 from .browser import until
 from .site import ROOT, free_port
@@ -33,7 +36,7 @@ class Trial:
         """Keeps a picture, and looks at what is on it."""
         self.browser.shot(self.pictures / f"{name}.png", whole)
         self.shots.append((name, what))
-        contrasts, others = self.looks("[contrasts(), names().concat(widths())]")
+        contrasts, others = self.looks("[contrasts(), names().concat(widths(), heads())]")
         self.least = min(self.least, contrasts["least"])
         for it in contrasts["wrong"] + others:
             self.expect(False, f"{name}: {it}")
@@ -42,20 +45,20 @@ class Trial:
         return self.browser.js(f"{LOOKS}\nreturn {asked};")
 
     def enter(self, owner, key=None):
-        """Enters as an owner, whatever is shown now."""
+        """Logs in as an owner, whatever is shown now."""
         self.browser.go("about:blank")
         self.browser.go(self.proxy.address)
         self.fill_in(owner, key)
 
     def fill_in(self, owner, key=None):
-        """Fills in the form to enter, and sends it."""
-        self.browser.heading("Enter")
+        """Fills in the form to log in, and sends it."""
+        self.browser.heading("Log in")
         self.browser.type("input[name=owner]", owner)
         self.browser.type("input[name=key]", key or f"{owner}KEY1")
-        self.browser.click("button", "Enter")
+        self.browser.click("button", "Log in")
 
     def entered(self, owner="ACME"):
-        """Enters, where the window isn't this owner's already, and goes to the orders."""
+        """Logs in, where the window isn't this owner's already, and goes to the orders."""
         if self.browser.js("return location.pathname") != "/owner/" or self.browser.text("#who .owner") != owner:
             self.browser.go(self.proxy.address)
             if self.browser.js("return sessionStorage.length") > 0:
@@ -81,9 +84,32 @@ class Trial:
         """The picture of a genealogy, as soon as it is drawn: its boxes and edges, and the marked lot."""
         return until(lambda: self.looks("pictured()"), "the genealogy is drawn")
 
+    def check_sight(self, lot, *wanted):
+        """Looks whether these boxes of the picture are in sight, without moving it."""
+        seen = self.looks("inSight()")
+        self.expect(set(wanted) <= set(seen), f"the genealogy of {lot}: {sorted(set(wanted) - set(seen))} out of sight")
+
+    def downloaded(self, key):
+        """The records of the file that a button gives, each a dictionary by its titles, and the file's name."""
+        folder = self.folder / "downloads"
+        shutil.rmtree(folder, ignore_errors=True)
+        folder.mkdir()
+        self.browser.devtools("Browser.setDownloadBehavior", behavior="allow", downloadPath=str(folder))
+        self.browser.click(f"button[data-key='{key}']")
+        file = until(lambda: next(iter(folder.glob("*.csv")), None), f"{key} gives a file")
+        text = file.read_bytes().decode()
+        self.expect(text.count("\r\n") == text.count("\n"), f"{key}: lines don't end as RFC 4180 has it")
+        return list(csv.DictReader(io.StringIO(text, newline=""), strict=True)), file.name
+
     def check_drawing(self, lot):
         for it in self.looks("drawing()"):
             self.expect(False, f"the genealogy of {lot}: {it}")
+
+    def cancel(self, order):
+        """Clicks an order's Cancel, which is there when its row has been in sight for a moment."""
+        self.browser.js("""[...document.querySelectorAll('tbody tr')].find(it => it.cells[0].textContent === arguments[0])
+            .scrollIntoView({block: 'center'})""", order)
+        self.browser.click(f"button[data-key=cancel-{order}]")
 
     def place(self, order, recipe, batches):
         """Fills in the form for a new order, and sends it."""

@@ -7,7 +7,7 @@ import threading
 import time
 
 from .browser import until
-from .site import Office
+from .site import Office, has_ipv6
 from .trial import TOLL
 
 BUSY, AWAY, NOT_THE_OFFICES = "The office is busy.", "The office can't be reached.", "What came isn't the office's answer"
@@ -23,12 +23,12 @@ def forbidden(t):
     t.serve(other)
     b.click("button", "Read again")
     b.wait("The office doesn't take this name and key any more.")
-    b.heading("Enter")
+    b.heading("Log in")
     t.shot("19-forbidden", "a 403 in between: the owner enters again, its name is there already")
     t.expect(b.js("return sessionStorage.length") == 0, "a key that isn't taken is kept")
     t.serve(small)
     b.type("input[name=key]", "ACMEKEY1")
-    b.click("button", "Enter")
+    b.click("button", "Log in")
     b.heading("Lot B-1")
 
 
@@ -55,9 +55,10 @@ def crowd(t):
 
     def ask():
         while not over.is_set():
-            words = ["-sk", "-o", os.devnull, "-w", "%{http_code}", f"https://127.0.0.1:{t.proxy.port}/stock"]
+            # many requests on one connection: a process for each would ask less than the site lets through
+            words = ["-6" if has_ipv6() else "-4", "-sk", "-o", os.devnull, "-w", "%{http_code} ", f"https://localhost:{t.proxy.port}/stock?[1-50]"]
             done = subprocess.run(["curl", *words], capture_output=True, text=True)
-            statuses.add(done.stdout)
+            statuses.update(done.stdout.split())
 
     crowd_of = [threading.Thread(target=ask) for _ in range(40)]
     for it in crowd_of:
@@ -136,8 +137,8 @@ STRANGE = {
 
 
 @contextlib.contextmanager
-def another(port, bytes_told):
-    """Something else than the office on its port, which answers all by these bytes."""
+def another(port, bytes_told, to_get=None):
+    """Something else than the office on its port, which answers all by these bytes; a GET by others, where they are given."""
     def answer_all():
         while True:
             try:
@@ -145,8 +146,8 @@ def another(port, bytes_told):
             except OSError:
                 return
             with peer, contextlib.suppress(OSError):
-                peer.recv(65536)
-                peer.sendall(bytes_told)
+                asked = peer.recv(65536)
+                peer.sendall(to_get if to_get and asked.startswith(b"GET ") else bytes_told)
 
     with socket.create_server(("127.0.0.1", port)) as listener:
         answering = threading.Thread(target=answer_all)
@@ -199,8 +200,13 @@ def garbled_changes(t):
     t.office.end()
     with another(t.office_port, STRANGE["a page in place of a reply"]):
         t.place("O-CUT", "FILL", 1)
+        b.wait(NOT_THE_OFFICES)
+        t.expect("isn't known" not in b.text(), "nothing was asked for, and that isn't said")
+    no_order = answer(404, JSON, '{"code":18,"error":"UnknownOrder"}')
+    with another(t.office_port, STRANGE["a page in place of a reply"], no_order):
+        t.place("O-CUT", "FILL", 1)
         b.wait("Whether this was done isn't known")
-    with another(t.office_port, answer(200, JSON, '{"batches":1,', 400)):
+    with another(t.office_port, answer(200, JSON, '{"batches":1,', 400), no_order):
         t.place("O-CUT", "FILL", 1)
         b.wait(AWAY, "#sign")
     t.office.serve()
@@ -210,14 +216,14 @@ def garbled_changes(t):
 def garbled_entering(t):
     """A proxy's page doesn't enter anybody, and is no wrong key."""
     b = t.browser
-    b.click("#who button", "Leave")
-    b.heading("Enter")
+    b.click("#who button", "Log off")
+    b.heading("Log in")
     t.office.end()
     for what in ("a page in place of a reply", "a proxy's 403"):
         with another(t.office_port, STRANGE[what]):
             t.fill_in("ACME")
             b.wait(NOT_THE_OFFICES)
-            t.expect(b.text("h1") == "Enter" and b.js("return sessionStorage.length") == 0, f"{what} enters somebody")
+            t.expect(b.text("h1") == "Log in" and b.js("return sessionStorage.length") == 0, f"{what} logs somebody in")
     t.office.serve()
     t.fill_in("ACME")
     b.heading("Orders")

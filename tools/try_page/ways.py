@@ -40,7 +40,7 @@ def keyboard(t):
     b.go(t.proxy.address)
     if b.js("return sessionStorage.length") > 0:
         b.click("#who button")
-    b.heading("Enter")
+    b.heading("Log in")
     b.js("document.querySelector('input[name=owner]').focus()")
     b.write("ACME")
     b.press("tab")
@@ -100,28 +100,40 @@ def tab_to(t, css, back=False):
 
 
 def phone(t):
+    """A phone's width, and a small window's, where nothing may be cut either."""
     b = t.browser
     t.entered()
-    b.phone()
     try:
-        b.reload()
-        b.heading("Orders")
-        t.shot("27-phone-orders", "a phone's width: the orders, each row a block of lines")
-        b.click("#nav a", "Stock")
-        b.heading("Stock")
-        t.shot("28-phone-stock", "a phone's width: the stock")
-        b.click("tbody a", "BL-1")
-        b.heading("Lot BL-1")
-        t.pictured()
-        t.shot("29-phone-lot", "a phone's width: a lot; the picture begins at the asked lot and is moved by a finger")
-        b.click("#nav a", "Orders")
-        b.heading("Orders")
-        b.click("tbody a", "O-1")
-        b.wait("Batch 5")
-        t.shot("30-phone-order", "a phone's width: an order with its batches")
+        for width, name in ((390, "phone"), (660, "small-window")):
+            b.phone(width)
+            b.reload()
+            b.heading("Orders")
+            narrow(t, name, f"{width} px wide")
     finally:
         b.no_phone()
         b.reload()
+
+
+def narrow(t, name, what):
+    b = t.browser
+    b.js("document.querySelector('tbody tr:last-child').scrollIntoView({block: 'center'})")
+    b.find("button[data-key^=cancel]")
+    t.shot(f"27-{name}-orders", f"{what}: the orders")
+    b.click("#nav a", "Stock")
+    b.heading("Stock")
+    t.shot(f"28-{name}-stock", f"{what}: the stock")
+    b.click("tbody a", "BL-1")
+    b.heading("Lot BL-1")
+    t.pictured()
+    t.check_sight("BL-1", "ACME/BL-1")
+    t.shot(f"29-{name}-lot", f"{what}: a lot; the picture begins at the asked lot")
+    b.click("#nav a", "Orders")
+    b.heading("Orders")
+    b.click("tbody a", "O-1")
+    b.wait("Batch 5")
+    t.shot(f"30-{name}-order", f"{what}: an order with its batches")
+    b.click("#nav a", "Orders")
+    b.heading("Orders")
 
 
 def paper(t):

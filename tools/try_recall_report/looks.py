@@ -9,6 +9,7 @@ from .office import HOUSE, UNIT
 # amounts from here on are looked for: none of a picture's numbers is so large
 SEEN_FROM = 10_000
 MOST_LOTS = 60
+MOST_COLUMNS = 8
 Line = collections.namedtuple("Line", "steps owner lot disposition on_hand shipped")
 
 
@@ -56,15 +57,16 @@ def wrong_in_report(office, folder, told):
     if (folder / "recall.txt").read_text() != told:
         yield "recall.txt is not what toll prints"
     owners = {it.owner for it in lines} - {HOUSE}
-    wanted = {"recall.txt", "plant.html", *(f"{it}.{end}" for it in owners for end in ("html", "csv"))}
-    if {it.name for it in folder.iterdir()} != wanted:
-        yield f"the files are {sorted(it.name for it in folder.iterdir())}"
+    wanted = {"recall.txt", "plant.html", *(f"owners/{it}.{end}" for it in owners for end in ("html", "csv"))}
+    found = {str(it.relative_to(folder)) for it in folder.rglob("*") if it.is_file()}
+    if found != wanted:
+        yield f"the files are {sorted(found)}"
     yield from wrong_in_page(office, folder / "plant.html", lines, True)
     for owner in owners:
         mine = [it for it in lines if it.owner == owner]
-        yield from wrong_in_page(office, folder / f"{owner}.html", mine, False)
-        yield from wrong_in_csv(office, folder / f"{owner}.csv", mine)
-        yield from others_in(office, owner, folder, lines)
+        yield from wrong_in_page(office, folder / "owners" / f"{owner}.html", mine, False)
+        yield from wrong_in_csv(office, folder / "owners" / f"{owner}.csv", mine)
+        yield from others_in(office, owner, folder / "owners", lines)
 
 
 def row_of(office, line, shows_owner):
@@ -75,6 +77,9 @@ def row_of(office, line, shows_owner):
 def wrong_in_csv(office, file, lines):
     with open(file, newline="") as text:
         head, *rows = csv.reader(text)
+    # names are formulas of texts
+    rows = [[steps, *(it[2:-1] if it[:2] == '="' and it[-1] == '"' else f"bare {it}" for it in names), *rest] for steps, *names, rest in
+            ((*it[:4], it[4:]) for it in rows)]
     if head != ["steps", "lot", "material", "unit", "disposition", "on_hand", "shipped"] or rows != [row_of(office, it, False) for it in lines]:
         yield f"{file.name} is {rows}"
 
@@ -82,7 +87,7 @@ def wrong_in_csv(office, file, lines):
 def wrong_in_page(office, file, lines, shows_owner):
     """The page has a row for each line, the sums of each material, and a picture of all lots."""
     page = Page(file.read_text())
-    (_, *sums), (_, *rows) = page.tables
+    (_, *sums), *ways, (_, *rows) = page.tables
     plain = lambda it: it.replace(",", "")
     if [list(map(plain, it)) for it in rows] != [row_of(office, it, shows_owner) for it in lines]:
         yield f"{file.name} has the lots {rows}"
@@ -92,6 +97,8 @@ def wrong_in_page(office, file, lines, shows_owner):
         found.update({(key, "on hand"): int(it.on_hand), (key, "shipped"): int(it.shipped)})
     if {(*it[:-2], plain(it[-2]), plain(it[-1])) for it in sums} != {(*key, str(found[key, "on hand"]), str(found[key, "shipped"])) for key, _ in found}:
         yield f"{file.name} has the sums {sums}"
+    if bool(ways) != (len({it.steps for it in lines}) > MOST_COLUMNS):
+        yield f"{file.name} has {len(ways)} tables of ways"
     if len(lines) <= MOST_LOTS and sorted(page.boxes) != sorted(it.lot for it in lines):
         yield f"{file.name} pictures {page.boxes}"
     if len(lines) > MOST_LOTS and not 0 < len(page.boxes) <= MOST_LOTS:

@@ -3,21 +3,23 @@ import os
 import pathlib
 import random
 import string
-import subprocess
 
-ROOT = pathlib.Path(__file__).resolve().parent.parent.parent
-TOLL = os.environ.get("TOLL", str(ROOT / "toll"))
+import trial
+from trial import ROOT
+
+TOLL = os.path.realpath(os.environ.get("TOLL", ROOT / "toll"))
 HOUSE = "HOUSE"
 UNIT = "kg"
 HEADER = "key,owner,order,batch,segment,use,material,lot_owner,lot,sublot,amount,day"
 ROUNDS = 4
 
 
-class Office:
+class Office(trial.Office):
     """An office of one to three owners. Each tenth one has batches of many lots, so that its pictures are folded."""
 
     def __init__(self, folder, seed):
-        self.db, self.folder, self.chance = str(folder / "office.db"), folder, random.Random(seed)
+        super().__init__(TOLL, folder)
+        self.folder, self.chance = pathlib.Path(self.folder), random.Random(seed)
         self.lots_of_batch = 12 if seed % 10 == 0 else 1
         self.owners = ["ACME", "BOLT", "CRUX"][: self.chance.randint(1, 3)]
         self.materials, self.lots, self.released, self.batches, self.count = {}, {}, {}, {}, 0
@@ -27,7 +29,7 @@ class Office:
 
     def plant(self, *words):
         """What a command is told."""
-        return subprocess.run([TOLL, "--db", self.db, *map(str, words)], capture_output=True, text=True, check=False).stdout
+        return super().plant(*map(str, words)).out
 
     def set_up(self):
         self.plant("unit-add", "U0")
@@ -83,17 +85,10 @@ class Office:
         return order
 
     def ask(self, requests):
-        """Asks a server, which ends after these requests: who, the path, and the body of each."""
-        server = subprocess.Popen([TOLL, "--db", self.db, "serve", "0", str(len(requests))], stdout=subprocess.PIPE, text=True)
-        try:
-            port = server.stdout.readline().split()[1]
+        """Asks a server: who, the path, and the body of each."""
+        with self.serve() as server:
             for owner, path, body in requests:
-                subprocess.run(["curl", "-s", "-m", "20", "-d", body, "-H", f"toll-owner: {owner}", "-H", f"toll-key: {owner}KEY1",
-                                f"http://127.0.0.1:{port}{path}"], capture_output=True, check=True)
-            server.wait(20)
-        finally:
-            server.kill()
-            server.wait()
+                server.ask(f"> {owner} {owner}KEY1 POST {path} {body}")
 
     def actuals_of(self, owner, order, turn):
         """Records of a batch: what it takes of released lots, and the lots that it makes."""

@@ -1,0 +1,32 @@
+"""Debian's packages that the parts need."""
+import os
+import shutil
+import subprocess
+
+APT = ["apt-get", "-q", "-o", "DPkg::Lock::Timeout=600"]
+
+
+def missing_of(packages):
+    """Those of these packages that aren't installed, as dpkg tells."""
+    wanted = sorted(set(packages))
+    if not wanted or not shutil.which("dpkg-query"):
+        return wanted
+    told = subprocess.run(["dpkg-query", "-W", "-f", "${Package} ${db:Status-Status}\n", *wanted], capture_output=True, text=True).stdout
+    installed = {line.split()[0] for line in told.splitlines() if line.endswith(" installed")}
+    # a program that was put there otherwise serves as well
+    return [it for it in wanted if it not in installed and not (it in PROGRAMS and shutil.which(PROGRAMS[it]))]
+
+
+PROGRAMS = {"git": "git", "nodejs": "node", "gcc": "gcc", "curl": "curl", "nginx-light": "nginx", "chromium": "chromium", "libreoffice-calc": "soffice", "sqlite3": "sqlite3"}
+
+
+def install(packages):
+    """Installs what is missing, where this is root; tells what is missing still."""
+    missing = missing_of(packages)
+    if not missing or os.geteuid() or not shutil.which("apt-get"):
+        return missing
+    print(f"check: apt-get installs {' '.join(missing)}", flush=True)
+    quiet = {"stdin": subprocess.DEVNULL, "stdout": subprocess.DEVNULL, "stderr": subprocess.DEVNULL, "env": {**os.environ, "DEBIAN_FRONTEND": "noninteractive"}}
+    subprocess.run([*APT, "update"], **quiet)
+    subprocess.run([*APT, "-y", "--no-install-recommends", "install", *missing], **quiet)
+    return missing_of(packages)

@@ -1,0 +1,45 @@
+"""docs/many-plants.md: the site by host name, as the page says it."""
+import re
+import subprocess
+
+import pytest
+from conftest import ROOT
+
+PAGE = (ROOT / "docs" / "many-plants.md").read_text()
+BLOCK = re.search(r"```shell\n(.*?)```", PAGE, re.S)[1]
+PLANTS = {"acme": ("acme.example.com", 801), "bolt": ("bolt.example.org", 802)}
+
+
+@pytest.fixture
+def sites(tmp_path):
+    """The folder of nginx's settings, with the sites of two plants."""
+    for it in ("conf.d", "sites-enabled", "ssl", "logs", "temporary"):
+        (tmp_path / it).mkdir()
+    block = BLOCK.replace("/usr/share/doc/toll/examples/nginx.conf", str(ROOT / "packaging" / "nginx.conf")).replace("/etc/nginx", str(tmp_path))
+    for name, (host, port) in PLANTS.items():
+        subprocess.run(["bash", "-euc", block], env={"PATH": "/usr/bin:/bin", "NAME": name, "HOST": host, "PORT": str(port)}, check=True)
+    return tmp_path
+
+
+def test_each_plant_has_its_own_name_and_port_and_the_rest_stands_once(sites):
+    common = (sites / "conf.d" / "toll.conf").read_text()
+    assert common.count("limit_req_zone") == 1 and "toll.example.com" not in common
+    for name, (host, port) in PLANTS.items():
+        text = (sites / "sites-enabled" / f"toll-{name}.conf").read_text()
+        assert re.findall(r"server_name (.*);", text) == [host]
+        assert set(re.findall(r"proxy_pass http://127\.0\.0\.1:(\d+)", text)) == {str(port)}
+        assert "toll.example.com" not in text and "limit_req_zone" not in text
+
+
+def test_nginx_takes_the_sites_of_two_plants(sites):
+    key, certificate = sites / "ssl" / "key.pem", sites / "ssl" / "certificate.pem"
+    subprocess.run(["openssl", "req", "-x509", "-newkey", "ec", "-pkeyopt", "ec_paramgen_curve:prime256v1", "-nodes", "-days", "2", "-subj", "/CN=x",
+                    "-keyout", key, "-out", certificate], check=True, capture_output=True)
+    for file in [*sites.glob("conf.d/*.conf"), *sites.glob("sites-enabled/*.conf")]:
+        text = re.sub(r"(ssl_certificate_key) .*?;", rf"\1 {key};", file.read_text())
+        text = re.sub(r"(ssl_certificate) .*?;", rf"\1 {certificate};", text)
+        file.write_text(re.sub(r"(access_log|error_log) /\S+", rf"\1 {sites}/logs/log", text))
+    (sites / "nginx.conf").write_text(f"error_log {sites}/logs/errors; pid {sites}/pid; events {{}} http {{ client_body_temp_path {sites}/temporary; "
+                                      f"include {sites}/conf.d/*.conf; include {sites}/sites-enabled/*.conf; }}\n")
+    done = subprocess.run(["nginx", "-t", "-c", sites / "nginx.conf", "-e", sites / "logs" / "errors"], capture_output=True, text=True)
+    assert done.returncode == 0 and "successful" in done.stderr and "warn" not in done.stderr, done.stderr

@@ -1,0 +1,129 @@
+"""docs/openapi.yaml: valid by a validator, with the routes and refusals of the code, and with examples that fit."""
+import copy
+import json
+import pathlib
+import re
+import subprocess
+
+import jsonschema
+import pytest
+import yaml
+
+ROOT = pathlib.Path(__file__).resolve().parent.parent.parent
+FILE = ROOT / "docs" / "openapi.yaml"
+PAGE = yaml.safe_load(FILE.read_text())
+SCHEMAS = PAGE["components"]["schemas"]
+METHODS = ("get", "post")
+# Debian's libjson-validator-perl has the schema of OpenAPI 3.0 with it.
+VALIDATOR = ["perl", "-MJSON::Validator", "-e", 'print "$_\\n" for @{JSON::Validator->new->schema(shift)->schema->errors}']
+
+
+def resolved(said):
+    """What is said, or what its reference leads to."""
+    while "$ref" in said:
+        found = PAGE
+        for part in said["$ref"][2:].split("/"):
+            found = found[part]
+        said = found
+    return said
+
+
+def operations():
+    """Each operation: its path, its method, and what is said of it."""
+    return [(path, method, it) for path, ways in PAGE["paths"].items() for method, it in ways.items() if method in METHODS]
+
+
+def bodies():
+    """Each body of the page, by the words on where it stands."""
+    for path, method, operation in operations():
+        for name, said in {"the request": operation.get("requestBody", {}), **operation["responses"]}.items():
+            for content in resolved(said).get("content", {}).values():
+                yield f"{method} {path}, {name}", content
+
+
+def faults_of(schema, value):
+    """Why the value isn't one of the schema's. Schemas of OpenAPI 3.0 stand on the fourth draft of JSON Schema."""
+    resolver = jsonschema.RefResolver.from_schema(PAGE)
+    return [it.message for it in jsonschema.Draft4Validator(schema, resolver=resolver).iter_errors(value)]
+
+
+def sources():
+    """The code's files, which may move from crate to crate."""
+    return [it.read_text() for it in sorted((ROOT / "crates").glob("*/src/**/*.rt"))]
+
+
+def told_of(file):
+    done = subprocess.run([*VALIDATOR, file], capture_output=True, text=True, check=True)
+    return done.stdout.splitlines()
+
+
+def test_the_validator_finds_nothing():
+    assert told_of(FILE) == []
+
+
+@pytest.mark.parametrize("path, broken", [
+    (("paths", "/orders", "get", "responses"), {}),
+    (("components", "parameters", "order", "in"), "body"),
+    (("components", "responses", "Away", "description"), None),
+    (("info", "title"), None),
+])
+def test_the_validator_finds_what_is_wrong(tmp_path, path, broken):
+    page = copy.deepcopy(PAGE)
+    place = page
+    for part in path[:-1]:
+        place = place[part]
+    place[path[-1]] = broken
+    (tmp_path / "openapi.json").write_text(json.dumps(page))
+    assert told_of(tmp_path / "openapi.json")
+
+
+def test_the_routes_are_those_of_the_code():
+    routes = [it for text in sources() for it in re.findall(r'pattern: "(.*?)",\s+parts: Parts::\w+,\s+get: (\w+).*?,\s+post: (\w+)', text)]
+    code = {(method, re.sub(r"{\w+}", "{}", pattern)) for pattern, *asks in routes for method, ask in zip(METHODS, asks) if ask == "Some"}
+    assert code and code == {(method, re.sub(r"{\w+}", "{}", path)) for path, method, _ in operations()}
+
+
+def test_the_routes_are_those_of_the_page_beside_it():
+    rows = re.findall(r"^\| `(/[\w/]+)` \|(.*?)\|(.*?)\|$", (ROOT / "docs" / "http.md").read_text(), re.M)
+    page = {(method, re.sub(r"\b(ORDER|LOT|N)\b", "{}", path)) for path, *told in rows for method, it in zip(METHODS, told) if it.strip()}
+    assert page == {(method, re.sub(r"{\w+}", "{}", path)) for path, method, _ in operations()}
+
+
+def test_the_refusals_are_those_of_the_code():
+    code = {word: int(number) for text in sources() for word, number in re.findall(r"\bRefusal::(\w+) => (\d+),", text)}
+    words = SCHEMAS["Refusal"]["properties"]["error"]["enum"]
+    assert code == {word: number for number, word in enumerate(words, 1)}
+    for word in set(code) & set(SCHEMAS):
+        fits = [(other, it) for other, it in code.items() if not faults_of(SCHEMAS[word], {"code": it, "error": other})]
+        assert fits == [(word, code[word])]
+
+
+@pytest.mark.parametrize("where, content", bodies())
+def test_each_body_has_examples_that_fit(where, content):
+    examples = [content["example"]] if "example" in content else [it["value"] for it in content.get("examples", {}).values()]
+    assert examples
+    for it in examples:
+        assert faults_of(content["schema"], it) == []
+
+
+def test_each_schema_and_each_field_is_described():
+    for name, schema in SCHEMAS.items():
+        fields = {"": schema, **schema.get("properties", {})}
+        assert [it for it, said in fields.items() if "description" not in resolved(said)] == [], name
+
+
+def test_a_client_elsewhere_finds_the_server():
+    first = PAGE["servers"][0]["url"]
+    assert first == "/"
+    assert any("127.0.0.1" not in it["url"] and it["url"].startswith("https://") for it in PAGE["servers"])
+
+
+def test_a_new_word_of_an_error_is_one():
+    assert faults_of(SCHEMAS["Error"], {"error": "NewWord"}) == []
+    assert faults_of(SCHEMAS["NoRoute"], {"error": "NewWord"}) and faults_of(SCHEMAS["Error"], {})
+
+
+@pytest.mark.parametrize("path, method, operation", operations())
+def test_each_request_may_be_told_what_the_site_tells_by_itself(path, method, operation):
+    site = {status for status, it in operation["responses"].items() if resolved(it).get("x-told-by") == "site"}
+    assert site == {"429", "502", "504", "default"}

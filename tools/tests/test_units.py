@@ -1,0 +1,84 @@
+"""The units of packaging/: what systemd makes of them, and what each may do."""
+import re
+import shutil
+import subprocess
+
+import pytest
+from conftest import ROOT
+from packages import plant, tree
+
+OFFICE = ["toll@acme.service", "toll-backup@acme.service", "toll-backup@acme.timer", "toll-failed@toll@acme.service.service"]
+SINGLE = ["toll.service", "toll-backup.service", "toll-backup.timer"]
+PROGRAMS = r"(?m)^(Exec\w+=)(toll|hilpoven)\b"
+
+
+@pytest.fixture(scope="module")
+def installed(tmp_path_factory):
+    """A folder with the units as they are installed; their programs stand in a folder beside it."""
+    folder = tmp_path_factory.mktemp("units")
+    for name in ("toll", "hilpoven"):
+        shutil.copy("/bin/true", folder / name)
+    for path, entry in [*tree.unit_entries(), *tree.units(plant.UNITS)]:
+        if "lib/systemd/system/" in path:
+            target = folder / "system" / path.removeprefix("lib/systemd/system/")
+            target.parent.mkdir(parents=True, exist_ok=True)
+            target.write_text(re.sub(PROGRAMS, rf"\1{folder}/\2", entry.content.decode()))
+    return folder / "system"
+
+
+def analyzed(installed, *words):
+    done = subprocess.run(["systemd-analyze", "--man=no", *words], capture_output=True, text=True, env={"PATH": "/usr/bin:/bin", "SYSTEMD_UNIT_PATH": f"{installed}:/lib/systemd/system"})
+    return done.returncode, done.stdout + done.stderr
+
+
+@pytest.mark.parametrize("unit", OFFICE + SINGLE)
+def test_systemd_finds_nothing_in_a_unit(installed, unit):
+    assert analyzed(installed, "verify", unit) == (0, "")
+
+
+@pytest.mark.parametrize("unit", OFFICE + SINGLE)
+def test_a_unit_that_is_broken_is_found(installed, unit, tmp_path):
+    """That the look above sees something."""
+    broken = shutil.copytree(installed, tmp_path / "system")
+    source = broken / re.sub(r"@.*(\.\w+)$", r"@\1", unit)
+    source.write_text(source.read_text().replace("OnCalendar=", "OnCalendar=never ").replace("ExecStart=", "ExecStart=/nowhere/"))
+    assert analyzed(broken, "verify", unit) != (0, "")
+
+
+@pytest.mark.parametrize("unit", [it for it in OFFICE[:2] + SINGLE[:2]])
+def test_a_unit_may_do_little(installed, unit):
+    status, told = analyzed(installed, "security", "--offline=yes", "--no-pager", unit)
+    assert float(re.search(r"exposure level for \S+: ([\d.]+)", told)[1]) <= 1.5, told
+
+
+def text_of(name):
+    return (ROOT / "packaging" / name).read_text()
+
+
+def setting(text, name):
+    return re.findall(rf"(?m)^{name}=(.*)$", text)
+
+
+def test_the_server_has_the_one_capability_that_a_low_port_needs():
+    server = text_of("toll@.service")
+    for name in ("CapabilityBoundingSet", "AmbientCapabilities"):
+        assert setting(server, name) == ["CAP_NET_BIND_SERVICE"]
+        assert setting(text_of("toll-backup@.service"), name) == [""]
+    # a user's own root has no say over this machine's ports
+    assert "PrivateUsers" not in server + text_of("hardening.conf") + text_of("office.conf")
+    assert setting(text_of("office.env"), "PORT") and int(setting(text_of("office.env"), "PORT")[0]) < 1024
+
+
+def test_server_and_backup_have_one_file_of_settings():
+    units = [text_of(it) for it in ("toll@.service", "toll-backup@.service")]
+    for it in units:
+        assert setting(it, "EnvironmentFile") == ["/etc/toll/%i.env"]
+        assert "${FILE}" in it and setting(it, "UMask") == ["0077"] and setting(it, "OnFailure") == ["toll-failed@%n.service"]
+        assert setting(it, "Environment")[0].split()[0] == "FILE=/var/lib/toll/%i/office.db"
+    used = set(re.findall(r"\$\{(\w+)\}", "".join(units)))
+    assert used == set(re.findall(r"(?m)^#?([A-Z]+)=", text_of("office.env")))
+
+
+def test_no_site_goes_to_a_port_that_no_unit_serves():
+    ports = set(re.findall(r"proxy_pass http://127\.0\.0\.1:(\d+)", text_of("nginx.conf")))
+    assert len(ports) == 1

@@ -1,0 +1,1 @@
+"""What tools/try-door looks at."""

@@ -1,0 +1,1 @@
+"""What tools/try-memory stands on."""
