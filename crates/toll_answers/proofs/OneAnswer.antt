@@ -3,9 +3,9 @@ use Rattle.std.proofs.Common.{◌≡◌, Option, Some, None, List, [], ◌∷◌
 use Rattle.toll_answers.proofs.Common.{nat_list_cmp_total, Bytes, bytes_cmp, RequirementKey, requirement_cmp, pair_cmp, History, acts, order_of, Verdict, Accepted, Repeated, Refused, first_of, LotId, pair_cmp_total, requirement_cmp_total, trace_unique, Forward, IsPlantJoined, line_key, RequirementLine, BatchRow, OrderRow}
 use Rattle.toll_trace.specs.declared.way.Way.{Way}
 use Rattle.toll_answers.specs.PlantAnswers.{PlantAsked, Does, AsksOrders, AsksStock, AsksBatch, AsksTrace, AsksRecall, CannotRead, PlantTold, Shows, AreOrdersShown, IsStockShown, IsBatchShown, IsBatchShownOr, IsTraceShown, IsRecallShown, IsCheckedOr, owner_checks, lot_checks, IsPlantAnswer}
-use Rattle.toll_genealogy.specs.Recall.{recall_line, IsRecall}
-use Rattle.toll_genealogy.specs.declared.recall.RecallLine.{RecallLine}
-use Rattle.toll_print.specs.Texts.{orders_text, stock_text, shown_over, IsStockText, batch_text, trace_text, recall_text}
+use Rattle.toll_answers.specs.Recall.{recall_line, IsRecall}
+use Rattle.toll_answers.specs.declared.genealogy.recall.RecallLine.{RecallLine}
+use Rattle.toll_answers.specs.Texts.{orders_text, stock_text, shown_over, IsStockText, batch_text, trace_text, recall_text}
 use Rattle.toll_answers.proofs.OneReply.{IsOne, one_value, one_list}
 
 one_checked_or : (v : Verdict) (shown : PlantTold → Type 0) → IsOne shown → IsOne (λ r. IsCheckedOr v (shown r) r)

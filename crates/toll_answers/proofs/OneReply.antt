@@ -4,7 +4,7 @@ use Rattle.toll_answers.proofs.Common.{IsTotalOrder, nat_list_cmp_total, Orderin
 use Rattle.toll_base.specs.declared.rows.ResultRow.{ResultRow}
 use Rattle.toll_base.specs.declared.rows.SublotRow.{SublotRow}
 use Rattle.toll_answers.proofs.SameRows.{same_rows}
-use Rattle.toll_views.specs.declared.stock.StockLine.{StockLine}
+use Rattle.toll_answers.specs.declared.views.stock.StockLine.{StockLine}
 use Rattle.toll_answers.specs.Told.{Asked, AskOrders, AskOrder, AskPlace, AskCancel, AskBatch, AskStock, AskLot, AskRelease, AskReject, AskBack, AskForward, AskHouseForward, Told, TellOrders, TellBatch, TellStock, TellLot, TellTrace}
 use Rattle.toll_answers.specs.Replies.{has_key, AreOrdersTold, IsStockTold, IsBatchTold, IsLotTold, IsTraceTold, IsOrderOr, IsLotOr, IsBatchOr, IsTraceOr, IsWritten, IsAnswer, IsReply}
 

@@ -10,7 +10,7 @@ use Rattle.toll_base.specs.declared.refusal.Refusal.TheVariants.{UnknownOwner}
 use Rattle.toll_history.proofs.Own.{acts-part, part-own}
 use Rattle.toll_history.proofs.OwnTables.{lot_row-part, sublot_row-part, tables-part}
 use Rattle.toll_answers.specs.Told.{Asked, AskOrders, AskOrder, AskPlace, AskCancel, AskBatch, AskStock, AskLot, AskRelease, AskReject, AskBack, AskForward, AskHouseForward, Told, TellForbidden}
-use Rattle.toll_views.specs.Views.{stock_line, results_of_lot, sublots_of_lot, has_consumed}
+use Rattle.toll_answers.specs.Views.{stock_line, results_of_lot, sublots_of_lot, has_consumed}
 use Rattle.toll_answers.specs.Replies.{has_key, AreOrdersTold, IsStockTold, IsBatchTold, IsLotTold, IsOrderOr, IsLotOr, IsBatchOr, IsTraceOr, IsWritten, IsOrderAfter, IsLotAfter, IsAnswer, IsReply, after_answer, after_reply}
 use Rattle.toll_history.proofs.OwnAmounts.{on_hand-part, actual_of-part}
 

@@ -1,4 +1,13 @@
 pub mod Common
+pub mod Agreement
+pub mod Edges
+pub mod Joints
+pub mod Recall
+pub mod Worked
+pub mod InSlice
+pub mod Views
+pub mod Columns
+pub mod Texts
 pub mod Told
 pub mod Replies
 pub mod PlantAnswers

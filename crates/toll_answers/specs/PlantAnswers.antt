@@ -1,10 +1,11 @@
 -- What the plant is answered over a list of commands.
 use Rattle.std.specs.Prelude.{◌≡◌, ℕ, not, Option, Some, is_none, List, [], ◌∷◌, ◌++◌}
-use Rattle.toll_answers.specs.Common.{Bytes, bytes_cmp, RequirementKey, requirement_cmp, AreRowsGiven, Command, History, acts, owner_known, order_of, batch_of, tables_given, lot_row, Verdict, Refused, Checks, first_of, verdict, grow, known_batch_checks, Refusal, UnknownOwner, UnknownLot, LotId, BatchRow, OrderRow, Step, IsTrace, line_of, line_key, RequirementLine, IsPlantJoined}
+use Rattle.toll_answers.specs.Common.{Bytes, bytes_cmp, RequirementKey, requirement_cmp, AreRowsGiven, Command, History, acts, owner_known, order_of, batch_of, tables_given, lot_row, Verdict, Refused, Checks, first_of, verdict, grow, known_batch_checks, Refusal, UnknownOwner, UnknownLot, LotId, BatchRow, OrderRow, Step, IsTrace, line_of, line_key, RequirementLine}
+use Rattle.toll_answers.specs.Edges.{IsPlantJoined}
 use Rattle.toll_trace.specs.declared.way.Way.{Way}
-use Rattle.toll_genealogy.specs.Recall.{IsRecall}
-use Rattle.toll_genealogy.specs.declared.recall.RecallLine.{RecallLine}
-use Rattle.toll_print.specs.Texts.{orders_text, IsStockText, batch_text, trace_text, recall_text}
+use Rattle.toll_answers.specs.Recall.{IsRecall}
+use Rattle.toll_answers.specs.declared.genealogy.recall.RecallLine.{RecallLine}
+use Rattle.toll_answers.specs.Texts.{orders_text, IsStockText, batch_text, trace_text, recall_text}
 
 -- what the plant does: a command, a question, or words of which a value couldn't be read
 pub data PlantAsked : Type 0 where

@@ -1,6 +1,7 @@
 -- What owners ask, and what they are told.
 use Rattle.std.specs.Prelude.{ℕ, List}
-use Rattle.toll_answers.specs.Common.{Bytes, Refusal, OrderRow, BatchRow, LotRow, ResultRow, SublotRow, Step, StockLine, RequirementLine}
+use Rattle.toll_answers.specs.Common.{Bytes, Refusal, OrderRow, BatchRow, LotRow, ResultRow, SublotRow, Step, RequirementLine}
+use Rattle.toll_answers.specs.declared.views.stock.StockLine.{StockLine}
 
 -- an owner's request
 pub data Asked : Type 0 where

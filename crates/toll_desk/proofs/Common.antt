@@ -1,4 +1,6 @@
 -- Words that several proofs here use.
+pub use Rattle.std.proofs.lemmas.Bool.{not-true, or_parts}
+pub use Rattle.std.proofs.lemmas.Bool.Decides.{nat_tests}
 pub use Rattle.std.proofs.lemmas.List.{append-nil, drop_all, map-append, take_all, take_more}
 pub use Rattle.std.proofs.lemmas.List.Elements.{Contains-get_or, Contains-push_cases}
 pub use Rattle.std.proofs.lemmas.Result.{IfOk-weaker, on_ok_weaker}
@@ -6,10 +8,18 @@ pub use Rattle.std.specs.Cmp.Lexicographic.{nat_list_cmp_total}
 pub use Rattle.std.specs.List.{list_any, position_or_len}
 pub use Rattle.std.specs.Option.{IfSome, is_some, option_map}
 pub use Rattle.std.specs.Ordering.{is_eq}
+pub use Rattle.toll_answers.proofs.KnownLots.{lots_known, lots_owned, some_mapped}
+pub use Rattle.toll_answers.specs.Edges.{IsOwnEdge, IsOwnJoined, IsPlantEdge, IsPlantJoined, WasDone}
 pub use Rattle.toll_answers.specs.PlantAnswers.{AreOrdersShown, AsksBatch, AsksOrders, AsksRecall, AsksStock, CannotRead, Does, IsBatchShownOr, IsCheckedOr, IsPlantAnswer, Judged, PlantAsked, PlantTold, Shows, after_plant, lot_checks, owner_checks}
+pub use Rattle.toll_answers.specs.Recall.{IsRecall, recall_line}
 unfoldable pub use Rattle.toll_answers.specs.Replies.{IsReply, after_reply}
 pub use Rattle.toll_answers.specs.Replies.{AreOrdersTold, IsAnswer, IsBatchOr, IsLotOr, IsOrderOr, IsWritten, after_answer, has_key}
+pub use Rattle.toll_answers.specs.Texts.{batch_text, orders_text, recall_text, trace_text}
 pub use Rattle.toll_answers.specs.Told.{AskCancel, AskPlace, AskReject, AskRelease, Asked, TellBatch, TellForbidden, TellLot, TellOrder, TellOrders, TellRefused, TellTrace, Told}
+pub use Rattle.toll_answers.specs.Views.{IsLotViewOf, consumes_lot, has_consumed}
+pub use Rattle.toll_answers.specs.declared.genealogy.recall.RecallLine.{RecallLine}
+pub use Rattle.toll_answers.specs.declared.views.lot.LotView.{LotView}
+pub use Rattle.toll_base.proofs.Bools.{and_is, both}
 pub use Rattle.toll_base.proofs.KeyOrder.{put_row_ordered, row_at-put_row}
 pub use Rattle.toll_base.proofs.PutTables.{length-new}
 pub use Rattle.toll_base.proofs.Texts.{nat_eq-exact, same_bytes-exact, same_bytes-refl, same_bytes-symm}
@@ -17,11 +27,12 @@ pub use Rattle.toll_base.specs.Bytes.{Bytes, bytes_cmp, same_bytes}
 pub use Rattle.toll_base.specs.Changes.{after_change, after_changes, changes_of}
 pub use Rattle.toll_base.specs.Keys.{pair_cmp, requirement_cmp, result_cmp}
 pub use Rattle.toll_base.specs.Lots.{lot_id, same_lot}
-pub use Rattle.toll_base.specs.Slice.{Slice, empty_slice, lot_at, order_at, with_row}
+pub use Rattle.toll_base.specs.Slice.{Slice, batch_at, empty_slice, lot_at, order_at, with_row}
+pub use Rattle.toll_base.specs.SliceRules.{KeepsRules}
 unfoldable pub use Rattle.toll_base.specs.Table.{row_at}
 pub use Rattle.toll_base.specs.Table.{AreRowsGiven, IsInKeyOrder, put_row}
 pub use Rattle.toll_base.specs.Values.{house_name}
-pub use Rattle.toll_base.specs.Words.{is_some_where, or_else, where_so}
+pub use Rattle.toll_base.specs.Words.{is_some_where, none_or, or_else, where_so}
 pub use Rattle.toll_base.specs.declared.decision.Change.{Change}
 pub use Rattle.toll_base.specs.declared.decision.Change.TheVariants.{Owner, Put, Unit}
 pub use Rattle.toll_base.specs.declared.decision.Decision.{Decision}
@@ -36,41 +47,35 @@ pub use Rattle.toll_base.specs.declared.rows.LotRow.{LotRow}
 pub use Rattle.toll_base.specs.declared.rows.OrderRow.{OrderRow}
 pub use Rattle.toll_base.specs.declared.rows.OwnerRow.{OwnerRow}
 pub use Rattle.toll_base.specs.declared.rows.UnitRow.{UnitRow}
-pub use Rattle.toll_genealogy.proofs.KnownLots.{lots_known, lots_owned}
-pub use Rattle.toll_genealogy.specs.Edges.{IsOwnEdge, IsOwnJoined, IsPlantEdge, IsPlantJoined, WasDone}
-pub use Rattle.toll_genealogy.specs.Recall.{IsRecall, recall_line}
-pub use Rattle.toll_genealogy.specs.declared.recall.RecallLine.{RecallLine}
+pub use Rattle.toll_desk.specs.Standing.{AreOwnersOf, AreUnitsOf, StandsFor}
 pub use Rattle.toll_history.proofs.Acts.{any_acts, first_acts}
 pub use Rattle.toll_history.proofs.Grown.{tables-others, tables-own}
-pub use Rattle.toll_history.proofs.Own.{acts-own, part-own}
+pub use Rattle.toll_history.proofs.Own.{acts-other, acts-own, acts-part, part-other, part-own}
 pub use Rattle.toll_history.proofs.Passed.{accepted_passes}
 pub use Rattle.toll_history.specs.Command.{Action, AddOwner, AddUnit, CancelOrder, Command, OpenBatch, PlaceOrder, Record, Reject, Release, by}
 unfoldable pub use Rattle.toll_history.specs.Decision.{Decides, DecidesWith, DecisionKeepsRules}
 pub use Rattle.toll_history.specs.Decision.{ChangesKeepRules, IsDecided, changes_if, verdict_of}
 pub use Rattle.toll_history.specs.Dispositions.{disposition_of, result_of}
-unfoldable pub use Rattle.toll_history.specs.History.{acts}
+unfoldable pub use Rattle.toll_history.specs.History.{acts, part}
 pub use Rattle.toll_history.specs.History.{History, adds_owner, count_owners, count_units, key_added, owner_key, owner_known, unit_known}
+unfoldable pub use Rattle.toll_history.specs.Holders.{holder}
+pub use Rattle.toll_history.specs.Holders.{OpenedBatch, opened, opened_by}
 unfoldable pub use Rattle.toll_history.specs.Movements.{count_lots, count_sublots, lot_made, material_used, stock, sublot_known}
 pub use Rattle.toll_history.specs.Movements.{Made, movement_recorded, voided_in}
 pub use Rattle.toll_history.specs.OwnChanges.{EachChange, PutsOnly, PutsOnlyWith, is_put_in_house, is_put_of}
-pub use Rattle.toll_history.specs.Tables.{IsRowsOf, Tables, lot_row, sublot_row, tables_given}
+pub use Rattle.toll_history.specs.Tables.{IsRowsOf, Tables, lot_row, sublot_row, tables_given, tables_of}
 unfoldable pub use Rattle.toll_history.specs.Verdict.{checks}
 pub use Rattle.toll_history.specs.Verdict.{Accepted, Checks, IsLawful, IsValid, Refused, Repeated, Verdict, first_of, grow, grown, is_quarantined, known_batch_checks, needs_owner, verdict}
-pub use Rattle.toll_history.specs.Work.{batch_of, cancels, found, is_closed, measure_of, order_of, order_placed, state_of, unit_of}
+pub use Rattle.toll_history.specs.Work.{batch_of, cancels, closes, count_opened, found, is_closed, material_of, measure_of, opens, order_of, order_placed, state_of, unit_of, unit_opened}
 pub use Rattle.toll_keep.proofs.Calls.{goes_as, goes_fault, goes_then, read_fault, read_memory, read_ok, reads_then, settles, settles_still, spared}
 pub use Rattle.toll_keep.proofs.Outcomes.{of_ok}
 pub use Rattle.toll_keep.proofs.Slicing.{has_found, has_more, has_new, owner-with_row}
-pub use Rattle.toll_keep.specs.Content.{Content, Fits, PutsToKnown, after, after_owners, after_units, knows, slice_of}
+pub use Rattle.toll_keep.specs.Content.{Content, ContentKeepsRules, Fits, PutsToKnown, after, after_owners, after_units, knows, nothing, slice_of}
 pub use Rattle.toll_keep.specs.Goes.{Goes, IsReading, Keeps}
+pub use Rattle.toll_keep.specs.Holding.{IsEdgeOfSome, IsHolder, is_on}
 pub use Rattle.toll_keep.specs.Meaning.{Meaning, OverHeld}
 pub use Rattle.toll_keep.specs.Slices.{has_slice, is_of}
 pub use Rattle.toll_keep.specs.declared.fault.KeepFault.{KeepFault}
-pub use Rattle.toll_print.specs.Texts.{batch_text, orders_text, recall_text, trace_text}
-pub use Rattle.toll_standing.proofs.KeptRules.{standing_keeps_rules}
-pub use Rattle.toll_standing.proofs.Knowing.{standing_knows}
-pub use Rattle.toll_standing.proofs.StandingEdges.{edges_are_own, edges_are_plants}
-pub use Rattle.toll_standing.proofs.Unknown.{acts_of_unknown, neither, nothing_of_unknown}
-pub use Rattle.toll_standing.specs.Standing.{AreOwnersOf, AreUnitsOf, StandsFor}
 pub use Rattle.toll_stock.specs.LotTotals.{totals_given}
 pub use Rattle.toll_trace.proofs.Members.{Contains-cases, Contains-here, Contains-later, Contains-none}
 pub use Rattle.toll_trace.specs.Chain.{IsChain, IsJoined, edge_of}
@@ -78,8 +83,6 @@ pub use Rattle.toll_trace.specs.Edges.{AreEdges}
 pub use Rattle.toll_trace.specs.Trace.{IsTrace}
 pub use Rattle.toll_trace.specs.declared.step.Step.{Step}
 pub use Rattle.toll_trace.specs.declared.way.Way.TheVariants.{Forward}
-pub use Rattle.toll_views.specs.Views.{IsLotViewOf, consumes_lot, has_consumed}
-pub use Rattle.toll_views.specs.declared.lot.LotView.{LotView}
 unfoldable pub use Rattle.toll_work.specs.BatchView.{TellsOverHistories}
 pub use Rattle.toll_work.specs.BatchView.{IsViewOver, line_key, line_of}
 pub use Rattle.toll_work.specs.declared.views.BatchView.{BatchView}

@@ -1,10 +1,11 @@
 -- The plant's decisions over the content of a keep.
 use Rattle.std.specs.Prelude.{nat_le}
 use Rattle.std.proofs.Common.{◌≡◌, Bool, true, false, not, ◌&&◌, Option, Some, None, is_some, [], ◌∷◌, refl, sym, ap, subst, ◌∙◌}
-use Rattle.toll_desk.proofs.Common.{list_any, Bytes, same_bytes, house_name, Action, AddOwner, AddUnit, OpenBatch, Command, by, History, acts, adds_owner, owner_known, unit_known, count_units, Slice, IsRowsOf, Verdict, Accepted, Repeated, Refused, first_of, Checks, checks, needs_owner, verdict, grown, IsLawful, IsValid, changes_of, after_changes, changes_if, ChangesKeepRules, IsDecided, Decides, DecidesWith, DecisionKeepsRules, PutsOnly, OwnerRow, UnitRow, Change, Owner, Unit as UnitAdded, Decision, Refuse, UnknownOwner, OwnerExists, UnitExists, LimitReached, same_bytes-refl, accepted_passes, PlantAsked, Does, Judged, Content, StandsFor, standing_knows, false≢true, option_map}
-use Rattle.toll_standing.proofs.UnitHolders.{same_holder}
+use Rattle.toll_desk.proofs.Common.{list_any, Bytes, same_bytes, house_name, Action, AddOwner, AddUnit, OpenBatch, Command, by, History, acts, adds_owner, owner_known, unit_known, count_units, Slice, IsRowsOf, Verdict, Accepted, Repeated, Refused, first_of, Checks, checks, needs_owner, verdict, grown, IsLawful, IsValid, changes_of, after_changes, changes_if, ChangesKeepRules, IsDecided, Decides, DecidesWith, DecisionKeepsRules, PutsOnly, OwnerRow, UnitRow, Change, Owner, Unit as UnitAdded, Decision, Refuse, UnknownOwner, OwnerExists, UnitExists, LimitReached, same_bytes-refl, accepted_passes, PlantAsked, Does, Judged, Content, StandsFor, false≢true, option_map}
+use Rattle.toll_desk.proofs.Knowing.{standing_knows}
+use Rattle.toll_desk.proofs.UnitHolders.{same_holder}
 use Rattle.toll_keep.specs.Holding.{IsHolder}
-use Rattle.toll_standing.specs.Held.{on_unit}
+use Rattle.toll_desk.specs.Held.{on_unit}
 use Rattle.toll_keep.specs.declared.holder.Holder.{Holder}
 use Rattle.toll_history.specs.Holders.{holder}
 use Rattle.toll_work.specs.Opening.{IsToldOfUnit, DecidesOpening}

@@ -1,4 +1,12 @@
 pub mod Common
+pub mod Fitting
+pub mod Beginning
+pub mod KeptRules
+pub mod Knowing
+pub mod Unknown
+pub mod StandingEdges
+pub mod OneHolder
+pub mod UnitHolders
 pub mod Lift
 pub mod Found
 pub mod OwnerAdded

@@ -1,12 +1,14 @@
 -- From what a decision owes to every slice to what a plan owes over the content of a keep.
 use Rattle.std.proofs.Common.{◌≡◌, ◌⊎◌, inl, inr, ℕ, ◌+◌, Bool, true, false, ◌&&◌, ◌||◌, cond, is_some, List, [], ◌∷◌, refl, sym, ap, subst, ◌∙◌, arith}
-use Rattle.toll_desk.proofs.Common.{false≢true, list_any, option_map, Bytes, bytes_cmp, same_bytes, row_at, house_name, where_so, Action, AddOwner, AddUnit, by, History, acts, key_added, adds_owner, owner_key, owner_known, count_owners, unit_known, count_units, Slice, empty_slice, with_row, IsRowsOf, Verdict, Accepted, Repeated, Refused, verdict, grown, grow, IsLawful, after_change, after_changes, ChangesKeepRules, EachChange, is_put_of, is_put_in_house, PutsOnly, PutsOnlyWith, OwnerRow, UnitRow, Change, Owner, Unit as UnitAdded, Put, first_acts, any_acts, same_bytes-exact, same_bytes-refl, Content, knows, after_owners, after_units, PutsToKnown, StandsFor, AreOwnersOf, AreUnitsOf, standing_keeps_rules, standing_knows}
+use Rattle.toll_desk.proofs.Common.{false≢true, list_any, option_map, Bytes, bytes_cmp, same_bytes, row_at, house_name, where_so, Action, AddOwner, AddUnit, by, History, acts, key_added, adds_owner, owner_key, owner_known, count_owners, unit_known, count_units, Slice, empty_slice, with_row, IsRowsOf, Verdict, Accepted, Repeated, Refused, verdict, grown, grow, IsLawful, after_change, after_changes, ChangesKeepRules, EachChange, is_put_of, is_put_in_house, PutsOnly, PutsOnlyWith, OwnerRow, UnitRow, Change, Owner, Unit as UnitAdded, Put, first_acts, any_acts, same_bytes-exact, same_bytes-refl, Content, knows, after_owners, after_units, PutsToKnown, StandsFor, AreOwnersOf, AreUnitsOf}
+use Rattle.toll_desk.proofs.KeptRules.{standing_keeps_rules}
+use Rattle.toll_desk.proofs.Knowing.{standing_knows}
 use Rattle.toll_base.specs.SliceRules.{KeepsRules}
 use Rattle.toll_base.specs.declared.rows.Row.{Row}
 use Rattle.toll_base.specs.declared.rows.Row.TheVariants.{Material, Test, Recipe, Requirement, Order, Batch, Lot, Sublot, Move, Result, Void}
 use Rattle.toll_keep.proofs.Changed.{own_after}
 use Rattle.toll_history.proofs.Options.{or_none}
-use Rattle.toll_standing.proofs.Fitting.{kept_rules_fit}
+use Rattle.toll_desk.proofs.Fitting.{kept_rules_fit}
 use Rattle.toll_desk.specs.Plans.{LeadsTo, is_shared_put, PutsShared}
 
 -- ---- owners and units

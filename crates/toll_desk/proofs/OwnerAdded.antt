@@ -1,6 +1,8 @@
 -- An owner that is added: the content with it stands for the history with it.
 use Rattle.std.proofs.Common.{◌≡◌, Bool, true, false, cond, ◌||◌, ◌&&◌, Option, Some, None, is_some, [], ◌∷◌, refl, sym, ap, subst, ◌∙◌, arith}
-use Rattle.toll_desk.proofs.Common.{false≢true, nat_list_cmp_total, list_any, option_map, Bytes, bytes_cmp, same_bytes, house_name, or_else, row_at, put_row, AddOwner, Command, by, History, acts, key_added, adds_owner, owner_key, owner_known, stock, sublot_known, lot_made, count_lots, count_sublots, material_used, empty_slice, IsRowsOf, tables_given, Accepted, verdict, IsLawful, OwnerRow, Owner, first_acts, any_acts, tables-own, tables-others, put_row_ordered, part-own, length-new, same_bytes-exact, same_bytes-refl, Content, StandsFor, AreOwnersOf, standing_knows, neither, nothing_of_unknown}
+use Rattle.toll_desk.proofs.Common.{false≢true, nat_list_cmp_total, list_any, option_map, Bytes, bytes_cmp, same_bytes, house_name, or_else, row_at, put_row, AddOwner, Command, by, History, acts, key_added, adds_owner, owner_key, owner_known, stock, sublot_known, lot_made, count_lots, count_sublots, material_used, empty_slice, IsRowsOf, tables_given, Accepted, verdict, IsLawful, OwnerRow, Owner, first_acts, any_acts, tables-own, tables-others, put_row_ordered, part-own, length-new, same_bytes-exact, same_bytes-refl, Content, StandsFor, AreOwnersOf}
+use Rattle.toll_desk.proofs.Knowing.{standing_knows}
+use Rattle.toll_desk.proofs.Unknown.{neither, nothing_of_unknown}
 use Rattle.toll_history.proofs.OwnTables.{tables-part}
 use Rattle.toll_desk.specs.Plans.{LeadsTo}
 use Rattle.toll_desk.proofs.Found.{put_found}

@@ -1,7 +1,8 @@
 -- From a plan over a slice to a plan over the content of a keep.
 use Rattle.std.proofs.Common.{◌≡◌, Bool, true, false, not, ◌&&◌, ◌||◌, Option, Some, None, is_some, List, [], refl, sym, ap, subst, ◌∙◌}
 use Rattle.std.specs.Prelude.{if◌then◌else◌}
-use Rattle.toll_desk.proofs.Common.{option_map, Bytes, bytes_cmp, same_bytes, house_name, is_some_where, where_so, row_at, PlaceOrder, CancelOrder, Release, Reject, History, acts, owner_key, owner_known, Slice, IsRowsOf, IsLawful, after_changes, ChangesKeepRules, Change, OwnerRow, Content, knows, slice_of, StandsFor, standing_knows, PutsOnly, Asked, AskPlace, AskCancel, AskRelease, AskReject, Told, TellForbidden, has_key, IsAnswer, after_answer, IsReply, after_reply}
+use Rattle.toll_desk.proofs.Common.{option_map, Bytes, bytes_cmp, same_bytes, house_name, is_some_where, where_so, row_at, PlaceOrder, CancelOrder, Release, Reject, History, acts, owner_key, owner_known, Slice, IsRowsOf, IsLawful, after_changes, ChangesKeepRules, Change, OwnerRow, Content, knows, slice_of, StandsFor, PutsOnly, Asked, AskPlace, AskCancel, AskRelease, AskReject, Told, TellForbidden, has_key, IsAnswer, after_answer, IsReply, after_reply}
+use Rattle.toll_desk.proofs.Knowing.{standing_knows}
 use Rattle.toll_desk.specs.Admission.{is_admitted}
 use Rattle.toll_desk.specs.Plans.{IsPlanOver, IsPlanFor, IsPlan}
 use Rattle.toll_desk.proofs.Lift.{SamePlant, same_plant-refl, same_grown, leads_on, leads_nowhere}

@@ -1,11 +1,12 @@
 -- What the desk's functions say of what they answer, where several say the same.
 use Rattle.std.specs.Prelude.{◌≡◌, ◌≢◌, ◌++◌, [], ◌∷◌, List, OnOk, true, false, is_some, ℕ, Option, Result, IfOk, IfErr, Vec, Err}
-use Rattle.toll_desk.specs.Common.{Global, Bytes, same_bytes, Slice, order_at, house_name, where_so, Decision, LotId, IsRowsOf, Step, IsRecall, RecallLine, HaveRead, Damaged, Disposition, Refusal, Action, History, owner_known, Refused, IsPlantAnswer, Judged, PlantAsked, PlantTold, Shows, after_plant, IsAnswer, IsReply, after_reply, has_key, AskPlace, Asked, Told, Content, Meaning, KeepFault, StandsFor}
+use Rattle.toll_desk.specs.Common.{Global, Bytes, same_bytes, Slice, order_at, house_name, where_so, Decision, LotId, IsRowsOf, Step, IsRecall, RecallLine, HaveRead, Damaged, Disposition, Refusal, Action, History, owner_known, Refused, IsPlantAnswer, Judged, PlantAsked, PlantTold, Shows, after_plant, IsAnswer, IsReply, after_reply, has_key, AskPlace, Asked, Told, Content, Meaning, KeepFault}
+use Rattle.toll_desk.specs.Standing.{StandsFor}
 use Rattle.std.specs.declared.alloc.AllocError.{AllocError}
 use Rattle.toll_base.specs.declared.lot.Edge.{Edge}
 use Rattle.toll_trace.specs.declared.way.Way.TheVariants.{Forward}
-use Rattle.toll_genealogy.specs.Agreement.{IsPlantTrace}
-use Rattle.toll_genealogy.specs.Edges.{AreOwnEdges}
+use Rattle.toll_answers.specs.Agreement.{IsPlantTrace}
+use Rattle.toll_answers.specs.Edges.{AreOwnEdges}
 use Rattle.toll_desk.specs.Asking.{plant_told, told_of}
 use Rattle.toll_desk.specs.Outcome.{IsDone}
 use Rattle.toll_desk.specs.Plans.{Disposes, IsOwnDecision, IsPlan, IsPlanFor, IsPlanOver, LeadsTo}

@@ -1,8 +1,10 @@
 -- Words of other crates that several definitions here are said in.
 pub use Rattle.std.specs.Global.{Global}
 pub use Rattle.toll_answers.specs.PlantAnswers.{AsksBatch, AsksOrders, AsksRecall, AsksStock, AsksTrace, CannotRead, Does, IsPlantAnswer, Judged, PlantAsked, PlantTold, Shows, after_plant}
+pub use Rattle.toll_answers.specs.Recall.{IsRecall, recall_line}
 pub use Rattle.toll_answers.specs.Replies.{IsAnswer, IsLotOr, IsReply, IsWritten, after_answer, after_reply, has_key}
 pub use Rattle.toll_answers.specs.Told.{AskBack, AskBatch, AskCancel, AskForward, AskHouseForward, AskLot, AskOrder, AskOrders, AskPlace, AskReject, AskRelease, AskStock, Asked, TellBatch, TellForbidden, TellLot, TellOrder, TellOrders, TellRefused, TellStock, TellTrace, Told}
+pub use Rattle.toll_answers.specs.declared.genealogy.recall.RecallLine.{RecallLine}
 pub use Rattle.toll_base.specs.Bytes.{Bytes, bytes_cmp, same_bytes}
 pub use Rattle.toll_base.specs.Lots.{lot_id}
 pub use Rattle.toll_base.specs.Slice.{Slice, order_at}
@@ -13,8 +15,6 @@ pub use Rattle.toll_base.specs.declared.decision.Decision.{Decision}
 pub use Rattle.toll_base.specs.declared.lot.Disposition.{Disposition}
 pub use Rattle.toll_base.specs.declared.lot.LotId.{LotId}
 pub use Rattle.toll_base.specs.declared.refusal.Refusal.{Refusal}
-pub use Rattle.toll_genealogy.specs.Recall.{IsRecall, recall_line}
-pub use Rattle.toll_genealogy.specs.declared.recall.RecallLine.{RecallLine}
 pub use Rattle.toll_history.specs.Command.{Action, AddMaterial, AddOwner, AddRecipe, AddTest, AddUnit, CancelOrder, CloseBatch, CommandBatch, OpenBatch, PlaceOrder, Record, RecordResult, Reject, Release, Require, Void, by, moves}
 pub use Rattle.toll_history.specs.History.{History, acts, owner_known}
 pub use Rattle.toll_history.specs.Tables.{IsRowsOf, lot_row, sublot_row}
@@ -25,5 +25,4 @@ pub use Rattle.toll_keep.specs.Meaning.{Meaning, OverHeld}
 pub use Rattle.toll_keep.specs.Reads.{HaveRead}
 pub use Rattle.toll_keep.specs.declared.fault.KeepFault.{KeepFault}
 pub use Rattle.toll_keep.specs.declared.fault.KeepFault.TheVariants.{Damaged, Memory}
-pub use Rattle.toll_standing.specs.Standing.{StandsFor}
 pub use Rattle.toll_trace.specs.declared.step.Step.{Step}

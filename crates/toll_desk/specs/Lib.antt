@@ -1,4 +1,6 @@
 pub mod Common
+pub mod Standing
+pub mod Held
 pub mod Reads
 pub mod Asking
 pub mod Admission

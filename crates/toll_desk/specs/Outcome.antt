@@ -1,6 +1,7 @@
 -- What came of what was asked, over a keep.
 use Rattle.std.specs.Prelude.{◌≡◌, ◌⊎◌, List, [], ◌∷◌, Result, Ok, Err, IfOk, OnOk, OnErr}
-use Rattle.toll_desk.specs.Common.{History, PlantAsked, AsksRecall, CannotRead, PlantTold, Content, Goes, Meaning, KeepFault, Damaged, StandsFor}
+use Rattle.toll_desk.specs.Common.{History, PlantAsked, AsksRecall, CannotRead, PlantTold, Content, Goes, Meaning, KeepFault, Damaged}
+use Rattle.toll_desk.specs.Standing.{StandsFor}
 
 -- the outcome of a plan once its changes were made, or not
 abbrev pub finished : {X : Type 0} → Result X KeepFault → Result (Unit {0}) KeepFault → Result X KeepFault

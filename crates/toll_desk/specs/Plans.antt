@@ -1,7 +1,8 @@
 -- What a plan owes, and what a decision.
 use Rattle.std.specs.Prelude.{◌≡◌, Bool, true, false, ◌||◌, is_none, List, ◌∷◌}
 use Rattle.std.specs.Option.{option_map}
-use Rattle.toll_desk.specs.Common.{Bytes, Slice, house_name, Change, Decision, Disposition, Action, by, History, acts, owner_known, IsRowsOf, lot_row, sublot_row, Accepted, verdict, grow, PlantAsked, Judged, IsPlantAnswer, after_plant, IsLotOr, IsWritten, IsAnswer, after_answer, IsReply, after_reply, Asked, Told, Content, after, Fits, StandsFor}
+use Rattle.toll_desk.specs.Common.{Bytes, Slice, house_name, Change, Decision, Disposition, Action, by, History, acts, owner_known, IsRowsOf, lot_row, sublot_row, Accepted, verdict, grow, PlantAsked, Judged, IsPlantAnswer, after_plant, IsLotOr, IsWritten, IsAnswer, after_answer, IsReply, after_reply, Asked, Told, Content, after, Fits}
+use Rattle.toll_desk.specs.Standing.{StandsFor}
 use Rattle.toll_base.specs.Changes.{changes_of, after_changes}
 use Rattle.toll_base.specs.declared.rows.LotRow.{LotRow}
 use Rattle.toll_history.specs.Decision.{verdict_of, ChangesKeepRules, IsRightOver}

@@ -1,6 +1,7 @@
 -- Commands of the plant of which the changes are held back.
 use Rattle.std.specs.Prelude.{◌≡◌, ◌++◌, ◌⊎◌, Bool, true, false, Option, List, [], Result, Ok, Err, IfOk, IsOk}
-use Rattle.toll_desk.specs.Common.{Change, History, IsLawful, Verdict, Content, after, Meaning, OverHeld, KeepFault, Memory, StandsFor, CannotRead, Does, IsPlantAnswer, Judged, PlantAsked, PlantTold, after_plant}
+use Rattle.toll_desk.specs.Common.{Change, History, IsLawful, Verdict, Content, after, Meaning, OverHeld, KeepFault, Memory, CannotRead, Does, IsPlantAnswer, Judged, PlantAsked, PlantTold, after_plant}
+use Rattle.toll_desk.specs.Standing.{StandsFor}
 use Rattle.toll_keep.specs.Overlays.{IsOver, ReadsThrough}
 use Rattle.toll_keep.specs.declared.overlay.Overlay.{Overlay}
 use Rattle.toll_desk.specs.Asking.{is_accepted, plant_told}

@@ -1,7 +1,7 @@
 -- What traces, recalls and questions of the plant look at.
 use Rattle.std.specs.Prelude.{◌≡◌, ◌⊎◌, Bool, ◌&&◌, true, false, Option, Some, None, is_some, List, map, Contains, Result, Err, Vec}
 use Rattle.toll_desk.specs.Common.{Global, Bytes, lot_id, Slice, house_name, LotId, History, acts, owner_known, IsRowsOf, lot_row, Step, IsRecall, recall_line, RecallLine, Meaning, IsReading, HaveRead, KeepFault, Damaged}
-use Rattle.toll_views.specs.Views.{has_consumed}
+use Rattle.toll_answers.specs.Views.{has_consumed}
 use Rattle.toll_keep.specs.Slices.{has_slice}
 use Rattle.toll_desk.specs.declared.form.Tracing.{Tracing}
 use Rattle.toll_desk.specs.declared.form.Tracing.TheVariants.{Back, Forward, HouseForward}

@@ -1,6 +1,7 @@
 -- What is so of calls that read a keep, over the histories that its content stands for.
 use Rattle.std.specs.Prelude.{◌≡◌, Option, Some, None}
-use Rattle.toll_desk.specs.Common.{History, IsLawful, Bytes, house_name, Meaning, Content, slice_of, StandsFor}
+use Rattle.toll_desk.specs.Common.{History, IsLawful, Bytes, house_name, Meaning, Content, slice_of}
+use Rattle.toll_desk.specs.Standing.{StandsFor}
 use Rattle.toll_desk.specs.declared.deciding.Both.{Both}
 
 -- whatever lawful history the content that was held stands for, this is so of the two

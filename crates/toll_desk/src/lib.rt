@@ -1,6 +1,6 @@
 //! The office's desk: owners' requests and the plant's commands and questions, over any keep. What a
 //! request looks at is its form; a command is matched where it is decided. How each goes is `owner.rt`
-//! and `plant.rt`.
+//! and `plant.rt`; what the rows of a keep stand for, `standing.rt`.
 #![tactic(auto)]
 
 mod admission;
@@ -17,6 +17,7 @@ mod questions;
 mod reading;
 mod recalls;
 mod request;
+mod standing;
 mod tracing;
 mod units;
 mod writing;
@@ -29,6 +30,11 @@ pub use plant::plant_do;
 pub use plant_cmd::{PlantCmd, PlantReply};
 pub use recalls::recall;
 pub use request::{Planned, Reply, Request};
-pub use toll_genealogy::RecallLine;
-pub use toll_print::{batch_text, orders_text, recall_text, stock_text, trace_text};
-pub use toll_views::{LotView, StockLine};
+pub use standing::{
+    a_unit_is_held_by_one_batch, all_edges_are_the_plants, changes_that_keep_the_rules_fit,
+    edges_are_the_owners, lawful_rows_keep_the_rules, nothing_stands_for_no_commands,
+    owners_are_known_alike, units_are_held_alike,
+};
+pub use toll_answers::{
+    LotView, RecallLine, StockLine, batch_text, orders_text, recall_text, stock_text, trace_text,
+};

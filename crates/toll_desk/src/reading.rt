@@ -14,9 +14,9 @@ ghost use Rattle.toll_desk.specs.Asking.{told_of};
 use crate::form::Reading;
 use crate::request::Reply;
 use std::alloc::{AllocError, Global};
+use toll_answers::{lot_view, stock_lines};
 use toll_base::{BatchNo, Name, OrderRow, Refusal, Slice};
 use toll_keep::{Keep, KeepFault};
-use toll_views::{lot_view, stock_lines};
 use toll_work::batch_view;
 
 /// What an owner is told of its rows.

@@ -8,7 +8,7 @@ ghost use Rattle.toll_history.specs.Tables.{IsRowsOf};
 ghost use Rattle.toll_history.specs.Verdict.{IsLawful};
 ghost use Rattle.toll_trace.specs.declared.step.Step.{Step};
 ghost use Rattle.toll_trace.specs.declared.way.Way.TheVariants.{Forward};
-ghost use Rattle.toll_genealogy.specs.Recall.{IsRecall, recall_line};
+ghost use Rattle.toll_answers.specs.Recall.{IsRecall, recall_line};
 ghost use Rattle.toll_keep.specs.Goes.{IsReading};
 ghost use Rattle.toll_keep.specs.Reads.{HaveRead, IsKept};
 ghost use Rattle.toll_keep.specs.Slices.{is_of};
@@ -18,8 +18,8 @@ ghost use Rattle.toll_desk.specs.Reads.{Over};
 
 use crate::tracing::trace_over;
 use std::alloc::{AllocError, Global};
+use toll_answers::RecallLine;
 use toll_base::{Disposition, LotId, Name, Slice};
-use toll_genealogy::RecallLine;
 use toll_keep::{Keep, KeepFault};
 use toll_stock::LotTotals;
 use toll_trace::{Step, Way};

@@ -4,10 +4,10 @@ ghost use Rattle.toll_desk.specs.Asking.{told_of};
 ghost use Rattle.toll_desk.specs.Outcome.{finished};
 
 use std::alloc::Global;
+use toll_answers::{LotView, StockLine};
 use toll_base::{BatchNo, Change, Name, OrderRow, Refusal};
 use toll_keep::KeepFault;
 use toll_trace::Step;
-use toll_views::{LotView, StockLine};
 use toll_work::BatchView;
 
 /// What an owner asks for.

@@ -16,10 +16,10 @@ ghost use Rattle.toll_desk.specs.Questions.{may_trace};
 use crate::form::Tracing;
 use crate::request::Reply;
 use std::alloc::{AllocError, Global};
+use toll_answers::has_consumed;
 use toll_base::{Edge, LotId, Name, Refusal, Slice};
 use toll_keep::{Keep, KeepFault};
 use toll_trace::{Step, Way, trace_one_way};
-use toll_views::has_consumed;
 
 /// The trace of an owner that was admitted, over the edges of its own batches. [`Refusal::UnknownLot`]
 /// where the owner has no such lot; of a lot of HOUSE, where no batch of the owner consumed it.

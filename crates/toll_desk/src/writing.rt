@@ -13,10 +13,10 @@ use crate::form::Writing;
 use crate::reading::{lot_shown, order_shown};
 use crate::request::{Planned, Reply};
 use std::alloc::{AllocError, Global};
+use toll_answers::{LotView, lot_view};
 use toll_base::{BatchNo, Decision, Disposition, LotRow, Name, OrderRow, Refusal, Slice};
 use toll_keep::{Keep, KeepFault};
 use toll_stock::{reject, release};
-use toll_views::{LotView, lot_view};
 use toll_work::{cancel_order, place_order};
 
 /// The reply to an owner as it will stand, and what must be applied for it. Nothing is changed.

@@ -1,7 +1,7 @@
 -- A script over an office in memory.
 use Rattle.std.specs.Prelude.{◌≡◌, ◌⊎◌}
-use Rattle.toll_streams.specs.declared.sink.Sink as sink
-use Rattle.toll_streams.specs.declared.source.Source as source
+use Rattle.toll_protocol.specs.declared.streams.sink.Sink as sink
+use Rattle.toll_protocol.specs.declared.streams.source.Source as source
 use Rattle.toll_keep.specs.Content.{nothing}
 use Rattle.toll_keep.specs.declared.keep.Keep.{Ghosts}
 use Rattle.toll_programs.specs.Running.{IsScriptRun}

@@ -3,7 +3,7 @@ use crate::plant_door::socket_path;
 use std::fs;
 use std::os::unix::fs::{FileTypeExt, MetadataExt};
 use std::os::unix::net::UnixStream;
-use toll_served::{Connector, Noted};
+use toll_programs::{Connector, Noted};
 
 /// Connects to the server of a file, by the socket file beside it.
 #[derive(Drop)]

@@ -5,8 +5,8 @@ use sqlite::MemStore;
 use std::alloc::Global;
 use toll_keep::{Keep, Remembering};
 use toll_programs::{ScriptEnd, script};
+use toll_protocol::{Sink, Source};
 use toll_sql::SqlKeep;
-use toll_streams::{Sink, Source};
 
 /// The keep of an office in memory.
 type MemoryKeep = Remembering<SqlKeep<MemStore>>;

@@ -1,6 +1,6 @@
 //! The office on a file.
 ghost use Rattle.std.specs.Prelude.{◌≡◌, IfOk};
-ghost use Rattle.toll_served.specs.Faults.{office_fault_name};
+ghost use Rattle.toll_service.specs.Faults.{office_fault_name};
 ghost use Rattle.toll_sql.specs.Opened.{IsOpened};
 ghost use Rattle.toll_sql.specs.Opening.{name_of};
 
@@ -10,7 +10,7 @@ use std::fs::{File, OpenOptions};
 use std::io::ErrorKind;
 use std::os::unix::fs::OpenOptionsExt;
 use toll_keep::Remembering;
-use toll_served::{FILE_MODE, OfficeFault, Opener, Place, take_lock};
+use toll_service::{FILE_MODE, OfficeFault, Opener, Place, take_lock};
 use toll_sql::{OpenFault, SqlKeep};
 
 /// The keep of an office on a file.

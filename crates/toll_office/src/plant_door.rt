@@ -5,8 +5,9 @@ use mio::{Registry, Token};
 use std::alloc::AllocError;
 use std::io;
 use std::io::{ErrorKind, Write};
-use toll_parcels::greeting;
-use toll_served::{VERSION, take_lock};
+use toll_programs::VERSION;
+use toll_protocol::greeting;
+use toll_service::take_lock;
 
 /// The socket file `FILE.sock` beside an office's file, where the plant's commands come to its server. Who
 /// comes is greeted with the server's build.

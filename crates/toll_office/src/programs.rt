@@ -9,10 +9,10 @@ use std::fmt::Display;
 use std::fs::{File, OpenOptions};
 use std::io::ErrorKind;
 use std::{env, io};
-use toll_peers::Served;
 use toll_plant::MOST_FILE_BYTES;
 use toll_programs::{FrontFault, Status, Task, read_front, task_of, tell_end, usage_of, warn};
-use toll_served::{do_file, do_words};
+use toll_server::Served;
+use toll_service::{do_file, do_words};
 
 /// How many standard streams there are.
 const STREAMS: usize = 3;

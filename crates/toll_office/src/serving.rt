@@ -3,9 +3,9 @@ use crate::office::place_of;
 use crate::sockets::Sockets;
 use crate::timed::Timed;
 use std::net::{TcpListener, TcpStream};
-use toll_peers::Served as Ended;
-use toll_served::{answer_once, serve_place};
-use toll_streams::write_whole;
+use toll_protocol::write_whole;
+use toll_server::Served as Ended;
+use toll_service::{answer_once, serve_place};
 use toll_wire::{Out, ReadFault, read_request};
 
 /// What came of one connection.
@@ -35,7 +35,7 @@ pub fn serve_one(rt: &HostRuntime, listener: &TcpListener, path: &str) -> Served
 }
 
 /// Serves so many owners side by side over the office in the file, and the plant meanwhile, as
-/// [`toll_peers::serve`] does. Each is answered as [`serve_one`] answers it, and the plant as the program
+/// [`toll_server::serve`] does. Each is answered as [`serve_one`] answers it, and the plant as the program
 /// itself does it, but for how often the file is opened: it stays open between requests while nobody else
 /// changes it.
 pub fn serve_all(rt: &HostRuntime, sockets: &mut Sockets<'_>, path: &str, count: u64) -> Ended {

@@ -5,7 +5,7 @@ use std::fs::Permissions;
 use std::io::ErrorKind;
 use std::os::unix::fs::{FileTypeExt, MetadataExt, PermissionsExt};
 use std::{fs, io};
-use toll_served::FILE_MODE;
+use toll_service::FILE_MODE;
 
 /// How many may wait before the file has its mode.
 const MOST_EARLY: usize = 8192;

@@ -7,8 +7,8 @@ use std::io;
 use std::io::ErrorKind;
 use std::net::{Ipv4Addr, SocketAddr, SocketAddrV4};
 use std::time::{Duration, Instant};
-use toll_peers::{Coming, Door, World, WorldFault};
-use toll_served::{ServingFault, Watch};
+use toll_server::{Coming, Door, World, WorldFault};
+use toll_service::{ServingFault, Watch};
 
 /// How many events one wait gives.
 const MOST_EVENTS: usize = 256;

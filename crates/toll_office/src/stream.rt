@@ -3,7 +3,7 @@ use mio::net::{TcpStream, UnixStream};
 use mio::{Interest, Registry, Token};
 use std::io;
 use std::io::{Read, Write};
-use toll_peers::Socket;
+use toll_protocol::Socket;
 
 /// A connection that never waits: what would wait fails with `WouldBlock`.
 #[derive(Drop)]

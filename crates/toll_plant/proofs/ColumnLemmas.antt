@@ -3,7 +3,7 @@ use Rattle.std.proofs.Common.{◌≡◌, ◌-◌, ℕ, zero, suc, cond, [], ◌�
 use Rattle.std.specs.Prelude.{decimal, replicate, Result, Ok, Err, OnOk}
 use Rattle.toll_plant.proofs.Common.{is_ok, repeat, format_spec, styled_decimal, padded_integral, char_count, append-nil, Bytes}
 use Rattle.std.proofs.lemmas.Str.{encode_ascii}
-use Rattle.toll_print.specs.Columns.{right}
+use Rattle.toll_answers.specs.Columns.{right}
 
 blanks_are : (n : ℕ) → repeat {A = ℕ} n (32 ∷ []) ≡ replicate n 32
 blanks_are zero = refl

@@ -2,7 +2,7 @@
 use Rattle.std.proofs.Common.{◌≡◌, ◌++◌, ℕ, drop, take-append-drop, Bool, true, false, ◌||◌, Option, List, [], ◌∷◌, Result, Ok, Err, refl, sym, subst, ap, ◌∙◌, inl, inr}
 use Rattle.std.specs.Prelude.{take}
 use Rattle.toll_plant.proofs.Common.{AllByRecursion, list_any, append-nil, list_any-append, false≢true, History, IsLawful, Content, Goes, Meaning, KeepFault, Memory, Disk, Damaged, Closed, StandsFor, PlantCmd}
-use Rattle.toll_standing.proofs.KeptRules.{standing_keeps_rules}
+use Rattle.toll_desk.proofs.KeptRules.{standing_keeps_rules}
 use Rattle.toll_plant.specs.Imports.{AreGroupSteps, AreGroupsServed, AreRecordSteps, EndWith, Group, IsGroupServed, IsImport, IsImportOf, IsInGroups, IsOpenOutcome, IsWholeOutcome, NoneEnded, all_commands, all_told, last_outcome}
 use Rattle.toll_plant.specs.Outcomes.{is_fault}
 use Rattle.toll_plant.specs.declared.outcome.Outcome.{Outcome}

@@ -6,7 +6,7 @@ use Rattle.std.specs.Option.{option_map_or}
 use Rattle.clap.specs.declared.builder.value_parser.Reading.TheVariants.{AsWritten}
 use Rattle.clap.specs.declared.parser.matches.ValueSource.TheVariants.{CommandLine}
 use Rattle.toll_base.proofs.Bools.{both}
-use Rattle.toll_standing.proofs.Unknown.{neither}
+use Rattle.toll_desk.proofs.Unknown.{neither}
 use Rattle.toll_plant.specs.Lines.{Argument}
 use Rattle.toll_plant.specs.ClapWords.{are_new, value_rule}
 

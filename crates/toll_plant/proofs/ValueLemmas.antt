@@ -6,7 +6,7 @@ use Rattle.toll_plant.specs.Lines.{Argument}
 use Rattle.toll_plant.specs.ClapWords.{are_new}
 use mathlib.Core.Bool.{or-true}
 use Rattle.toll_base.proofs.Bools.{both}
-use Rattle.toll_standing.proofs.Unknown.{neither}
+use Rattle.toll_desk.proofs.Unknown.{neither}
 use Rattle.toll_plant.proofs.RuleLemmas.{Knows, known, and_false, below_most, is_false, same_text, the_rule, the_rules, used_first, value_row}
 
 -- no word begins with a dash or is empty

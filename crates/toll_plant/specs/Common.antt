@@ -8,6 +8,7 @@ pub use Rattle.toll_base.specs.declared.refusal.Refusal.{Refusal}
 pub use Rattle.toll_base.specs.declared.refusal.Refusal.TheVariants.{BadAmount, BadName}
 pub use Rattle.toll_desk.specs.Asking.{IsValidDeed, asked_by}
 pub use Rattle.toll_desk.specs.Reads.{Over}
+pub use Rattle.toll_desk.specs.Standing.{StandsFor}
 pub use Rattle.toll_desk.specs.declared.plant_cmd.PlantCmd.{PlantCmd}
 pub use Rattle.toll_history.specs.History.{History, acts}
 pub use Rattle.toll_history.specs.Verdict.{Accepted, IsLawful, Refused, Repeated, Verdict}
@@ -16,4 +17,3 @@ pub use Rattle.toll_keep.specs.Goes.{FindsNoDamage, Goes, IsReading, Settles}
 pub use Rattle.toll_keep.specs.Meaning.{Meaning, OverHeld, OverLive}
 pub use Rattle.toll_keep.specs.declared.fault.KeepFault.{KeepFault}
 pub use Rattle.toll_keep.specs.declared.fault.KeepFault.TheVariants.{Damaged, Memory}
-pub use Rattle.toll_standing.specs.Standing.{StandsFor}

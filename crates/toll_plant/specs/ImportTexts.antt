@@ -3,7 +3,7 @@ use Rattle.std.specs.Prelude.{Bool, true, false, List, [], ◌∷◌, ◌++◌, 
 use Rattle.toll_base.specs.Bytes.{Bytes}
 use Rattle.toll_base.specs.Refusal.{code_of, title_of}
 use Rattle.toll_keep.specs.Fault.{name_of}
-use Rattle.toll_print.specs.Columns.{right, line}
+use Rattle.toll_answers.specs.Columns.{right, line}
 use Rattle.toll_plant.specs.Outcomes.{is_accepted, is_fault}
 use Rattle.toll_plant.specs.declared.outcome.Outcome.{Outcome}
 use Rattle.toll_plant.specs.declared.outcome.Outcome.TheVariants.{Accepted, Repeated, Refused, BadRecord, Fault}

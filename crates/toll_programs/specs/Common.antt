@@ -9,6 +9,6 @@ pub use Rattle.toll_keep.specs.Meaning.{Meaning}
 pub use Rattle.toll_plant.specs.declared.import_fault.ImportFault.{ImportFault}
 pub use Rattle.toll_plant.specs.declared.import_fault.ImportFault.TheVariants.{BadHeader, Memory, TooLong}
 pub use Rattle.toll_plant.specs.declared.report.ImportReport.{ImportReport}
-pub use Rattle.toll_streams.specs.Streams.{HasFailed, NoneFailed}
+pub use Rattle.toll_protocol.specs.Streams.{HasFailed, NoneFailed}
 pub use Rattle.toll_wire.specs.declared.event.Answer.{Answer}
 pub use Rattle.toll_wire.specs.declared.event.Event.{Event}

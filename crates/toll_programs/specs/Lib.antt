@@ -13,3 +13,4 @@ pub mod Imported
 pub mod Done
 pub mod Tasks
 pub mod ShownTask
+pub mod HandingOver

@@ -2,8 +2,8 @@
 use Rattle.std.specs.Prelude.{◌≡◌, ◌≢◌, ◌⊎◌, ◌<◌, ℕ, IsTrue, Bool, true, false, List, length, take, Option}
 use Rattle.toll_programs.specs.Common.{Appends, Bytes, Meaning, HasFailed, NoneFailed, Answer, Event}
 use Rattle.toll_desk.specs.Reads.{Over}
-use Rattle.toll_streams.specs.declared.sink.Sink as sink
-use Rattle.toll_streams.specs.declared.source.Source as source
+use Rattle.toll_protocol.specs.declared.streams.sink.Sink as sink
+use Rattle.toll_protocol.specs.declared.streams.source.Source as source
 use Rattle.toll_wire.specs.OfficeRuns.{AreServed, IsRunOf}
 use Rattle.toll_programs.specs.Asked.{deeds_of}
 use Rattle.toll_programs.specs.Inputs.{IsTooLong, IsWhole}

@@ -2,7 +2,7 @@
 use Rattle.std.specs.Prelude.{◌≡◌, ◌<◌, ◌⊎◌, ◌++◌, ℕ, Bool, [], Option, Result, Ok, Err, codes, decimal, length, take}
 use Rattle.toll_programs.specs.Common.{Appends, Bytes, PlantReply, HasFailed, ImportFault, Memory, TooLong, BadHeader, ImportReport}
 use Rattle.toll_desk.specs.declared.plant_cmd.PlantReply.TheVariants as plant
-use Rattle.toll_streams.specs.declared.sink.Sink as sink
+use Rattle.toll_protocol.specs.declared.streams.sink.Sink as sink
 use Rattle.toll_plant.specs.ImportTexts.{import_text}
 use Rattle.toll_programs.specs.Printing.{plant_lines, refusal_line}
 use Rattle.toll_programs.specs.Statuses.{after_lines, after_reply, after_script, code_of}

@@ -10,7 +10,7 @@ use std::alloc::{AllocError, Global};
 use toll_base::Refusal;
 use toll_desk::{PlantCmd, PlantReply, plant_do};
 use toll_keep::{Keep, KeepFault};
-use toll_streams::Sink;
+use toll_protocol::Sink;
 
 /// Does a command of the plant or answers a question, writes the answer to `output`, or a fault to
 /// `error`, and gives the exit status: 0 for what is accepted, repeated or shown, 1 for what is refused,

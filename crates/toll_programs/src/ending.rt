@@ -4,7 +4,7 @@ ghost use Rattle.toll_programs.specs.Told.{IsEndTold, stream_of};
 use crate::scripts::ScriptEnd;
 use crate::status::Status;
 use crate::telling::{numbered, warn};
-use toll_streams::Sink;
+use toll_protocol::Sink;
 
 /// Writes why a script ended, but of one that is done, and gives the exit status: 0 for one that is done,
 /// 2 for one with a bad line or that is too long, 3 for a fault. A write that fails changes nothing.

@@ -11,7 +11,7 @@ use crate::telling::{tell, warn};
 use std::alloc::{AllocError, Global};
 use toll_keep::Keep;
 use toll_plant::{ImportFault, ImportLine, ImportReport, Outcome, import_actuals, import_text};
-use toll_streams::Sink;
+use toll_protocol::Sink;
 
 /// Imports a file of actuals, writes what came of its records to `output`, or why it was not imported to
 /// `error`, and gives the exit status: 0 where each record is accepted or repeated, 1 where one is refused

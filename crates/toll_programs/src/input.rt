@@ -1,13 +1,13 @@
 //! Reading a script whole.
 ghost use Rattle.std.specs.Prelude.{◌≡◌, ◌≢◌, ◌+◌, ◌^◌, ◌<◌, ◌≤◌, length, take, IfOk, OnErr, OnOk, Err};
 ghost use Rattle.std.specs.Io.KnownBytes.{Consumes, IsAtEnd};
-ghost use Rattle.toll_streams.specs.Streams.{HasFailed, NoneFailed};
+ghost use Rattle.toll_protocol.specs.Streams.{HasFailed, NoneFailed};
 ghost use Rattle.toll_programs.specs.Inputs.{IsTooLong, IsWhole};
 
 use std::alloc::Global;
 use std::io;
 use thiserror::Error;
-use toll_streams::{Source, read_behind};
+use toll_protocol::{Source, read_behind};
 
 /// How many bytes a script may have.
 const TEXT_LIMIT: usize = 1_048_576;

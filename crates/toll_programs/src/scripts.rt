@@ -6,7 +6,7 @@ use crate::input::{InputFault, read_input};
 use crate::printing::printed;
 use std::alloc::Global;
 use toll_keep::Keep;
-use toll_streams::{Sink, Source, write_whole};
+use toll_protocol::{Sink, Source, write_whole};
 use toll_wire::run_events;
 
 /// How a script ended.

@@ -5,7 +5,7 @@ ghost use Rattle.toll_programs.specs.Told.{IsTold, IsWarned, stream_of};
 use crate::status::Status;
 use arrayvec::ArrayString;
 use itoa::Buffer;
-use toll_streams::{Sink, write_whole};
+use toll_protocol::{Sink, write_whole};
 
 /// How many bytes a line with a number may have.
 const LINE_BYTES: usize = 32;

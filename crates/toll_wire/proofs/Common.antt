@@ -1,27 +1,48 @@
 -- Words that several proofs here use.
+pub use Rattle.matchit.specs.Params.{after_token, part_of, walk, wild_from, wild_stop}
+pub use Rattle.matchit.specs.Router.{InsertsRead, RouteOf, nearest, route_from}
+pub use Rattle.matchit.specs.Rows.{RowsOf, comes_before}
+unfoldable pub use Rattle.matchit.specs.Seek.{param_step, seek}
+pub use Rattle.matchit.specs.Seek.{cuts, first, has_slash, longest_from, or_else, own, segment, step, with_suffix}
 unfoldable pub use Rattle.serde_json.proofs.OnLiterals.{serde_json_on_literals}
+pub use Rattle.std.proofs.Math.Seq.{drop-append_seam, drop-cons, take-append_seam}
+pub use Rattle.std.proofs.lemmas.Bool.{and_from, and_parts, and_right}
+pub use Rattle.std.proofs.lemmas.Bool.Decides.{Decides-eqb, nat_tests}
+pub use Rattle.std.proofs.lemmas.Fmt.{decimal-digits_value, decimal_injective, decimal_nonempty, digits_decimal, digits_value-decimal, first_decimal, length-decimal-le}
+pub use Rattle.std.proofs.lemmas.List.{append_cancel_left, append_cancel_right, drop-drop, get_or-append-add, get_or-drop}
+pub use Rattle.std.proofs.lemmas.Slice.Eq.{ends_is, starts_is}
+pub use Rattle.std.proofs.lemmas.Str.{IsCharBoundary-before_ascii, IsUtf8-drop, IsUtf8-from_ascii, IsUtf8-past_char, IsUtf8-take, encode_ascii}
 unfoldable pub use Rattle.std.specs.Fmt.{digits}
 pub use Rattle.std.specs.Global.{Vec}
-pub use Rattle.std.specs.List.{AllByRecursion, starts_with}
+pub use Rattle.std.specs.List.{AllByRecursion, list_all, position_or_len, starts_with}
+pub use Rattle.std.specs.Option.{IfSome, is_none}
+pub use Rattle.std.specs.Result.{MatchResult, OkIff, result_ok}
+pub use Rattle.std.specs.Str.{IsAscii, IsCharBoundary, IsUtf8}
 pub use Rattle.toll_answers.specs.PlantAnswers.{AsksBatch, AsksOrders, AsksRecall, AsksStock, AsksTrace, CannotRead, Does, IsCheckedOr, IsPlantAnswer, IsRecallShown, IsTraceShown, Judged, PlantAsked, PlantTold, Shows, after_plant, lot_checks}
 unfoldable pub use Rattle.toll_answers.specs.Replies.{IsReply, after_reply}
 pub use Rattle.toll_answers.specs.Replies.{IsAnswer, IsTraceTold, IsValidAsked, after_answer, has_key}
+pub use Rattle.toll_answers.specs.Texts.{recall_text}
 pub use Rattle.toll_answers.specs.Told.{AskCancel, AskPlace, AskReject, AskRelease, Asked, TellBatch, TellForbidden, TellLot, TellOrder, TellOrders, TellRefused, TellStock, TellTrace, Told}
 pub use Rattle.toll_base.specs.Bytes.{Bytes, same_bytes}
+pub use Rattle.toll_base.specs.Values.{IsBatchNo, is_digit, is_name, is_name_byte, is_text_of, number_of}
 pub use Rattle.toll_base.specs.declared.refusal.Refusal.TheVariants.{OrderExists, UnknownLot}
 pub use Rattle.toll_desk.specs.Asking.{IsValidDeed, asked_by, is_granted, may_change, plant_told, writes}
 pub use Rattle.toll_desk.specs.Outcome.{GoesFor, IsDone, finished}
+pub use Rattle.toll_desk.specs.Standing.{StandsFor}
+pub use Rattle.toll_desk.specs.declared.request.Request.{Request}
 pub use Rattle.toll_history.specs.Command.{CancelOrder, Command, PlaceOrder, Reject, Release, by}
 pub use Rattle.toll_history.specs.History.{History, acts, part}
 pub use Rattle.toll_history.specs.Verdict.{Accepted, IsLawful, Refused, Repeated, Verdict, first_of, grow, grown, verdict}
-pub use Rattle.toll_http.specs.Arriving.{Outcome, refused, request}
-unfoldable pub use Rattle.toll_http.specs.Messages.{reply_text}
-pub use Rattle.toll_http.specs.declared.failure.Failure.TheVariants.{Forbidden, MethodNotAllowed, NotImplemented}
 pub use Rattle.toll_keep.specs.Content.{Content, ContentKeepsRules, Fits, after}
 pub use Rattle.toll_keep.specs.Goes.{Goes, IsReading, Settles}
 pub use Rattle.toll_keep.specs.Meaning.{Meaning}
 pub use Rattle.toll_keep.specs.declared.fault.KeepFault.{KeepFault}
 pub use Rattle.toll_keep.specs.declared.fault.KeepFault.TheVariants.{Closed, Damaged, Disk, Memory}
-pub use Rattle.toll_print.specs.Texts.{recall_text}
-pub use Rattle.toll_standing.specs.Standing.{StandsFor}
+pub use Rattle.toll_protocol.specs.Arriving.{Outcome, refused, request}
+unfoldable pub use Rattle.toll_protocol.specs.HttpMessages.{reply_text}
+pub use Rattle.toll_protocol.specs.declared.http_messages.failure.Failure.TheVariants.{Forbidden, MethodNotAllowed, NotImplemented}
+pub use Rattle.toll_protocol.specs.declared.http_messages.verb.Verb.{Verb}
+pub use Rattle.toll_protocol.specs.declared.http_messages.verb.Verb.TheVariants.{Get, Post}
+pub use Rattle.toll_wire.specs.Bodies.{AsksFor, AsksOrder, order_in}
+pub use Rattle.toll_wire.specs.declared.bodies.body.Placing.{Placing}
 pub use mathlib.Core.Bool.{false≢true}

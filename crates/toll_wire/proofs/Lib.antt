@@ -1,4 +1,20 @@
 pub mod Common
+pub mod NameTexts
+pub mod Sending
+pub mod BodyWithin
+mod WorkedBodies
+pub mod Numbers
+pub mod Patterns
+pub mod Seeks
+pub mod Taken
+pub mod Places
+pub mod Routers
+pub mod Office
+pub mod Rows
+pub mod AskedAt
+pub mod Once
+pub mod Within
+pub mod Clients
 pub mod Readings
 mod WorkedReplies
 pub mod Private

@@ -5,8 +5,8 @@ use Rattle.toll_wire.proofs.Common.{Bytes, UnknownLot, History, acts, Verdict, A
 use Rattle.toll_base.specs.Lots.{lot_id}
 use Rattle.toll_base.specs.declared.lot.LotId.{LotId}
 use Rattle.toll_history.specs.Tables.{lot_row}
-use Rattle.toll_genealogy.specs.Edges.{IsOwnJoined}
-use Rattle.toll_genealogy.specs.declared.recall.RecallLine.{RecallLine}
+use Rattle.toll_answers.specs.Edges.{IsOwnJoined}
+use Rattle.toll_answers.specs.declared.genealogy.recall.RecallLine.{RecallLine}
 use Rattle.toll_trace.specs.Trace.{IsTrace}
 use Rattle.toll_trace.specs.declared.step.Step.{Step}
 use Rattle.toll_trace.specs.declared.way.Way.{Way}

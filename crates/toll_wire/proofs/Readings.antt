@@ -1,8 +1,8 @@
 -- Bytes ask for one thing.
 use Rattle.std.proofs.Common.{◌≡◌, ◌∙◌, sym, ap, subst}
 use Rattle.toll_wire.proofs.Common.{Bytes, Outcome, refused, request}
-use Rattle.toll_http.proofs.Arrivals.{arrives_once}
-use Rattle.toll_routes.proofs.Once.{asking_once}
+use Rattle.toll_protocol.proofs.Arrivals.{arrives_once}
+use Rattle.toll_wire.proofs.Once.{asking_once}
 use Rattle.toll_wire.specs.Asking.{Asked, claimed, AskedOf, Reads}
 use Rattle.toll_wire.specs.Runs.{Saying}
 use Rattle.toll_wire.specs.Steps.{saying_of, Says}

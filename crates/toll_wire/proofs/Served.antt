@@ -8,7 +8,7 @@ use Rattle.toll_desk.specs.Plans.{IsPlan}
 use Rattle.toll_desk.specs.Reads.{Over}
 use Rattle.toll_keep.proofs.Calls.{Rests, goes_as, goes_fault, goes_memory, settles, spared}
 use Rattle.toll_desk.proofs.Carried.{done_of, goes_on}
-use Rattle.toll_http.specs.declared.failure.Failure.{Failure}
+use Rattle.toll_protocol.specs.declared.http_messages.failure.Failure.{Failure}
 use Rattle.toll_wire.specs.declared.outgoing.Out.{Out}
 use Rattle.toll_wire.specs.declared.outgoing.Out.TheVariants.{Text, Unavailable}
 use Rattle.toll_wire.specs.OutTexts.{IsText, text_if}

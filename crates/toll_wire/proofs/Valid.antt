@@ -1,10 +1,10 @@
 -- What the bytes of requests say is within its bounds.
 use Rattle.std.proofs.Common.{Option, Some, None, sym, subst}
 use Rattle.toll_wire.proofs.Common.{Bytes, Outcome, refused as refused_before, request as arrived}
-use Rattle.toll_routes.specs.declared.asks.Asks.{Asks}
-use Rattle.toll_routes.specs.declared.asks.Asks.TheVariants.{Failing, For}
-use Rattle.toll_routes.specs.Asking.{IsValidAsks}
-use Rattle.toll_routes.proofs.Within.{asks_within}
+use Rattle.toll_wire.specs.declared.routes.asks.Asks.{Asks}
+use Rattle.toll_wire.specs.declared.routes.asks.Asks.TheVariants.{Failing, For}
+use Rattle.toll_wire.specs.Routing.{IsValidAsks}
+use Rattle.toll_wire.proofs.Within.{asks_within}
 use Rattle.toll_wire.specs.Asking.{Asked, claimed, AskedOf}
 use Rattle.toll_wire.specs.Runs.{Saying, IsValidSaying}
 use Rattle.toll_wire.specs.Steps.{http, saying_of, Says}

@@ -4,7 +4,7 @@ use Rattle.std.specs.Prelude.{codes}
 use Rattle.toll_wire.proofs.Common.{digits, serde_json_on_literals, OrderExists, Forbidden, MethodNotAllowed, NotImplemented, reply_text}
 use Rattle.toll_base.specs.declared.rows.OrderRow.{OrderRow}
 use Rattle.toll_desk.specs.declared.request.Reply.TheVariants.{Order, Refused}
-use Rattle.toll_http.specs.declared.verb.Verb.TheVariants.{Get}
+use Rattle.toll_protocol.specs.declared.http_messages.verb.Verb.TheVariants.{Get}
 use Rattle.toll_wire.specs.ReplyTexts.{text_of_failure, text_of_reply}
 
 abbrev open_order : OrderRow

@@ -1,8 +1,9 @@
 -- What the bytes of a request ask for.
 use Rattle.std.specs.Prelude.{◌≡◌, Option}
-use Rattle.toll_wire.specs.Common.{Bytes, Failure, Asks}
-use Rattle.toll_http.specs.Arriving.{Outcome, refused as refused_before, request as arrived, Arrives}
-use Rattle.toll_routes.specs.Asking.{IsAsking}
+use Rattle.toll_wire.specs.Common.{Bytes, Failure}
+use Rattle.toll_wire.specs.declared.routes.asks.Asks.{Asks}
+use Rattle.toll_protocol.specs.Arriving.{Outcome, refused as refused_before, request as arrived, Arrives}
+use Rattle.toll_wire.specs.Routing.{IsAsking}
 
 -- refused by a check before the key's, or a request that claims an owner by a name and a key
 pub data Asked : Type 0 where

@@ -1,5 +1,6 @@
 -- Words of other crates that several definitions here are said in.
 pub use Rattle.toll_answers.specs.PlantAnswers.{AsksRecall, Does, IsPlantAnswer, Judged, PlantAsked, PlantTold, Shows, after_plant}
+pub use Rattle.toll_answers.specs.Texts.{recall_line, recall_text, trace_text}
 pub use Rattle.toll_answers.specs.Told.{AskBack, AskForward, Asked, TellBatch, TellForbidden, TellLot, TellOrder, TellOrders, TellRefused, TellStock, TellTrace, Told}
 pub use Rattle.toll_base.specs.Bytes.{Bytes, same_bytes}
 pub use Rattle.toll_base.specs.Values.{house_name}
@@ -8,12 +9,10 @@ pub use Rattle.toll_desk.specs.Asking.{IsValidDeed, asked_by, asked_of, plant_to
 pub use Rattle.toll_desk.specs.Outcome.{HoldsFor, IsDone, LeavesOr}
 pub use Rattle.toll_history.specs.History.{History, part}
 pub use Rattle.toll_history.specs.Verdict.{Accepted, IsLawful}
-pub use Rattle.toll_http.specs.declared.failure.Failure.{Failure}
-pub use Rattle.toll_http.specs.declared.failure.Failure.TheVariants.{Forbidden}
 pub use Rattle.toll_keep.specs.Content.{Content, ContentKeepsRules}
 pub use Rattle.toll_keep.specs.Meaning.{Meaning}
 pub use Rattle.toll_keep.specs.declared.fault.KeepFault.{KeepFault}
 pub use Rattle.toll_keep.specs.declared.fault.KeepFault.TheVariants.{Damaged, Memory}
-pub use Rattle.toll_print.specs.Texts.{recall_line, recall_text, trace_text}
-pub use Rattle.toll_routes.specs.declared.asks.Asks.{Asks}
+pub use Rattle.toll_protocol.specs.declared.http_messages.failure.Failure.{Failure}
+pub use Rattle.toll_protocol.specs.declared.http_messages.failure.Failure.TheVariants.{Forbidden}
 pub use Rattle.toll_trace.specs.declared.way.Way.{Way}

@@ -3,7 +3,7 @@ use Rattle.std.specs.Prelude.{◌≡◌, false, Some, List, map}
 use Rattle.toll_wire.specs.Common.{Bytes, same_bytes, house_name, LotId, History, part, Way, trace_text, AsksRecall, IsPlantAnswer, Shows, TellTrace, Content}
 use Rattle.toll_base.specs.Lots.{lot_id}
 use Rattle.toll_trace.specs.declared.step.Step.{Step}
-use Rattle.toll_genealogy.specs.Agreement.{IsOwnTrace, IsPlantTrace}
+use Rattle.toll_answers.specs.Agreement.{IsOwnTrace, IsPlantTrace}
 use Rattle.toll_wire.specs.OfficeRuns.{IsRunOf, tells}
 use Rattle.toll_wire.specs.Parts.{AreAlone, IsPart, OwnEvent}
 use Rattle.toll_wire.specs.Printed.{PrintsLine, asks_trace}

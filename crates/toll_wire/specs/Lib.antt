@@ -1,4 +1,13 @@
 pub mod Common
+pub mod Bodies
+pub mod Exact
+pub mod ReplyBodies
+pub mod Sending
+pub mod Routes
+pub mod Places
+pub mod Routers
+pub mod Routing
+pub mod Addresses
 pub mod Asking
 pub mod Shown
 pub mod ReplyTexts

@@ -6,9 +6,9 @@ use Rattle.toll_wire.specs.Common.{Bytes, KeepFault, Told, TellForbidden, TellOr
 use Rattle.toll_base.specs.declared.refusal.Refusal.{Refusal}
 use Rattle.toll_base.specs.declared.refusal.Refusal.TheVariants.{UnknownOrder, UnknownBatch, UnknownLot}
 use Rattle.toll_desk.specs.declared.request.Reply.{Reply}
-use Rattle.toll_http.specs.Messages.{reply_text}
-use Rattle.toll_http.specs.Failures.{status_of_failure, word_of_failure, allowed_after}
-use Rattle.toll_bodies.specs.ReplyBodies.{batch_data, error_data, lot_data, order_data, orders_data, refusal_data, stock_data, trace_data}
+use Rattle.toll_protocol.specs.HttpMessages.{reply_text}
+use Rattle.toll_protocol.specs.Failures.{status_of_failure, word_of_failure, allowed_after}
+use Rattle.toll_wire.specs.ReplyBodies.{batch_data, error_data, lot_data, order_data, orders_data, refusal_data, stock_data, trace_data}
 
 -- ---- where a check fails
 

@@ -1,11 +1,12 @@
 -- A request is one step of a run.
 use Rattle.std.specs.Prelude.{◌≡◌, ◌≢◌, ◌⊎◌, Bool, false, Some, None, List, Result, Ok, Err, IsTrue, nat_eq, codes}
 use Rattle.std.specs.List.{starts_with}
-use Rattle.toll_wire.specs.Common.{Bytes, History, Meaning, Content, ContentKeepsRules, KeepFault, Memory, Damaged, asked_of, writes, IsDone, Forbidden, Asks as AsksFor}
+use Rattle.toll_wire.specs.Common.{Bytes, History, Meaning, Content, ContentKeepsRules, KeepFault, Memory, Damaged, asked_of, writes, IsDone, Forbidden}
+use Rattle.toll_wire.specs.declared.routes.asks.Asks.{Asks as AsksFor}
 use Rattle.toll_keep.specs.Goes.{Goes, IsSpared, Settles}
 use Rattle.toll_desk.specs.Clauses.{IfPlacedAgain}
 use Rattle.toll_desk.specs.Reads.{Over}
-use Rattle.toll_routes.specs.declared.asks.Asks.TheVariants.{Failing, For}
+use Rattle.toll_wire.specs.declared.routes.asks.Asks.TheVariants.{Failing, For}
 use Rattle.toll_wire.specs.declared.outgoing.Out.{Out}
 use Rattle.toll_wire.specs.declared.outgoing.Out.TheVariants.{Text, Unavailable}
 use Rattle.toll_wire.specs.Asking.{Asked, refused, claimed, Reads}

@@ -6,11 +6,11 @@ ghost use Rattle.toll_wire.specs.Steps.{IsAnswered, IsServing, asking_of};
 use crate::asked::{Asked, read};
 use crate::outgoing::Out;
 use crate::reply::{fail, tell};
+use crate::routes::Asks;
 use std::alloc::Global;
 use toll_desk::{Request, admit, carry, owner_plan};
-use toll_http::Failure;
 use toll_keep::Keep;
-use toll_routes::Asks;
+use toll_protocol::Failure;
 
 /// Answers the bytes of a request: one step of a run.
 ///

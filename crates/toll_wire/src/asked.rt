@@ -4,9 +4,9 @@ ghost use Rattle.toll_wire.specs.Asking.{Reads};
 ghost use Rattle.toll_wire.specs.Asking as spec;
 ghost use Rattle.toll_wire.specs.Shown.{asked_of};
 
+use crate::routes::{Asks, asks_of};
 use std::alloc::{AllocError, Global};
-use toll_http::{Failure, arrive};
-use toll_routes::{Asks, asks_of};
+use toll_protocol::{Failure, arrive};
 
 /// What the bytes of a request come to.
 #[derive(Clone, Copy)]

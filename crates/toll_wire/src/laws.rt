@@ -7,7 +7,7 @@ ghost use Rattle.toll_history.specs.History.{History, part};
 ghost use Rattle.toll_history.specs.Tables.{lot_row};
 ghost use Rattle.toll_history.specs.Verdict.{IsLawful};
 ghost use Rattle.toll_trace.specs.declared.way.Way.{Way};
-ghost use Rattle.toll_genealogy.specs.Agreement.{IfPartsAgree};
+ghost use Rattle.toll_answers.specs.Agreement.{IfPartsAgree};
 ghost use Rattle.toll_answers.specs.PlantAnswers.{AsksTrace, IsPlantAnswer, Shows};
 ghost use Rattle.toll_answers.specs.Replies.{has_key};
 ghost use Rattle.toll_wire.specs.Laws.{AnswerAlike, AreDetermined, AreRunsAlike, Course, HasPart, IsRunTo, IsToldAsAlone, PrintTheSame, PrintsTrace, RunPrivately, TellsTrace};

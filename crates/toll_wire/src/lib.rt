@@ -1,15 +1,22 @@
-//! Owners' requests over HTTP, from bytes to bytes, and runs of events.
+//! Owners' requests over HTTP, from bytes to bytes, and runs of events: what a target, a method and a body
+//! ask for, and the bodies of requests and replies.
 #![tactic(auto)]
 
 mod answering;
 mod asked;
+mod bodies;
 mod event;
 mod laws;
 mod outgoing;
 mod reply;
+mod routes;
 mod run;
 
 pub use answering::answer;
+pub use bodies::{
+    Placing, batch_body, error_body, lot_body, order_asked, order_body, orders_body, refusal_body,
+    stock_body, trace_body,
+};
 pub use event::{Answer, Event};
 pub use laws::{
     a_part_alone_gives_one_list_of_replies, an_owners_traces_are_told_byte_for_byte,
@@ -19,6 +26,6 @@ pub use laws::{
     runs_with_the_same_part_give_the_same_replies, the_plants_traces_are_printed,
 };
 pub use outgoing::Out;
+pub use routes::{Asks, a_request_asks_for_one_thing, asks_of, each_request_has_its_route};
 pub use run::run_events;
-pub use toll_http::{ReadFault, read_request};
-pub use toll_streams::{WriteFault, write_whole as write_reply};
+pub use toll_protocol::{ReadFault, WriteFault, read_request, write_whole as write_reply};

@@ -1,20 +1,20 @@
 //! The texts of replies (RFC 9112, section 6; RFC 9110, section 15).
 ghost use Rattle.std.specs.Prelude.{◌≡◌, IfOk, Some, None, string_bytes};
 ghost use Rattle.toll_base.specs.Bytes.{Bytes};
-ghost use Rattle.toll_http.specs.Failures.{word_of_failure};
-ghost use Rattle.toll_http.specs.Messages.{reply_text};
+ghost use Rattle.toll_protocol.specs.Failures.{word_of_failure};
+ghost use Rattle.toll_protocol.specs.HttpMessages.{reply_text};
 ghost use Rattle.toll_wire.specs.OutTexts.{IsText};
 ghost use Rattle.toll_wire.specs.ReplyTexts.{failure_body, refusal_status, text_of_failure, text_of_reply};
 
+use crate::bodies::{
+    batch_body, error_body, lot_body, order_body, orders_body, refusal_body, stock_body, trace_body,
+};
 use crate::outgoing::Out;
 use http::StatusCode;
 use std::alloc::{AllocError, Global};
 use toll_base::Refusal;
-use toll_bodies::{
-    batch_body, error_body, lot_body, order_body, orders_body, refusal_body, stock_body, trace_body,
-};
 use toll_desk::Reply;
-use toll_http::{Failure, Verb, message};
+use toll_protocol::{Failure, Verb, message};
 
 /// What is sent back for a reply of the desk. A fault has no text.
 pub fn tell(alloc: Global, reply: &Reply) -> Out

@@ -1,11 +1,10 @@
 //! What is said to an owner, as text.
 use crate::stories::{said_fault, said_refusal, said_text, text_of};
 use std::alloc::{AllocError, Global};
+use toll_answers::{LotView, StockLine, batch_text, trace_text};
 use toll_base::{Disposition, Name, OrderRow, Origin, ResultRow, SublotRow};
 use toll_desk::Reply;
-use toll_print::{batch_text, trace_text};
 use toll_trace::Step;
-use toll_views::{LotView, StockLine};
 use toll_work::BatchView;
 
 fn name_of(name: &Name) -> &str {

@@ -4,7 +4,7 @@ use std::alloc::Global;
 use std::cell::Cell;
 use std::io;
 use std::io::{ErrorKind, Read, Write};
-use toll_served::{Noted, hand_over};
+use toll_programs::{Noted, hand_over};
 
 /// What is handed over in each case.
 const WORDS: &[&str] = &["stock", "ACME"];

@@ -1,6 +1,6 @@
 //! Parcels that are whole, cut or damaged.
 use std::alloc::Global;
-use toll_parcels::{
+use toll_protocol::{
     Asked, MOST_ASKED_BYTES, MOST_TOLD_BYTES, Told, content_of, greeting, is_enough, is_greeting,
 };
 

@@ -5,7 +5,7 @@ mod wire;
 use crate::doors::peers::script::{Scribe, Script};
 use crate::doors::peers::wire::{Ends, Log, Pace, Plan, Takes};
 use std::alloc::Global;
-use toll_peers::{Door, Served, serve};
+use toll_server::{Door, Served, serve};
 
 /// A request of the plant, in three pieces: the content `0`.
 const PLANT: Plan = Plan {

@@ -8,9 +8,9 @@ mod street;
 use crate::doors::served::street::{Log, Street};
 use std::alloc::{AllocError, Global};
 use toll_keep::{Keep, MemKeep, Refused, Refusing};
-use toll_parcels::Told;
-use toll_peers::{Door, Progress, Served};
-use toll_served::{KeptOffice, Reply, answer_at, serve_keep};
+use toll_protocol::Told;
+use toll_server::{Door, Progress, Served};
+use toll_service::{KeptOffice, Reply, answer_at, serve_keep};
 
 /// Who comes to a door, what it asks, and what it is told.
 #[derive(Clone, Copy)]

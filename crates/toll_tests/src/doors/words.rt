@@ -3,7 +3,8 @@ use std::fs;
 use std::fs::File;
 use std::test::Fail;
 use toll_keep::MemKeep;
-use toll_served::{Connector, Noted, OfficeFault, Opener, Place, do_words, take_lock};
+use toll_programs::{Connector, Noted};
+use toll_service::{OfficeFault, Opener, Place, do_words, take_lock};
 
 /// Opens an office without rows, and counts how many.
 #[derive(Drop)]

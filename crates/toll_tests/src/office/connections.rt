@@ -10,7 +10,7 @@ use std::test::Fail;
 use toll_office::{Served, place_of, serve_one};
 use toll_plant::command_of;
 use toll_programs::ScriptEnd;
-use toll_served::{do_command, take_lock};
+use toll_service::{do_command, take_lock};
 use toll_sql::{OpenFault, SqlKeep};
 
 const ADDED: &[&[&str]] = &[

@@ -4,7 +4,7 @@ use std::io;
 use std::io::ErrorKind;
 use toll_keep::Keep;
 use toll_programs::{ScriptEnd, script};
-use toll_streams::{Sink, Source};
+use toll_protocol::{Sink, Source};
 
 /// Gives its text, so many bytes at most with each read, and fails after so many reads.
 #[derive(Drop)]

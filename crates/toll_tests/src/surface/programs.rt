@@ -5,7 +5,7 @@ use toll_desk::PlantCmd;
 use toll_keep::Keep;
 use toll_office::{Served, serve_one};
 use toll_programs::{ScriptEnd, plant_import, plant_line, script};
-use toll_streams::{Sink, Source};
+use toll_protocol::{Sink, Source};
 
 pub fn scripts<R: Source, W: Sink, K: Keep>(
     alloc: Global,

@@ -6,7 +6,7 @@ use toll_plant::{
     ImportFault, ImportLine, ImportReport, Outcome, WordsFault, command_of, import_actuals,
     import_text,
 };
-use toll_streams::{Sink, Source};
+use toll_protocol::{Sink, Source};
 use toll_wire::{
     Answer, Event, Out, ReadFault, WriteFault, answer, read_request, run_events, write_reply,
 };

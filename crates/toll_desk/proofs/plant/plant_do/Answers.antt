@@ -1,4 +1,5 @@
-use Rattle.toll_desk.proofs.Common.{IsPlantAnswer, after_plant, standing_keeps_rules}
+use Rattle.toll_desk.proofs.Common.{IsPlantAnswer, after_plant}
+use Rattle.toll_desk.proofs.KeptRules.{standing_keeps_rules}
 use Rattle.toll_desk.specs.Asking.{asked_by, plant_told}
 use Rattle.toll_desk.proofs.PlantQuestions.{question_done}
 use Rattle.toll_desk.proofs.plant.plant_do.Goals as goal

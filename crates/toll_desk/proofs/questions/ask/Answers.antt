@@ -1,4 +1,4 @@
-use Rattle.toll_standing.proofs.KeptRules.{standing_keeps_rules}
+use Rattle.toll_desk.proofs.KeptRules.{standing_keeps_rules}
 use Rattle.toll_desk.proofs.questions.ask.Goals as goal
 
 pub returns-in_default-clause-whole : goal.returns-in_default-clause-whole

@@ -1,5 +1,6 @@
 use Rattle.std.proofs.Common.{inl}
-use Rattle.toll_desk.proofs.Common.{standing_keeps_rules, reads_then}
+use Rattle.toll_desk.proofs.KeptRules.{standing_keeps_rules}
+use Rattle.toll_desk.proofs.Common.{reads_then}
 use Rattle.toll_desk.proofs.Going.{going_ok_as}
 use Rattle.toll_desk.proofs.questions.ask_recall.Goals as goal
 

@@ -1,5 +1,6 @@
 use Rattle.std.proofs.Common.{sym, ap, subst, ◌∙◌}
-use Rattle.toll_desk.proofs.Common.{list_any, AreEdges, IsPlantEdge, edges_are_plants}
+use Rattle.toll_desk.proofs.Common.{list_any, AreEdges, IsPlantEdge}
+use Rattle.toll_desk.proofs.StandingEdges.{edges_are_plants}
 use Rattle.toll_desk.proofs.OwnTraces.{touches}
 use Rattle.toll_desk.proofs.PlantShown.{checked_lot, joined_there}
 use Rattle.toll_desk.proofs.questions.ask_trace.Goals as goal

@@ -1,5 +1,6 @@
 use Rattle.std.proofs.Common.{is_some, ◌&&◌, sym, ap, ◌∙◌}
-use Rattle.toll_desk.proofs.Common.{lot_row, standing_keeps_rules}
+use Rattle.toll_desk.proofs.Common.{lot_row}
+use Rattle.toll_desk.proofs.KeptRules.{standing_keeps_rules}
 use Rattle.toll_desk.proofs.Going.{going_then, going_fault_as, going_honest}
 use Rattle.toll_desk.proofs.OwnerPlans.{some_read, none_read}
 use Rattle.toll_desk.proofs.OwnTraces.{rows_read}

@@ -1,5 +1,7 @@
 use Rattle.std.proofs.Common.{refl, inl, sym, subst}
-use Rattle.toll_desk.proofs.Common.{IsTrace, Forward, IsPlantEdge, IsPlantJoined, standing_keeps_rules, edges_are_plants}
+use Rattle.toll_desk.proofs.Common.{IsTrace, Forward, IsPlantEdge, IsPlantJoined}
+use Rattle.toll_desk.proofs.KeptRules.{standing_keeps_rules}
+use Rattle.toll_desk.proofs.StandingEdges.{edges_are_plants}
 use Rattle.toll_desk.proofs.Going.{reads_as, fault_as}
 use Rattle.toll_desk.proofs.OwnTraces.{trace_as, trace_of}
 use Rattle.toll_desk.proofs.recalls.recall_known.Goals as goal

@@ -1,5 +1,6 @@
 use Rattle.std.proofs.Common.{refl, inl, inr, sym, subst}
-use Rattle.toll_desk.proofs.Common.{standing_keeps_rules, read_memory}
+use Rattle.toll_desk.proofs.KeptRules.{standing_keeps_rules}
+use Rattle.toll_desk.proofs.Common.{read_memory}
 use Rattle.toll_desk.specs.Questions.{AreSlicesFor, AreLinesOf}
 use Rattle.toll_desk.proofs.Going.{reads_as, fault_as}
 use Rattle.toll_desk.proofs.RecallLines.{lines_recall, traced_has_line}

@@ -1,5 +1,6 @@
 use Rattle.std.proofs.Common.{sym, subst, ◌∙◌}
-use Rattle.toll_desk.proofs.Common.{list_any, acts, AreEdges, IsOwnEdge, edges_are_own}
+use Rattle.toll_desk.proofs.Common.{list_any, acts, AreEdges, IsOwnEdge}
+use Rattle.toll_desk.proofs.StandingEdges.{edges_are_own}
 use Rattle.toll_desk.proofs.OwnTraces.{touches, trace_of, traced, joined_traces}
 use Rattle.toll_desk.proofs.tracing.trace_own.Goals as goal
 

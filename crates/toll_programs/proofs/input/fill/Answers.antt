@@ -1,6 +1,6 @@
 use Rattle.std.proofs.Common.{arith, rules}
-use Rattle.toll_streams.proofs.Onward.{read_onward}
-use Rattle.toll_streams.proofs.StreamLemmas.{none_more_failed}
+use Rattle.toll_protocol.proofs.Onward.{read_onward}
+use Rattle.toll_protocol.proofs.StreamLemmas.{none_more_failed}
 use Rattle.toll_programs.proofs.input.fill.Goals as goal
 
 pub loop-filled-preserved : goal.loop-filled-preserved

@@ -1,7 +1,7 @@
 -- What was filled is what the reader gave, and no read failed.
 use Rattle.std.proofs.Common.{◌≤◌, ◌-◌, false, length, take}
 use Rattle.std.specs.Io.KnownBytes.{Consumes}
-use Rattle.toll_streams.specs.Streams.{Notes}
+use Rattle.toll_protocol.specs.Streams.{Notes}
 use Rattle.toll_programs.proofs.input.fill.Given as goal
 
 abbrev pub invariant-loop-filled : goal.invariant-loop-filled

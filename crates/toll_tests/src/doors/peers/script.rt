@@ -1,7 +1,7 @@
 //! A world by a script, and an office that writes down what it is asked.
 use crate::doors::peers::wire::{Log, Plan, Wire};
 use std::alloc::Global;
-use toll_peers::{Coming, Door, Office, Progress, World, WorldFault};
+use toll_server::{Coming, Door, Office, Progress, World, WorldFault};
 
 /// Who comes, and who goes on, one after another; where nobody does, a wait is as long as it may be. One
 /// that may not wait sees who goes on while the office has a task, and nobody else.

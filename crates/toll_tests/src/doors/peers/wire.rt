@@ -2,7 +2,8 @@
 use std::cell::Cell;
 use std::io;
 use std::io::{ErrorKind, Read, Write};
-use toll_peers::{Door, Socket};
+use toll_protocol::Socket;
+use toll_server::Door;
 
 /// What stands behind the last piece.
 #[derive(Clone, Copy)]

@@ -8,8 +8,8 @@ use std::io::Write;
 use std::test::Fail;
 use std::{fs, io};
 use toll_keep::MemKeep;
-use toll_peers::{Door, Office, Progress};
-use toll_served::{Desk, OfficeFault, Opener, Place, take_lock};
+use toll_server::{Door, Office, Progress};
+use toll_service::{Desk, OfficeFault, Opener, Place, take_lock};
 
 /// How often an office was opened, and closed.
 #[derive(Drop)]

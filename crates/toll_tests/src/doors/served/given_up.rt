@@ -6,10 +6,10 @@ use std::fs;
 use std::fs::File;
 use std::test::Fail;
 use toll_keep::{MemKeep, Refused, Refusing};
-use toll_parcels::{PackFault, Told};
-use toll_peers::{Door, Office, Progress};
 use toll_plant::GROUP_RECORDS;
-use toll_served::{Desk, OfficeFault, Opener, Place, take_lock};
+use toll_protocol::{PackFault, Told};
+use toll_server::{Door, Office, Progress};
+use toll_service::{Desk, OfficeFault, Opener, Place, take_lock};
 
 /// Opens one office, which refuses one change, and then none.
 #[derive(Drop)]

@@ -4,10 +4,10 @@ use crate::doors::served::{ADD_OWNER, ADD_RECIPE, LIST, PLACE, Visit, go_on, is_
 use std::alloc::{AllocError, Global};
 use std::test::Fail;
 use toll_keep::{Keep, MemKeep, Refused, Refusing};
-use toll_parcels::{Asked, PackFault, Told};
-use toll_peers::{Door, Served};
 use toll_plant::GROUP_RECORDS;
-use toll_served::{KeptOffice, answer_at, serve_keep};
+use toll_protocol::{Asked, PackFault, Told};
+use toll_server::{Door, Served};
+use toll_service::{KeptOffice, answer_at, serve_keep};
 
 const HEADER: &str = "key,owner,order,batch,segment,use,material,lot_owner,lot,sublot,amount,day\n";
 

@@ -6,9 +6,9 @@ use crate::stories::{told_stock, with_much_stock};
 use std::alloc::{AllocError, Global};
 use std::test::Fail;
 use toll_keep::MemKeep;
-use toll_parcels::{Asked, PackFault, Told};
-use toll_peers::Door;
-use toll_served::{KeptOffice, Reply, answer_at, serve_keep};
+use toll_protocol::{Asked, PackFault, Told};
+use toll_server::Door;
+use toll_service::{KeptOffice, Reply, answer_at, serve_keep};
 
 /// How long a file of actuals may be.
 const FILE_BYTES: usize = 1_048_576;

@@ -3,7 +3,8 @@ use crate::doors::served::Visit;
 use std::cell::Cell;
 use std::io;
 use std::io::{ErrorKind, Read, Write};
-use toll_peers::{Coming, Door, Socket, World, WorldFault};
+use toll_protocol::Socket;
+use toll_server::{Coming, Door, World, WorldFault};
 
 /// How many peers were told just what they are to be told, and by which door the last of them came.
 #[derive(Drop)]

@@ -1,5 +1,5 @@
 use Rattle.std.proofs.Common.{inl, refl}
-use Rattle.toll_http.specs.declared.failure.Failure.TheVariants.{Forbidden}
+use Rattle.toll_protocol.specs.declared.http_messages.failure.Failure.TheVariants.{Forbidden}
 use Rattle.toll_wire.specs.ReplyTexts.{text_of_failure}
 use Rattle.toll_wire.proofs.Served.{untouched, keyless}
 use Rattle.toll_wire.proofs.answering.answer.Goals as goal

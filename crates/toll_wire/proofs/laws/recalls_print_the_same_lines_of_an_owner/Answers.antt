@@ -1,4 +1,4 @@
-use Rattle.toll_genealogy.proofs.Agreeing.{lines_agree}
+use Rattle.toll_answers.proofs.Agreeing.{lines_agree}
 use Rattle.toll_wire.proofs.PrintedLemmas.{recall_shown, line_printed}
 use Rattle.toll_wire.proofs.laws.recalls_print_the_same_lines_of_an_owner.Goals as goal
 

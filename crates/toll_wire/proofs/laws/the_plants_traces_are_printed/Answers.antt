@@ -1,4 +1,4 @@
-use Rattle.toll_print.specs.Texts.{trace_text}
+use Rattle.toll_answers.specs.Texts.{trace_text}
 use Rattle.toll_wire.proofs.PrintedLemmas.{trace_shown, text_is}
 use Rattle.toll_wire.proofs.laws.the_plants_traces_are_printed.Goals as goal
 

@@ -1,5 +1,5 @@
 use Rattle.std.proofs.Common.{◌∙◌, ap}
-use Rattle.toll_http.specs.Messages.{reply_text}
+use Rattle.toll_protocol.specs.HttpMessages.{reply_text}
 use Rattle.toll_wire.proofs.reply.send.Goals as goal
 
 pub returns-in-Ok-message : goal.returns-in-Ok-message

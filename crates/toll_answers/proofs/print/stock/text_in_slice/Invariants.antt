@@ -1,0 +1,8 @@
+-- The lines so far.
+use Rattle.std.proofs.Common.{◌≡◌, take}
+use Rattle.std.specs.List.{filter_map}
+use Rattle.toll_answers.specs.Texts.{stock_text, shown_in}
+use Rattle.toll_answers.proofs.print.stock.text_in_slice.Given as goal
+
+abbrev pub invariant-loop-row : goal.invariant-loop-row
+invariant-loop-row l = l.text.items ≡ stock_text (filter_map (shown_in l.slice) (take l.row-index l.row-items))

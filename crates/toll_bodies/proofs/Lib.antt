@@ -1,4 +1,0 @@
-pub mod NameTexts
-pub mod Sending
-pub mod Within
-mod WorkedBodies

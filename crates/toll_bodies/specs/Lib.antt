@@ -1,4 +1,0 @@
-pub mod Bodies
-pub mod Exact
-pub mod ReplyBodies
-pub mod Sending

@@ -1,0 +1,57 @@
+//! Laws of contents.
+ghost use Rattle.std.specs.Prelude.{◌≡◌, Option, List, []};
+ghost use Rattle.toll_base.specs.Bytes.{Bytes};
+ghost use Rattle.toll_base.specs.declared.decision.Change.{Change};
+ghost use Rattle.toll_base.specs.declared.lot.Edge.{Edge};
+ghost use Rattle.toll_history.specs.History.{History, owner_known};
+ghost use Rattle.toll_history.specs.Holders.{OpenedBatch};
+ghost use Rattle.toll_history.specs.Verdict.{IsLawful};
+ghost use Rattle.toll_trace.specs.Edges.{AreEdges};
+ghost use Rattle.toll_answers.specs.Edges.{AreOwnEdges, IsPlantEdge};
+ghost use Rattle.toll_keep.specs.Content.{Content, nothing, knows, ContentKeepsRules, Fits, PutsToKnown};
+ghost use Rattle.toll_keep.specs.Holding.{IsHolder, IsEdgeOfSome};
+ghost use Rattle.toll_desk.specs.Held.{AreEdgesHeld, EachKeepsRules, HasOwnersRows, HoldsUnit, IsHeldIn};
+ghost use Rattle.toll_desk.specs.Standing.{StandsFor};
+ghost use Rattle.toll_keep.specs.declared.holder.Holder.{Holder};
+
+/// No rows at all stand for the history in which nothing was done.
+pub fn nothing_stands_for_no_commands()
+    ensures { StandsFor nothing [] }
+{}
+
+/// The rows that a lawful history gives keep the rules.
+pub fn lawful_rows_keep_the_rules()
+    ensures { (H : History) (c : Content) → IsLawful H → StandsFor c H → ContentKeepsRules c }
+{}
+
+/// The owners that are known are those that the history knows.
+pub fn owners_are_known_alike()
+    ensures { (H : History) (c : Content) → StandsFor c H → (o : Bytes) → knows c o ≡ owner_known H o }
+{}
+
+/// Over a lawful history a unit is held by one batch at most: two that were opened on it and are not
+/// closed, of whatever owners, are one.
+pub fn a_unit_is_held_by_one_batch()
+    ensures { (H : History) (unit : Bytes) (a b : OpenedBatch) → IsLawful H → HoldsUnit H unit a → HoldsUnit H unit b → a ≡ b }
+{}
+
+/// The batch that holds a unit is the one that holds it in the history, and none does where none does
+/// there.
+pub fn units_are_held_alike()
+    ensures { (H : History) (c : Content) (unit : Bytes) (answer : Option Holder) → IsLawful H → StandsFor c H → IsHolder c unit answer → IsHeldIn H unit answer }
+{}
+
+/// The edges of an owner's rows are the owner's in the history: none for who is not known.
+pub fn edges_are_the_owners()
+    ensures { (H : History) (c : Content) (o : Bytes) (edges : List Edge) → IsLawful H → StandsFor c H → AreEdgesHeld c o edges → AreOwnEdges H o edges }
+{}
+
+/// The edges of all rows are the plant's in the history.
+pub fn all_edges_are_the_plants()
+    ensures { (H : History) (c : Content) (edges : List Edge) → IsLawful H → StandsFor c H → AreEdges (IsEdgeOfSome c) edges → AreEdges (IsPlantEdge H) edges }
+{}
+
+/// Changes fit where they keep the rules of each owner's rows, and put rows of known owners alone.
+pub fn changes_that_keep_the_rules_fit()
+    ensures { (c : Content) (changes : List Change) → HasOwnersRows c → EachKeepsRules c changes → PutsToKnown c changes → Fits c changes }
+{}

@@ -1,6 +1,0 @@
-pub mod Common
-pub mod Agreement
-pub mod Edges
-pub mod Joints
-pub mod Recall
-pub mod Worked

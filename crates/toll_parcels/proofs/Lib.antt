@@ -1,3 +1,0 @@
-pub mod ParcelLemmas
-pub mod WordLemmas
-pub mod MessageLemmas

@@ -1,2 +1,0 @@
-pub mod MadeRows
-pub mod ShownOver

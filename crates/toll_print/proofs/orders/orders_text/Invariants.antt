@@ -1,7 +1,0 @@
--- The lines so far.
-use Rattle.std.proofs.Common.{◌≡◌, take}
-use Rattle.toll_print.specs.Texts.{orders_text}
-use Rattle.toll_print.proofs.orders.orders_text.Given as goal
-
-abbrev pub invariant-loop-row : goal.invariant-loop-row
-invariant-loop-row l = l.text.items ≡ orders_text (take l.row-index l.row-items)

@@ -1,8 +1,0 @@
--- The lines so far.
-use Rattle.std.proofs.Common.{◌≡◌, take}
-use Rattle.std.specs.List.{filter_map}
-use Rattle.toll_print.specs.Texts.{stock_text, shown_in}
-use Rattle.toll_print.proofs.stock.text_in_slice.Given as goal
-
-abbrev pub invariant-loop-row : goal.invariant-loop-row
-invariant-loop-row l = l.text.items ≡ stock_text (filter_map (shown_in l.slice) (take l.row-index l.row-items))

@@ -1,7 +1,0 @@
--- The lines so far.
-use Rattle.std.proofs.Common.{◌≡◌, take}
-use Rattle.toll_print.specs.Texts.{trace_text}
-use Rattle.toll_print.proofs.traces.trace_text.Given as goal
-
-abbrev pub invariant-loop-step : goal.invariant-loop-step
-invariant-loop-step l = l.text.items ≡ trace_text (take l.step-index l.steps)

@@ -1,0 +1,159 @@
+-- A front that settles a stream.
+use Rattle.std.proofs.Common.{◌≡◌, ◌∙◌, ℕ, ◌+◌, ◌≤◌, Bool, true, false, cond, List, [], ◌++◌, length, take, drop, map, refl, sym, ap, subst, arith, inl, inr, Option, Some, None, length-append, take-add}
+use Rattle.std.specs.Prelude.{◌↔◌, codes, nat_lt}
+use Rattle.std.proofs.lemmas.List.{take-append-le, drop-append-le}
+use Rattle.std.proofs.lemmas.Bool.Decides.{nat_tests}
+use Rattle.std.proofs.lemmas.Bool.{cases_lt}
+use Rattle.httparse.specs.Grammar.{RequestHead}
+use Rattle.httparse.specs.Spans.{name_and_value}
+use Rattle.httparse.proofs.GrammarLemmas.{request_unique}
+use Rattle.toll_protocol.specs.declared.http_messages.failure.Failure.TheVariants.{BadRequest, NotImplemented}
+use Rattle.toll_protocol.specs.Limits.{body_limit}
+use Rattle.toll_protocol.specs.Fields.{Pair, named, is_present, length_claimed}
+use Rattle.toll_protocol.specs.Head.{EndsHead, IsHeadLen, IsHeadOf, IsSearched}
+use Rattle.toll_protocol.specs.Arriving.{Outcome, refused, Arrives, IsSettled, HasBody, checked, by_length, host_fails}
+
+front : (text more : List ℕ) (n : ℕ) → n ≤ length text → take n (text ++ more) ≡ take n text
+front text more n le = take-append-le n text more le
+
+len_more : (text more : List ℕ) (n : ℕ) → IsHeadLen text n → IsHeadLen (text ++ more) n
+len_more text more n is = record {
+  within = omega (arith, is.within, length-append text more);
+  ends = rw (front text more n is.within) is.ends;
+  first = λ k lt e. is.first k lt (rw (front text more k (omega (arith, is.within, lt))) at e);
+}
+
+pub one_len : (text : List ℕ) (m n : ℕ) → IsHeadLen text m → IsHeadLen text n → m ≡ n
+one_len text m n a b =
+    elim (cases_lt m n) [
+      | inl lt ↦ absurd (b.first m lt a.ends)
+      | inr le ↦ elim (cases_lt n m) [ inl lt ↦ absurd (a.first n lt b.ends) | inr ge ↦ omega arith ]
+    ]
+
+head_more : (text more : List ℕ) (n : ℕ) (h : RequestHead) → IsHeadOf text n h → IsHeadOf (text ++ more) n h
+head_more text more n h is = record {
+  shortest = len_more text more n is.shortest;
+  short = is.short;
+  reads = rw (front text more n is.shortest.within) is.reads;
+  room = is.room;
+}
+
+head_less : (text more : List ℕ) (n : ℕ) (h : RequestHead) → IsHeadLen text n → IsHeadOf (text ++ more) n h → IsHeadOf text n h
+head_less text more n h len is = record {
+  shortest = len;
+  short = is.short;
+  reads = rw (front text more n len.within) at is.reads;
+  room = is.room;
+}
+
+-- a text has one head
+pub one_head : (text : List ℕ) (n : ℕ) (h k : RequestHead) → IsHeadOf text n h → IsHeadOf text n k → h ≡ k
+one_head text n h k a b = (request_unique (take n text) h k [] [] a.reads b.reads).0
+
+-- the checks don't look behind a body that is there
+length_more : (c : Option ℕ) (h : RequestHead) (fields : List Pair) (rest more : List ℕ)
+    → ((len : ℕ) → c ≡ Some len → len ≤ body_limit → len ≤ length rest) → by_length c h fields (rest ++ more) ≡ by_length c h fields rest
+length_more None h fields rest more enough = refl
+length_more (Some n) h fields rest more enough = by_size (nat_lt body_limit n) refl
+  where
+    by_size : (b : Bool) → nat_lt body_limit n ≡ b → by_length (Some n) h fields (rest ++ more) ≡ by_length (Some n) h fields rest
+    by_size true e = rw e refl
+    by_size false e =
+        let small : n ≤ body_limit = grind (arith, nat_tests) in
+        let there = enough n refl small in
+        let one : nat_lt (length rest) n ≡ false = grind (arith, nat_tests) in
+        let long : n ≤ length (rest ++ more) = omega (arith, there, length-append rest more) in
+        let two : nat_lt (length (rest ++ more)) n ≡ false = grind (arith, nat_tests) in
+        rw (two, one, take-append-le n rest more there) refl
+
+checked_more : (h : RequestHead) (rest more : List ℕ) → HasBody h rest
+    → checked h (map name_and_value h.fields) (rest ++ more) ≡ checked h (map name_and_value h.fields) rest
+checked_more h rest more enough =
+    let fields = map name_and_value h.fields in
+    ap (λ (t : Outcome). cond (host_fails h.minor (named (codes "host") fields)) (refused BadRequest)
+    (cond (is_present (named (codes "transfer-encoding") fields)) (refused NotImplemented) t))
+    (length_more (length_claimed (named (codes "content-length") fields)) h fields rest more enough)
+
+-- the text says what it says with more behind it
+settled_then : (text more : List ℕ) (outcome : Outcome) → IsSettled text → Arrives text outcome → Arrives (text ++ more) outcome
+settled_then text more outcome (inl far) (inl head) = let (n, h, is, e) = head in absurd (far.0 n is.shortest.within is.short is.shortest.ends)
+settled_then text more outcome (inl far) (inr none) =
+    inr (
+      λ n h is.
+          let le : n ≤ length text = omega (arith, is.short, far.1) in
+          far.0 n le is.short (rw (front text more n le) at is.shortest.ends),
+      none.1,
+    )
+settled_then text more outcome (inr near) (inl head) =
+    let (n, len, short, enough) = near in
+    let (m, h, is, e) = head in
+    let same : m ≡ n = one_len text m n is.shortest len in
+    let P : ℕ → Type 0 = λ k. IsHeadOf text k h in
+    let there : IsHeadOf text n h = subst P same is in
+    inl (
+      m,
+      h,
+      head_more text more m h is,
+      e ∙ sym (rw (same, drop-append-le n text more len.within) (checked_more h (drop n text) more (enough h there))),
+    )
+settled_then text more outcome (inr near) (inr none) =
+    let (n, len, short, enough) = near in
+    inr (
+      λ m h is.
+          let same : m ≡ n = one_len (text ++ more) m n is.shortest (len_more text more n len) in
+          let P : ℕ → Type 0 = λ k. IsHeadOf (text ++ more) k h in
+          none.0 n h (head_less text more n h len (subst P same is)),
+      none.1,
+    )
+
+-- and with more behind it what it says without
+settled_back : (text more : List ℕ) (outcome : Outcome) → IsSettled text → Arrives (text ++ more) outcome → Arrives text outcome
+settled_back text more outcome (inl far) (inl head) =
+    let (n, h, is, e) = head in
+    let le : n ≤ length text = omega (arith, is.short, far.1) in
+    absurd (far.0 n le is.short (rw (front text more n le) at is.shortest.ends))
+settled_back text more outcome (inl far) (inr none) =
+    inr (λ n h is. far.0 n is.shortest.within is.short is.shortest.ends, none.1)
+settled_back text more outcome (inr near) (inl head) =
+    let (n, len, short, enough) = near in
+    let (m, h, is, e) = head in
+    let same : m ≡ n = one_len (text ++ more) m n is.shortest (len_more text more n len) in
+    let P : ℕ → Type 0 = λ k. IsHeadOf (text ++ more) k h in
+    let there : IsHeadOf text n h = head_less text more n h len (subst P same is) in
+    inl (n, h, there, e ∙ rw (same, drop-append-le n text more len.within) (checked_more h (drop n text) more (enough h there)))
+settled_back text more outcome (inr near) (inr none) = inr (λ n h is. none.0 n h (head_more text more n h is), none.1)
+
+pub settled : (text more : List ℕ) (outcome : Outcome) → IsSettled text → Arrives text outcome ↔ Arrives (text ++ more) outcome
+settled text more outcome is = (settled_then text more outcome is, settled_back text more outcome is)
+
+-- a text with a head is settled where the body is there
+pub settled_by_body : (text front rest : List ℕ) (n : ℕ) (h : RequestHead) (There : Type 0) → IsHeadOf text n h → rest ≡ drop n text
+    → There ↔ HasBody h rest → There ↔ IsSettled text
+settled_by_body text front rest n h There is back body = (
+  λ there. inr (
+    n,
+    is.shortest,
+    is.short,
+    λ k other.
+        let here : HasBody h (drop n text) = subst (HasBody h) back (body.0 there) in
+        subst (λ (x : RequestHead). HasBody x (drop n text)) (one_head text n h k is other) here,
+  ),
+  λ settled. by_case settled,
+)
+  where
+    by_case : IsSettled text → There
+    by_case (inl far) = absurd (far.0 n is.shortest.within is.short is.shortest.ends)
+    by_case (inr near) =
+        let (m, len, short, enough) = near in
+        let same : n ≡ m = one_len text n m is.shortest len in
+        let P : ℕ → Type 0 = λ k. IsHeadOf text k h in
+        body.1 (subst (HasBody h) (sym (back ∙ ap (λ k. drop k text) same)) (enough h (subst P same is)))
+
+-- what was searched of a front is searched when it has grown
+pub searched_more : (old new : List ℕ) (m n searched : ℕ) → take m new ≡ take m old → searched ≤ length (take m old) + 1 → IsSearched (take m old) searched
+    → IsSearched (take (m + n) new) searched
+searched_more old new m n searched same within is k lt ends =
+    let rest = take n (drop m new) in
+    let whole : take (m + n) new ≡ take m old ++ rest = take-add m n new ∙ ap (λ t. t ++ rest) same in
+    let seen : take k (take (m + n) new) ≡ take k (take m old) = ap (take k) whole ∙ front (take m old) rest k (omega arith) in
+    is k lt (subst EndsHead seen ends)

@@ -1,0 +1,11 @@
+pub mod StreamLemmas
+pub mod ReadLemmas
+pub mod Onward
+pub mod FieldLemmas
+pub mod HeadLemmas
+pub mod Fronts
+pub mod Takes
+pub mod Arrivals
+pub mod ParcelLemmas
+pub mod WordLemmas
+pub mod MessageLemmas

@@ -1,0 +1,16 @@
+pub mod Streams
+pub mod WriteFaults
+pub mod Limits
+pub mod Verbs
+pub mod Failures
+pub mod ReadFaults
+pub mod Head
+pub mod Filled
+pub mod Fields
+pub mod Found
+pub mod Arriving
+pub mod Arrived
+pub mod HttpMessages
+pub mod Parcels
+pub mod Words
+pub mod PlantMessages

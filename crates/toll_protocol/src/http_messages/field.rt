@@ -1,0 +1,91 @@
+//! The fields of a head.
+ghost use Rattle.std.specs.Prelude.{◌≡◌, length, map, option_map, All};
+ghost use Rattle.httparse.specs.Spans.{IsHeaderWithin, header_bytes};
+ghost use Rattle.toll_protocol.specs.Fields.{capped, is_named, is_present, length_claimed, length_of, named, only_one};
+ghost use Rattle.toll_protocol.specs.Found.{seen};
+
+use crate::http_messages::arrival::BODY_LIMIT;
+use httparse::spans::HeaderSpan;
+
+/// What a search among the fields of a head found.
+#[derive(Clone, Copy)]
+pub enum Found<'b> {
+    Absent,
+    Once(&'b [u8]),
+    Several,
+}
+
+impl<'b> Found<'b> {
+    ghost use Rattle.toll_protocol.specs.Found.{seen};
+
+    /// Whether there is such a field.
+    pub fn is_present(self) -> bool
+        ensures { result ≡ is_present (seen self.entry) }
+    {
+        !matches!(self, Found::Absent)
+    }
+
+    /// The value of the only such field.
+    pub fn only_one(self) -> Option<&'b [u8]>
+        ensures { option_map (λ v. v.now) result ≡ only_one (seen self.entry) }
+    {
+        match self {
+            Found::Once(value) => Some(value),
+            _ => None,
+        }
+    }
+
+    /// The length that a `content-length` field claims (RFC 9112, section 6.2), 0 where there is none.
+    /// Nothing where it isn't digits alone, or stands there more than once. A length above the limit of
+    /// bodies is told as one above it.
+    pub fn length_claimed(self) -> Option<u64>
+        ensures { result ≡ capped (length_claimed (seen self.entry)) }
+    {
+        match self {
+            Found::Absent => Some(0),
+            Found::Once(digits) => length_of(digits),
+            Found::Several => None,
+        }
+    }
+}
+
+/// The value of the fields with this name, in whatever case, if there is just one.
+pub fn find_field<'b>(text: &'b [u8], fields: &[HeaderSpan], name: &[u8]) -> Found<'b>
+    requires { All (IsHeaderWithin (length text.now)) fields.now }
+    ensures { seen result ≡ named name.now (map (header_bytes text.now) fields.now) }
+{
+    let mut found = Found::Absent;
+    for field in fields {
+        if has_name(text, field, name) {
+            match found {
+                Found::Absent => found = Found::Once(field.value.of(text)),
+                _ => return Found::Several,
+            }
+        }
+    }
+    found
+}
+
+fn has_name(text: &[u8], field: &HeaderSpan, name: &[u8]) -> bool
+    requires { IsHeaderWithin (length text.now) field.now }
+    ensures { result ≡ is_named name.now (header_bytes text.now field.now) }
+{
+    field.name.of(text).eq_ignore_ascii_case(name)
+}
+
+// The number that the digits write, or one above the limit of bodies where it is larger.
+fn length_of(digits: &[u8]) -> Option<u64>
+    ensures { result ≡ capped (length_of digits.now) }
+{
+    if digits.is_empty() {
+        return None;
+    }
+    let mut len = 0u64;
+    for digit in digits {
+        if !digit.is_ascii_digit() {
+            return None;
+        }
+        len = (len * 10 + u64::from(*digit - b'0')).min(BODY_LIMIT + 1);
+    }
+    Some(len)
+}

@@ -1,0 +1,60 @@
+//! Reading a request from a stream.
+ghost use Rattle.std.specs.Prelude.{◌≡◌, ◌≤◌, ◌↔◌, ℕ, List, length, IfOk, IfSome, OnOk, Err};
+ghost use Rattle.std.specs.Io.KnownBytes.{Consumes};
+ghost use Rattle.toll_protocol.specs.Arriving.{Arrives, IsSettled, Outcome};
+ghost use Rattle.toll_protocol.specs.Streams.{HasFailed, NoneFailed, ReadsWhile};
+
+use crate::http_messages::incoming::Incoming;
+use crate::http_messages::settled::TEXT_LIMIT;
+use crate::streams::{Arriving, Source};
+use std::alloc::Global;
+use std::fmt;
+use thiserror::Error;
+
+/// Why no request was read.
+#[derive(Clone, Copy, Debug, PartialEq, Eq, Drop, Error)]
+pub enum ReadFault {
+    /// A read failed before enough of the request had come.
+    Io,
+    /// There was no memory. Nothing was read.
+    Memory,
+}
+
+/// Its word.
+impl fmt::Display for ReadFault {
+    ghost use Rattle.std.specs.Prelude.{Some};
+    ghost use Rattle.toll_protocol.specs.ReadFaults.{word_of_read_fault};
+
+    ghost output = { λ fault. Some (word_of_read_fault fault) };
+
+    fn fmt<W: fmt::Write>(&self, f: &mut fmt::Formatter<W>) -> fmt::Result {
+        match self {
+            ReadFault::Io => f.write_str("Read"),
+            ReadFault::Memory => f.write_str("Memory"),
+        }
+    }
+}
+
+/// The request at the front of a stream: all that was read of it, at most 12,288 bytes, which comes
+/// to what the whole stream comes to. It is read until its head and all of the body that its head
+/// claims have come, or 8,192 bytes without the end of a head, or the stream ends, and no further: a
+/// peer that waits for the reply need send nothing more, and a later failure doesn't matter.
+pub fn read_request<R: Source>(alloc: Global, reader: &mut R) -> Result<Vec<u8>, ReadFault>
+    ensures given { IfOk result (λ text. Consumes (R.unread reader.old) (R.unread reader.new) text.items) }
+    ensures bound { IfOk result (λ text. length text.items ≤ TEXT_LIMIT) }
+    ensures same { IfOk result (λ text. IfSome (R.unread reader.old) (λ stream.
+        (outcome : Outcome) → Arrives text.items outcome ↔ Arrives stream outcome)) }
+    ensures no_further { ReadsWhile (λ given. ¬ (IsSettled given)) (R.reads reader.old) (R.reads reader.new) }
+    ensures early { result ≡ Err ReadFault.Io → (given : List ℕ) × Consumes (R.unread reader.old) (R.unread reader.new) given × ¬ (IsSettled given) }
+    ensures failed { result ≡ Err ReadFault.Io → HasFailed (R.has_failed reader.old) (R.has_failed reader.new) }
+    ensures sound { OnOk result (NoneFailed (R.has_failed reader.old) (R.has_failed reader.new)) }
+    ensures memory { result ≡ Err ReadFault.Memory → reader.new ≡ reader.old }
+{
+    let Ok(mut incoming) = Incoming::new(alloc) else {
+        return Err(ReadFault::Memory);
+    };
+    match incoming.read_on(reader) {
+        Arriving::Complete => Ok(incoming.into_bytes()),
+        _ => Err(ReadFault::Io),
+    }
+}

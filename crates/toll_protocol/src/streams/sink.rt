@@ -1,0 +1,32 @@
+//! Where bytes are written.
+ghost use Rattle.std.specs.Prelude.{ℕ, Bool, List, Option, None};
+ghost use Rattle.std.specs.Io.{WritesAtMost};
+ghost use Rattle.std.specs.Io.KnownBytes.{WriteAppends};
+ghost use Rattle.toll_protocol.specs.Streams.{Notes, takes_nothing};
+
+use std::io;
+use std::io::Write;
+
+/// A writer that may tell its bytes and its failures. Every writer is one, though it tells no
+/// failures.
+pub trait Sink {
+    // The bytes that it holds, where they are known.
+    ghost held: { Self → Option (List ℕ) } = { λ _. None };
+
+    // Whether a write has failed or taken no byte, where that is known.
+    ghost has_failed: { Self → Option Bool } = { λ _. None };
+
+    /// Writes some bytes of the front of these, and tells how many.
+    fn write_some(&mut self, bytes: &[u8]) -> io::Result<usize>
+        ensures bound { WritesAtMost result bytes.now }
+        ensures bytes { WriteAppends (held self.old) (held self.new) result bytes.now }
+        ensures failures { Notes (has_failed self.old) (has_failed self.new) (takes_nothing result) };
+}
+
+impl<W: Write> Sink for W {
+    ghost held = { W.contents };
+
+    fn write_some(&mut self, bytes: &[u8]) -> io::Result<usize> {
+        self.write(bytes)
+    }
+}

@@ -1,6 +1,0 @@
-use Rattle.toll_routes.proofs.Routers.{IsUpTo}
-use Rattle.toll_routes.proofs.route.router.Given as goal
-
--- the router holds the routes so far
-abbrev pub invariant-loop-route : goal.invariant-loop-route
-invariant-loop-route l = IsUpTo l.route-index l.route-items l.router

@@ -1,0 +1,37 @@
+-- What a world has done, step by step; and who stays meanwhile.
+use Rattle.std.proofs.Common.{◌≡◌, ◌≢◌, ℕ, Option, None, Some, sym, subst}
+use Rattle.std.specs.Prelude.{IfSome, option_map}
+use Rattle.slab.specs.Slab.{Slab, get}
+use Rattle.toll_server.specs.Halls.{KeepsHeard}
+use Rattle.toll_server.specs.Stages.{progress_of}
+use Rattle.toll_server.specs.Worlds.{Tallies, Tally}
+use Rattle.toll_server.specs.declared.peer.Peer.{Peer}
+
+pub tallies_same : (P : Tally → Tally → Type 0) (a b c : Option Tally) → c ≡ b → Tallies P a b → Tallies P a c
+tallies_same P a b c is p = subst (Tallies P a) (sym is) p
+
+pub tallies_begin : (P : Tally → Tally → Type 0) (a b : Option Tally) → b ≡ a → ((t : Tally) → P t t) → Tallies P a b
+tallies_begin P None b is p = tt
+tallies_begin P (Some t) b is p = subst (Tallies P (Some t)) (sym is) (p t)
+
+pub tallies_more : (P Q : Tally → Tally → Type 0) (step : Tally → Tally) (a b c : Option Tally) → c ≡ option_map step b → ((t u : Tally) → P t u → Q t (step u))
+    → Tallies P a b → Tallies Q a c
+tallies_more P Q step None b c is more p = tt
+tallies_more P Q step (Some t) None c is more p = absurd p
+tallies_more P Q step (Some t) (Some u) c is more p = subst (Tallies Q (Some t)) (sym is) (more t u p)
+
+pub tallies_then : (P R Q : Tally → Tally → Type 0) (a b c : Option Tally) → Tallies P a b → Tallies R b c → ((t u v : Tally) → P t u → R u v → Q t v) → Tallies Q a c
+tallies_then P R Q None b c p r more = tt
+tallies_then P R Q (Some t) None c p r more = absurd p
+tallies_then P R Q (Some t) (Some u) None p r more = absurd r
+tallies_then P R Q (Some t) (Some u) (Some v) p r more = more t u v p r
+
+module _ {S T : Type 0} where
+  keep_more : (key : ℕ) (old middle new : Option (Peer S T)) → IfSome old (λ peer. progress_of peer.stage ≢ None → middle ≡ Some peer)
+      → IfSome middle (λ peer. progress_of peer.stage ≢ None → new ≡ Some peer) → IfSome old (λ peer. progress_of peer.stage ≢ None → new ≡ Some peer)
+  keep_more key None middle new p q = tt
+  keep_more key (Some peer) middle new p q = λ some.
+      let stays = subst (λ (o : Option (Peer S T)). IfSome o (λ peer. progress_of peer.stage ≢ None → new ≡ Some peer)) (p some) q in stays some
+
+  pub keeps_more : (old middle new : Slab (Peer S T)) → KeepsHeard old middle → KeepsHeard middle new → KeepsHeard old new
+  keeps_more old middle new p q key = keep_more key (get old key) (get middle key) (get new key) (p key) (q key)

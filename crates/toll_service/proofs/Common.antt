@@ -1,0 +1,31 @@
+-- Words that several proofs here use.
+pub use Rattle.std.proofs.lemmas.List.{append-nil}
+pub use Rattle.std.specs.Bool.{MatchBool}
+pub use Rattle.std.specs.Global.{Vec}
+pub use Rattle.std.specs.List.{AllByRecursion, list_any}
+pub use Rattle.toll_base.specs.Bytes.{Bytes}
+pub use Rattle.toll_desk.specs.declared.plant_cmd.PlantCmd.{PlantCmd}
+pub use Rattle.toll_desk.specs.declared.plant_cmd.PlantReply.{PlantReply}
+pub use Rattle.toll_history.specs.History.{History}
+pub use Rattle.toll_history.specs.Verdict.{IsLawful}
+pub use Rattle.toll_keep.specs.Content.{Content}
+pub use Rattle.toll_keep.specs.Meaning.{Meaning}
+pub use Rattle.toll_plant.specs.ImportTexts.{import_text}
+pub use Rattle.toll_plant.specs.Imports.{AreNumbered, Comes, EndWith, HasValidValues, IsImport, commands_in, outcomes_in}
+pub use Rattle.toll_plant.specs.Outcomes.{is_fault, judged, outcome_of}
+pub use Rattle.toll_plant.specs.UnderWay.{HasActed, UnderWay, left_behind}
+pub use Rattle.toll_plant.specs.declared.grouping.TheConstants.{GROUP_RECORDS}
+pub use Rattle.toll_plant.specs.declared.outcome.Outcome.{Outcome}
+pub use Rattle.toll_plant.specs.declared.report.ImportLine.{ImportLine}
+pub use Rattle.toll_programs.specs.Told.{IsFailing, IsImportTold, IsReplyTold, IsShown, IsShownIfRoom, IsTold, IsWarned, Streams, after_refused_file, no_memory, refused_file}
+pub use Rattle.toll_protocol.specs.PlantMessages.{IsAskedBy}
+pub use Rattle.toll_server.specs.Runs.{AreOwn, ComesTo, Handed, IsOwn, IsWholeRun, Request, Task, Tasks, Turn, after_turn}
+pub use Rattle.toll_server.specs.declared.door.Door.{Door}
+pub use Rattle.toll_server.specs.declared.door.Door.TheVariants.{Owners, Plant}
+pub use Rattle.toll_server.specs.declared.progress.Progress.{Progress}
+pub use Rattle.toll_server.specs.declared.progress.Progress.TheVariants.{Left, Told}
+pub use Rattle.toll_wire.specs.OfficeRuns.{AllShow, AreServed, IsRunOf, PlantShows}
+pub use Rattle.toll_wire.specs.Runs.{Answered, AreValid, Happening, IsRun}
+pub use Rattle.toll_wire.specs.Steps.{IsAnswered, http}
+pub use Rattle.toll_wire.specs.declared.event.Answer.{Answer}
+pub use Rattle.toll_wire.specs.declared.event.Event.{Event}

@@ -1,0 +1,189 @@
+-- What came in at the doors is a run of events.
+use Rattle.std.proofs.Common.{◌≡◌, ℕ, Bool, List, [], ◌∷◌, ◌++◌, Option, drop, Result, Ok, Err, refl, sym, subst, ap, ◌∙◌, inl, inr}
+use Rattle.std.specs.Prelude.{if◌then◌else◌, take}
+use Rattle.toll_service.proofs.Common.{list_any, append-nil, Bytes, PlantCmd, Content, Meaning, ComesTo as TurnComesTo, Handed, IsWholeRun, Request, Task, Turn, Door, Owners, Plant, Progress, Told, Left, EndWith, HasValidValues, outcomes_in, is_fault, HasActed, UnderWay, left_behind, GROUP_RECORDS, Outcome, Streams, AreServed, IsAnswered, Answer, Event}
+use Rattle.toll_desk.specs.Reads.{Over}
+use Rattle.toll_keep.specs.declared.fault.KeepFault.{KeepFault}
+use Rattle.toll_plant.proofs.GroupChains.{all_take, calm_group, faulty_group, group_honest}
+use Rattle.toll_service.proofs.ImportRuns.{records_run}
+use Rattle.toll_service.proofs.Pieces.{run_behind, run_from, run_none}
+use Rattle.toll_service.specs.Doors.{ComesTo, IsDone, IsServedIfRoom, WentOn, lists_of}
+use Rattle.toll_service.specs.Events.{AreAllEventsOf, AreEventsOf, AreGroupEvents, AreRecordEvents, AreTurnEvents, IsPrintedOf}
+use Rattle.toll_service.specs.Serving.{AnswersOver, GoesOnOver, HasServed, IsRunAs, IsRunWhereAnswered, RunsOver}
+use Rattle.toll_service.specs.Wanted.{Wanted, Does, Imports, Unknown, wanted_of}
+use Rattle.toll_wire.proofs.Serving.{all_honest, run_of, steps_of}
+use Rattle.toll_wire.specs.declared.event.Answer.TheVariants.{Bytes as Reply, Plant as CommandReply}
+use Rattle.toll_wire.specs.declared.event.Event.TheVariants.{Owner, Plant as Command}
+
+module _ {K : Type 0} (meaning : Meaning K) (settled : (k : K) (c : Content) → meaning.is_honest k → meaning.is_live k → meaning.holds k c → meaning.leaves k (c ∷ [])) where
+  -- a keep that is honest now was so before, and from each lawful history there was a run of such events
+  record Ran (old new : K) (Are : List Event → List Answer → Type 0) : Type 0 where
+    honest : meaning.is_honest new → meaning.is_honest old
+    run : Over meaning old new (λ c H. IsRunAs (meaning.holds new) H Are)
+
+  -- nothing happened
+  nothing : (old new : K) (Are : List Event → List Answer → Type 0) → new ≡ old → Are [] [] → Ran old new Are
+  nothing old new Are same are = record {
+    honest = subst meaning.is_honest same;
+    run = λ now c H held stands lawful.
+        record { events = []; answers = []; are = are; run = run_none (meaning.holds new) H c (subst (λ k. meaning.holds k c) (sym same) held) stands lawful };
+  }
+
+  -- the same events are others' too
+  so_are : (old new : K) (Are So : List Event → List Answer → Type 0) → ((events : List Event) (answers : List Answer) → Are events answers → So events answers) → Ran old new Are → Ran old new So
+  so_are old new Are So so ran = record {
+    honest = ran.honest;
+    run = λ now c H held stands lawful.
+        let r = ran.run now c H held stands lawful in record { events = r.events; answers = r.answers; are = so r.events r.answers r.are; run = r.run };
+  }
+
+  -- one event was served
+  one_ran : (old new : K) (e : Event) (a : Answer) (Are : List Event → List Answer → Type 0) → AreServed meaning old (e ∷ []) (a ∷ []) new → Are (e ∷ []) (a ∷ []) → Ran old new Are
+  one_ran old new e a Are served are = record {
+    honest = all_honest meaning old new (e ∷ []) (a ∷ []) served;
+    run = λ now c H held stands lawful. record {
+      events = e ∷ [];
+      answers = a ∷ [];
+      are = are;
+      run = run_of meaning settled old new (e ∷ []) (a ∷ []) c H held stands lawful (steps_of meaning settled old new (e ∷ []) (a ∷ []) served now c H held stands lawful);
+    };
+  }
+
+  -- ---- a request
+
+  done_ran : (old new : K) (wanted : Wanted) (s : Streams) (status : ℕ) → IsDone meaning old new wanted s status → Ran old new (λ events answers. IsPrintedOf wanted events answers s status)
+  done_ran old new (Does command) s status (reply, served, told) =
+      one_ran old new (Command command) (CommandReply reply) (λ events answers. IsPrintedOf (Does command) events answers s status) (new, served, refl) (refl, told)
+  done_ran old new (Imports file) s status (same, (fault, why, told)) =
+      nothing old new (λ events answers. IsPrintedOf (Imports file) events answers s status) same (Err fault, (refl, refl), told)
+  done_ran old new (Unknown words) s status (same, usage) = nothing old new (λ events answers. IsPrintedOf (Unknown words) events answers s status) same usage
+
+  asked_ran : (old new : K) (door : Door) (asked : Bytes) (progress : Progress UnderWay) → IsServedIfRoom meaning old new door asked progress → Ran old new (AreTurnEvents (Request door asked) progress)
+  asked_ran old new Owners asked (Told told) (inl (goes_on, s)) =
+      one_ran old new (Owner s.request) (Reply s.out) (AreEventsOf Owners asked told.items) (new, subst (λ bytes. IsAnswered meaning old new bytes s.out) (sym s.same) s.answered, refl) (s.same, s.tells)
+  asked_ran old new Owners asked (Told told) (inr (same, none)) = nothing old new (AreEventsOf Owners asked told.items) same none
+  asked_ran old new Owners asked (Left import) (inl (goes_on, never)) = absurd never
+  asked_ran old new Owners asked (Left import) (inr (same, never)) = absurd never
+  asked_ran old new Plant asked (Told told) (inl (goes_on, inl s)) =
+      so_are old new (λ events answers. IsPrintedOf (wanted_of s.words s.file) events answers (lists_of s.output s.error) s.status) (AreEventsOf Plant asked told.items)
+      (λ events answers printed. inl (record {
+        words = s.words;
+        file = s.file;
+        asks = s.asks;
+        output = s.output;
+        error = s.error;
+        status = s.status;
+        printed = printed;
+        tells = s.telling.0;
+      }))
+      (done_ran old new (wanted_of s.words s.file) (lists_of s.output s.error) s.status s.done)
+  asked_ran old new Plant asked (Told told) (inl (goes_on, inr (asks, same, none, on))) = nothing old new (AreEventsOf Plant asked told.items) same (inr (none, refl, refl))
+  asked_ran old new Plant asked (Told told) (inr (same, none)) = nothing old new (AreEventsOf Plant asked told.items) same (inr (none, refl, refl))
+  asked_ran old new Plant asked (Left import) (inl (goes_on, (begins, same, on))) = nothing old new (AreTurnEvents (Request Plant asked) (Left import)) same (begins, refl, refl)
+  asked_ran old new Plant asked (Left import) (inr (same, never)) = absurd never
+
+  -- ---- an import that goes on
+
+  -- what is left behind a group, by what was told of it
+  left_of : (end : Result (Unit {0}) KeepFault) (told : List Outcome) (commands : List (Option PlantCmd)) → EndWith end told
+      → left_behind end commands ≡ (if list_any is_fault told then [] else commands)
+  left_of (Ok done) told commands ends = let calm = calm_group (Ok done) told ends refl in rw calm refl
+  left_of (Err fault) told commands ends = let faulty = faulty_group fault told ends in rw faulty refl
+
+  acted_ran : (old new : K) (was now : UnderWay) (progress : Progress UnderWay) (goes_on : Bool) → ComesTo now progress goes_on → HasActed meaning old new was now → Ran old new (AreGroupEvents was progress)
+  acted_ran old new was now progress goes_on comes acted =
+      let group = take GROUP_RECORDS was.left in
+      record {
+        honest = group_honest meaning old new (record { commands = group; told = acted.told; end = acted.end }) acted.served;
+        run = λ honest c H held stands lawful.
+            let done = (acted.served.done honest c H held stands lawful).run in
+            let r = records_run H group acted.told done.last (all_take HasValidValues GROUP_RECORDS was.left acted.valid) done.imported in
+            record {
+              events = r.events;
+              answers = r.answers;
+              are = record {
+                now = now;
+                told = acted.told;
+                are = r.are;
+                said = acted.said;
+                left = acted.left ∙ left_of acted.end acted.told (drop GROUP_RECORDS was.left) acted.served.ends;
+                goes_on = goes_on;
+                comes = comes;
+              };
+              run = run_from (meaning.holds new) H done.last r.events r.answers r.happenings r.told lawful r.shown r.valid r.run done.lawful done.left;
+            };
+      }
+
+  none_left : (was : UnderWay) (progress : Progress UnderWay) (goes_on : Bool) → was.left ≡ [] → ComesTo was progress goes_on → AreGroupEvents was progress [] []
+  none_left was progress goes_on none comes = record {
+    now = was;
+    told = [];
+    are = subst (λ left. AreRecordEvents [] (take GROUP_RECORDS left) [] []) (sym none) tt;
+    said = sym (append-nil (outcomes_in was.lines));
+    left = subst (λ left. left ≡ drop GROUP_RECORDS left) (sym none) refl;
+    goes_on = goes_on;
+    comes = comes;
+  }
+
+  went_ran : (old new : K) (was : UnderWay) (progress : Progress UnderWay) (goes_on : Bool) → WentOn meaning old new was progress goes_on → Ran old new (AreGroupEvents was progress)
+  went_ran old new was progress goes_on w = elim w.went [
+    | inl acted ↦ acted_ran old new was w.now progress goes_on w.comes acted
+    | inr over ↦ nothing old new (AreGroupEvents was progress) over.1 (none_left was progress goes_on over.0 (subst (λ now. ComesTo now progress goes_on) over.2 w.comes))
+  ]
+
+  -- ---- all turns
+
+  turn_ran : {O : Type 0} (keep : O → K) (old new : O) (handed : Handed UnderWay) (progress : Progress UnderWay)
+      → TurnComesTo (AnswersOver meaning keep) (GoesOnOver meaning keep) old handed progress new → Ran (keep old) (keep new) (AreTurnEvents handed progress)
+  turn_ran keep old new (Request door asked) progress one = asked_ran (keep old) (keep new) door asked progress one
+  turn_ran keep old new (Task import) progress (goes_on, went) = went_ran (keep old) (keep new) import progress goes_on went
+
+  one_part : (turn : Turn UnderWay) (turns : List (Turn UnderWay)) (events later : List Event) (answers behind : List Answer) → AreTurnEvents turn.handed turn.progress events answers
+      → AreAllEventsOf turns later behind → AreAllEventsOf (turn ∷ turns) (events ++ later) (answers ++ behind)
+  one_part turn turns events later answers behind one all = record {
+    parts = record { turn = turn; events = events; answers = answers } ∷ all.parts;
+    are = (one, all.are);
+    turns_are = ap (λ others. turn ∷ others) all.turns_are;
+    events_are = ap (λ others. events ++ others) all.events_are;
+    answers_are = ap (λ others. answers ++ others) all.answers_are;
+  }
+
+  turns_ran : {O : Type 0} (keep : O → K) (old new : O) (turns : List (Turn UnderWay)) → RunsOver meaning keep old turns new → Ran (keep old) (keep new) (AreAllEventsOf turns)
+  turns_ran keep old new [] same = nothing (keep old) (keep new) (AreAllEventsOf []) (ap keep same) (record { parts = []; are = tt; turns_are = refl; events_are = refl; answers_are = refl })
+  turns_ran keep old new (turn ∷ turns) (middle, one, rest) =
+      let first = turn_ran keep old middle turn.handed turn.progress one in
+      let others = turns_ran keep middle new turns rest in
+      record {
+        honest = λ now. first.honest (others.honest now);
+        run = λ now c H held stands lawful.
+            let f = first.run (others.honest now) c H held stands lawful in
+            let o = others.run now f.run.left.content f.run.last f.run.left.held f.run.left.stands f.run.lawful in
+            record {
+              events = f.events ++ o.events;
+              answers = f.answers ++ o.answers;
+              are = one_part turn turns f.events o.events f.answers o.answers f.are o.are;
+              run = run_behind (meaning.holds (keep middle)) (meaning.holds (keep new)) H f.events o.events f.answers o.answers lawful f.run o.run;
+            };
+      }
+
+  -- an office that has a keep is asked as the keep is
+  turn_over : {O : Type 0} (keep : O → K) (old new : O) (handed : Handed UnderWay) (progress : Progress UnderWay) → TurnComesTo (AnswersOver meaning keep) (GoesOnOver meaning keep) old handed progress new
+      → TurnComesTo (AnswersOver meaning (λ k. k)) (GoesOnOver meaning (λ k. k)) (keep old) handed progress (keep new)
+  turn_over keep old new (Request door asked) progress one = one
+  turn_over keep old new (Task import) progress one = one
+
+  runs_over : {O : Type 0} (keep : O → K) (old new : O) (turns : List (Turn UnderWay)) → RunsOver meaning keep old turns new → RunsOver meaning (λ k. k) (keep old) turns (keep new)
+  runs_over keep old new [] same = ap keep same
+  runs_over keep old new (turn ∷ turns) (middle, one, rest) = (keep middle, turn_over keep old middle turn.handed turn.progress one, runs_over keep middle new turns rest)
+
+  pub were_served : {O : Type 0} (keep : O → K) (old new : O) (turns : List (Turn UnderWay)) → IsRunWhereAnswered meaning keep old new turns
+  were_served keep old new turns runs = (turns_ran keep old new turns runs).run
+
+  pub has_served : {O : Type 0} (keep : O → K) (old new : O) (IsOver : Type 0) → IsWholeRun (AnswersOver meaning keep) (GoesOnOver meaning keep) old new IsOver → HasServed meaning (keep old) (keep new) IsOver
+  has_served keep old new IsOver (left, run, over) = record {
+    turns = run.turns;
+    runs = runs_over keep old new run.turns run.runs;
+    own = run.own;
+    over = λ is whose. run.rest whose ∙ over is whose;
+    were = were_served keep old new run.turns run.runs;
+  }

@@ -1,0 +1,58 @@
+//! Answering what comes in at a door.
+ghost use Rattle.std.specs.Prelude.{◌≡◌, IfOk, OnErr};
+ghost use Rattle.toll_server.specs.declared.door.Door.{Door};
+ghost use Rattle.toll_service.specs.Doors.{IsOwnerServed, IsServed, IsToldSo};
+
+use crate::plant::answer_plant;
+use crate::reply::Reply;
+use std::alloc::{AllocError, Global};
+use toll_keep::Keep;
+use toll_server::{Door, Progress};
+use toll_wire::{Out, answer};
+
+/// Answers what came in at a door, over a keep.
+///
+/// At the owners' door that is a request over HTTP, and the reply is that of [`answer`]. At the plant's it
+/// is a parcel as [`Asked`](toll_protocol::Asked) packs it, and the reply is one as
+/// [`Told`](toll_protocol::Told) packs it: what the program itself would have printed, and its exit status.
+/// Words of which the first is `import`, where a file came with them, are an import of that file, and all
+/// others a command or a question. What is no parcel, or one that was cut, does nothing and is told nothing.
+///
+/// An import takes several turns: all records of its file are read, and what is left is to go on with it
+/// ([`Importing::go_on`](crate::Importing)). A file that can't be imported is told at once.
+///
+/// An `Err` means that there was no memory: nothing was done, and nothing is told. Memory for the shortest
+/// reply is taken before anything is done; where there is none for all that is printed, the plant is told
+/// the exit status of a program that can't write.
+pub fn answer_at<K: Keep>(
+    alloc: Global,
+    keep: &mut K,
+    door: Door,
+    asked: &[u8],
+) -> Result<Reply, AllocError>
+    ensures err { OnErr result (keep.new ≡ keep.old) }
+    ensures served { IfOk result (λ reply. IsServed K.meaning keep.old keep.new door asked.now reply.progress reply.goes_on) }
+{
+    match door {
+        Door::Owners => answer_owner(alloc, keep, asked),
+        Door::Plant => answer_plant(alloc, keep, asked),
+    }
+}
+
+// Answers a request. There is memory for a 503 before the keep is asked.
+fn answer_owner<K: Keep>(alloc: Global, keep: &mut K, asked: &[u8]) -> Result<Reply, AllocError>
+    ensures err { OnErr result (keep.new ≡ keep.old) }
+    ensures served { IfOk result (λ reply. IsToldSo reply.progress (λ told. IsOwnerServed K.meaning keep.old keep.new asked.now told reply.goes_on)) }
+{
+    let unavailable = Vec::from_slice(alloc, Out::Unavailable.bytes())?;
+    match answer(alloc, keep, asked) {
+        Out::Text(text) => Ok(Reply {
+            progress: Progress::Told(text),
+            goes_on: true,
+        }),
+        Out::Unavailable => Ok(Reply {
+            progress: Progress::Told(unavailable),
+            goes_on: false,
+        }),
+    }
+}

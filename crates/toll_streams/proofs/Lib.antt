@@ -1,3 +1,0 @@
-pub mod StreamLemmas
-pub mod ReadLemmas
-pub mod Onward

@@ -1,0 +1,26 @@
+-- What is sent of lists and of objects.
+use Rattle.std.proofs.Common.{◌≡◌, suc, Some, List, [], ◌∷◌, length, map, refl, ap}
+use Rattle.serde.specs.Event.{Log, Logs, map_begins, map_ends}
+use Rattle.serde_json.specs.Data.{Data, object, Members, member, no_members}
+use Rattle.serde_json.specs.Events.{SendsMembers, SendsValue, items_len, members_len}
+use Rattle.serde_json.specs.View.{items_of}
+use Rattle.toll_base.specs.Bytes.{Bytes}
+use Rattle.toll_wire.specs.Sending.{SendsMember}
+
+-- lists are as long as what is said of them
+pub items_said : {T : Type 0} (said : T → Data) (rows : List T) → items_len (items_of (map said rows)) ≡ length rows
+items_said said [] = refl
+items_said said (row ∷ rows) = ap suc (items_said said rows)
+
+-- these members are sent, and then the end of their object
+pub record Sends (ms : Members) (old new : Log) : Type 0 where
+  pub sent : SendsMembers ms old new
+
+pub ends : (old new : Log) → Logs old new map_ends → Sends no_members old new
+ends old new ended = record { sent = ended }
+
+pub sends : {name : Bytes} {value : Data} {rest : Members} {old middle new : Log} → SendsMember name value old middle → Sends rest middle new → Sends (member name value rest) old new
+sends sent rest = record { sent = (sent.named, _, sent.key, sent.sent, rest.sent) }
+
+pub sends_object : {ms : Members} {first new : Log} (old : Log) → Sends ms first new → Logs old first (map_begins (Some (members_len ms))) → SendsValue (object ms) old new
+sends_object old rest begun = (_, begun, rest.sent)

@@ -1,0 +1,41 @@
+-- What the body of a request for an order asks for (RFC 8259).
+use Rattle.std.specs.Prelude.{◌≡◌, ℕ, ◌&&◌, nat_le, Option, Some, None, if◌then◌else◌, option_map, option_and_then, codes, IsUtf8}
+use Rattle.serde_json.specs.Data.{Data}
+use Rattle.serde_json.specs.Read.{read}
+use Rattle.serde_json.specs.Find.{get, as_str, as_number, as_u64}
+use Rattle.toll_base.specs.Bytes.{Bytes}
+use Rattle.toll_base.specs.Values.{is_name}
+use Rattle.toll_base.specs.declared.bounded.TheConstants.{MOST_BATCHES}
+use Rattle.toll_wire.specs.declared.bodies.body.Placing.{Placing}
+
+-- the last member of this name is a text, which is a name
+abbrev pub name_at : Bytes → Data → Option Bytes
+name_at member d = option_and_then (λ text. if is_name text then Some text else None) (option_and_then as_str (get member d))
+
+-- the last member `batches` is a number written without fraction or exponent, from 1 to as many as an order may have
+abbrev pub batches_at : Data → Option ℕ
+batches_at d =
+    option_and_then (λ n. if nat_le 1 n && nat_le n MOST_BATCHES then Some n else None)
+    (option_and_then as_u64 (option_and_then as_number (get (codes "batches") d)))
+
+-- that many batches by that recipe
+abbrev pub placing : Bytes → Bytes → ℕ → Placing
+placing order recipe batches = record { order = order; recipe = recipe; batches = batches }
+
+-- the order that a JSON value asks for
+abbrev pub order_in : Data → Option Placing
+order_in d =
+    option_and_then (λ order. option_and_then (λ recipe. option_map (placing order recipe)
+    (batches_at d)) (name_at (codes "recipe") d)) (name_at (codes "order") d)
+
+-- the body is a JSON text that asks for this order
+pub record AsksFor (body : Bytes) (order : Placing) : Type 0 where
+  pub text : IsUtf8 body
+  pub value : Data
+  pub reads : read body ≡ Some value
+  pub asks : order_in value ≡ Some order
+
+-- the body asks for this order, or for none
+abbrev pub AsksOrder : Bytes → Option Placing → Type 0
+AsksOrder body (Some order) = AsksFor body order
+AsksOrder body None = (order : Placing) → AsksFor body order → ⊥

@@ -1,0 +1,158 @@
+-- The bodies of replies, as JSON values (RFC 8259): keys stand in the order of their bytes.
+use Rattle.std.specs.Prelude.{ℕ, ℤ, pos, negsuc, List, [], ◌∷◌, ◌++◌, codes, decimal, map}
+use Rattle.serde_json.specs.Data.{Data, boolean, number, unsigned, negative, string, array, object, Members, member, no_members}
+use Rattle.serde_json.specs.View.{items_of}
+use Rattle.toll_base.specs.Bytes.{Bytes}
+use Rattle.toll_base.specs.Refusal.{code_of, title_of}
+use Rattle.toll_base.specs.States.{word_of_state}
+use Rattle.toll_base.specs.declared.lot.Origin.{Origin}
+use Rattle.toll_base.specs.declared.lot.Origin.TheVariants.{Receipts, Batch}
+use Rattle.toll_base.specs.declared.refusal.Refusal.{Refusal}
+use Rattle.toll_base.specs.declared.rows.BatchRow.{BatchRow}
+use Rattle.toll_base.specs.declared.rows.LotRow.{LotRow}
+use Rattle.toll_base.specs.declared.rows.OrderRow.{OrderRow}
+use Rattle.toll_base.specs.declared.rows.ResultRow.{ResultRow}
+use Rattle.toll_base.specs.declared.rows.SublotRow.{SublotRow}
+use Rattle.toll_base.specs.ValueWords.{disposition_word, order_status, use_word}
+use Rattle.toll_trace.specs.declared.step.Step.{Step}
+use Rattle.toll_answers.specs.declared.views.stock.StockLine.{StockLine}
+use Rattle.toll_work.specs.declared.views.RequirementLine.{RequirementLine}
+
+-- ---- forms
+
+-- these members, in this order
+abbrev pub members_of : List (Bytes × Data) → Members
+members_of [] = no_members
+members_of (m ∷ ms) = member m.0 m.1 (members_of ms)
+
+-- an object of these members
+abbrev pub fields : List (Bytes × Data) → Data
+fields ms = object (members_of ms)
+
+-- a count
+abbrev pub count : ℕ → Data
+count n = number (unsigned n)
+
+-- a whole number, which may be below zero
+abbrev pub whole : ℤ → Data
+whole (pos n) = number (unsigned n)
+whole (negsuc n) = number (negative (negsuc n))
+
+-- a list, with what is said of each
+abbrev pub each : {T : Type 0} → (T → Data) → List T → Data
+each said rows = array (items_of (map said rows))
+
+-- a list under this name
+abbrev pub listed : {T : Type 0} → Bytes → (T → Data) → List T → Data
+listed name said rows = fields ((name, each said rows) ∷ [])
+
+-- ---- orders
+
+-- an order
+abbrev pub order_data : OrderRow → Data
+order_data row =
+    fields ((codes "batches", count row.batches)
+    ∷ (codes "order", string row.order)
+    ∷ (codes "recipe", string row.recipe)
+    ∷ (codes "status", string (order_status row.cancelled)) ∷ [])
+
+-- the orders of an owner
+abbrev pub orders_data : List OrderRow → Data
+orders_data rows = listed (codes "orders") order_data rows
+
+-- ---- a batch
+
+-- a requirement, and how much of it the batch did
+abbrev pub requirement_data : RequirementLine → Data
+requirement_data line =
+    fields ((codes "actual", count line.actual)
+    ∷ (codes "material", string line.row.material)
+    ∷ (codes "owner", string line.row.source)
+    ∷ (codes "required", count line.row.amount)
+    ∷ (codes "segment", count line.row.segment)
+    ∷ (codes "use", string (use_word line.row.role)) ∷ [])
+
+-- a batch, with its requirements
+abbrev pub batch_data : BatchRow → List RequirementLine → Data
+batch_data row lines =
+    fields ((codes "batch", count row.number)
+    ∷ (codes "closed", boolean row.closed)
+    ∷ (codes "order", string row.order)
+    ∷ (codes "requirements", each requirement_data lines)
+    ∷ (codes "state", string (word_of_state row.state))
+    ∷ (codes "unit", string row.unit) ∷ [])
+
+-- ---- stock
+
+-- a lot, and how much of it is on hand
+abbrev pub stock_line_data : StockLine → Data
+stock_line_data line =
+    fields ((codes "amount", count line.amount)
+    ∷ (codes "disposition", string (disposition_word line.row.disposition))
+    ∷ (codes "lot", string line.row.lot)
+    ∷ (codes "material", string line.row.material)
+    ∷ (codes "measure", string line.measure) ∷ [])
+
+-- all that is in stock
+abbrev pub stock_data : List StockLine → Data
+stock_data lines = listed (codes "lots") stock_line_data lines
+
+-- ---- a lot
+
+-- where a lot comes from: receipts, or an order's batch
+abbrev pub origin_word : Origin → Bytes
+origin_word Receipts = codes "receipts"
+origin_word (Batch order batch) = order ++ (codes "/" ++ decimal batch)
+
+-- a result of a test
+abbrev pub result_data : ResultRow → Data
+result_data row =
+    fields ((codes "day", count row.day)
+    ∷ (codes "test", string row.test)
+    ∷ (codes "value", whole row.value) ∷ [])
+
+-- a sublot, and how much is there
+abbrev pub sublot_data : SublotRow → Data
+sublot_data row =
+    fields ((codes "amount", count row.amount)
+    ∷ (codes "sublot", string row.sublot) ∷ [])
+
+-- a lot from this origin, with the measure of its material, its results and its sublots
+abbrev pub lot_from : Bytes → LotRow → Bytes → List ResultRow → List SublotRow → Data
+lot_from origin row measure results sublots =
+    fields ((codes "disposition", string (disposition_word row.disposition))
+    ∷ (codes "lot", string row.lot)
+    ∷ (codes "material", string row.material)
+    ∷ (codes "measure", string measure)
+    ∷ (codes "origin", string origin)
+    ∷ (codes "results", each result_data results)
+    ∷ (codes "sublots", each sublot_data sublots) ∷ [])
+
+-- a lot from where it comes
+abbrev pub lot_data : LotRow → Bytes → List ResultRow → List SublotRow → Data
+lot_data row measure results sublots = lot_from (origin_word row.origin) row measure results sublots
+
+-- ---- a trace
+
+-- a lot of a trace
+abbrev pub step_data : Step → Data
+step_data step =
+    fields ((codes "lot", string step.lot.lot)
+    ∷ (codes "owner", string step.lot.owner)
+    ∷ (codes "steps", count step.steps) ∷ [])
+
+-- the lots of a trace
+abbrev pub trace_data : List Step → Data
+trace_data steps = listed (codes "lots") step_data steps
+
+-- ---- refusals and failures
+
+-- why a command is refused
+abbrev pub refusal_data : Refusal → Data
+refusal_data refusal =
+    fields ((codes "code", count (code_of refusal))
+    ∷ (codes "error", string (title_of refusal)) ∷ [])
+
+-- why a request is answered without a command
+abbrev pub error_data : Bytes → Data
+error_data word = fields ((codes "error", string word) ∷ [])

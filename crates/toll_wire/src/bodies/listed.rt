@@ -1,0 +1,97 @@
+//! Lists under a name: orders, what is in stock, and the lots of a trace.
+ghost use Rattle.std.specs.Prelude.{◌≡◌, IfOk, refl, string_bytes};
+ghost use Rattle.serde_json.specs.Written.{compact_text};
+ghost use Rattle.toll_wire.specs.Exact.{listed_exact};
+ghost use Rattle.toll_wire.specs.ReplyBodies.{
+  listed,
+  orders_data,
+  step_data,
+  stock_data,
+  stock_line_data,
+  trace_data,
+};
+
+use crate::bodies::sent::text_of;
+use crate::bodies::told::{Told, send_member};
+use serde::Serializer;
+use std::alloc::{AllocError, Global};
+use toll_answers::StockLine;
+use toll_base::OrderRow;
+use toll_trace::Step;
+
+/// The orders of an owner.
+pub fn orders_body(alloc: Global, rows: &[OrderRow]) -> Result<String, AllocError>
+    ensures { IfOk result (λ body. string_bytes body ≡ compact_text (orders_data rows.now)) }
+{
+    list_text(alloc, "orders", rows)
+}
+
+/// What is in stock.
+pub fn stock_body(alloc: Global, lines: &[StockLine]) -> Result<String, AllocError>
+    ensures { IfOk result (λ body. string_bytes body ≡ compact_text (stock_data lines.now)) }
+{
+    list_text(alloc, "lots", lines)
+}
+
+/// The lots of a trace, in the order of its steps.
+pub fn trace_body(alloc: Global, steps: &[Step]) -> Result<String, AllocError>
+    ensures { IfOk result (λ body. string_bytes body ≡ compact_text (trace_data steps.now)) }
+{
+    list_text(alloc, "lots", steps)
+}
+
+// The text of an object of one member: all these rows under this name.
+fn list_text<R: Told>(alloc: Global, name: &str, rows: &[R]) -> Result<String, AllocError>
+    ensures { IfOk result (λ text. string_bytes text ≡ compact_text (listed name.now R.said rows.now)) }
+{
+    text_of(alloc, &Listed { name, rows })
+}
+
+/// Rows under a name.
+#[derive(Drop)]
+struct Listed<'a, R> {
+    name: &'a str,
+    rows: &'a [R],
+}
+
+impl<R: Told> Told for Listed<'_, R> {
+    ghost said = { λ told. listed told.name.now R.said told.rows.now };
+
+    ghost exact = { λ told. listed_exact told.name.now R.said R.exact told.rows.now };
+
+    fn send<S: Serializer>(&self, out: &mut S) -> Result<(), S::Error> {
+        out.begin_map(Some(1))?;
+        send_member(self.name, &self.rows, out)?;
+        out.end_map()
+    }
+}
+
+impl Told for StockLine {
+    ghost said = { stock_line_data };
+
+    ghost exact = { λ _. refl };
+
+    fn send<S: Serializer>(&self, out: &mut S) -> Result<(), S::Error> {
+        out.begin_map(Some(5))?;
+        send_member("amount", &self.amount, out)?;
+        send_member("disposition", &self.row.disposition, out)?;
+        send_member("lot", &self.row.lot, out)?;
+        send_member("material", &self.row.material, out)?;
+        send_member("measure", &self.measure, out)?;
+        out.end_map()
+    }
+}
+
+impl Told for Step {
+    ghost said = { step_data };
+
+    ghost exact = { λ _. refl };
+
+    fn send<S: Serializer>(&self, out: &mut S) -> Result<(), S::Error> {
+        out.begin_map(Some(3))?;
+        send_member("lot", &self.lot.lot, out)?;
+        send_member("owner", &self.lot.owner, out)?;
+        send_member("steps", &self.steps, out)?;
+        out.end_map()
+    }
+}

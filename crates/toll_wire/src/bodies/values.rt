@@ -1,0 +1,129 @@
+//! Values of the office: texts, words and numbers.
+ghost use Rattle.std.specs.Prelude.{◌≡◌, refl};
+ghost use Rattle.serde_json.specs.Data.{boolean, string};
+ghost use Rattle.toll_base.specs.States.{word_of_state};
+ghost use Rattle.toll_base.specs.ValueWords.{disposition_word, use_word};
+ghost use Rattle.toll_wire.specs.Exact.{whole_exact};
+ghost use Rattle.toll_wire.specs.ReplyBodies.{count, whole};
+
+use crate::bodies::told::Told;
+use serde::Serializer;
+use std::str::from_utf8;
+use toll_base::{Bounded, Disposition, Measure, Name, Role, State, Value};
+use toll_work::StateWord;
+
+impl Told for &str {
+    ghost said = { λ text. string text.now };
+
+    ghost exact = { λ _. refl };
+
+    fn send<S: Serializer>(&self, out: &mut S) -> Result<(), S::Error> {
+        out.str(self)
+    }
+}
+
+impl Told for bool {
+    ghost said = { boolean };
+
+    ghost exact = { λ _. refl };
+
+    fn send<S: Serializer>(&self, out: &mut S) -> Result<(), S::Error> {
+        out.bool(*self)
+    }
+}
+
+impl Told for u64 {
+    ghost said = { count };
+
+    ghost exact = { λ _. refl };
+
+    fn send<S: Serializer>(&self, out: &mut S) -> Result<(), S::Error> {
+        out.u64(*self)
+    }
+}
+
+impl<const LEAST: u64, const MOST: u64> Told for Bounded<LEAST, MOST> {
+    ghost said = { count };
+
+    ghost exact = { λ _. refl };
+
+    fn send<S: Serializer>(&self, out: &mut S) -> Result<(), S::Error> {
+        out.u64(self.get())
+    }
+}
+
+impl Told for Value {
+    ghost said = { whole };
+
+    ghost exact = { whole_exact };
+
+    fn send<S: Serializer>(&self, out: &mut S) -> Result<(), S::Error> {
+        match u64::try_from(self.get()) {
+            Ok(value) => out.u64(value),
+            Err(_) => out.i64(self.get()),
+        }
+    }
+}
+
+impl Told for Name {
+    ghost said = { string };
+
+    ghost exact = { λ _. refl };
+
+    fn send<S: Serializer>(&self, out: &mut S) -> Result<(), S::Error> {
+        out.str(name_text(self))
+    }
+}
+
+impl Told for Measure {
+    ghost said = { string };
+
+    ghost exact = { λ _. refl };
+
+    fn send<S: Serializer>(&self, out: &mut S) -> Result<(), S::Error> {
+        out.str(measure_text(self))
+    }
+}
+
+impl Told for Disposition {
+    ghost said = { λ disposition. string (disposition_word disposition) };
+
+    ghost exact = { λ _. refl };
+
+    fn send<S: Serializer>(&self, out: &mut S) -> Result<(), S::Error> {
+        out.str(self.word())
+    }
+}
+
+impl Told for Role {
+    ghost said = { λ role. string (use_word role) };
+
+    ghost exact = { λ _. refl };
+
+    fn send<S: Serializer>(&self, out: &mut S) -> Result<(), S::Error> {
+        out.str(self.word())
+    }
+}
+
+impl Told for State {
+    ghost said = { λ state. string (word_of_state state) };
+
+    ghost exact = { λ _. refl };
+
+    fn send<S: Serializer>(&self, out: &mut S) -> Result<(), S::Error> {
+        out.str(self.word())
+    }
+}
+
+/// The name's text.
+pub(crate) fn name_text(name: &Name) -> &str
+    ensures { result.now ≡ name.now }
+{
+    from_utf8(name.as_bytes()).unwrap()
+}
+
+fn measure_text(measure: &Measure) -> &str
+    ensures { result.now ≡ measure.now }
+{
+    from_utf8(measure.as_bytes()).unwrap()
+}

@@ -1,0 +1,116 @@
+//! The routes of the office.
+ghost use Rattle.std.specs.Prelude.{◌≡◌, IfOk};
+ghost use Rattle.toll_wire.specs.Routers.{IsOffice};
+ghost use Rattle.toll_wire.specs.Routers.{ask_of};
+
+use crate::routes::ask::Ask;
+use crate::routes::parts::Parts;
+use matchit::{InsertError, Router};
+use std::alloc::{AllocError, Global};
+use toll_protocol::Verb;
+
+/// A route: the pattern of its paths, which parts stand in them, and what each method asks for there,
+/// where it is served.
+#[derive(Clone, Copy)]
+pub struct Route {
+    pub pattern: &'static str,
+    pub parts: Parts,
+    pub get: Option<Ask>,
+    pub post: Option<Ask>,
+}
+
+impl Route {
+    /// What this method asks for at the route, where it is served.
+    pub fn ask(&self, verb: Verb) -> Option<Ask>
+        ensures { result ≡ ask_of verb self.now }
+    {
+        match verb {
+            Verb::Get => self.get,
+            Verb::Post => self.post,
+        }
+    }
+}
+
+/// The router of the office.
+pub fn router(alloc: Global) -> Result<Router<Route>, AllocError>
+    ensures { IfOk result IsOffice }
+{
+    let mut router = Router::new(alloc);
+    for route in &ROUTES {
+        if let Err(error) = router.insert(route.pattern, *route) {
+            prove!(matches!(&error, InsertError::OutOfMemory));
+            return Err(AllocError);
+        }
+    }
+    Ok(router)
+}
+
+// Every route of the office.
+static ROUTES: [Route; 11] = [
+    Route {
+        pattern: "/orders",
+        parts: Parts::Nothing,
+        get: Some(Ask::Orders),
+        post: Some(Ask::Place),
+    },
+    Route {
+        pattern: "/orders/{order}",
+        parts: Parts::Name,
+        get: Some(Ask::Order),
+        post: None,
+    },
+    Route {
+        pattern: "/orders/{order}/cancel",
+        parts: Parts::Name,
+        get: None,
+        post: Some(Ask::Cancel),
+    },
+    Route {
+        pattern: "/batches/{order}/{n}",
+        parts: Parts::NameAndNumber,
+        get: Some(Ask::Batch),
+        post: None,
+    },
+    Route {
+        pattern: "/stock",
+        parts: Parts::Nothing,
+        get: Some(Ask::Stock),
+        post: None,
+    },
+    Route {
+        pattern: "/lots/{lot}",
+        parts: Parts::Name,
+        get: Some(Ask::Lot),
+        post: None,
+    },
+    Route {
+        pattern: "/lots/{lot}/release",
+        parts: Parts::Name,
+        get: None,
+        post: Some(Ask::Release),
+    },
+    Route {
+        pattern: "/lots/{lot}/reject",
+        parts: Parts::Name,
+        get: None,
+        post: Some(Ask::Reject),
+    },
+    Route {
+        pattern: "/trace/back/{lot}",
+        parts: Parts::Name,
+        get: Some(Ask::Back),
+        post: None,
+    },
+    Route {
+        pattern: "/trace/forward/{lot}",
+        parts: Parts::Name,
+        get: Some(Ask::Forward),
+        post: None,
+    },
+    Route {
+        pattern: "/trace/house/{lot}",
+        parts: Parts::Name,
+        get: Some(Ask::HouseForward),
+        post: None,
+    },
+];
