@@ -9,8 +9,9 @@ use std::fmt::Display;
 use std::fs::{File, OpenOptions};
 use std::io::ErrorKind;
 use std::{env, io};
-use toll_plant::MOST_FILE_BYTES;
-use toll_programs::{FrontFault, Status, Task, read_front, task_of, tell_end, usage_of, warn};
+use toll_programs::{
+    FrontFault, MOST_FILE_BYTES, Status, Task, read_front, task_of, tell_end, usage_of, warn,
+};
 use toll_server::Served;
 use toll_service::{do_file, do_words};
 

@@ -3,10 +3,9 @@ use crate::office::place_of;
 use crate::sockets::Sockets;
 use crate::timed::Timed;
 use std::net::{TcpListener, TcpStream};
-use toll_protocol::write_whole;
+use toll_protocol::{ReadFault, read_request, write_whole};
 use toll_server::Served as Ended;
-use toll_service::{answer_once, serve_place};
-use toll_wire::{Out, ReadFault, read_request};
+use toll_service::{Out, answer_once, serve_place};
 
 /// What came of one connection.
 #[derive(Clone, Copy)]

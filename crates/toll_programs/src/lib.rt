@@ -35,4 +35,5 @@ pub use scripts::{ScriptEnd, script};
 pub use status::Status;
 pub use task::{MOST_CONNECTIONS, Task, task_of, usage_of};
 pub use telling::{numbered, tell, warn};
+pub use toll_plant::MOST_FILE_BYTES;
 pub use version::VERSION;

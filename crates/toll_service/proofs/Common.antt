@@ -6,10 +6,9 @@ pub use Rattle.std.specs.List.{AllByRecursion, list_any}
 pub use Rattle.toll_base.specs.Bytes.{Bytes}
 pub use Rattle.toll_desk.specs.declared.plant_cmd.PlantCmd.{PlantCmd}
 pub use Rattle.toll_desk.specs.declared.plant_cmd.PlantReply.{PlantReply}
-pub use Rattle.toll_history.specs.History.{History}
-pub use Rattle.toll_history.specs.Verdict.{IsLawful}
 pub use Rattle.toll_keep.specs.Content.{Content}
 pub use Rattle.toll_keep.specs.Meaning.{Meaning}
+pub use Rattle.toll_plant.specs.Common.{History, IsLawful}
 pub use Rattle.toll_plant.specs.ImportTexts.{import_text}
 pub use Rattle.toll_plant.specs.Imports.{AreNumbered, Comes, EndWith, HasValidValues, IsImport, commands_in, outcomes_in}
 pub use Rattle.toll_plant.specs.Outcomes.{is_fault, judged, outcome_of}

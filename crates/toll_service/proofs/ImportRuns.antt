@@ -1,10 +1,9 @@
 -- The records of a file that is imported are events of a run.
 use Rattle.std.proofs.Common.{◌≡◌, Bool, true, false, List, [], ◌∷◌, Option, Some, None, Ok, refl, sym, ap, subst, ◌∙◌}
 use Rattle.toll_service.proofs.Common.{MatchBool, AllByRecursion, PlantCmd, PlantReply, History, Comes, HasValidValues, IsImport, is_fault, judged, outcome_of, Outcome, AllShow, PlantShows, http, Answer, Event}
-use Rattle.toll_answers.specs.PlantAnswers.{Judged, IsPlantAnswer, after_plant}
+use Rattle.toll_plant.specs.Common.{Judged, IsPlantAnswer, after_plant, Verdict, Accepted, Repeated, Refused}
 use Rattle.toll_desk.specs.Asking.{asked_by, plant_told}
 use Rattle.toll_desk.specs.declared.plant_cmd.PlantReply.TheVariants as plant
-use Rattle.toll_history.specs.Verdict.{Verdict, Accepted, Repeated, Refused}
 use Rattle.toll_plant.specs.declared.outcome.Outcome.TheVariants as came
 use Rattle.toll_service.specs.Events.{AreNone, AreRecordEvents}
 use Rattle.toll_wire.specs.Runs.{Answered, AreValid, Happening, IsRun, IsStep, Plant, PlantFault, PlantTells}

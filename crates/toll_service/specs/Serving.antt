@@ -2,7 +2,7 @@
 use Rattle.std.specs.Prelude.{◌≡◌, ℕ, Bool, List, None}
 use Rattle.toll_service.specs.Common.{Bytes, Meaning, AreOwn, Runs, Turn, after_turns, no_tasks, Door, Progress, UnderWay, Answer, Event}
 use Rattle.toll_desk.specs.Reads.{Over}
-use Rattle.toll_history.specs.History.{History}
+use Rattle.toll_plant.specs.Common.{History}
 use Rattle.toll_keep.specs.Content.{Content}
 use Rattle.toll_service.specs.Doors.{IsServedIfRoom, WentOn}
 use Rattle.toll_service.specs.Events.{AreAllEventsOf}

@@ -39,5 +39,6 @@ pub use office_fault::OfficeFault;
 pub use place::{Opener, Place};
 pub use reply::Reply;
 pub use serving::{serve_keep, serve_place};
+pub use toll_wire::Out;
 pub use watch::{ServingFault, Watch};
 pub use words::{do_file, do_words};
