@@ -14,6 +14,7 @@ use Rattle.toll_base.proofs.KeyOrder.{row_at-put_row, none_of}
 use Rattle.toll_base.proofs.PutRules.{found_counted, count-le-length, count-put_row}
 use Rattle.toll_base.proofs.TakeBack.{count_removed}
 use Rattle.toll_base.proofs.Texts.{same_batch, same_bytes-exact, same_bytes-refl, nat_eq-exact, batch_cmp_total}
+use Rattle.toll_base.specs.declared.capacity.TheConstants.{MOST_MOVEMENTS}
 
 count_by : (b : Bool) (new : ActualCount) (old : Option ActualCount) → option_map_or (λ row. row.count) (cond b (Some new) old) 0 ≡ cond b new.count (option_map_or (λ row. row.count) old 0)
 count_by true new old = refl
@@ -112,7 +113,7 @@ module _ (moves : List MoveRow) (rows : List ActualCount) (counts : AreCountsOf 
       λ o n h. rw (counts o n) (found_counted bytes_cmp nat_list_cmp_total (λ row. row.key) (λ row. is_actual_of o n row.what) moves key known (sym is) h) in
       ((λ o n h. has_row rows o n (some o n h)), some)
 
-  pub few_counted : length moves ≤ 20000 → (o : Bytes) (n : ℕ) → count_of rows o n < 2 ^ 32
+  pub few_counted : length moves ≤ MOST_MOVEMENTS → (o : Bytes) (n : ℕ) → count_of rows o n < 2 ^ 32
   few_counted few o n = let most = count-le-length (λ row. is_actual_of o n row.what) moves in rw (counts o n) (omega arith)
 
   -- the counts after a movement was put are those of the movements then

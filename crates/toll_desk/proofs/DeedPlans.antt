@@ -15,6 +15,7 @@ use Rattle.toll_desk.specs.Subjects.{IsDeed, IsOwn, concerned, is_shared}
 use Rattle.toll_desk.proofs.Lift.{adds_neither, same_grown, leads_on, leads_shared, leads_nowhere, first_of_either}
 use Rattle.toll_desk.proofs.OwnerAdded.{leads_to_owner}
 use Rattle.toll_desk.proofs.UnitAdded.{leads_to_unit, unit_known_alike}
+use Rattle.toll_base.specs.declared.capacity.TheConstants.{MOST_OWNERS, MOST_UNITS}
 
 -- a command of an owner that is not known is refused
 unknown_refused : (H : History) (o : Bytes) (a : Action) → needs_owner a ≡ true → owner_known H o ≡ false → verdict H (by o a) ≡ Refused UnknownOwner
@@ -131,7 +132,7 @@ module _ (c : Content) (H : History) (stands : StandsFor c H) where
 
       owner_verdict : first_of (owner_row_checks c.owners row) ≡ verdict H adding
       unfolding checks
-      owner_verdict i = first_of ((standing_knows H c stands row.owner i, Some OwnerExists) ∷ (nat_le 64 (stands.owners.all i), Some LimitReached) ∷ [])
+      owner_verdict i = first_of ((standing_knows H c stands row.owner i, Some OwnerExists) ∷ (nat_le MOST_OWNERS (stands.owners.all i), Some LimitReached) ∷ [])
 
       pub decided_owner : (d : Decision) → IsDecided (owner_row_checks c.owners row) (Owner row ∷ []) d → IsPlantDecision c H (Does adding) d
       decided_owner = decided_by adding (owner_row_checks c.owners row) (Owner row) owner_verdict
@@ -145,8 +146,8 @@ module _ (c : Content) (H : History) (stands : StandsFor c H) where
       unit_verdict : first_of (unit_row_checks c.units row) ≡ verdict H adding_unit
       unfolding checks
       unit_verdict =
-          (λ i. first_of ((unit_known_alike c H stands row.unit i, Some UnitExists) ∷ (nat_le 200 (stands.units.all i), Some LimitReached) ∷ []))
-          ∙ sym (ap (λ known. first_of ((true && not known, Some UnknownOwner) ∷ (unit_known H row.unit, Some UnitExists) ∷ (nat_le 200 (count_units H), Some LimitReached) ∷ [])) (house_known H))
+          (λ i. first_of ((unit_known_alike c H stands row.unit i, Some UnitExists) ∷ (nat_le MOST_UNITS (stands.units.all i), Some LimitReached) ∷ []))
+          ∙ sym (ap (λ known. first_of ((true && not known, Some UnknownOwner) ∷ (unit_known H row.unit, Some UnitExists) ∷ (nat_le MOST_UNITS (count_units H), Some LimitReached) ∷ [])) (house_known H))
 
       pub decided_unit : (d : Decision) → IsDecided (unit_row_checks c.units row) (UnitAdded row ∷ []) d → IsPlantDecision c H (Does adding_unit) d
       decided_unit = decided_by adding_unit (unit_row_checks c.units row) (UnitAdded row) unit_verdict

@@ -10,6 +10,7 @@ use Rattle.toll_history.proofs.Lots.{sublot_lot}
 use Rattle.toll_history.proofs.Stock.{stock_bounded}
 use Rattle.toll_base.proofs.SliceFits.{empty_keeps}
 use Rattle.toll_desk.specs.Standing.{StandsFor}
+use Rattle.toll_base.specs.declared.capacity.TheConstants.{MOST_ACTUALS, MOST_LOTS, MOST_MATERIALS, MOST_MOVEMENTS, MOST_ORDERS, MOST_RECIPES, MOST_REQUIREMENTS, MOST_RESULTS, MOST_STOCK, MOST_SUBLOTS, MOST_TESTS}
 
 le_true : (n most : ℕ) → n ≤ most → nat_le n most ≡ true
 le_true n most le = grind (arith, nat_tests)
@@ -26,8 +27,8 @@ module _ (H : History) (lawful : IsLawful H) (o : Bytes) where
   lot_materials_given : (k : Bytes) → none_or (λ row. is_some (material_of (acts o H) row.material)) (lot_row H o k) ≡ true
   lot_materials_given k = each_made _ _ (lot_made H (lot_id o k)) (λ made is. lot_material H lawful (lot_id o k) made is)
 
-  amounts_given : (k : Bytes × Bytes) → none_or (λ row. nat_le row.amount 20000000000000) (sublot_row H o k) ≡ true
-  amounts_given k = each_where _ (sublot_known H (lot_id o k.0) k.1) _ (λ known. le_true (stock H (lot_id o k.0) k.1) 20000000000000 (stock_bounded H (lot_id o k.0) k.1 lawful))
+  amounts_given : (k : Bytes × Bytes) → none_or (λ row. nat_le row.amount MOST_STOCK) (sublot_row H o k) ≡ true
+  amounts_given k = each_where _ (sublot_known H (lot_id o k.0) k.1) _ (λ known. le_true (stock H (lot_id o k.0) k.1) MOST_STOCK (stock_bounded H (lot_id o k.0) k.1 lawful))
 
   sublot_lots_given : (k : Bytes × Bytes) → none_or (λ row. is_some (lot_row H o row.lot)) (sublot_row H o k) ≡ true
   sublot_lots_given k = each_where _ (sublot_known H (lot_id o k.0) k.1) _ (λ known. some_mapped _ (lot_made H (lot_id o k.0)) ∙ sublot_lot H (lot_id o k.0) k.1 lawful known)
@@ -36,18 +37,18 @@ pub rows_keep_rules : (H : History) (s : Slice) → IsLawful H → IsRowsOf H s 
 rows_keep_rules H s lawful rows =
     let limits = limits_kept H s.owner lawful in
     record {
-      materials = subst (λ (t : Tables). t.materials ≤ 200) (sym rows) limits.materials;
-      tests = subst (λ (t : Tables). t.tests ≤ 2000) (sym rows) limits.tests;
-      recipes = subst (λ (t : Tables). t.recipes ≤ 200) (sym rows) limits.recipes;
-      requirements = subst (λ (t : Tables). t.requirements ≤ 2000) (sym rows) limits.requirements;
-      orders = subst (λ (t : Tables). t.orders ≤ 2000) (sym rows) limits.orders;
-      lots = subst (λ (t : Tables). t.lots ≤ 5000) (sym rows) limits.lots;
-      sublots = subst (λ (t : Tables). t.sublots ≤ 20000) (sym rows) limits.sublots;
-      moves = subst (λ (t : Tables). t.movements ≤ 20000) (sym rows) limits.movements;
-      results = subst (λ (t : Tables). t.results ≤ 20000) (sym rows) limits.results;
-      actuals = λ order number. subst (λ (t : Tables). t.actuals order number ≤ 200) (sym rows) (limits.actuals order number);
+      materials = subst (λ (t : Tables). t.materials ≤ MOST_MATERIALS) (sym rows) limits.materials;
+      tests = subst (λ (t : Tables). t.tests ≤ MOST_TESTS) (sym rows) limits.tests;
+      recipes = subst (λ (t : Tables). t.recipes ≤ MOST_RECIPES) (sym rows) limits.recipes;
+      requirements = subst (λ (t : Tables). t.requirements ≤ MOST_REQUIREMENTS) (sym rows) limits.requirements;
+      orders = subst (λ (t : Tables). t.orders ≤ MOST_ORDERS) (sym rows) limits.orders;
+      lots = subst (λ (t : Tables). t.lots ≤ MOST_LOTS) (sym rows) limits.lots;
+      sublots = subst (λ (t : Tables). t.sublots ≤ MOST_SUBLOTS) (sym rows) limits.sublots;
+      moves = subst (λ (t : Tables). t.movements ≤ MOST_MOVEMENTS) (sym rows) limits.movements;
+      results = subst (λ (t : Tables). t.results ≤ MOST_RESULTS) (sym rows) limits.results;
+      actuals = λ order number. subst (λ (t : Tables). t.actuals order number ≤ MOST_ACTUALS) (sym rows) (limits.actuals order number);
       lot_materials = λ k. subst (λ (t : Tables). none_or (λ (row : LotRow). is_some (t.material row.material)) (t.lot k) ≡ true) (sym rows) (lot_materials_given H lawful s.owner k);
-      amounts = λ k. subst (λ (t : Tables). none_or (λ (row : SublotRow). nat_le row.amount 20000000000000) (t.sublot k) ≡ true) (sym rows) (amounts_given H lawful s.owner k);
+      amounts = λ k. subst (λ (t : Tables). none_or (λ (row : SublotRow). nat_le row.amount MOST_STOCK) (t.sublot k) ≡ true) (sym rows) (amounts_given H lawful s.owner k);
       sublot_lots = λ k. subst (λ (t : Tables). none_or (λ (row : SublotRow). is_some (t.lot row.lot)) (t.sublot k) ≡ true) (sym rows) (sublot_lots_given H lawful s.owner k);
     }
 

@@ -12,6 +12,7 @@ use Rattle.toll_history.specs.Laws.{IsWithinLimits}
 use Rattle.toll_history.proofs.Passed.{accepted_passes, MoveFits, move_fits}
 use Rattle.toll_history.proofs.Acts.{along_acts, count_acts}
 use Rattle.toll_history.proofs.Moving.{crosses_not, lot_row_none}
+use Rattle.toll_base.specs.declared.capacity.TheConstants.{MOST_ACTUALS, MOST_LOTS, MOST_MATERIALS, MOST_MOVEMENTS, MOST_ORDERS, MOST_OWNERS, MOST_RECIPES, MOST_REQUIREMENTS, MOST_RESULTS, MOST_TESTS, MOST_UNITS}
 
 one_more : (is : Bool) (limit n : ℕ) → n ≤ limit → (is ≡ true → nat_le limit n ≡ false) → cond is 1 0 + n ≤ limit
 one_more true limit n le room = let h = room refl in grind (arith, nat_tests)
@@ -25,59 +26,59 @@ module _ (is_kind : Action → Bool) (limit : ℕ) (o : Bytes) (room : (H : Hist
   limited H lawful = along_acts (λ own. count is_kind own ≤ limit) o (omega arith) (λ H a lawful valid accepted le. one_more (is_kind a) limit (count is_kind (acts o H)) le (room H a accepted)) H lawful
 
 module _ (o : Bytes) where
-  material_room : (H : History) (a : Action) → verdict H (by o a) ≡ Accepted → is_some (material_added a) ≡ true → nat_le 200 (count (λ a. is_some (material_added a)) (acts o H)) ≡ false
+  material_room : (H : History) (a : Action) → verdict H (by o a) ≡ Accepted → is_some (material_added a) ≡ true → nat_le MOST_MATERIALS (count (λ a. is_some (material_added a)) (acts o H)) ≡ false
   material_room H (AddMaterial row) accepted is = accepted_passes H o (AddMaterial row) accepted 1
   material_room H _ accepted is = absurd (false≢true is)
 
-  test_room : (H : History) (a : Action) → verdict H (by o a) ≡ Accepted → is_some (test_added a) ≡ true → nat_le 2000 (count (λ a. is_some (test_added a)) (acts o H)) ≡ false
+  test_room : (H : History) (a : Action) → verdict H (by o a) ≡ Accepted → is_some (test_added a) ≡ true → nat_le MOST_TESTS (count (λ a. is_some (test_added a)) (acts o H)) ≡ false
   test_room H (AddTest row) accepted is = accepted_passes H o (AddTest row) accepted 3
   test_room H _ accepted is = absurd (false≢true is)
 
-  recipe_room : (H : History) (a : Action) → verdict H (by o a) ≡ Accepted → is_some (recipe_added a) ≡ true → nat_le 200 (count (λ a. is_some (recipe_added a)) (acts o H)) ≡ false
+  recipe_room : (H : History) (a : Action) → verdict H (by o a) ≡ Accepted → is_some (recipe_added a) ≡ true → nat_le MOST_RECIPES (count (λ a. is_some (recipe_added a)) (acts o H)) ≡ false
   recipe_room H (AddRecipe row) accepted is = accepted_passes H o (AddRecipe row) accepted 1
   recipe_room H _ accepted is = absurd (false≢true is)
 
-  requirement_room : (H : History) (a : Action) → verdict H (by o a) ≡ Accepted → is_some (required a) ≡ true → nat_le 2000 (count (λ a. is_some (required a)) (acts o H)) ≡ false
+  requirement_room : (H : History) (a : Action) → verdict H (by o a) ≡ Accepted → is_some (required a) ≡ true → nat_le MOST_REQUIREMENTS (count (λ a. is_some (required a)) (acts o H)) ≡ false
   requirement_room H (Require row) accepted is = accepted_passes H o (Require row) accepted 6
   requirement_room H _ accepted is = absurd (false≢true is)
 
-  order_room : (H : History) (a : Action) → verdict H (by o a) ≡ Accepted → is_some (order_placed a) ≡ true → nat_le 2000 (count (λ a. is_some (order_placed a)) (acts o H)) ≡ false
+  order_room : (H : History) (a : Action) → verdict H (by o a) ≡ Accepted → is_some (order_placed a) ≡ true → nat_le MOST_ORDERS (count (λ a. is_some (order_placed a)) (acts o H)) ≡ false
   order_room H (PlaceOrder order recipe batches) accepted is = accepted_passes H o (PlaceOrder order recipe batches) accepted 3
   order_room H _ accepted is = absurd (false≢true is)
 
-  result_room : (H : History) (a : Action) → verdict H (by o a) ≡ Accepted → is_some (value_recorded a) ≡ true → nat_le 20000 (count (λ a. is_some (value_recorded a)) (acts o H)) ≡ false
+  result_room : (H : History) (a : Action) → verdict H (by o a) ≡ Accepted → is_some (value_recorded a) ≡ true → nat_le MOST_RESULTS (count (λ a. is_some (value_recorded a)) (acts o H)) ≡ false
   result_room H (RecordResult lot test value day) accepted is = accepted_passes H o (RecordResult lot test value day) accepted 3
   result_room H _ accepted is = absurd (false≢true is)
 
   -- ---- movements
 
-  move_room : (H : History) (what : Move) (amount : ℕ) → MoveFits H o what amount → nat_le 20000 (count_movements (acts o H)) ≡ false
-  move_room H (Receive material lot sublot) amount fits = (or_parts (nat_le 20000 (count_movements (acts o H))) _ (fits 4)).0
+  move_room : (H : History) (what : Move) (amount : ℕ) → MoveFits H o what amount → nat_le MOST_MOVEMENTS (count_movements (acts o H)) ≡ false
+  move_room H (Receive material lot sublot) amount fits = (or_parts (nat_le MOST_MOVEMENTS (count_movements (acts o H))) _ (fits 4)).0
   move_room H (Split lot sublot target) amount fits = fits 4
   move_room H (Ship lot sublot) amount fits = fits 4
   move_room H (Scrap lot sublot) amount fits = fits 3
-  move_room H (Actual order number segment Consumed material lot sublot) amount fits = (or_parts (nat_le 20000 (count_movements (acts o H))) _ (fits 12)).0
-  move_room H (Actual order number segment Produced material lot sublot) amount fits = (or_parts (nat_le 20000 (count_movements (acts o H))) _ (or_parts (nat_le 20000 (count_movements (acts o H)) || nat_le 200 (count_actuals_of (acts o H) order number)) _ (fits 10)).0).0
+  move_room H (Actual order number segment Consumed material lot sublot) amount fits = (or_parts (nat_le MOST_MOVEMENTS (count_movements (acts o H))) _ (fits 12)).0
+  move_room H (Actual order number segment Produced material lot sublot) amount fits = (or_parts (nat_le MOST_MOVEMENTS (count_movements (acts o H))) _ (or_parts (nat_le MOST_MOVEMENTS (count_movements (acts o H)) || nat_le MOST_ACTUALS (count_actuals_of (acts o H) order number)) _ (fits 10)).0).0
 
-  movement_room : (H : History) (a : Action) → verdict H (by o a) ≡ Accepted → is_some (movement_recorded a) ≡ true → nat_le 20000 (count (λ a. is_some (movement_recorded a)) (acts o H)) ≡ false
+  movement_room : (H : History) (a : Action) → verdict H (by o a) ≡ Accepted → is_some (movement_recorded a) ≡ true → nat_le MOST_MOVEMENTS (count (λ a. is_some (movement_recorded a)) (acts o H)) ≡ false
   movement_room H (Record row) accepted is = move_room H row.what row.amount (move_fits H o row accepted)
   movement_room H _ accepted is = absurd (false≢true is)
 
-  pub movements_kept : (H : History) → IsLawful H → count_movements (acts o H) ≤ 20000
-  movements_kept = limited (λ a. is_some (movement_recorded a)) 20000 o movement_room
+  pub movements_kept : (H : History) → IsLawful H → count_movements (acts o H) ≤ MOST_MOVEMENTS
+  movements_kept = limited (λ a. is_some (movement_recorded a)) MOST_MOVEMENTS o movement_room
 
-  batch_room : (H : History) (what : Move) (amount : ℕ) → MoveFits H o what amount → (order : Bytes) (number : ℕ) → is_actual_of order number what ≡ true → nat_le 200 (count_actuals_of (acts o H) order number) ≡ false
+  batch_room : (H : History) (what : Move) (amount : ℕ) → MoveFits H o what amount → (order : Bytes) (number : ℕ) → is_actual_of order number what ≡ true → nat_le MOST_ACTUALS (count_actuals_of (acts o H) order number) ≡ false
   batch_room H (Actual order' number' segment Consumed material lot sublot) amount fits order number is =
       let parts = both (same_bytes order order') (number == number') is in
-      ap (λ (k : Bytes × ℕ). nat_le 200 (count_actuals_of (acts o H) k.0 k.1)) (λ i. (same_bytes-exact order order' parts.0 i, nat_eq-exact number number' parts.1 i))
-      ∙ (or_parts (nat_le 20000 (count_movements (acts o H))) (nat_le 200 (count_actuals_of (acts o H) order' number')) (fits 12)).1
+      ap (λ (k : Bytes × ℕ). nat_le MOST_ACTUALS (count_actuals_of (acts o H) k.0 k.1)) (λ i. (same_bytes-exact order order' parts.0 i, nat_eq-exact number number' parts.1 i))
+      ∙ (or_parts (nat_le MOST_MOVEMENTS (count_movements (acts o H))) (nat_le MOST_ACTUALS (count_actuals_of (acts o H) order' number')) (fits 12)).1
   batch_room H (Actual order' number' segment Produced material lot sublot) amount fits order number is =
       let parts = both (same_bytes order order') (number == number') is in
-      ap (λ (k : Bytes × ℕ). nat_le 200 (count_actuals_of (acts o H) k.0 k.1)) (λ i. (same_bytes-exact order order' parts.0 i, nat_eq-exact number number' parts.1 i))
-      ∙ (or_parts (nat_le 20000 (count_movements (acts o H))) (nat_le 200 (count_actuals_of (acts o H) order' number')) (or_parts (nat_le 20000 (count_movements (acts o H)) || nat_le 200 (count_actuals_of (acts o H) order' number')) _ (fits 10)).0).1
+      ap (λ (k : Bytes × ℕ). nat_le MOST_ACTUALS (count_actuals_of (acts o H) k.0 k.1)) (λ i. (same_bytes-exact order order' parts.0 i, nat_eq-exact number number' parts.1 i))
+      ∙ (or_parts (nat_le MOST_MOVEMENTS (count_movements (acts o H))) (nat_le MOST_ACTUALS (count_actuals_of (acts o H) order' number')) (or_parts (nat_le MOST_MOVEMENTS (count_movements (acts o H)) || nat_le MOST_ACTUALS (count_actuals_of (acts o H) order' number')) _ (fits 10)).0).1
   batch_room H _ amount fits order number is = absurd (false≢true is)
 
-  actual_room : (order : Bytes) (number : ℕ) (H : History) (a : Action) → verdict H (by o a) ≡ Accepted → is_some_where (λ row. is_actual_of order number row.what) (movement_recorded a) ≡ true → nat_le 200 (count_actuals_of (acts o H) order number) ≡ false
+  actual_room : (order : Bytes) (number : ℕ) (H : History) (a : Action) → verdict H (by o a) ≡ Accepted → is_some_where (λ row. is_actual_of order number row.what) (movement_recorded a) ≡ true → nat_le MOST_ACTUALS (count_actuals_of (acts o H) order number) ≡ false
   actual_room order number H (Record row) accepted is = batch_room H row.what row.amount (move_fits H o row accepted) order number is
   actual_room order number H _ accepted is = absurd (false≢true is)
 
@@ -89,19 +90,19 @@ module _ (is_kind : Action → Bool) (limit : ℕ) (room : (H : History) (o : By
   limited_for_all [] lawful = omega arith
   limited_for_all (c ∷ H) lawful = one_more (is_kind c.action) limit (count (λ c. is_kind c.action) H) (limited_for_all H lawful.0) (room H c.owner c.action lawful.2)
 
-owner_room : (H : History) (o : Bytes) (a : Action) → verdict H (by o a) ≡ Accepted → adds_owner a ≡ true → nat_le 64 (count_owners H) ≡ false
+owner_room : (H : History) (o : Bytes) (a : Action) → verdict H (by o a) ≡ Accepted → adds_owner a ≡ true → nat_le MOST_OWNERS (count_owners H) ≡ false
 owner_room H o (AddOwner key) accepted is = accepted_passes H o (AddOwner key) accepted 1
 owner_room H o _ accepted is = absurd (false≢true is)
 
-pub owners_kept : (H : History) → IsLawful H → count_owners H ≤ 64
-owners_kept = limited_for_all adds_owner 64 owner_room
+pub owners_kept : (H : History) → IsLawful H → count_owners H ≤ MOST_OWNERS
+owners_kept = limited_for_all adds_owner MOST_OWNERS owner_room
 
-unit_room : (H : History) (o : Bytes) (a : Action) → verdict H (by o a) ≡ Accepted → adds_some_unit a ≡ true → nat_le 200 (count_units H) ≡ false
+unit_room : (H : History) (o : Bytes) (a : Action) → verdict H (by o a) ≡ Accepted → adds_some_unit a ≡ true → nat_le MOST_UNITS (count_units H) ≡ false
 unit_room H o (AddUnit unit) accepted is = accepted_passes H o (AddUnit unit) accepted 1
 unit_room H o _ accepted is = absurd (false≢true is)
 
-pub units_kept : (H : History) → IsLawful H → count_units H ≤ 200
-units_kept = limited_for_all adds_some_unit 200 unit_room
+pub units_kept : (H : History) → IsLawful H → count_units H ≤ MOST_UNITS
+units_kept = limited_for_all adds_some_unit MOST_UNITS unit_room
 
 -- ---- lots and sublots
 
@@ -111,7 +112,7 @@ full_of true none full is h = absurd (false≢true (sym h))
 full_of false true full is h = h
 full_of false false full is h = absurd (false≢true is)
 
-lot_room : (H : History) (o : Bytes) (what : Move) (amount : ℕ) → MoveFits H o what amount → makes_lot o what (movements H) ≡ true → nat_le 5000 (count_lots H o) ≡ false
+lot_room : (H : History) (o : Bytes) (what : Move) (amount : ℕ) → MoveFits H o what amount → makes_lot o what (movements H) ≡ true → nat_le MOST_LOTS (count_lots H o) ≡ false
 unfolding lot_made
 lot_room H o (Receive material lot sublot) amount fits makes = full_of _ (is_none (lot_row H o lot)) _ (lot_row_none H o lot ∙ makes) (fits 4)
 lot_room H o (Actual order number segment Produced material lot sublot) amount fits makes =
@@ -119,14 +120,14 @@ lot_room H o (Actual order number segment Produced material lot sublot) amount f
     full_of _ (is_none (lot_row H o lot.lot)) _ (lot_row_none H o lot.lot ∙ ap (λ w. is_none (first_made (lot_id w lot.lot) (movements H))) (sym mine) ∙ makes) (fits 10)
 lot_room H o _ amount fits makes = absurd (false≢true makes)
 
-lot_step : (H : History) (w o : Bytes) (a : Action) → verdict H (by w a) ≡ Accepted → count_lots H o ≤ 5000 → count_lots (by w a ∷ H) o ≤ 5000
+lot_step : (H : History) (w o : Bytes) (a : Action) → verdict H (by w a) ≡ Accepted → count_lots H o ≤ MOST_LOTS → count_lots (by w a ∷ H) o ≤ MOST_LOTS
 unfolding count_lots
 lot_step H w o (Record row) accepted le =
-    one_more (same_bytes o w && makes_lot w row.what (movements H)) 5000 (count_lots H o) le
-    (λ is. let parts = both (same_bytes o w) _ is in ap (λ x. nat_le 5000 (count_lots H x)) (same_bytes-exact o w parts.0) ∙ lot_room H w row.what row.amount (move_fits H w row accepted) parts.1)
+    one_more (same_bytes o w && makes_lot w row.what (movements H)) MOST_LOTS (count_lots H o) le
+    (λ is. let parts = both (same_bytes o w) _ is in ap (λ x. nat_le MOST_LOTS (count_lots H x)) (same_bytes-exact o w parts.0) ∙ lot_room H w row.what row.amount (move_fits H w row accepted) parts.1)
 lot_step H w o a accepted le = le
 
-pub lots_kept : (H : History) (o : Bytes) → IsLawful H → count_lots H o ≤ 5000
+pub lots_kept : (H : History) (o : Bytes) → IsLawful H → count_lots H o ≤ MOST_LOTS
 unfolding count_lots
 lots_kept [] o lawful = omega arith
 lots_kept (c ∷ H) o lawful = lot_step H c.owner o c.action lawful.2 (lots_kept H o lawful.0)
@@ -152,14 +153,14 @@ sublots_of_moves (c ∷ H) o = sublot_step H c.owner o c.action (sublots_of_move
 
 pub limits_kept : (H : History) (o : Bytes) → IsLawful H → IsWithinLimits H o
 limits_kept H o lawful = record {
-  materials = limited (λ a. is_some (material_added a)) 200 o (material_room o) H lawful;
-  tests = limited (λ a. is_some (test_added a)) 2000 o (test_room o) H lawful;
-  recipes = limited (λ a. is_some (recipe_added a)) 200 o (recipe_room o) H lawful;
-  requirements = limited (λ a. is_some (required a)) 2000 o (requirement_room o) H lawful;
-  orders = limited (λ a. is_some (order_placed a)) 2000 o (order_room o) H lawful;
+  materials = limited (λ a. is_some (material_added a)) MOST_MATERIALS o (material_room o) H lawful;
+  tests = limited (λ a. is_some (test_added a)) MOST_TESTS o (test_room o) H lawful;
+  recipes = limited (λ a. is_some (recipe_added a)) MOST_RECIPES o (recipe_room o) H lawful;
+  requirements = limited (λ a. is_some (required a)) MOST_REQUIREMENTS o (requirement_room o) H lawful;
+  orders = limited (λ a. is_some (order_placed a)) MOST_ORDERS o (order_room o) H lawful;
   lots = lots_kept H o lawful;
   sublots = let le = sublots_of_moves H o in let most = movements_kept o H lawful in omega arith;
   movements = movements_kept o H lawful;
-  results = limited (λ a. is_some (value_recorded a)) 20000 o (result_room o) H lawful;
-  actuals = λ order number. limited (λ a. is_some_where (λ row. is_actual_of order number row.what) (movement_recorded a)) 200 o (actual_room o order number) H lawful;
+  results = limited (λ a. is_some (value_recorded a)) MOST_RESULTS o (result_room o) H lawful;
+  actuals = λ order number. limited (λ a. is_some_where (λ row. is_actual_of order number row.what) (movement_recorded a)) MOST_ACTUALS o (actual_room o order number) H lawful;
 }

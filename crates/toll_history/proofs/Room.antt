@@ -15,6 +15,7 @@ use Rattle.toll_history.proofs.Moving.{held_is}
 use Rattle.toll_base.proofs.PutRules.{put_there, still_there}
 use Rattle.toll_history.proofs.Stock.{stock_bounded}
 use Rattle.toll_history.proofs.StockChanges.{stock-recorded}
+use Rattle.toll_base.specs.declared.capacity.TheConstants.{MOST_LOTS, MOST_MOVEMENTS, MOST_STOCK, MOST_SUBLOTS}
 
 -- ---- checks
 
@@ -30,18 +31,18 @@ unbounded (check ∷ checks) bounds none =
 two_pass : (a b : Bool) (x y : Option Refusal) → a ≡ false → b ≡ false → first_of ((a, x) ∷ (b, y) ∷ []) ≡ Accepted
 two_pass a b x y ha hb = (λ i. cond (ha i) (stopped x) (cond (hb i) (stopped y) Accepted))
 
-not_full : (unknown : Bool) (n m : ℕ) → n ≤ m → nat_le 20000 m ≡ false → (unknown && nat_le 20000 n) ≡ false
+not_full : (unknown : Bool) (n m : ℕ) → n ≤ m → nat_le MOST_SUBLOTS m ≡ false → (unknown && nat_le MOST_SUBLOTS n) ≡ false
 not_full true n m le room = grind (arith, nat_tests)
 not_full false n m le room = refl
 
 not_over : (n most : ℕ) → n ≤ most → nat_lt most n ≡ false
 not_over n most le = grind (arith, nat_tests)
 
-more_in : (n m amount after : ℕ) → n ≡ m → after ≡ m + amount - 0 → after ≤ 20000000000000 → n + amount ≤ 20000000000000
+more_in : (n m amount after : ℕ) → n ≡ m → after ≡ m + amount - 0 → after ≤ MOST_STOCK → n + amount ≤ MOST_STOCK
 more_in n m amount after e is le = omega arith
 
 -- after an accepted movement into a sublot of the owner there was room for it
-module _ (H : History) (o : Bytes) (row : MoveRow) (lawful : IsLawful H) (valid : IsValid (Record row)) (accepted : verdict H (by o (Record row)) ≡ Accepted) (room : nat_le 20000 (count_movements (acts o H)) ≡ false) (lot sub : Bytes) (brings : brings_into (lot_id o lot) sub o row.what ≡ true) (takes : takes_from (lot_id o lot) sub o row.what ≡ false) where
+module _ (H : History) (o : Bytes) (row : MoveRow) (lawful : IsLawful H) (valid : IsValid (Record row)) (accepted : verdict H (by o (Record row)) ≡ Accepted) (room : nat_le MOST_MOVEMENTS (count_movements (acts o H)) ≡ false) (lot sub : Bytes) (brings : brings_into (lot_id o lot) sub o row.what ≡ true) (takes : takes_from (lot_id o lot) sub o row.what ≡ false) where
   after_stock : stock (by o (Record row) ∷ H) (lot_id o lot) sub ≡ stock H (lot_id o lot) sub + row.amount - 0
   after_stock = stock-recorded H o row (lot_id o lot) sub lawful ∙ (λ i. stock H (lot_id o lot) sub + cond (brings i) row.amount 0 - cond (takes i) row.amount 0)
 
@@ -49,7 +50,7 @@ module _ (H : History) (o : Bytes) (row : MoveRow) (lawful : IsLawful H) (valid 
   sublot_room =
       two_pass _ _ (Some LimitReached) (Some LimitReached)
       (not_full (is_none (sublot_row H o (lot, sub))) (count_sublots H o) (count_movements (acts o H)) (sublots_of_moves H o) room)
-      (not_over (amount_in (tables_given H o) lot sub + row.amount) 20000000000000
+      (not_over (amount_in (tables_given H o) lot sub + row.amount) MOST_STOCK
       (more_in (amount_in (tables_given H o) lot sub) (stock H (lot_id o lot) sub) row.amount (stock (by o (Record row) ∷ H) (lot_id o lot) sub)
       (held_is H o lot sub) after_stock (stock_bounded (by o (Record row) ∷ H) (lot_id o lot) sub (lawful, valid, accepted))))
 
@@ -64,64 +65,64 @@ at_most : (n most : ℕ) → nat_lt most n ≡ false → nat_le n most ≡ true
 at_most n most h = grind (arith, nat_tests)
 
 module _ (s : Slice) where
-  pub move_room : (row : MoveRow) → nat_le 20000 (length s.moves) ≡ false → batch_has_room s row.key row.what ≡ true → row_fits s (Move row) ≡ true
-  move_room row room batch = and_is _ _ (or_right (is_some (move_at s row.key)) _ (less_of 20000 (length s.moves) room)) batch
+  pub move_room : (row : MoveRow) → nat_le MOST_MOVEMENTS (length s.moves) ≡ false → batch_has_room s row.key row.what ≡ true → row_fits s (Move row) ≡ true
+  move_room row room batch = and_is _ _ (or_right (is_some (move_at s row.key)) _ (less_of MOST_MOVEMENTS (length s.moves) room)) batch
 
-  pub lot_room : (row : LotRow) → (is_none (lot_at s row.lot) && nat_le 5000 (length s.lots)) ≡ false → is_none (material_at s row.material) ≡ false → row_fits s (Lot row) ≡ true
-  lot_room row room material = and_is _ _ (room_of (lot_at s row.lot) 5000 (length s.lots) room) (some_of (material_at s row.material) material)
+  pub lot_room : (row : LotRow) → (is_none (lot_at s row.lot) && nat_le MOST_LOTS (length s.lots)) ≡ false → is_none (material_at s row.material) ≡ false → row_fits s (Lot row) ≡ true
+  lot_room row room material = and_is _ _ (room_of (lot_at s row.lot) MOST_LOTS (length s.lots) room) (some_of (material_at s row.material) material)
 
-  pub sublot_room_in : (row : SublotRow) → (is_none (sublot_at s (row.lot, row.sublot)) && nat_le 20000 (length s.sublots)) ≡ false → nat_lt 20000000000000 row.amount ≡ false → is_some (lot_at s row.lot) ≡ true → row_fits s (Sublot row) ≡ true
-  sublot_room_in row room amount lot = and_is _ _ (and_is _ _ (room_of (sublot_at s (row.lot, row.sublot)) 20000 (length s.sublots) room) (at_most row.amount 20000000000000 amount)) lot
+  pub sublot_room_in : (row : SublotRow) → (is_none (sublot_at s (row.lot, row.sublot)) && nat_le MOST_SUBLOTS (length s.sublots)) ≡ false → nat_lt MOST_STOCK row.amount ≡ false → is_some (lot_at s row.lot) ≡ true → row_fits s (Sublot row) ≡ true
+  sublot_room_in row room amount lot = and_is _ _ (and_is _ _ (room_of (sublot_at s (row.lot, row.sublot)) MOST_SUBLOTS (length s.sublots) room) (at_most row.amount MOST_STOCK amount)) lot
 
   -- the rows of a movement into a sublot fit
   pub came_fit : (row : MoveRow) (lot : LotRow) (sublot : SublotRow) → sublot.lot ≡ lot.lot →
-      nat_le 20000 (length s.moves) ≡ false → batch_has_room s row.key row.what ≡ true →
-      (is_none (lot_at s lot.lot) && nat_le 5000 (length s.lots)) ≡ false → is_none (material_at s lot.material) ≡ false →
-      (is_none (sublot_at s (sublot.lot, sublot.sublot)) && nat_le 20000 (length s.sublots)) ≡ false → nat_lt 20000000000000 sublot.amount ≡ false →
+      nat_le MOST_MOVEMENTS (length s.moves) ≡ false → batch_has_room s row.key row.what ≡ true →
+      (is_none (lot_at s lot.lot) && nat_le MOST_LOTS (length s.lots)) ≡ false → is_none (material_at s lot.material) ≡ false →
+      (is_none (sublot_at s (sublot.lot, sublot.sublot)) && nat_le MOST_SUBLOTS (length s.sublots)) ≡ false → nat_lt MOST_STOCK sublot.amount ≡ false →
       RowsFit (Move row ∷ Lot lot ∷ Sublot sublot ∷ []) s
   came_fit row lot sublot same moves batch lots material sublots amount =
       (move_room row moves batch, (lot_room_after, (sublot_room_after, tt)))
     where
       lot_room_after : row_fits (with_row s (Move row)) (Lot lot) ≡ true
-      lot_room_after = and_is _ _ (room_of (lot_at s lot.lot) 5000 (length s.lots) lots) (some_of (material_at s lot.material) material)
+      lot_room_after = and_is _ _ (room_of (lot_at s lot.lot) MOST_LOTS (length s.lots) lots) (some_of (material_at s lot.material) material)
 
       sublot_room_after : row_fits (with_row (with_row s (Move row)) (Lot lot)) (Sublot sublot) ≡ true
       sublot_room_after =
-          and_is _ _ (and_is _ _ (room_of (sublot_at s (sublot.lot, sublot.sublot)) 20000 (length s.sublots) sublots) (at_most sublot.amount 20000000000000 amount))
+          and_is _ _ (and_is _ _ (room_of (sublot_at s (sublot.lot, sublot.sublot)) MOST_SUBLOTS (length s.sublots) sublots) (at_most sublot.amount MOST_STOCK amount))
           (ap (λ k. is_some (lot_at (with_row (with_row s (Move row)) (Lot lot)) k)) same ∙ ap is_some (put_there bytes_cmp nat_list_cmp_total (λ r. r.lot) s.lots lot))
 
-  less_over : (n amount : ℕ) → n ≤ 20000000000000 → nat_lt 20000000000000 (n - amount) ≡ false
-  less_over n amount le = not_over (n - amount) 20000000000000 (let l = le in omega arith)
+  less_over : (n amount : ℕ) → n ≤ MOST_STOCK → nat_lt MOST_STOCK (n - amount) ≡ false
+  less_over n amount le = not_over (n - amount) MOST_STOCK (let l = le in omega arith)
 
-  held_bound : KeepsRules s → (lot sub : Bytes) → amount_in (tables_of s) lot sub ≤ 20000000000000
+  held_bound : KeepsRules s → (lot sub : Bytes) → amount_in (tables_of s) lot sub ≤ MOST_STOCK
   held_bound keeps lot sub =
-      elim (sublot_at s (lot, sub)) as (λ x. sublot_at s (lot, sub) ≡ x → option_map_or (λ (row : SublotRow). row.amount) x 0 ≤ 20000000000000) [
+      elim (sublot_at s (lot, sub)) as (λ x. sublot_at s (lot, sub) ≡ x → option_map_or (λ (row : SublotRow). row.amount) x 0 ≤ MOST_STOCK) [
         | None ↦ λ none. omega arith
         | Some row ↦ λ found. amount_bound s keeps (lot, sub) row found
       ] refl
 
   -- the rows of a movement from a known sublot fit
   pub went_fit : (row : MoveRow) (lot sub : Bytes) (amount : ℕ) → KeepsRules s →
-      nat_le 20000 (length s.moves) ≡ false → batch_has_room s row.key row.what ≡ true →
+      nat_le MOST_MOVEMENTS (length s.moves) ≡ false → batch_has_room s row.key row.what ≡ true →
       is_none (lot_at s lot) ≡ false → is_none (sublot_at s (lot, sub)) ≡ false →
       RowsFit (Move row ∷ Sublot (record { lot = lot; sublot = sub; amount = amount_in (tables_of s) lot sub - amount }) ∷ []) s
   went_fit row lot sub amount keeps moves batch lot_there sub_there =
-      (move_room row moves batch, (and_is _ _ (and_is _ _ (or_left _ _ (some_of (sublot_at s (lot, sub)) sub_there)) (at_most _ 20000000000000 (less_over (amount_in (tables_of s) lot sub) amount (held_bound keeps lot sub)))) (some_of (lot_at s lot) lot_there), tt))
+      (move_room row moves batch, (and_is _ _ (and_is _ _ (or_left _ _ (some_of (sublot_at s (lot, sub)) sub_there)) (at_most _ MOST_STOCK (less_over (amount_in (tables_of s) lot sub) amount (held_bound keeps lot sub)))) (some_of (lot_at s lot) lot_there), tt))
 
   -- the rows of a movement from a known sublot to another one of its lot fit
   pub went_over_fit : (row : MoveRow) (lot sub target : Bytes) (more less : ℕ) → KeepsRules s →
-      nat_le 20000 (length s.moves) ≡ false → batch_has_room s row.key row.what ≡ true →
+      nat_le MOST_MOVEMENTS (length s.moves) ≡ false → batch_has_room s row.key row.what ≡ true →
       is_none (lot_at s lot) ≡ false → is_none (sublot_at s (lot, sub)) ≡ false →
-      (is_none (sublot_at s (lot, target)) && nat_le 20000 (length s.sublots)) ≡ false → nat_lt 20000000000000 more ≡ false →
+      (is_none (sublot_at s (lot, target)) && nat_le MOST_SUBLOTS (length s.sublots)) ≡ false → nat_lt MOST_STOCK more ≡ false →
       RowsFit (Move row ∷ Sublot (record { lot = lot; sublot = target; amount = more }) ∷ Sublot (record { lot = lot; sublot = sub; amount = amount_in (tables_of s) lot sub - less }) ∷ []) s
   went_over_fit row lot sub target more less keeps moves batch lot_there sub_there room small = (
     move_room row moves batch,
     (
-      and_is _ _ (and_is _ _ (room_of (sublot_at s (lot, target)) 20000 (length s.sublots) room) (at_most more 20000000000000 small)) (some_of (lot_at s lot) lot_there),
+      and_is _ _ (and_is _ _ (room_of (sublot_at s (lot, target)) MOST_SUBLOTS (length s.sublots) room) (at_most more MOST_STOCK small)) (some_of (lot_at s lot) lot_there),
       (
         and_is _ _
             (and_is _ _ (or_left _ _ (still_there pair_cmp pair_cmp_total (λ r. (r.lot, r.sublot)) s.sublots (record { lot = lot; sublot = target; amount = more }) (lot, sub) (some_of (sublot_at s (lot, sub)) sub_there)))
-            (at_most _ 20000000000000 (less_over (amount_in (tables_of s) lot sub) less (held_bound keeps lot sub))))
+            (at_most _ MOST_STOCK (less_over (amount_in (tables_of s) lot sub) less (held_bound keeps lot sub))))
             (some_of (lot_at s lot) lot_there),
         tt,
       ),
@@ -131,4 +132,4 @@ module _ (s : Slice) where
   -- a known sublot with less in it fits
   pub less_fit : (lot sub : Bytes) (amount : ℕ) → KeepsRules s → is_none (lot_at s lot) ≡ false → is_none (sublot_at s (lot, sub)) ≡ false → row_fits s (Sublot (record { lot = lot; sublot = sub; amount = amount_in (tables_of s) lot sub - amount })) ≡ true
   less_fit lot sub amount keeps lot_there sub_there =
-      and_is _ _ (and_is _ _ (or_left _ _ (some_of (sublot_at s (lot, sub)) sub_there)) (at_most _ 20000000000000 (less_over (amount_in (tables_of s) lot sub) amount (held_bound keeps lot sub)))) (some_of (lot_at s lot) lot_there)
+      and_is _ _ (and_is _ _ (or_left _ _ (some_of (sublot_at s (lot, sub)) sub_there)) (at_most _ MOST_STOCK (less_over (amount_in (tables_of s) lot sub) amount (held_bound keeps lot sub)))) (some_of (lot_at s lot) lot_there)

@@ -11,6 +11,7 @@ use Rattle.toll_history.proofs.LimitsKept.{movements_kept}
 use Rattle.toll_history.proofs.StandsOnce.{total_voided}
 use Rattle.toll_history.proofs.Owned.{found_brings_own}
 use Rattle.toll_history.proofs.Moving.{brings_own, takes_enough, brought-voided, Voidable, void_passes, void_leaves}
+use Rattle.toll_base.specs.declared.capacity.TheConstants.{MOST_STOCK}
 
 -- ---- no more is taken than was brought
 
@@ -74,6 +75,6 @@ unfolding acts
 bounded [] id sub lawful = omega arith
 bounded (c ∷ H) id sub lawful = bounded_step H c.owner c.action lawful.1 lawful.2 id sub (bounded H id sub lawful.0)
 
-pub stock_bounded : (H : History) (id : LotId) (sub : Bytes) → IsLawful H → stock H id sub ≤ 20000000000000
+pub stock_bounded : (H : History) (id : LotId) (sub : Bytes) → IsLawful H → stock H id sub ≤ MOST_STOCK
 unfolding stock
 stock_bounded H id sub lawful = let came = bounded H id sub lawful in let moves = movements_kept id.owner H lawful in omega arith

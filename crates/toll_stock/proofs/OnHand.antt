@@ -4,6 +4,7 @@ use Rattle.toll_stock.proofs.Common.{leb-true, option_map, Bytes, same_bytes, pa
 use Rattle.toll_stock.specs.LotTotals.{on_hand_in}
 use Rattle.toll_stock.proofs.ShippedLots.{amount_small}
 use Rattle.toll_stock.proofs.Sums.{along, each_found, total_bounded}
+use Rattle.toll_base.specs.declared.capacity.TheConstants.{MOST_STOCK}
 
 map_where : {X Y : Type 0} (f : X → Y) (b : Bool) (x : X) → option_map f (where_so b x) ≡ where_so b (f x)
 map_where f true x = refl
@@ -18,9 +19,9 @@ stock_at H s there lot sublot =
 -- what is in the sublots of a lot fits 64 bits
 pub on_hand_small : (s : Slice) → KeepsRules s → IsInKeyOrder pair_cmp (λ row. (row.lot, row.sublot)) s.sublots → (lot : Bytes) → on_hand_in s lot < 2 ^ 64
 on_hand_small s keeps ordered lot =
-    let sum = total_bounded (λ row. cond (same_bytes row.lot lot) row.amount 0) 20000000000000 s.sublots
-    (along _ _ (λ row found. amount_small (same_bytes row.lot lot) row.amount 20000000000000
-    (leb-true row.amount 20000000000000 (ap (none_or (λ (r : SublotRow). nat_le r.amount 20000000000000)) (sym found) ∙ keeps.amounts (row.lot, row.sublot))))
+    let sum = total_bounded (λ row. cond (same_bytes row.lot lot) row.amount 0) MOST_STOCK s.sublots
+    (along _ _ (λ row found. amount_small (same_bytes row.lot lot) row.amount MOST_STOCK
+    (leb-true row.amount MOST_STOCK (ap (none_or (λ (r : SublotRow). nat_le r.amount MOST_STOCK)) (sym found) ∙ keeps.amounts (row.lot, row.sublot))))
     s.sublots (each_found pair_cmp pair_cmp_total (λ row. (row.lot, row.sublot)) s.sublots ordered)) in
     let rows = keeps.sublots in
     omega arith

@@ -5,6 +5,7 @@ use Rattle.std.proofs.lemmas.Bool.Decides.{nat_tests}
 use Rattle.toll_base.proofs.SliceFits.{fits_exact}
 use Rattle.toll_stock.specs.LotRows.{given_disposition, disposition_after, result_rows}
 use Rattle.toll_stock.proofs.LotLaw.{with_lot, disposed, in_slice, rows_fit, row_by, IsMade, known_made, lots_after, found_lot}
+use Rattle.toll_base.specs.declared.capacity.TheConstants.{MOST_RESULTS}
 
 -- ---- keys of results
 
@@ -170,5 +171,5 @@ module _ (own : Slice) (lot test : Bytes) (value : ℤ) (day : ℕ) (d : Decisio
       keeps_rules own (result_rows lot test value day (tables_of own)) d _ decided keeps
       (λ accepted.
       let row : ResultRow = record { lot = lot; test = test; number = count_results_in own lot test + 1; value = value; day = day } in
-      let fit : row_fits own (Result row) ≡ true = or_right _ _ (less_of 20000 (length own.results) (none_applies (result_checks (tables_of own) lot test) accepted 3)) in
+      let fit : row_fits own (Result row) ≡ true = or_right _ _ (less_of MOST_RESULTS (length own.results) (none_applies (result_checks (tables_of own) lot test) accepted 3)) in
       (fit, rows_fit (with_row own (Result row)) lot (disposition_after (tables_of own) test value) (lot_at own lot) ((fits_exact own (Result row) keeps).0 fit) refl))

@@ -7,6 +7,7 @@ use Rattle.toll_history.proofs.Adding.{adding_decided, adding_keeps}
 use Rattle.toll_history.proofs.OpenTests.{is_used}
 use Rattle.toll_stock.proofs.LotLaw.{disposed, row_by}
 use Rattle.toll_stock.proofs.Mapped.{mapped_alike}
+use Rattle.toll_base.specs.declared.capacity.TheConstants.{MOST_TESTS}
 
 -- tables with one test more
 abbrev with_test : TestRow → Tables → Tables
@@ -52,4 +53,4 @@ module _ (own : Slice) (row : TestRow) (d : Decision) (decided : IsDecided (test
       own d _ decided (λ H. refl)
 
   pub test_keeps : KeepsRules own → DecisionKeepsRules own d
-  test_keeps = adding_keeps own (Test row) d _ decided (λ accepted. or_right _ _ (less_of 2000 (length own.tests) (none_applies (test_checks (tables_of own) row) accepted 3)))
+  test_keeps = adding_keeps own (Test row) d _ decided (λ accepted. or_right _ _ (less_of MOST_TESTS (length own.tests) (none_applies (test_checks (tables_of own) row) accepted 3)))

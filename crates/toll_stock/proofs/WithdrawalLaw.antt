@@ -3,13 +3,14 @@ use Rattle.std.proofs.Common.{◌≡◌, ℕ, ◌-◌, true, false, nat_le, is_n
 use Rattle.toll_stock.proofs.Common.{Bytes, Record, by, History, Slice, KeepsRules, batch_has_room, Tables, tables_of, tables_given, IsDecided, Decides, DecisionKeepsRules, Accepted, Checks, first_of, key_checks, movement_checks, ship_checks, scrap_checks, amount_in, verdict, Put, Decision, MoveRow, Ship, Scrap, Sublot, Move, none_applies, rest_accept, verdict_is, decides, keeps_rules, checks_accept, went_fit}
 use Rattle.toll_base.specs.Values.{house_name}
 use Rattle.toll_stock.proofs.Withdrawn.{Withdraws, left, rows, leaves, grows}
+use Rattle.toll_base.specs.declared.capacity.TheConstants.{MOST_MOVEMENTS}
 
 module _ (row : MoveRow) (lot sublot : Bytes) (withdraws : Withdraws row lot sublot) (no_actual : (s : Slice) → batch_has_room s row.key row.what ≡ true) where
   -- where these checks are what the movement's own say
   module _ (checks : Tables → Checks) (are : (o : Bytes) (t house : Tables) → movement_checks o t house row.what row.amount ≡ checks t)
       (lot_there : (t : Tables) → first_of (checks t) ≡ Accepted → is_none (t.lot lot) ≡ false)
       (sublot_there : (t : Tables) → first_of (checks t) ≡ Accepted → is_none (t.sublot (lot, sublot)) ≡ false)
-      (has_room : (t : Tables) → first_of (checks t) ≡ Accepted → nat_le 20000 t.movements ≡ false) where
+      (has_room : (t : Tables) → first_of (checks t) ≡ Accepted → nat_le MOST_MOVEMENTS t.movements ≡ false) where
     own_accept : (H : History) (o : Bytes) → verdict H (by o (Record row)) ≡ Accepted → first_of (checks (tables_given H o)) ≡ Accepted
     own_accept H o accepted = ap first_of (sym (are o (tables_given H o) (tables_given H house_name))) ∙ checks_accept H o row accepted
 

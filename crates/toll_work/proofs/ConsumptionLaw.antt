@@ -6,6 +6,7 @@ use Rattle.toll_work.specs.declared.actuals.Use.{Use}
 use Rattle.toll_work.proofs.MadeChanges.{each_accepted, puts_consumed}
 use Rattle.toll_work.proofs.OwedWith.{Owes}
 use Rattle.toll_work.proofs.TwoPuts.{after_both, both_keep, second_keeps}
+use Rattle.toll_base.specs.declared.capacity.TheConstants.{MOST_ACTUALS}
 
 module _ (key order : Bytes) (number segment : ℕ) (material : Bytes) (lot : LotId) (sublot : Bytes) (amount day : ℕ) where
   abbrev consumption : MoveRow
@@ -101,7 +102,7 @@ module _ (key order : Bytes) (number segment : ℕ) (material : Bytes) (lot : Lo
         move_fits_own : row_fits own (Move consumption) ≡ true
         move_fits_own =
             let full = or_parts _ _ (passed 15) in
-            move_room own consumption full.0 (or_left _ _ (less_of 200 (count_actuals order number own.moves) full.1))
+            move_room own consumption full.0 (or_left _ _ (less_of MOST_ACTUALS (count_actuals order number own.moves) full.1))
 
         -- in a slice with the tables of the lot's owner
         left_fits : (s : Slice) → KeepsRules s → source ≡ tables_of s → row_fits s (Sublot (left source)) ≡ true

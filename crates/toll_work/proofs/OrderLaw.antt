@@ -2,6 +2,7 @@
 use Rattle.std.proofs.Common.{◌≡◌, suc, Bool, true, false, ◌||◌, cond, ℕ, Option, Some, None, is_some, is_none, List, [], ◌∷◌, length, refl, sym, ap, ◌∙◌}
 use Rattle.toll_work.proofs.Common.{list_any, option_map, or_right, nat_list_cmp_total, Bytes, same_bytes, bytes_cmp, first_some, or_else, where_so, Action, PlaceOrder, by, History, acts, Slice, order_at, with_row, KeepsRules, order_placed, order_of, cancels, Tables, tables_of, tables_given, IsDecided, Decides, DecisionKeepsRules, Accepted, order_checks, verdict, IsLawful, Put, Decision, OrderRow, Order, none_applies, accepted_passes, adding_decided, adding_keeps, less_of, tables-own, row_at-put_row, none_of, length-new, any-new, same_bytes-exact}
 use Rattle.toll_history.proofs.Uncancelled.{uncancelled}
+use Rattle.toll_base.specs.declared.capacity.TheConstants.{MOST_ORDERS}
 
 -- an order that was placed now
 abbrev new_order : (order recipe : Bytes) → ℕ → OrderRow
@@ -52,4 +53,4 @@ module _ (own : Slice) (order recipe : Bytes) (batches : ℕ) (d : Decision) (de
       own d _ decided (λ H. refl)
 
   pub order_keeps : KeepsRules own → DecisionKeepsRules own d
-  order_keeps = adding_keeps own (Order (new_order order recipe batches)) d _ decided (λ accepted. or_right _ _ (less_of 2000 (length own.orders) (none_applies (order_checks (tables_of own) order recipe batches) accepted 3)))
+  order_keeps = adding_keeps own (Order (new_order order recipe batches)) d _ decided (λ accepted. or_right _ _ (less_of MOST_ORDERS (length own.orders) (none_applies (order_checks (tables_of own) order recipe batches) accepted 3)))

@@ -11,6 +11,7 @@ use Rattle.toll_work.specs.declared.actuals.Use.{Use}
 use Rattle.toll_work.proofs.FoundRow.{known_not_none}
 use Rattle.toll_work.proofs.MadeChanges.{puts_with, others_keep}
 use Rattle.toll_work.proofs.OwedWith.{Owes}
+use Rattle.toll_base.specs.declared.capacity.TheConstants.{MOST_ACTUALS}
 
 module _ (key order : Bytes) (number segment : ℕ) (material : Bytes) (lot : LotId) (sublot : Bytes) (amount day : ℕ) where
   abbrev production : MoveRow
@@ -79,7 +80,7 @@ module _ (key order : Bytes) (number segment : ℕ) (material : Bytes) (lot : Lo
         let pass = none_applies (checks own.owner (tables_of own) ++ lot_bounds (tables_of own) material lot.lot sublot amount) accepted in
         let full = or_parts _ _ (pass 13) in
         let moves = or_parts _ _ full.0 in
-        came_fit own production produced (holding (tables_of own)) refl moves.0 (or_left _ _ (less_of 200 (count_actuals order number own.moves) moves.1)) full.1 (pass 14) (pass 15) (pass 16))
+        came_fit own production produced (holding (tables_of own)) refl moves.0 (or_left _ _ (less_of MOST_ACTUALS (count_actuals order number own.moves) moves.1)) full.1 (pass 14) (pass 15) (pass 16))
 
     production_puts : PutsOnlyWith own.owner (lot.lot, sublot) (changes_of d)
     production_puts =

@@ -1,6 +1,7 @@
 -- What the requiring of a material owes.
 use Rattle.std.proofs.Common.{◌≡◌, suc, false, cond, Some, is_some, [], ◌∷◌, length, refl, ◌∙◌}
 use Rattle.toll_work.proofs.Common.{or_right, Bytes, requirement_cmp, Require, by, History, acts, Slice, requirement_at, with_row, KeepsRules, requirement_of, same_requirement, Tables, tables_of, tables_given, IsDecided, DecidesWith, DecisionKeepsRules, Checks, requirement_key, requirement_checks, tables_for, Put, Decision, RequirementRow, Requirement, none_applies, accepted_passes, adding_decided_with, adding_keeps, less_of, tables-own, put_first, row_at-put_row, length-new, requirement_cmp_total}
+use Rattle.toll_base.specs.declared.capacity.TheConstants.{MOST_REQUIREMENTS}
 
 -- tables with one requirement more
 abbrev with_requirement : RequirementRow → Tables → Tables
@@ -28,4 +29,4 @@ module _ (own house : Slice) (row : RequirementRow) (d : Decision) (decided : Is
       own d _ decided house (λ H. refl)
 
   pub requirement_keeps : KeepsRules own → DecisionKeepsRules own d
-  requirement_keeps = adding_keeps own (Requirement row) d _ decided (λ accepted. or_right _ _ (less_of 2000 (length own.requirements) (none_applies (checks_over own house row) accepted 6)))
+  requirement_keeps = adding_keeps own (Requirement row) d _ decided (λ accepted. or_right _ _ (less_of MOST_REQUIREMENTS (length own.requirements) (none_applies (checks_over own house row) accepted 6)))

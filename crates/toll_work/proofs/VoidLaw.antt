@@ -13,6 +13,7 @@ use Rattle.toll_work.proofs.MadeChanges.{each_accepted, puts_with, puts_consumed
 use Rattle.toll_work.proofs.OwedWith.{Owes}
 use Rattle.toll_work.proofs.TwoPuts.{after_both, both_keep, second_keeps}
 use Rattle.toll_work.proofs.Voided.{own_but_sublots, others_but_sublots, given_back, taken_out, stayed_at}
+use Rattle.toll_base.specs.declared.capacity.TheConstants.{MOST_STOCK, MOST_SUBLOTS}
 
 -- ---- the rows of all, where the void changes one sublot of this owner
 
@@ -113,9 +114,9 @@ lot_of_known s keeps lot sub known =
     ] refl known
 
 -- a known sublot with an amount that may be there fits
-known_fits : (s : Slice) → KeepsRules s → (q : SublotRow) → is_none (sublot_at s (q.lot, q.sublot)) ≡ false → nat_lt 20000000000000 q.amount ≡ false → row_fits s (Sublot q) ≡ true
+known_fits : (s : Slice) → KeepsRules s → (q : SublotRow) → is_none (sublot_at s (q.lot, q.sublot)) ≡ false → nat_lt MOST_STOCK q.amount ≡ false → row_fits s (Sublot q) ≡ true
 known_fits s keeps q known amount =
-    sublot_room_in s q (ap (λ b. b && nat_le 20000 (length s.sublots)) known) amount (lot_of_known s keeps q.lot q.sublot known)
+    sublot_room_in s q (ap (λ b. b && nat_le MOST_SUBLOTS (length s.sublots)) known) amount (lot_of_known s keeps q.lot q.sublot known)
 
 -- ---- the void of a known actual
 
@@ -156,8 +157,8 @@ module _ (own house : Slice) (key : Bytes) (row : MoveRow) (found_in : move_at o
     sublot_there is_known = ap (λ b. is_none (where_so b (let q : SublotRow = record { lot = lot.lot; sublot = sublot; amount = stock H lot sublot } in q))) is_known
 
   -- what the lot's tables are asked about: the sublot is there, and holds no more than may be
-  small : (n amount after m : ℕ) → after ≡ m + amount - 0 → n ≡ m → after ≤ 20000000000000 → nat_lt 20000000000000 (n + amount) ≡ false
-  small n amount after m is same le = let h : n + amount ≤ 20000000000000 = omega arith in grind (arith, nat_tests)
+  small : (n amount after m : ℕ) → after ≡ m + amount - 0 → n ≡ m → after ≤ MOST_STOCK → nat_lt MOST_STOCK (n + amount) ≡ false
+  small n amount after m is same le = let h : n + amount ≤ MOST_STOCK = omega arith in grind (arith, nat_tests)
 
   -- and so what it takes and brings
   abbrev Touches : Role → Bytes → Bytes × Bytes → Type 0
@@ -195,7 +196,7 @@ module _ (own house : Slice) (key : Bytes) (row : MoveRow) (found_in : move_at o
           stock-voided H own.owner key said_so lot sublot lawful (found H there) (stays H there accepted)
           ∙ (λ i. stock H lot sublot + cond ((ap (takes_from lot sublot own.owner) (its_what consumes) ∙ its_place H there) i) row.amount 0 - cond (ap (brings_into lot sublot own.owner) (its_what consumes) i) row.amount 0) in
           ap (λ t. first_of (giving_bounds own.owner t lot sublot row.amount)) u
-          ∙ four_pass _ _ _ _ there_at (ap (λ b. b && nat_le 20000 (tables_given H lot.owner).sublots) there_at)
+          ∙ four_pass _ _ _ _ there_at (ap (λ b. b && nat_le MOST_SUBLOTS (tables_given H lot.owner).sublots) there_at)
           (small (amount_in (tables_given H lot.owner) lot.lot sublot) row.amount (stock (by own.owner (Void key) ∷ H) lot sublot) (stock H lot sublot) after (held_is H lot.owner lot.lot sublot)
           (stock_bounded (by own.owner (Void key) ∷ H) lot sublot (lawful, tt, accepted)))
           (ap not taken_known.1)

@@ -3,10 +3,11 @@ use Rattle.toll_stock.proofs.Common.{at_drop_more, total}
 use Rattle.toll_stock.specs.LotTotals.{is_shipment_of, shipped_by}
 use Rattle.toll_stock.proofs.ShippedLots.{amount_small}
 use Rattle.toll_stock.proofs.shipped.Shipped.of.Goals as goal
+use Rattle.toll_base.specs.declared.capacity.TheConstants.{MOST_MOVEMENTS}
 
 pub add-requires : goal.add-requires
 add-requires c = λ lot.
-    let few : length c.moves-row-items.result.now ≤ 20000 = subst (λ rows. length rows ≤ 20000) (sym c.moves-row-items.ensures.rows) c.owner-owner.ensures.kept.moves in
+    let few : length c.moves-row-items.result.now ≤ MOST_MOVEMENTS = subst (λ rows. length rows ≤ MOST_MOVEMENTS) (sym c.moves-row-items.ensures.rows) c.owner-owner.ensures.kept.moves in
     omega (arith, few, c.loop-row-test.true, c.loop-row.invariant.small lot, c.get.ensures.bounds.1)
 
 pub loop-row-preserved : goal.loop-row-preserved
