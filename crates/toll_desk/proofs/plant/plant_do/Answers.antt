@@ -1,15 +1,37 @@
+use Rattle.std.proofs.Common.{rules}
 use Rattle.toll_desk.proofs.Common.{IsPlantAnswer, after_plant}
 use Rattle.toll_desk.proofs.KeptRules.{standing_keeps_rules}
 use Rattle.toll_desk.specs.Asking.{asked_by, plant_told}
 use Rattle.toll_desk.proofs.PlantQuestions.{question_done}
 use Rattle.toll_desk.proofs.plant.plant_do.Goals as goal
 
-pub returns-in_default-clause-undamaged : goal.returns-in_default-clause-undamaged
-returns-in_default-clause-undamaged g c honest content H held stands lawful =
-    c.do_deed.ensures.whole honest content held (standing_keeps_rules H content lawful stands)
+pub returns-in_default : goal.returns-in_default
+returns-in_default g c = record {
+  honest = search rules;
+  unread = search rules;
+  goes = search rules;
+  settles = search rules;
+  spared = search rules;
+  whole = search rules;
+  undamaged = λ honest content H held stands lawful. c.do_deed.ensures.whole honest content held (standing_keeps_rules H content lawful stands);
+  valid = search rules;
+  quiet = search rules;
+  done = search rules;
+}
 
-pub returns-in-Orders-clause-done : goal.returns-in-Orders-clause-done
-returns-in-Orders-clause-done g c honest content H held stands lawful =
-    let q = asked_by c.args.command.now in
-    question_done g.K.Keep.meaning c.args.keep.now c.ask.new.keep (plant_told c.ask.result) (IsPlantAnswer H q) content H
-    (after_plant H q) (c.ask.ensures.stays H) stands held (c.ask.ensures.keeps honest) (c.ask.ensures.over honest content H held stands lawful)
+pub returns-in-Orders : goal.returns-in-Orders
+returns-in-Orders g c = record {
+  honest = search rules;
+  unread = search rules;
+  goes = search rules;
+  settles = search rules;
+  spared = search rules;
+  whole = search rules;
+  undamaged = search rules;
+  valid = search rules;
+  quiet = search rules;
+  done = λ honest content H held stands lawful.
+      let q = asked_by c.args.command.now in
+      question_done g.K.Keep.meaning c.args.keep.now c.ask.new.keep (plant_told c.ask.result) (IsPlantAnswer H q) content H
+      (after_plant H q) (c.ask.ensures.stays H) stands held (c.ask.ensures.keeps honest) (c.ask.ensures.over honest content H held stands lawful);
+}
