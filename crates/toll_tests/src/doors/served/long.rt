@@ -47,7 +47,7 @@ fn is_whole(alloc: Global, reply: &Reply, output: &[u8]) -> Result<bool, PackFau
 // A file that is as long as one may be, of one record that is none.
 fn longest_file(alloc: Global) -> Result<Vec<u8>, AllocError> {
     let mut file = Vec::from_slice(alloc, HEADER)?;
-    while file.len() < FILE_BYTES {
+    for _ in HEADER.len()..FILE_BYTES {
         file.push(b'x')?;
     }
     Ok(file)
