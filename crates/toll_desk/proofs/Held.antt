@@ -1,5 +1,5 @@
 -- Commands of which the changes are held back.
-use Rattle.std.proofs.Common.{◌≡◌, ◌++◌, false, Option, [], Result, Ok, Err, IfOk, inl, inr, refl, sym, ap, subst, ◌∙◌}
+use Rattle.std.proofs.Common.{◌≡◌, ◌++◌, false, Option, [], Result, Ok, Err, inl, inr, refl, sym, ap, subst, ◌∙◌}
 use Rattle.toll_desk.proofs.Common.{append-nil, changes_of, Decision, Refusal, verdict_of, History, Refused as RefusedFor, Content, after, Meaning, OverHeld, KeepFault, CannotRead, Judged, PlantAsked}
 use Rattle.toll_keep.specs.Overlays.{IsOver, ReadsThrough}
 use Rattle.toll_keep.specs.declared.overlay.Overlay.{Overlay}

@@ -8,6 +8,7 @@ ghost use Rattle.toll_answers.specs.PlantAnswers.{Does};
 ghost use Rattle.toll_work.specs.Opening.{IsToldOfUnit};
 ghost use Rattle.toll_keep.specs.Goes.{IsReading};
 ghost use Rattle.toll_keep.specs.Meaning.{OverHeld};
+ghost use Rattle.toll_keep.specs.Overlays.{IsOver, OverLaid, ReadsThrough};
 ghost use Rattle.toll_desk.specs.Asking.{asked_by};
 ghost use Rattle.toll_desk.specs.Plans.{IsOwnDecision, IsPlantDecision};
 ghost use Rattle.toll_desk.specs.Reads.{AreBoth, Over};
@@ -18,7 +19,7 @@ use crate::plant_cmd::PlantCmd;
 use crate::units::{decide_owner, decide_unit, find_unit};
 use std::alloc::Global;
 use toll_base::{Decision, Name, Refusal, Slice};
-use toll_keep::{Keep, KeepFault};
+use toll_keep::{Keep, KeepFault, Overlay};
 use toll_work::open_batch;
 
 /// The decision on a command. [`Refusal::UnknownOwner`] comes before the checks of all but the adding
@@ -100,28 +101,50 @@ fn decide_both<K: Keep>(
     }
 }
 
-// The rows of the owner, where it is known, and HOUSE's.
-fn both_of<K: Keep>(alloc: Global, keep: &mut K, owner: &Name) -> Result<Option<Both>, KeepFault>
-    ensures reads { IsReading K.meaning keep.old keep.new result }
-    ensures both { OverHeld K.meaning keep.old keep.new (λ c. IfOk result (AreBoth c owner.now)) }
+/// The rows of the owner, where it is known, and HOUSE's: those of the keep with the overlay's changes put.
+pub fn both_over<K: Keep>(
+    alloc: Global,
+    keep: &mut K,
+    overlay: &mut Overlay,
+    owner: &Name,
+) -> Result<Option<Both>, KeepFault>
+    ensures reading { ReadsThrough K.meaning keep.old keep.new overlay.old result }
+    ensures both { OverLaid K.meaning keep.old keep.new overlay.old (λ c. IfOk result (AreBoth c owner.now)) }
+    ensures over { OverHeld K.meaning keep.old keep.new (λ c. IsOver c overlay.old → IsOver c overlay.new) }
+    ensures changes { overlay.new.changes.items ≡ overlay.old.changes.items }
 {
-    match keep.slice(alloc, owner) {
-        Ok(Some(own)) => with_house(alloc, keep, own),
+    match overlay.slice(alloc, keep, owner) {
+        Ok(Some(own)) => house_over(alloc, keep, overlay, own),
         Ok(None) => Ok(None),
         Err(fault) => Err(fault),
     }
 }
 
 // These rows, and HOUSE's, which is always known.
-fn with_house<K: Keep>(alloc: Global, keep: &mut K, own: Slice) -> Result<Option<Both>, KeepFault>
-    ensures reads { IsReading K.meaning keep.old keep.new result }
-    ensures both { OverHeld K.meaning keep.old keep.new (λ c. IfOk result (λ both. both ≡ Some (record { own = own; house = c.rows house_name }))) }
+fn house_over<K: Keep>(
+    alloc: Global,
+    keep: &mut K,
+    overlay: &mut Overlay,
+    own: Slice,
+) -> Result<Option<Both>, KeepFault>
+    ensures reading { ReadsThrough K.meaning keep.old keep.new overlay.old result }
+    ensures both { OverLaid K.meaning keep.old keep.new overlay.old (λ c. IfOk result (λ both. both ≡ Some (record { own = own; house = c.rows house_name }))) }
+    ensures over { OverHeld K.meaning keep.old keep.new (λ c. IsOver c overlay.old → IsOver c overlay.new) }
+    ensures changes { overlay.new.changes.items ≡ overlay.old.changes.items }
 {
-    match keep.slice(alloc, &Name::house()) {
+    match overlay.slice(alloc, keep, &Name::house()) {
         Ok(Some(house)) => Ok(Some(Both { own, house })),
         Ok(None) => Ok(None),
         Err(fault) => Err(fault),
     }
+}
+
+// The same with no changes held back.
+fn both_of<K: Keep>(alloc: Global, keep: &mut K, owner: &Name) -> Result<Option<Both>, KeepFault>
+    ensures reads { IsReading K.meaning keep.old keep.new result }
+    ensures both { OverHeld K.meaning keep.old keep.new (λ c. IfOk result (AreBoth c owner.now)) }
+{
+    both_over(alloc, keep, &mut Overlay::new(alloc), owner)
 }
 
 // ---- the opening of a batch

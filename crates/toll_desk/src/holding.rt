@@ -1,20 +1,17 @@
 //! Commands of the plant of which an overlay holds the changes back.
-ghost use Rattle.std.specs.Prelude.{◌≡◌, [], false, true, IfOk};
-ghost use Rattle.toll_base.specs.Values.{house_name};
+ghost use Rattle.std.specs.Prelude.{◌≡◌, [], false, true};
 ghost use Rattle.toll_history.specs.Verdict.{IsValid};
 ghost use Rattle.toll_keep.specs.Content.{Content};
-ghost use Rattle.toll_keep.specs.Meaning.{OverHeld};
-ghost use Rattle.toll_keep.specs.Overlays.{IsOver, OverLaid, ReadsThrough};
+ghost use Rattle.toll_keep.specs.Overlays.{IsOver};
 ghost use Rattle.toll_desk.specs.Asking.{IsValidDeed, asked_by, is_accepted, plant_told};
 ghost use Rattle.toll_desk.specs.PlantHeld.{IsHeldAs, IsPlannedOn, IsPlantHeld, IsVerdictOrMemory, looks_at_two};
-ghost use Rattle.toll_desk.specs.Reads.{AreBoth};
 ghost use Rattle.toll_desk.specs.Subjects.{IsDeed, is_shared};
 
-use crate::deciding::Both;
+use crate::deciding::{Both, both_over};
 use crate::decisions::decide_shared;
 use crate::plant_cmd::{PlantCmd, PlantPlan, PlantReply};
 use std::alloc::Global;
-use toll_base::{Name, Refusal, Slice};
+use toll_base::Refusal;
 use toll_keep::{Keep, KeepFault, Overlay};
 
 /// Does a command that is decided over its owner's rows and HOUSE's: a requirement, an actual or a void;
@@ -56,44 +53,6 @@ fn hold_shared<K: Keep>(
             let planned = plan_on(alloc, both, command);
             Ok(hold_back(alloc, overlay, planned))
         }
-        Err(fault) => Err(fault),
-    }
-}
-
-// The rows of the owner, where it is known, and HOUSE's.
-fn both_over<K: Keep>(
-    alloc: Global,
-    keep: &mut K,
-    overlay: &mut Overlay,
-    owner: &Name,
-) -> Result<Option<Both>, KeepFault>
-    ensures reading { ReadsThrough K.meaning keep.old keep.new overlay.old result }
-    ensures both { OverLaid K.meaning keep.old keep.new overlay.old (λ c. IfOk result (AreBoth c owner.now)) }
-    ensures over { OverHeld K.meaning keep.old keep.new (λ c. IsOver c overlay.old → IsOver c overlay.new) }
-    ensures changes { overlay.new.changes.items ≡ overlay.old.changes.items }
-{
-    match overlay.slice(alloc, keep, owner) {
-        Ok(Some(own)) => house_over(alloc, keep, overlay, own),
-        Ok(None) => Ok(None),
-        Err(fault) => Err(fault),
-    }
-}
-
-// These rows, and HOUSE's, which is always known.
-fn house_over<K: Keep>(
-    alloc: Global,
-    keep: &mut K,
-    overlay: &mut Overlay,
-    own: Slice,
-) -> Result<Option<Both>, KeepFault>
-    ensures reading { ReadsThrough K.meaning keep.old keep.new overlay.old result }
-    ensures both { OverLaid K.meaning keep.old keep.new overlay.old (λ c. IfOk result (λ both. both ≡ Some (record { own = own; house = c.rows house_name }))) }
-    ensures over { OverHeld K.meaning keep.old keep.new (λ c. IsOver c overlay.old → IsOver c overlay.new) }
-    ensures changes { overlay.new.changes.items ≡ overlay.old.changes.items }
-{
-    match overlay.slice(alloc, keep, &Name::house()) {
-        Ok(Some(house)) => Ok(Some(Both { own, house })),
-        Ok(None) => Ok(None),
         Err(fault) => Err(fault),
     }
 }

@@ -1,6 +1,6 @@
 -- A keep that remembers, around another one: what is so of it by what is so of the one inside.
-use Rattle.std.proofs.Common.{◌≡◌, ◌≢◌, false, Some, Result, Ok, Err, OnOk, OnErr, inl, sym, subst, ◌∙◌}
-use Rattle.std.specs.Prelude.{IsSome, IsTrue}
+use Rattle.std.proofs.Common.{◌≡◌, ◌≢◌, false, Some, Result, Ok, Err, OnOk, OnErr, sym, subst}
+use Rattle.std.specs.Prelude.{IsSome}
 use Rattle.toll_keep.proofs.Common.{false≢true, All-nil}
 use Rattle.std.proofs.Math.Logic.{∥∥₁_elim}
 use Rattle.toll_keep.specs.Content.{Content, ContentKeepsRules, slice_of}
@@ -13,7 +13,7 @@ use Rattle.toll_keep.specs.declared.fault.KeepFault.TheVariants.{Damaged}
 use Rattle.toll_keep.specs.declared.keep.Keep.{Ghosts}
 use Rattle.toll_keep.specs.declared.recollection.Recollection.{Recollection}
 use Rattle.toll_keep.specs.declared.remembering.Remembering.{Remembering}
-use Rattle.toll_keep.proofs.Calls.{Rests}
+use Rattle.toll_keep.proofs.Calls.{Rests, rests}
 
 -- where nothing is remembered, that is of any content
 pub nothing_of : (c : Content) (r : Recollection) → IsNothing r → IsOf c r
@@ -110,26 +110,7 @@ module _ {T : Type 0} (K : Ghosts T) where
 
   -- it is open, and while it is honest it lives
   pub rested : Rests K.meaning → LivesOnce → (old : Remembering T K) → RestsWhereSome old
-  rested settled once old some =
-      let open_there = old.unclosed some in
-      let shut : IsTrue (K.meaning.is_closed old.keep) → ⊥ = λ closed. false≢true (sym open_there ∙ closed) in
-      record {
-        goes = record {
-          honest = λ honest. honest;
-          closed = (λ e. absurd (cc e), λ closed. absurd (shut closed));
-          closes = open_there;
-          live = λ honest lives. lives;
-          shown = λ honest. ∥∥₁_elim (old.live some honest) (once old.keep) (λ there. there);
-          lasts = λ honest lived. inl lived;
-          spares = λ honest e lived. inl lived;
-          cause = λ honest e. absurd (cc e);
-          since = λ honest later cause. cause;
-          stays = λ closed. absurd (shut closed);
-          shut = λ honest not cs left. left;
-        };
-        keeps = λ honest. record { content = λ c held. held; crash = λ lives c held. settled old.keep c honest lives held };
-        whole = λ honest c held rules e. absurd (cc e);
-      }
+  rested settled once old some = rests K.meaning settled old.keep (old.unclosed some) (λ honest. ∥∥₁_elim (old.live some honest) (once old.keep) (λ there. there))
 
   -- what is told from it, or read and then remembered, is answered on
   pub tells_around : {X : Type 0} → Rests K.meaning → LivesOnce → (old new : Remembering T K) (middle : Recollection) (told answer : Result X KeepFault) → answer ≡ told → OnOk told (new.recollection ≡ middle) → OnErr told (IsNothing new.recollection) → (K.meaning.is_honest new.keep → (c : Content) → K.meaning.holds old.keep c → IsOf c old.recollection → IsOf c middle) → (RestsWhereSome old → ReadsInside old.keep new.keep told) → ReadsAround old new answer

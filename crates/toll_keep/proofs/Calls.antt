@@ -1,5 +1,5 @@
 -- One call of a keep after another, and the same under another answer.
-use Rattle.std.proofs.Common.{◌≡◌, [], ◌∷◌, Result, Ok, Err, inl, inr, refl, subst, ◌∙◌}
+use Rattle.std.proofs.Common.{◌≡◌, false, [], ◌∷◌, Result, Ok, Err, inl, inr, refl, sym, subst, ◌∙◌}
 use Rattle.std.specs.Prelude.{◌≢◌, ◌↔◌, ◌⊎◌, IsTrue, OnErr, OnOk}
 use mathlib.Core.Bool.{false≢true}
 use Rattle.toll_keep.specs.Meaning.{Meaning, OverHeld}
@@ -55,6 +55,28 @@ module _ {K : Type 0} (meaning : Meaning K) where
   spared old new r settled is goes none = λ now lived c held.
       let same : meaning.holds new c = subst (λ a. OnErr a (meaning.holds new c)) is (none now c held) in
       elim (goes.spares now is lived) [ inl lives ↦ inl (lives, same, settled new c now lives same) | inr unsure ↦ inr unsure ]
+
+  -- a keep that is open, and lives while it is honest, is as after a reading call that was answered
+  pub rests : Rests → (k : K) → meaning.is_closed k ≡ false → (meaning.is_honest k → meaning.is_live k) → ReadsTo {X = Unit {0}} k k (answered tt)
+  rests settled k open_there lives =
+      let shut : IsTrue (meaning.is_closed k) → ⊥ = λ closed. false≢true (sym open_there ∙ closed) in
+      record {
+        goes = record {
+          honest = λ now. now;
+          closed = (λ e. absurd (cc e), λ closed. absurd (shut closed));
+          closes = open_there;
+          live = λ now there. there;
+          shown = lives;
+          lasts = λ now lived. inl lived;
+          spares = λ now e lived. inl lived;
+          cause = λ now e. absurd (cc e);
+          since = λ now later cause. cause;
+          stays = λ closed. absurd (shut closed);
+          shut = λ now not cs left. left;
+        };
+        keeps = λ now. record { content = λ c held. held; crash = λ there c held. settled k c now there held };
+        whole = λ now c held rules e. absurd (cc e);
+      }
 
   pub settles_still : (k : K) → Rests → Settles meaning k k
   settles_still k settled = λ now lived c held. inl (lived, settled k c now lived held)

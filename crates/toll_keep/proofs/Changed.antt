@@ -1,10 +1,15 @@
--- What changes leave as it was: whose a slice is, and who is known.
-use Rattle.std.proofs.Common.{◌≡◌, Bool, true, false, ◌||◌, [], ◌∷◌, cond, refl}
+-- Changes, one after another, and what they leave as it was: whose a slice is, and who is known.
+use Rattle.std.proofs.Common.{◌≡◌, ℕ, suc, ◌+◌, ◌<◌, Bool, true, false, ◌||◌, List, [], ◌∷◌, length, get_or, drop, drop-cons, add-one, cond, refl, sym, ap}
 use Rattle.std.specs.Cmp.Lexicographic.{nat_list_cmp_total}
 use Rattle.toll_keep.proofs.Common.{Bytes, bytes_cmp, same_bytes, house_name, Slice, with_row, after_change, Change, Owner, Unit as UnitAdded, Put}
 use Rattle.toll_base.proofs.PutRules.{still_there}
 use Rattle.toll_keep.specs.Content.{Content, knows, after}
 use Rattle.toll_keep.proofs.Slicing.{owner-with_row}
+
+-- ---- the next of them
+
+pub next_left : (changes : List Change) (i : ℕ) (change : Change) → i < length changes → change ≡ get_or changes i change → drop i changes ≡ change ∷ drop (i + 1) changes
+next_left changes i change lt is = rw (add-one, drop-cons changes i change) (ap (λ first. first ∷ drop (suc i) changes) (sym is))
 
 -- ---- a slice stays its owner's
 

@@ -3,7 +3,7 @@ pub use Rattle.std.proofs.lemmas.Bool.{not-false}
 pub use Rattle.std.proofs.lemmas.Iterator.{YieldsList-from_slice}
 pub use Rattle.std.proofs.lemmas.Iterator.Search.{find_from_yields_List, position_from_yields_List}
 pub use Rattle.std.proofs.lemmas.List.{with_items_is}
-pub use Rattle.std.proofs.lemmas.List.Elements.{All-contains, All-get_or, All-map, All-more, All-nil, All-push, All-weaker, Contains-push, Contains-push_cases}
+pub use Rattle.std.proofs.lemmas.List.Elements.{All-contains, All-get_or, All-map, All-nil, All-push, All-weaker, Contains-push, Contains-push_cases}
 pub use Rattle.std.proofs.lemmas.List.Folds.{list_any-append, list_any_at}
 pub use Rattle.std.proofs.lemmas.List.Quantifiers.{position-Some}
 pub use Rattle.std.proofs.lemmas.Result.{IfOk-weaker}

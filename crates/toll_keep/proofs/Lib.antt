@@ -5,7 +5,6 @@ pub mod Contents
 pub mod Finding
 pub mod AllOwners
 pub mod Changed
-pub mod Undoing
 pub mod RememberedLemmas
 pub mod Around
 mod FromOwners

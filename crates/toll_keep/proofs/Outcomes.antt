@@ -6,10 +6,6 @@ pub on_ok : {T E P Q : Type 0} (r : Result T E) → (P → Q) → OnOk r P → O
 on_ok (Ok x) so h = so h
 on_ok (Err e) so h = tt
 
-pub on_err : {T E P Q : Type 0} (r : Result T E) → (P → Q) → OnErr r P → OnErr r Q
-on_err (Ok x) so h = tt
-on_err (Err e) so h = so h
-
 -- what is so after either
 pub either_way : {T E P Q S : Type 0} (r : Result T E) → (P → S) → (Q → S) → OnOk r P → OnErr r Q → S
 either_way (Ok x) ok err p q = ok p

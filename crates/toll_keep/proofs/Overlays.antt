@@ -1,17 +1,18 @@
 -- Changes that are held back from a keep, and what was read of it through them.
-use Rattle.std.proofs.Common.{◌≡◌, Bool, true, false, ◌||◌, cond, Some, None, List, [], ◌∷◌, ◌++◌, Result, Ok, inl, inr, refl, sym, ap, subst, ◌∙◌}
-use Rattle.std.specs.Prelude.{is_some, map}
+use Rattle.std.proofs.Common.{◌≡◌, Bool, true, false, ◌||◌, cond, Some, None, List, [], ◌∷◌, ◌++◌, Result, Ok, Err, OnOk, inl, inr, refl, sym, ap, subst, ◌∙◌}
+use Rattle.std.specs.Prelude.{◌≢◌, is_some, map}
 use Rattle.toll_keep.proofs.Common.{list_any, list_any-append, Bytes, bytes_cmp, same_bytes, after_changes, Slice, row_at, house_name, Change, Owner, Unit as UnitAdded, Put, OwnerRow, UnitRow}
 use Rattle.toll_keep.specs.Content.{Content, Fits, slice_of, after, after_owners, after_units}
 use Rattle.toll_keep.specs.Goes.{IsReading}
 use Rattle.toll_keep.specs.Meaning.{Meaning}
-use Rattle.toll_keep.specs.Overlays.{IsReadThrough}
-use Rattle.toll_keep.specs.Reads.{HaveRead}
+use Rattle.toll_keep.specs.Overlays.{IsReadThrough, ReadsThrough}
+use Rattle.toll_keep.specs.Reads.{HaveRead, IsKept}
 use Rattle.toll_keep.specs.Remembered.{AreOf, is_addition}
 use Rattle.toll_keep.specs.declared.fault.KeepFault.{KeepFault}
 use Rattle.toll_keep.specs.declared.overlay.Overlay.{Overlay}
-use Rattle.toll_keep.proofs.Calls.{reads_then, read_ok}
+use Rattle.toll_keep.proofs.Calls.{Rests, rests, reads_then, read_ok}
 use Rattle.toll_keep.proofs.Contents.{same_content}
+use Rattle.toll_keep.proofs.Outcomes.{on_err_always}
 use Rattle.toll_keep.proofs.RememberedLemmas.{all_after, owners_stay}
 
 -- ---- changes behind others
@@ -75,12 +76,25 @@ none_after changes c o none is = known_so changes c o none ∙ none_so _ (after_
 
 -- ---- reading calls, the first of them or another
 
-module _ {K : Type 0} (meaning : Meaning K) (first old new : K) (o : Overlay) (through : IsReadThrough meaning first old o) where
-  pub reads_on : {X : Type 0} (r : Result X KeepFault) → IsReading meaning old new r → IsReading meaning first new r
-  reads_on r reading = elim through [
-    | inl none ↦ subst (λ k. IsReading meaning k new r) none.0 reading
-    | inr have ↦ reads_then meaning first old new tt r have reading
+module _ {K : Type 0} (meaning : Meaning K) (settled : Rests meaning) (old new : K) (o : Overlay) where
+  reads_on : {X : Type 0} (first : K) (r : Result X KeepFault) → IsReadThrough meaning first old o → ((o.slices.items ≢ [] → HaveRead meaning old old) → IsReading meaning old new r) → IsReading meaning first new r
+  reads_on first r through reading = elim through [
+    | inl none ↦ subst (λ k. IsReading meaning k new r) none.0 (reading (λ some. absurd (some none.1)))
+    | inr have ↦ reads_then meaning first old new tt r have (reading (λ some. rests meaning settled old have.goes.closes have.goes.shown))
   ]
 
-  pub answered_on : {X : Type 0} (x : X) → IsReading meaning old new (Ok x) → HaveRead meaning first new
-  answered_on x reading = let on = reads_on (Ok x) reading in read_ok meaning first new x tt on.goes on.keeps
+  answered_on : {X : Type 0} (first : K) (r : Result X KeepFault) → IsReading meaning first new r → OnOk r (HaveRead meaning first new)
+  answered_on first (Ok x) reading = read_ok meaning first new x tt reading.goes reading.keeps
+  answered_on first (Err fault) reading = tt
+
+  pub reads_through : {X : Type 0} (r : Result X KeepFault) → ((o.slices.items ≢ [] → HaveRead meaning old old) → IsReading meaning old new r) → IsKept meaning old new → ReadsThrough meaning old new o r
+  reads_through r reading kept = record {
+    answered = λ first through. answered_on first r (reads_on first r through reading);
+    failed = λ first through. on_err_always r (reads_on first r through reading);
+    kept = kept;
+  }
+
+-- a reading through an overlay that has read nothing is one of the keep alone
+pub reads_alone : {K X : Type 0} (meaning : Meaning K) (old new : K) (o : Overlay) (r : Result X KeepFault) → o.slices.items ≡ [] → ReadsThrough meaning old new o r → IsReading meaning old new r
+reads_alone meaning old new o (Ok x) none reads = let have = reads.answered old (inl (refl, none)) in read_ok meaning old new tt x have.goes have.keeps
+reads_alone meaning old new o (Err fault) none reads = reads.failed old (inl (refl, none))

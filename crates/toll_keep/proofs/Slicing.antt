@@ -1,11 +1,11 @@
 -- What slices in a list have of each owner, and what a put does to it.
 use Rattle.std.proofs.Common.{◌≡◌, ℕ, zero, suc, ◌+◌, ◌<◌, Bool, true, false, not, cond, nat_lt, Option, Some, None, is_some, List, [], ◌∷◌, ◌++◌, length, get_or, set, refl, sym, ap, subst, ◌∙◌, arith}
-use Rattle.toll_keep.proofs.Common.{false≢true, AllByRecursion, position_or_len, or_left, or_right, list_any-append, list_any_at, position-Some, Bytes, same_bytes, Slice, empty_slice, with_row, after_change, Change, Put, same_bytes-exact, same_bytes-refl, same_bytes-symm}
+use Rattle.toll_keep.proofs.Common.{false≢true, AllByRecursion, position_or_len, or_left, or_right, list_any-append, list_any_at, position-Some, Bytes, same_bytes, Slice, empty_slice, with_row, after_change, Put, same_bytes-exact, same_bytes-refl, same_bytes-symm}
 use Rattle.std.specs.Prelude.{position}
 use Rattle.std.proofs.lemmas.Bool.Decides.{nat_tests}
 use Rattle.toll_base.specs.declared.rows.Row.{Row}
 use Rattle.toll_base.specs.declared.rows.Row.TheVariants.{Material, Test, Recipe, Requirement, Order, Batch, Lot, Sublot, Move, Result, Void}
-use Rattle.toll_keep.specs.Slices.{is_of, rows_in, put_slice, put_slices, IsOneEach, has_slice, IsTouched}
+use Rattle.toll_keep.specs.Slices.{is_of, rows_in, put_slice, IsOneEach, has_slice}
 
 -- ---- the rows of an owner are its own
 
@@ -42,34 +42,16 @@ swap true false x new rest apart = refl
 swap false b x new rest apart = refl
 
 -- the owner that was put for has these rows, each other what it had
-pub rows_in-put_slice : (slices others : List Slice) (new : Slice) (o : Bytes) → rows_in (put_slice slices new ++ others) o ≡ cond (is_of o new) new (rows_in (slices ++ others) o)
-rows_in-put_slice [] others new o = refl
-rows_in-put_slice (s ∷ slices) others new o =
-    elim (is_of new.owner s) as (λ b. is_of new.owner s ≡ b → rows_in (cond b (new ∷ slices) (s ∷ put_slice slices new) ++ others) o ≡ cond (is_of o new) new (cond (is_of o s) s (rows_in (slices ++ others) o))) [
-      | true ↦ λ e. twice (is_of o new) (is_of o s) new s (rows_in (slices ++ others) o) (ap (λ owner. same_bytes owner o) (same_bytes-exact s.owner new.owner e))
-      | false ↦ λ e. ap (cond (is_of o s) s) (rows_in-put_slice slices others new o)
-          ∙ swap (is_of o s) (is_of o new) s new (rows_in (slices ++ others) o)
+pub rows_in-put : (slices : List Slice) (new : Slice) (o : Bytes) → rows_in (put_slice slices new) o ≡ cond (is_of o new) new (rows_in slices o)
+rows_in-put [] new o = refl
+rows_in-put (s ∷ slices) new o =
+    elim (is_of new.owner s) as (λ b. is_of new.owner s ≡ b → rows_in (cond b (new ∷ slices) (s ∷ put_slice slices new)) o ≡ cond (is_of o new) new (cond (is_of o s) s (rows_in slices o))) [
+      | true ↦ λ e. twice (is_of o new) (is_of o s) new s (rows_in slices o) (ap (λ owner. same_bytes owner o) (same_bytes-exact s.owner new.owner e))
+      | false ↦ λ e. ap (cond (is_of o s) s) (rows_in-put slices new o)
+          ∙ swap (is_of o s) (is_of o new) s new (rows_in slices o)
           (λ of_s of_new. let same : s.owner ≡ new.owner = same_bytes-exact s.owner o of_s ∙ sym (same_bytes-exact new.owner o of_new) in
           false≢true (sym e ∙ ap (λ owner. same_bytes owner new.owner) same ∙ same_bytes-refl new.owner))
     ] refl
-
-none_more : (slices : List Slice) → slices ++ [] ≡ slices
-none_more [] = refl
-none_more (s ∷ slices) = ap (λ rest. s ∷ rest) (none_more slices)
-
-pub rows_in-put : (slices : List Slice) (new : Slice) (o : Bytes) → rows_in (put_slice slices new) o ≡ cond (is_of o new) new (rows_in slices o)
-rows_in-put slices new o =
-    subst (λ xs. rows_in xs o ≡ cond (is_of o new) new (rows_in slices o)) (none_more (put_slice slices new))
-    (rows_in-put_slice slices [] new o ∙ ap (λ xs. cond (is_of o new) new (rows_in xs o)) (none_more slices))
-
--- after puts, the slices that were put come first
-pub rows_in-put_slices : (slices more : List Slice) (o : Bytes) → rows_in (put_slices slices more) o ≡ rows_in (more ++ slices) o
-rows_in-put_slices slices [] o = refl
-rows_in-put_slices slices (new ∷ more) o = rows_in-put (put_slices slices more) new o ∙ ap (cond (is_of o new) new) (rows_in-put_slices slices more o)
-
-pub put_slices-last : (slices more : List Slice) (new : Slice) → put_slices slices (more ++ new ∷ []) ≡ put_slices (put_slice slices new) more
-put_slices-last slices [] new = refl
-put_slices-last slices (s ∷ more) new = ap (λ xs. put_slice xs s) (put_slices-last slices more new)
 
 -- ---- no owner gets a second slice
 
@@ -88,10 +70,6 @@ one_each-put (s ∷ slices) new one =
       | true ↦ λ e. (subst (λ owner. AllByRecursion (λ other. is_of owner other ≡ false) slices) (same_bytes-exact s.owner new.owner e) one.0, one.1)
       | false ↦ λ e. (all_others s.owner slices new (same_bytes-symm new.owner s.owner ∙ e) one.0, one_each-put slices new one.1)
     ] refl
-
-pub one_each-put_slices : (slices more : List Slice) → IsOneEach slices → IsOneEach (put_slices slices more)
-one_each-put_slices slices [] one = one
-one_each-put_slices slices (new ∷ more) one = one_each-put (put_slices slices more) new (one_each-put_slices slices more one)
 
 -- ---- where an owner's slice is
 
@@ -157,77 +135,39 @@ absent_there (s ∷ slices) o h =
     let differs : is_of o s ≡ false = parts.0 in
     rw differs (absent_there slices o parts.1)
 
--- ---- drafts before the slices
+-- ---- a row that is put for an owner
 
-found_before : (drafts slices : List Slice) (o : Bytes) (at : ℕ) (d : Slice) → IsFirstAt o drafts at d → rows_in (drafts ++ slices) o ≡ rows_in drafts o
-found_before [] slices o at d first = let lt = first.inside in absurd (omega arith)
-found_before (s ∷ drafts) slices o zero d first = let is : is_of o s ≡ true = first.there in rw is refl
-found_before (s ∷ drafts) slices o (suc at) d first = let differs : is_of o s ≡ false = first.before 0 (omega arith) in rw differs (found_before drafts slices o at d (next_at s drafts o at d first))
+module _ (slices : List Slice) (owner : Bytes) (row : Row) where
+  -- the owner's rows with this one
+  abbrev more_rows : Slice
+  more_rows = with_row (rows_in slices owner) row
 
-absent_before : (drafts slices : List Slice) (o : Bytes) → position (is_of o) drafts ≡ None → rows_in (drafts ++ slices) o ≡ rows_in slices o
-absent_before [] slices o h = refl
-absent_before (s ∷ drafts) slices o h =
-    let parts = absent_next (is_of o) s drafts h in
-    let differs : is_of o s ≡ false = parts.0 in
-    rw differs (absent_before drafts slices o parts.1)
+  own_rows : more_rows.owner ≡ owner
+  own_rows = owner-with_row (rows_in slices owner) row ∙ owner-rows_in slices owner
 
-module _ (drafts slices : List Slice) (owner : Bytes) (row : Row) where
-  -- the owner's draft with the row
-  abbrev pub next_draft : Slice
-  next_draft = with_row (rows_in (drafts ++ slices) owner) row
+  -- its slice takes the row
+  pub row_there : (at : ℕ) (old new : Slice) → position (is_of owner) slices ≡ Some at → old ≡ get_or slices at old → new ≡ with_row old row → set slices at new ≡ put_slice slices more_rows
+  row_there at old new h is made =
+      ap (set slices at) (made ∙ ap (λ s. with_row s row) (is ∙ found_there slices owner at old h))
+      ∙ set_there slices more_rows at (subst (λ o. position (is_of o) slices ≡ Some at) (sym own_rows) h)
 
-  own_draft : next_draft.owner ≡ owner
-  own_draft = owner-with_row (rows_in (drafts ++ slices) owner) row ∙ owner-rows_in (drafts ++ slices) owner
+  -- or it gets one
+  pub row_added : (new : Slice) → position (is_of owner) slices ≡ None → new ≡ with_row (empty_slice owner) row → slices ++ new ∷ [] ≡ put_slice slices more_rows
+  row_added new h made =
+      ap (λ s. slices ++ s ∷ []) (made ∙ ap (λ s. with_row s row) (sym (absent_there slices owner h)))
+      ∙ added_there slices more_rows (subst (λ o. position (is_of o) slices ≡ None) (sym own_rows) h)
 
-  -- its draft is written over
-  pub draft_over : (at : ℕ) (old new : Slice) → position (is_of owner) drafts ≡ Some at → old ≡ get_or drafts at old → new ≡ with_row old row → set drafts at new ≡ put_slice drafts next_draft
-  draft_over at old new h is made =
-      let same : old ≡ rows_in (drafts ++ slices) owner = is ∙ found_there drafts owner at old h ∙ sym (found_before drafts slices owner at old (first_at drafts owner at old h)) in
-      ap (set drafts at) (made ∙ ap (λ s. with_row s row) same)
-      ∙ set_there drafts next_draft at (subst (λ o. position (is_of o) drafts ≡ Some at) (sym own_draft) h)
-
-  -- or it gets one, which begins as its slice
-  pub draft_added : (old new : Slice) → position (is_of owner) drafts ≡ None → old ≡ rows_in slices owner → new ≡ with_row old row → drafts ++ new ∷ [] ≡ put_slice drafts next_draft
-  draft_added old new h is made =
-      let same : old ≡ rows_in (drafts ++ slices) owner = is ∙ sym (absent_before drafts slices owner h) in
-      ap (λ s. drafts ++ s ∷ []) (made ∙ ap (λ s. with_row s row) same)
-      ∙ added_there drafts next_draft (subst (λ o. position (is_of o) drafts ≡ None) (sym own_draft) h)
-
--- ---- a draft of a change
-
-pub drafted_once : (drafts slices : List Slice) (owner : Bytes) (row : Row) (o : Bytes) → rows_in (put_slice drafts (with_row (rows_in (drafts ++ slices) owner) row) ++ slices) o ≡ after_change (Put owner row) (rows_in (drafts ++ slices) o)
-drafted_once drafts slices owner row o =
-    let new : Slice = with_row (rows_in (drafts ++ slices) owner) row in
-    let own : new.owner ≡ owner = owner-with_row (rows_in (drafts ++ slices) owner) row ∙ owner-rows_in (drafts ++ slices) owner in
-    rows_in-put_slice drafts slices new o
-    ∙ ap (λ name. cond (same_bytes name o) new (rows_in (drafts ++ slices) o)) own
-    ∙ chosen (same_bytes owner o) refl
-    ∙ ap (λ name. cond (same_bytes owner name) (with_row (rows_in (drafts ++ slices) o) row) (rows_in (drafts ++ slices) o)) (sym (owner-rows_in (drafts ++ slices) o))
-  where
-    chosen : (b : Bool) → same_bytes owner o ≡ b → cond b (with_row (rows_in (drafts ++ slices) owner) row) (rows_in (drafts ++ slices) o) ≡ cond b (with_row (rows_in (drafts ++ slices) o) row) (rows_in (drafts ++ slices) o)
-    chosen true e = ap (λ name. with_row (rows_in (drafts ++ slices) name) row) (same_bytes-exact owner o e)
-    chosen false e = refl
-
--- ---- rows that are taken out of the list
-
-put_again : (slices : List Slice) (owner o : Bytes) (b : Bool) → same_bytes owner o ≡ b → rows_in slices owner ≡ empty_slice owner → cond b (empty_slice owner) (rows_in slices o) ≡ rows_in slices o
-put_again slices owner o true is none = sym none ∙ ap (rows_in slices) (same_bytes-exact owner o is)
-put_again slices owner o false is none = refl
-
--- an owner with no rows may have an empty slice
-pub put_none : (slices : List Slice) (owner : Bytes) → rows_in slices owner ≡ empty_slice owner → (o : Bytes) → rows_in (put_slice slices (empty_slice owner)) o ≡ rows_in slices o
-put_none slices owner none o = rows_in-put slices (empty_slice owner) o ∙ put_again slices owner o (same_bytes owner o) refl none
-
-taken_first : (slices left : List Slice) (rows : Slice) (owner o : Bytes) (b : Bool) → same_bytes owner o ≡ b → rows ≡ rows_in slices owner → rows_in left o ≡ cond b (empty_slice owner) (rows_in slices o) → cond b rows (rows_in left o) ≡ rows_in slices o
-taken_first slices left rows owner o true is own others = own ∙ ap (rows_in slices) (same_bytes-exact owner o is)
-taken_first slices left rows owner o false is own others = others
-
--- rows that were taken out stand behind those that were taken before, and before what is left
-pub taken_too : (taken slices left : List Slice) (rows : Slice) (owner : Bytes) → rows ≡ rows_in slices owner → ((o : Bytes) → rows_in left o ≡ rows_in (put_slice slices (empty_slice owner)) o) → (o : Bytes) → rows_in ((taken ++ rows ∷ []) ++ left) o ≡ rows_in (taken ++ slices) o
-taken_too [] slices left rows owner own others o =
-    ap (λ name. cond (same_bytes name o) rows (rows_in left o)) (ap (λ (s : Slice). s.owner) own ∙ owner-rows_in slices owner)
-    ∙ taken_first slices left rows owner o (same_bytes owner o) refl own (others o ∙ rows_in-put slices (empty_slice owner) o)
-taken_too (s ∷ taken) slices left rows owner own others o = ap (cond (is_of o s) s) (taken_too taken slices left rows owner own others o)
+  -- each owner's rows are what the change makes of them
+  pub rows_after : (o : Bytes) → rows_in (put_slice slices more_rows) o ≡ after_change (Put owner row) (rows_in slices o)
+  rows_after o =
+      rows_in-put slices more_rows o
+      ∙ ap (λ name. cond (same_bytes name o) more_rows (rows_in slices o)) own_rows
+      ∙ chosen (same_bytes owner o) refl
+      ∙ ap (λ name. cond (same_bytes owner name) (with_row (rows_in slices o) row) (rows_in slices o)) (sym (owner-rows_in slices o))
+    where
+      chosen : (b : Bool) → same_bytes owner o ≡ b → cond b more_rows (rows_in slices o) ≡ cond b (with_row (rows_in slices o) row) (rows_in slices o)
+      chosen true e = ap (λ name. with_row (rows_in slices name) row) (same_bytes-exact owner o e)
+      chosen false e = refl
 
 -- ---- whose slices are there
 
@@ -242,28 +182,3 @@ has_more slices s o has = list_any-append (is_of o) slices (s ∷ []) ∙ or_lef
 
 pub has_new : (slices : List Slice) (s : Slice) (o : Bytes) → s.owner ≡ o → has_slice (slices ++ s ∷ []) o ≡ true
 has_new slices s o own = list_any-append (is_of o) slices (s ∷ []) ∙ or_right _ _ (or_left _ _ (ap (λ p. same_bytes p o) own ∙ same_bytes-refl o))
-
--- a change whose rows are there is one still
-pub touched_still : (before now : List Slice) → ((o : Bytes) → has_slice before o ≡ true → has_slice now o ≡ true) → (change : Change) → IsTouched before change → IsTouched now change
-touched_still before now stays (Put o row) has = stays o has
-touched_still before now stays _ has = tt
-
--- ---- what is written at a place
-
-pub place_inside : (p : Slice → Bool) (slices : List Slice) (at : ℕ) → position p slices ≡ Some at → at < length slices
-place_inside p slices at h = (position-Some p slices at (empty_slice []) h).0
-
-pub read_set : (slices : List Slice) (at : ℕ) (new d : Slice) → at < length slices → get_or (set slices at new) at d ≡ new
-read_set [] at new d lt = absurd (omega arith)
-read_set (s ∷ slices) zero new d lt = refl
-read_set (s ∷ slices) (suc at) new d lt = read_set slices at new d (omega arith)
-
-pub set_back : (slices : List Slice) (at : ℕ) (old new : Slice) → at < length slices → old ≡ get_or slices at old → set (set slices at new) at old ≡ slices
-set_back [] at old new lt is = absurd (omega arith)
-set_back (s ∷ slices) zero old new lt is = ap (λ x. x ∷ slices) is
-set_back (s ∷ slices) (suc at) old new lt is = ap (λ xs. s ∷ xs) (set_back slices at old new (omega arith) is)
-
-pub length-set_at : (slices : List Slice) (at : ℕ) (new : Slice) → length (set slices at new) ≡ length slices
-length-set_at [] at new = refl
-length-set_at (s ∷ slices) zero new = refl
-length-set_at (s ∷ slices) (suc at) new = ap suc (length-set_at slices at new)

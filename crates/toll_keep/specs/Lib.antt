@@ -5,9 +5,7 @@ pub mod Goes
 pub mod Meaning
 pub mod Holding
 pub mod Slices
-pub mod Drafts
 pub mod Remembered
 pub mod Around
 pub mod Reads
 pub mod Overlays
-pub mod Refused

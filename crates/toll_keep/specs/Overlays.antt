@@ -1,7 +1,7 @@
 -- Changes that are held back from a keep, and what was read of it.
-use Rattle.std.specs.Prelude.{◌≡◌, ◌⊎◌, false, Some, [], Result, OnOk, OnErr}
-use Rattle.toll_keep.specs.Common.{list_any, Bytes, Slice}
-use Rattle.toll_keep.specs.Content.{Content, after, slice_of}
+use Rattle.std.specs.Prelude.{◌≡◌, ◌⊎◌, false, [], Result, OnOk, OnErr}
+use Rattle.toll_keep.specs.Common.{list_any}
+use Rattle.toll_keep.specs.Content.{Content, after}
 use Rattle.toll_keep.specs.Goes.{IsReading}
 use Rattle.toll_keep.specs.Meaning.{Meaning, OverHeld}
 use Rattle.toll_keep.specs.Reads.{HaveRead, IsKept}
@@ -17,10 +17,6 @@ pub record IsOver (c : Content) (o : Overlay) : Type 0 where
 -- what is so of the content that the keep held before with the changes of the overlay put, where it is honest after
 abbrev pub OverLaid : {K : Type 0} → Meaning K → (old new : K) → Overlay → (Content → Type 0) → Type 0
 OverLaid meaning old new o P = OverHeld meaning old new (λ c. IsOver c o → P (after o.changes.items c))
-
--- the slice is the owner's, as the content has it
-abbrev pub IsReadOf : Content → Bytes → Slice → Type 0
-IsReadOf c o s = slice_of c o ≡ Some s
 
 -- since the first of these keeps none was asked, and the overlay read nothing; or each reading call was answered
 abbrev pub IsReadThrough : {K : Type 0} → Meaning K → (first now : K) → Overlay → Type 0

@@ -1,7 +1,8 @@
 -- What is remembered of a content.
 use Rattle.std.specs.Prelude.{◌≡◌, Bool, true, false, Option, Some, None, IfSome, List, [], All, Vec}
-use Rattle.toll_keep.specs.Common.{Global, Bytes, Slice, empty_slice, Change, Put}
-use Rattle.toll_keep.specs.Content.{Content, knows, slice_of}
+use Rattle.toll_keep.specs.Common.{Global, Bytes, Slice, empty_slice, list_any, Change, Put}
+use Rattle.toll_keep.specs.Content.{Content, after, knows, slice_of}
+use Rattle.toll_keep.specs.Meaning.{Meaning, OverHeld}
 use Rattle.toll_keep.specs.declared.recollection.Recollection.{Recollection}
 
 -- each of the slices is its owner's, whom the content knows
@@ -36,3 +37,7 @@ pub record IsNothing (r : Recollection) : Type 0 where
 abbrev pub is_addition : Change → Bool
 is_addition (Put o row) = false
 is_addition _ = true
+
+-- what is so of the content that the keep held before with these changes put, where they add no owner and no unit, the slices are of it, and the keep is honest after
+abbrev pub OverPut : {K : Type 0} → Meaning K → (old new : K) → List Change → List Slice → (Content → Type 0) → Type 0
+OverPut meaning old new changes slices P = OverHeld meaning old new (λ c. list_any is_addition changes ≡ false → AreOf (after changes c) slices → P (after changes c))

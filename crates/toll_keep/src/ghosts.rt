@@ -3,12 +3,10 @@ ghost use Rattle.std.specs.Prelude.{◌≡◌, ◌↔◌, false, List, Contains}
 ghost use Rattle.toll_keep.specs.Content.{Content};
 ghost use Rattle.toll_keep.specs.Around.{HoldsAround};
 ghost use Rattle.toll_keep.specs.Slices.{Kept, content_of};
-ghost use Rattle.toll_keep.specs.declared.refusing.Refusing.{Refusing};
 ghost use Rattle.toll_keep.specs.declared.remembering.Remembering.{Remembering};
 
 use crate::keep::Keep;
 use crate::mem_keep::MemKeep;
-use crate::refusing::Refusing;
 use crate::remembering::Remembering;
 
 /// A keep in memory is always honest and live, and surely so, never closed, and meets no cause of Disk.
@@ -24,22 +22,6 @@ pub fn a_keep_in_memory_is_always_open()
 pub fn a_keep_in_memory_has_its_content()
     ensures holds { (k : Kept) (c : Content) → ⟦<MemKeep as Keep>⟧.meaning.holds k c ↔ (content_of k ≡ c) }
     ensures leaves { (k : Kept) (cs : List Content) → ⟦<MemKeep as Keep>⟧.meaning.leaves k cs ↔ Contains cs (content_of k) }
-{}
-
-/// A keep that refuses is honest, live, unsure and closed just where the keep inside is, and meets the
-/// causes of Disk that it meets.
-pub fn a_refusing_keep_is_as_open_as_the_one_inside<K: Keep>()
-    ensures honest { (r : Refusing K) → ⟦<Refusing<K> as Keep>⟧.meaning.is_honest r ↔ K.meaning.is_honest r.keep }
-    ensures live { (r : Refusing K) → ⟦<Refusing<K> as Keep>⟧.meaning.is_live r ↔ K.meaning.is_live r.keep }
-    ensures unsure { (r : Refusing K) → ⟦<Refusing<K> as Keep>⟧.meaning.is_unsure r ≡ K.meaning.is_unsure r.keep }
-    ensures closed { (r : Refusing K) → ⟦<Refusing<K> as Keep>⟧.meaning.is_closed r ≡ K.meaning.is_closed r.keep }
-    ensures cause { (old new : Refusing K) → ⟦<Refusing<K> as Keep>⟧.meaning.has_cause old new ↔ K.meaning.has_cause old.keep new.keep }
-{}
-
-/// A keep that refuses holds what the keep inside holds, and a stop leaves what it leaves.
-pub fn a_refusing_keep_has_the_content_inside<K: Keep>()
-    ensures holds { (r : Refusing K) (c : Content) → ⟦<Refusing<K> as Keep>⟧.meaning.holds r c ↔ K.meaning.holds r.keep c }
-    ensures leaves { (r : Refusing K) (cs : List Content) → ⟦<Refusing<K> as Keep>⟧.meaning.leaves r cs ↔ K.meaning.leaves r.keep cs }
 {}
 
 /// A keep that remembers is honest, live, unsure and closed just where the keep inside is, and meets the

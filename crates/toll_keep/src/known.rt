@@ -41,6 +41,14 @@ impl Known {
         Known { slice, edges: None }
     }
 
+    /// The slice again.
+    pub fn into_slice(self) -> Slice
+        ensures { result ≡ self }
+    {
+        let Known { slice, edges: _ } = self;
+        slice
+    }
+
     /// The owner.
     pub fn owner(&self) -> &Name
         ensures { result.now ≡ self.now.owner }

@@ -1,7 +1,6 @@
 //! What keeps the rows of the office, and the plainest one: lists in memory.
 #![tactic(auto)]
 
-mod draft;
 mod everyone;
 mod fault;
 mod gathering;
@@ -10,11 +9,9 @@ mod holder;
 mod keep;
 mod known;
 mod mem_keep;
-mod opening;
 mod overlay;
 mod plant_row;
 mod recollection;
-mod refusing;
 mod remembered;
 mod remembering;
 mod slices;
@@ -23,12 +20,10 @@ mod telling;
 pub use fault::KeepFault;
 pub use ghosts::{
     a_keep_in_memory_has_its_content, a_keep_in_memory_is_always_open,
-    a_refusing_keep_has_the_content_inside, a_refusing_keep_is_as_open_as_the_one_inside,
     a_remembering_keep_has_the_content_inside, a_remembering_keep_is_as_open_as_the_one_inside,
 };
 pub use holder::Holder;
 pub use keep::Keep;
 pub use mem_keep::MemKeep;
 pub use overlay::Overlay;
-pub use refusing::{Refused, Refusing};
 pub use remembering::Remembering;

@@ -1,21 +1,18 @@
 //! A keep of lists in memory.
-ghost use Rattle.std.specs.Prelude.{◌≡◌, false, ⊤, IfOk, OnOk, OnErr, IsOkUnless};
+ghost use Rattle.std.specs.Prelude.{◌≡◌, [], ◌∷◌, false, ⊤, IfOk, OnOk, OnErr, IsOkUnless};
 ghost use Rattle.toll_keep.specs.Common.{AreEdges, IsEdge};
 ghost use Rattle.toll_keep.specs.Content.{nothing, knows, slice_of, after};
 ghost use Rattle.toll_keep.specs.Goes.{IsAmong};
 ghost use Rattle.toll_keep.specs.Holding.{IsEdgeOfSome};
 ghost use Rattle.toll_keep.specs.Slices.{content_of, rows_in};
 
-use crate::draft::Draft;
 use crate::everyone::edges_among;
 use crate::fault::KeepFault;
 use crate::holder::{Holder, holder_among};
 use crate::keep::Keep;
-use crate::opening::open_touched;
-use crate::slices::{install, place_of, shared_of};
+use crate::slices::{place_of, put_for, shared_each, shared_of};
 use std::alloc::{AllocError, Global};
 use std::marker::Model;
-use std::mem;
 use toll_base::{Change, Edge, Name, OwnerRow, Row, Slice, Table, UnitRow};
 use toll_trace::{edges_of, put_in_order};
 
@@ -93,24 +90,51 @@ impl MemKeep {
         Ok(edges)
     }
 
+    // The same rows once more, which the two share.
+    fn copy(&mut self, alloc: Global) -> Result<Self, AllocError>
+        ensures copied { IfOk result (λ copied. copied ≡ self.old) }
+        ensures same { self.new ≡ self.old }
+    {
+        Ok(MemKeep {
+            slices: shared_each(alloc, &mut self.slices)?,
+            owners: self.owners.copy(alloc)?,
+            units: self.units.copy(alloc)?,
+        })
+    }
+
+    // Makes the changes, in order. Where there is no memory, or a row does not fit, the rows are of no
+    // more use.
+    fn make_all(&mut self, alloc: Global, changes: &[Change]) -> Result<(), AllocError>
+        ensures { OnOk result (content_of self.new ≡ after changes.now (content_of self.old)) }
+    {
+        for change in changes {
+            self.make(alloc, change)?;
+        }
+        Ok(())
+    }
+
+    fn make(&mut self, alloc: Global, change: &Change) -> Result<(), AllocError>
+        ensures { OnOk result (content_of self.new ≡ after (change.now ∷ []) (content_of self.old)) }
+    {
+        // Named for the proof: a change may have a row.
+        let _row: Option<Row> = None;
+        match change {
+            Change::Owner(row) => self.owners.put(*row),
+            Change::Unit(row) => self.units.put(*row),
+            Change::Put(owner, row) => put_for(alloc, &mut self.slices, owner, row),
+        }
+    }
+
+    // The changes are made in a copy, which takes the place of the rows where all went well.
     fn change(&mut self, alloc: Global, changes: &[Change]) -> Result<(), KeepFault>
         ensures all { OnOk result (content_of self.new ≡ after changes.now (content_of self.old)) }
         ensures none { OnErr result (content_of self.new ≡ content_of self.old) }
         ensures fault { IsOkUnless result KeepFault.Memory }
     {
-        // Named for the proof: a change may have a row.
-        let _row: Option<Row> = None;
-        self.slices.try_reserve(changes.len())?;
-        let mut draft = Draft {
-            slices: open_touched(alloc, &mut self.slices, changes)?,
-            owners: mem::replace(&mut self.owners, Table::new(alloc)),
-            units: mem::replace(&mut self.units, Table::new(alloc)),
-        };
-        let made = draft.make_all(alloc, changes);
-        self.owners = draft.owners;
-        self.units = draft.units;
-        install(alloc, &mut self.slices, draft.slices);
-        made
+        let mut copied = self.copy(alloc)?;
+        copied.make_all(alloc, changes)?;
+        *self = copied;
+        Ok(())
     }
 }
 

@@ -1,15 +1,15 @@
 //! Changes that are held back from a keep.
 ghost use Rattle.std.specs.Prelude.{◌≡◌, ◌++◌, [], IfOk, OnErr, OnOk};
-ghost use Rattle.toll_keep.specs.Common.{after_changes};
 ghost use Rattle.toll_keep.specs.Content.{Content, slice_of};
 ghost use Rattle.toll_keep.specs.Meaning.{OverHeld};
-ghost use Rattle.toll_keep.specs.Overlays.{IsOver, IsReadOf, OverLaid, ReadsThrough};
+ghost use Rattle.toll_keep.specs.Overlays.{IsOver, OverLaid, ReadsThrough};
 
 use crate::fault::KeepFault;
 use crate::keep::Keep;
 use crate::known::Known;
 use crate::recollection::has_addition;
-use crate::remembered::{follow, follow_all, remembered};
+use crate::remembered::follow_all;
+use crate::telling::tell_slice;
 use std::alloc::{AllocError, Global};
 use std::mem;
 use toll_base::{Change, Name, Row, Slice};
@@ -58,35 +58,8 @@ impl Overlay {
         ensures over { OverHeld K.meaning keep.old keep.new (λ c. IsOver c self.old → IsOver c self.new) }
         ensures changes { self.new.changes.items ≡ self.old.changes.items }
     {
-        if let Some(known) = remembered(&self.slices, owner) {
-            return Ok(Some(known.copy(alloc)?));
-        }
-        match keep.slice(alloc, owner) {
-            Ok(Some(read)) => match self.lay(alloc, owner, read) {
-                Ok(slice) => Ok(Some(slice)),
-                Err(_) => Err(KeepFault::Memory),
-            },
-            Ok(None) => Ok(None),
-            Err(fault) => Err(fault),
-        }
-    }
-
-    // The slice that was read for the owner, with the changes put. It is remembered where it is the owner's
-    // and there is memory.
-    fn lay(&mut self, alloc: Global, owner: &Name, mut read: Slice) -> Result<Slice, AllocError>
-        ensures laid { IfOk result (λ slice. slice ≡ after_changes self.old.changes.items read) }
-        ensures over { (c : Content) → IsReadOf c owner.now read → IsOver c self.old → IsOver c self.new }
-        ensures changes { self.new.changes.items ≡ self.old.changes.items }
-    {
-        read.share(alloc)?;
-        let mut known = Known::of(read);
-        follow(alloc, &mut known, &self.changes)?;
-        let slice = known.copy(alloc)?;
-        if *known.owner() != *owner {
-            return Ok(slice);
-        }
-        let _ = self.slices.push(known);
-        Ok(slice)
+        let Overlay { slices, changes } = self;
+        tell_slice(alloc, keep, slices, changes, owner)
     }
 
     /// Holds these changes back, behind those from before. An `Err` means that they are not held: there

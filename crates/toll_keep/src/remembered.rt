@@ -40,26 +40,29 @@ pub fn remembered_edges(
     Some(slices[at].edges(alloc))
 }
 
-/// Remembers the slice that was read for the owner, where it is the owner's and there is memory, and
-/// gives it on: the two share their rows.
+/// The slice that was read for the owner, with the changes put. It is remembered where it is the owner's and
+/// there is memory, and then the two share their rows.
 pub fn remember(
     alloc: Global,
     slices: &mut Vec<Known>,
+    changes: &[Change],
     owner: &Name,
-    read: Option<Slice>,
-) -> Option<Slice>
-    ensures same { result ≡ read }
-    ensures own { (c : Content) → read ≡ slice_of c owner.now → AreOf c slices.old.items → AreOf c slices.new.items }
+    read: Slice,
+) -> Result<Slice, AllocError>
+    ensures put { IfOk result (λ slice. slice ≡ after_changes changes.now read) }
+    ensures own { (c : Content) → slice_of c owner.now ≡ Some (after_changes changes.now read) → AreOf c slices.old.items → AreOf c slices.new.items }
 {
-    let mut slice = read?;
+    let mut known = Known::of(read);
+    follow(alloc, &mut known, changes)?;
+    let mut slice = known.into_slice();
     if *slice.owner() != *owner {
-        return Some(slice);
+        return Ok(slice);
     }
     let Ok(copied) = shared(alloc, &mut slice) else {
-        return Some(slice);
+        return Ok(slice);
     };
     let _ = slices.push(Known::of(copied));
-    Some(slice)
+    Ok(slice)
 }
 
 /// The edges of the slice that was read for the owner. The two are remembered together, where the slice

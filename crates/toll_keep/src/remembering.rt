@@ -87,7 +87,7 @@ impl<K: Keep> Keep for Remembering<K> {
 
     fn slice(&mut self, alloc: Global, owner: &Name) -> Result<Option<Slice>, KeepFault> {
         let Remembering { keep, recollection } = self;
-        let told = tell_slice(alloc, keep, &mut recollection.slices, owner);
+        let told = tell_slice(alloc, keep, &mut recollection.slices, &[], owner);
         or_forget(alloc, recollection, told)
     }
 

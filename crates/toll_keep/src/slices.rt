@@ -1,10 +1,10 @@
 //! Slices in a list.
-ghost use Rattle.std.specs.Prelude.{◌≡◌, ◌+◌, ◌<◌, ◌≤◌, IfOk, OnOk, OnErr, vec_len, vec_capacity, position};
-ghost use Rattle.toll_keep.specs.Common.{Bytes, empty_slice};
-ghost use Rattle.toll_keep.specs.Slices.{is_of, rows_in, put_slice, put_slices, IsOneEach};
+ghost use Rattle.std.specs.Prelude.{◌≡◌, IfOk, OnOk, OnErr, position};
+ghost use Rattle.toll_keep.specs.Common.{with_row};
+ghost use Rattle.toll_keep.specs.Slices.{is_of, rows_in, put_slice};
 
 use std::alloc::{AllocError, Global};
-use toll_base::{Name, OpenSlice, Slice};
+use toll_base::{Name, Row, Slice};
 
 /// Where the owner's slice is.
 pub fn place_of(slices: &[Slice], owner: &Name) -> Option<usize>
@@ -33,38 +33,46 @@ pub fn shared_of(alloc: Global, slices: &mut [Slice], owner: &Name) -> Result<Sl
     }
 }
 
-/// Takes the owner's rows out of the list, to be changed in place, and leaves none.
-pub fn take(alloc: Global, slices: &mut [Slice], owner: &Name) -> Result<OpenSlice, AllocError>
-    ensures rows { IfOk result (λ rows. rows ≡ rows_in slices.old owner.now) }
-    ensures left { OnOk result ((o : Bytes) → rows_in slices.new o ≡ rows_in (put_slice slices.old (empty_slice owner.now)) o) }
-    ensures err { OnErr result (slices.new ≡ slices.old) }
-    ensures each { IsOneEach slices.old → IsOneEach slices.new }
+/// Copies that share the rows of these slices.
+pub fn shared_each(alloc: Global, slices: &mut [Slice]) -> Result<Vec<Slice>, AllocError>
+    ensures copied { IfOk result (λ copied. copied.items ≡ slices.old) }
+    ensures same { slices.new ≡ slices.old }
+{
+    let mut copied = Vec::new(alloc);
+    for slice in slices.iter_mut() {
+        copied.push(shared(alloc, slice)?)?;
+    }
+    Ok(copied)
+}
+
+/// Puts the row into the owner's slice, or into a new one where there is none. Rows that a copy shares are
+/// copied first. Where there is no memory, or the row does not fit, nothing is changed.
+pub fn put_for(
+    alloc: Global,
+    slices: &mut Vec<Slice>,
+    owner: &Name,
+    row: &Row,
+) -> Result<(), AllocError>
+    ensures put { OnOk result (slices.new.items ≡ put_slice slices.old.items (with_row (rows_in slices.old.items owner.now) row.now)) }
+    ensures none { OnErr result (slices.new.items ≡ slices.old.items) }
 {
     match place_of(slices, owner) {
-        Some(at) => slices[at].take(alloc),
-        None => Ok(OpenSlice::new(alloc, *owner)),
+        Some(at) => put_fitting(&mut slices[at], row),
+        None => {
+            let mut slice = Slice::new(alloc, *owner);
+            put_fitting(&mut slice, row)?;
+            slices.push(slice)?;
+            Ok(())
+        }
     }
 }
 
-/// Puts the rows in place of those of their owners, or beside them, for which there is room.
-pub fn install(alloc: Global, slices: &mut Vec<Slice>, mut taken: Vec<OpenSlice>)
-    requires { vec_len slices.old + vec_len taken ≤ vec_capacity slices.old }
-    ensures { slices.new.items ≡ put_slices slices.old.items taken.items }
+fn put_fitting(slice: &mut Slice, row: &Row) -> Result<(), AllocError>
+    ensures put { OnOk result (slice.new ≡ with_row slice.old row.now) }
+    ensures none { OnErr result (slice.new ≡ slice.old) }
 {
-    while let Some(rows) = taken.pop() {
-        set(slices, Slice::of(alloc, rows));
+    if !slice.fits(row) {
+        return Err(AllocError);
     }
-}
-
-// Puts the slice in place of its owner's, or beside the others.
-fn set(slices: &mut Vec<Slice>, slice: Slice)
-    requires { vec_len slices.old < vec_capacity slices.old }
-    ensures items { slices.new.items ≡ put_slice slices.old.items slice }
-    ensures len { vec_len slices.new ≤ vec_len slices.old + 1 }
-    ensures capacity { vec_capacity slices.new ≡ vec_capacity slices.old }
-{
-    match place_of(slices, slice.owner()) {
-        Some(at) => slices[at] = slice,
-        None => slices.push_reserved(slice),
-    }
+    slice.put(*row)
 }

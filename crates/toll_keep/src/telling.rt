@@ -5,7 +5,7 @@ ghost use Rattle.toll_keep.specs.Content.{Content, slice_of};
 ghost use Rattle.toll_keep.specs.Goes.{IsReading};
 ghost use Rattle.toll_keep.specs.Meaning.{OverHeld};
 ghost use Rattle.toll_keep.specs.Reads.{HaveRead, IsKept};
-ghost use Rattle.toll_keep.specs.Remembered.{AreOf, AreRows, IfOf, OnlyKnownHaveRows};
+ghost use Rattle.toll_keep.specs.Remembered.{AreOf, AreRows, IfOf, OnlyKnownHaveRows, OverPut};
 
 use crate::fault::KeepFault;
 use crate::keep::Keep;
@@ -13,24 +13,29 @@ use crate::known::Known;
 use crate::plant_row::PlantRow;
 use crate::remembered::{remember, remember_edges, remembered, remembered_edges};
 use std::alloc::{AllocError, Global};
-use toll_base::{Edge, Name, Slice};
+use toll_base::{Change, Edge, Name, Slice};
 
-/// All rows of an owner: `None` for an unknown one.
+/// All rows of an owner, with these changes put, none of which adds an owner or a unit: `None` for an
+/// unknown one. The keep is asked for them once, as long as there is the memory to remember them.
 pub fn tell_slice<K: Keep>(
     alloc: Global,
     keep: &mut K,
     slices: &mut Vec<Known>,
+    changes: &[Change],
     owner: &Name,
 ) -> Result<Option<Slice>, KeepFault>
     ensures reading { (slices.old.items ≢ [] → HaveRead K.meaning keep.old keep.old) → IsReading K.meaning keep.old keep.new result }
-    ensures reads { OverHeld K.meaning keep.old keep.new (λ c. AreOf c slices.old.items → IfOk result (λ slice. slice ≡ slice_of c owner.now)) }
-    ensures own { OverHeld K.meaning keep.old keep.new (λ c. AreOf c slices.old.items → AreOf c slices.new.items) }
+    ensures reads { OverPut K.meaning keep.old keep.new changes.now slices.old.items (λ c. IfOk result (λ slice. slice ≡ slice_of c owner.now)) }
+    ensures own { OverPut K.meaning keep.old keep.new changes.now slices.old.items (λ c. AreOf c slices.new.items) }
+    ensures kept { IsKept K.meaning keep.old keep.new }
 {
     if let Some(known) = remembered(slices, owner) {
         return Ok(Some(known.copy(alloc)?));
     }
-    let read = keep.slice(alloc, owner)?;
-    Ok(remember(alloc, slices, owner, read))
+    match keep.slice(alloc, owner)? {
+        Some(read) => Ok(Some(remember(alloc, slices, changes, owner, read)?)),
+        None => Ok(None),
+    }
 }
 
 /// The edges of the owner, by its slice: none of one that is not known.

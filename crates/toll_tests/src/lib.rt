@@ -16,6 +16,8 @@ mod plant;
 #[cfg(test)]
 mod programs;
 #[cfg(test)]
+mod refusing;
+#[cfg(test)]
 mod slices;
 #[cfg(test)]
 mod stop;

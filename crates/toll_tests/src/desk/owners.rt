@@ -1,8 +1,9 @@
 //! Stories of owners and the plant, over a list keep and over one that once has no memory.
 use crate::desk::lines::Asked;
+use crate::refusing::{Refused, Refusing};
 use crate::stories::{Line, check_said, check_said_over};
 use std::test::Fail;
-use toll_keep::{MemKeep, Refused, Refusing};
+use toll_keep::MemKeep;
 
 const WITH_ACME: &[Line] = &[
     ("owner-add ACME ACMEKEY1", "accepted"),

@@ -6,8 +6,9 @@ mod long;
 mod street;
 
 use crate::doors::served::street::{Log, Street};
+use crate::refusing::{Refused, Refusing};
 use std::alloc::{AllocError, Global};
-use toll_keep::{Keep, MemKeep, Refused, Refusing};
+use toll_keep::{Keep, MemKeep};
 use toll_protocol::Told;
 use toll_server::{Door, Progress, Served};
 use toll_service::{KeptOffice, Reply, answer_at, serve_keep};

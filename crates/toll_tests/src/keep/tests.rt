@@ -3,11 +3,12 @@
 use crate::keep::counting::Counting;
 use crate::keep::rows::{acme, actual, batch, edge, fill, fill_all};
 use crate::keep::told::{check_counts, check_edges, check_holder, check_owners, check_rows};
+use crate::refusing::{Refused, Refusing};
 use crate::stories::check;
 use std::alloc::Global;
 use std::test::Fail;
 use toll_base::{Change, Disposition, LotRow, Name, Origin, Role, Row};
-use toll_keep::{Keep, KeepFault, MemKeep, Refused, Refusing, Remembering};
+use toll_keep::{Keep, KeepFault, MemKeep, Remembering};
 
 fn filled(alloc: Global) -> Result<MemKeep, Fail> {
     let mut keep = MemKeep::new(alloc);

@@ -1,10 +1,11 @@
 //! Stories of files that are imported.
 use crate::desk::setups::WITH_BATCH;
 use crate::plant::lines::{Asked, HEADER};
+use crate::refusing::{Refused, Refusing};
 use crate::stories::{Line, WITH_RECIPE, check_said, check_said_over, empty_tables, say_to_file};
 use std::alloc::{AllocError, Global};
 use std::test::Fail;
-use toll_keep::{Keep, MemKeep, Refused, Refusing};
+use toll_keep::{Keep, MemKeep};
 use toll_plant::{GROUP_RECORDS, MOST_FILE_BYTES};
 
 const IMPORTED: &[Line] = &[

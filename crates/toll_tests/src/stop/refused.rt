@@ -1,11 +1,12 @@
 //! A keep that refuses each of its calls in turn, and what is found behind it.
+use crate::refusing::{Refused, Refusing};
 use crate::stop::runs::Telling;
 use crate::stories::{Teller, check, check_lines, check_said_over};
 use crate::wire::lines::Asked;
 use sqlite::MemStore;
 use std::alloc::Global;
 use std::test::Fail;
-use toll_keep::{Keep, MemKeep, Refused, Refusing, Remembering};
+use toll_keep::{Keep, MemKeep, Remembering};
 use toll_sql::SqlKeep;
 
 // More calls of a keep than a line makes.

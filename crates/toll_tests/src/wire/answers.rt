@@ -1,4 +1,5 @@
 //! Requests and what they are answered.
+use crate::refusing::{Refused, Refusing};
 use crate::stories::{check, check_lines};
 use crate::wire::lines::{Asked, events_of};
 use crate::wire::requests::{keyed, reply, request};
@@ -6,7 +7,7 @@ use crate::wire::setups::WITH_ACME;
 use std::alloc::{AllocError, Global};
 use std::test::Fail;
 use toll_desk::PlantReply;
-use toll_keep::{Keep, MemKeep, Refused, Refusing};
+use toll_keep::{Keep, MemKeep};
 use toll_wire::{Answer, answer, run_events};
 
 /// The body that asks for order O-1, of two batches by recipe R-1.

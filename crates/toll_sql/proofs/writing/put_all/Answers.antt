@@ -1,7 +1,7 @@
 use Rattle.std.proofs.Common.{arith, subst}
 use Rattle.std.proofs.lemmas.Grind.{common_steps}
 use Rattle.toll_sql.proofs.Common.{keeps_then, state, HasCleanDisk}
-use Rattle.toll_keep.proofs.Undoing.{next_left}
+use Rattle.toll_keep.proofs.Changed.{next_left}
 use Rattle.toll_sql.proofs.Going.{GoesOn, one_more}
 use Rattle.toll_sql.proofs.writing.put_all.Goals as goal
 

@@ -1,11 +1,12 @@
 //! An import that is given up, since its office was closed and can't be opened.
 use crate::doors::served::imports::{import_of_records, push_lines};
 use crate::doors::served::{ADD_OWNER, NO_MEMORY, Visit};
+use crate::refusing::{Refused, Refusing};
 use std::alloc::Global;
 use std::fs;
 use std::fs::File;
 use std::test::Fail;
-use toll_keep::{MemKeep, Refused, Refusing};
+use toll_keep::MemKeep;
 use toll_plant::GROUP_RECORDS;
 use toll_protocol::{PackFault, Told};
 use toll_server::{Door, Office, Progress};

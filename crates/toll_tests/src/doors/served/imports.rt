@@ -1,9 +1,10 @@
 //! Imports in turns, with others in between.
 use crate::doors::served::street::{Log, Street};
 use crate::doors::served::{ADD_OWNER, ADD_RECIPE, LIST, PLACE, Visit, go_on, is_told, tells};
+use crate::refusing::{Refused, Refusing};
 use std::alloc::{AllocError, Global};
 use std::test::Fail;
-use toll_keep::{Keep, MemKeep, Refused, Refusing};
+use toll_keep::{Keep, MemKeep};
 use toll_plant::GROUP_RECORDS;
 use toll_protocol::{Asked, PackFault, Told};
 use toll_server::{Door, Served};
