@@ -18,7 +18,6 @@ from .journaling import journal_group
 from .listing import list_group
 from .owners import owner_group
 from .papers.command import papers_group
-from .recalling import recall_report
 from .showing import show_group
 from .status import status
 from .upkeep import backup, new, restore, verify
@@ -39,7 +38,7 @@ class Commands(Group):
 
     sections = {
         "Record": [name for name, it in LINES.items() if not it.is_question] + ["import", "to-csv"],
-        "Ask": [name for name, it in LINES.items() if it.is_question] + ["list", "show", "recall-report"],
+        "Ask": [name for name, it in LINES.items() if it.is_question] + ["list", "show"],
     }
     others = "Look after the office"
 
@@ -55,7 +54,7 @@ def hilpoven(context: click.Context, db: str, office: str, wait: float | None) -
     context.obj = Context(site.load(office=office), db).waiting(wait)
 
 
-for command in [*lines.COMMANDS.values(), import_command, to_csv, list_group, show_group, recall_report, owner_group, status, journal_group, papers_group, board, new, backup, restore, verify]:
+for command in [*lines.COMMANDS.values(), import_command, to_csv, list_group, show_group, owner_group, status, journal_group, papers_group, board, new, backup, restore, verify]:
     hilpoven.add_command(command)
 for command in [carry_over, years_group]:
     hilpoven.add_command(command)

@@ -92,7 +92,7 @@ BEHIND = [
     Part("try-memory", [PYTHON, "tools/try-memory", "--program", PROGRAM, "--most", "60"], ("gcc", "libc6-dev"), 20),
     Part("try-memory-list", [PYTHON, "tools/try-memory", "--lists", "--program", PROGRAM], minutes=20),
     Part("try-to-csv", [PYTHON, "tools/try-to-csv", "--program", PROGRAM, "--jobs", "2"], (*PLANT_NEEDS, "libreoffice-calc"), 20),
-    Part("try-recall-report", ["env", f"TOLL={PROGRAM}", PYTHON, "tools/try-recall-report", "12"], (*PLANT_NEEDS, "chromium"), 20),
+    Part("try-recall-report", ["env", f"TOLL={PROGRAM}", PYTHON, "tools/try-recall-report", "12"], PLANT_NEEDS, 20),
     Part("plant-tests", ["env", f"TOLL={PROGRAM}", *PYTEST, "plant/tests"], PLANT_NEEDS),
     Part("try-page", ["env", f"TOLL={PROGRAM}", "sh", "-c", PICTURED, PYTHON], ("chromium", "chromium-driver", "curl", "nginx-light", "nodejs", "openssl"), 25),
     Part("check-package", [PYTHON, "tools/check-package", "--program", PROGRAM],

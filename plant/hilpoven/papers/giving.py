@@ -10,9 +10,8 @@ from dataclasses import dataclass
 from .. import journal, rights, rooms
 from ..failure import FAULT, WRONG_USE, Failure
 from ..office import Office
-from ..recall import sharing
 from ..years.merging import Part
-from . import copies, guard, printing
+from . import copies, guard, printing, sharing
 from .copies import Chain
 from .printing import Document
 

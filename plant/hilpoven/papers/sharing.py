@@ -1,4 +1,4 @@
-"""Who may open a report: this user, and the one who called it by sudo."""
+"""Who may open papers: this user, and the one who called it by sudo."""
 import errno
 import os
 import pathlib
@@ -6,7 +6,7 @@ import struct
 import tarfile
 from typing import IO
 
-from ..failure import Failure
+from ..failure import FAULT, Failure
 
 ACCESS = "system.posix_acl_access"
 VERSION = struct.pack("<I", 2)
@@ -27,7 +27,7 @@ def rights(user: int, is_folder: bool) -> bytes:
 
 
 def open_to_caller(folder: pathlib.Path) -> None:
-    """Lets the user who called by sudo read the report; fails where the file system can't say that."""
+    """Lets the user who called by sudo read the papers; fails where the file system can't say that."""
     user = caller()
     if user is None:
         return
@@ -37,11 +37,11 @@ def open_to_caller(folder: pathlib.Path) -> None:
         except OSError as fault:
             if fault.errno != errno.EOPNOTSUPP:
                 raise
-            raise Failure("whoever called sudo couldn't open a report there: --tar gives it to standard output", 3) from fault
+            raise Failure("whoever called sudo couldn't open papers there: --tar gives them to standard output", FAULT) from fault
 
 
 def write_tar(folder: pathlib.Path, name: str, stream: IO[bytes]) -> None:
-    """Writes the report as a tar of a folder with this name, whose files belong to whoever unpacks it."""
+    """Writes papers as a tar of a folder with this name, whose files belong to whoever unpacks it."""
     def unowned(entry: tarfile.TarInfo) -> tarfile.TarInfo:
         entry.uid = entry.gid = 0
         entry.uname = entry.gname = ""

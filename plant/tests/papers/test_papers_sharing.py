@@ -1,0 +1,105 @@
+"""Who may open papers, what is no office, and names that a spreadsheet would take for something else."""
+import csv
+import os
+import sqlite3
+import subprocess
+import tarfile
+
+import pytest
+from conftest import HILPOVEN, command, environment, is_told
+
+RECALL = ("papers", "recall", "HOUSE", "W-101")
+
+# An owner whose name is the plant's, and lots whose names are numbers and dates to a spreadsheet.
+NAMES = """
+owner-add PLANT PLANTKEY1
+material-add PLANT SALT kg
+recipe-add PLANT R 1
+require PLANT R 1 consumed HOUSE WATER 10
+require PLANT R 1 produced PLANT SALT 10
+> PLANT POST /orders {"order":"1E5","recipe":"R","batches":1}
+open PLANT 1E5 MIXER
+do PLANT 1E5 1 start
+actual 007 PLANT 1E5 1 1 consumed WATER HOUSE W-101 TANK 10 103
+actual 1-3 PLANT 1E5 1 1 produced SALT PLANT 1-2 1E6 10 103
+"""
+
+
+def told(plant, *words, **more):
+    """What the command tells as a process of its own."""
+    return command("--db", plant.db, *RECALL, *words, env=environment(TOLL=plant.program), **more)
+
+
+def test_an_owner_who_is_named_plant_has_papers_of_its_own(at_work):
+    assert told(at_work.lay(NAMES), at_work.folder / "made", "--no-pdf").returncode == 0
+    made = at_work.folder / "made"
+    assert sorted(str(it.relative_to(made)) for it in made.glob("*/*") if it.is_dir()) == ["owners/ACME", "owners/PLANT"]
+    assert (made / "plant" / "recall.txt").exists() and not (made / "owners" / "PLANT" / "recall.txt").exists()
+    names = [str(it.relative_to(made)).lower() for it in made.rglob("*")]
+    assert len(set(names)) == len(names)
+
+
+def test_names_are_texts_to_a_spreadsheet(at_work):
+    assert told(at_work.lay(NAMES), at_work.folder / "made", "--no-pdf").returncode == 0
+    found = set()
+    for file in (at_work.folder / "made" / "owners" / "PLANT").glob("*.csv"):
+        with open(file, newline="") as text:
+            found |= {cell for row in csv.reader(text) for cell in row}
+    assert {'="1-2"', '="1E6"', '="1E5/1"', '="SALT"', '="HOUSE"'} <= found
+    assert not {"1-2", "1E6", "1E5/1", "SALT", "HOUSE"} & found
+
+
+@pytest.mark.parametrize("parent", ["/proc", "/proc/self"])
+def test_where_nothing_can_be_written_it_is_told(at_work, parent):
+    assert is_told(told(at_work, f"{parent}/made", "--no-pdf"), 3)
+
+
+@pytest.mark.parametrize("words", [[], ["a", "b"], ["a", "--tar"], ["--tar", "--all"], ["."]])
+def test_a_wrong_use_is_told(at_work, words):
+    assert is_told(told(at_work, *words), 2)
+
+
+@pytest.mark.parametrize("name", ["text.db", "empty.db", "other.db"])
+def test_what_is_no_office_is_told(at_work, name):
+    folder = at_work.folder
+    (folder / "text.db").write_text("no office")
+    (folder / "empty.db").write_text("")
+    with sqlite3.connect(folder / "other.db") as other:
+        other.execute("CREATE TABLE t (a)")
+    done = command("--db", folder / name, *RECALL, folder / "made", "--no-pdf", env=environment(TOLL=at_work.program))
+    assert is_told(done, 2 if name == "empty.db" else 3) and not (folder / "made").exists()
+
+
+def test_without_sudo_papers_are_one_users(at_work):
+    assert told(at_work, at_work.folder / "made", "--no-pdf", umask=0).returncode == 0
+    for it in [at_work.folder / "made", *(at_work.folder / "made").rglob("*")]:
+        assert os.stat(it).st_mode & 0o077 == 0, it
+
+
+@pytest.mark.skipif(os.geteuid() != 0, reason="only root becomes another user")
+def test_who_called_sudo_may_open_papers_and_nobody_else(reachable):
+    folder = reachable.folder
+    # behind sudo the program isn't taken from the environment
+    (folder / "hilpoven.toml").write_text(f'toll = "{reachable.program}"\n')
+    started = f"import pathlib; from hilpoven import cli, settings; settings.load.__defaults__ = (pathlib.Path({str(folder / 'hilpoven.toml')!r}), ''); cli.main()"
+    done = subprocess.run(["/usr/bin/python3", "-Bc", started, "--db", reachable.db, *RECALL, folder / "made", "--no-pdf"], capture_output=True, text=True,
+                          env=environment(SUDO_UID=4711, PYTHONPATH=HILPOVEN.parent.parent))
+    assert done.returncode == 0, done.stderr
+    page = folder / "made" / "owners" / "ACME" / "recall.html"
+    for user, may_read in ((4711, True), (4712, False)):
+        seen = subprocess.run(["cat", page], user=user, group=user, extra_groups=[], capture_output=True)
+        assert (seen.returncode == 0) == may_read
+    written = subprocess.run(["sh", "-c", f"echo >> {page}"], user=4711, group=4711, extra_groups=[], capture_output=True)
+    assert written.returncode
+
+
+def test_a_tar_belongs_to_whoever_unpacks_it(at_work):
+    with open(at_work.folder / "x.tar", "wb") as out:
+        done = subprocess.run([HILPOVEN, "--db", at_work.db, *RECALL, "--no-pdf", "--tar"], stdout=out, stderr=subprocess.PIPE, env=environment(TOLL=at_work.program))
+    assert (done.returncode, done.stderr) == (0, b"")
+    with tarfile.open(at_work.folder / "x.tar") as tar:
+        assert {(it.uid, it.gid, it.uname, it.gname, it.mode & 0o077) for it in tar.getmembers()} == {(0, 0, "", "", 0)}
+        tar.extractall(at_work.folder / "unpacked")
+    assert told(at_work, at_work.folder / "made", "--no-pdf").returncode == 0
+    for it in (at_work.folder / "made" / "owners").rglob("*.csv"):
+        assert (at_work.folder / "unpacked" / "recall-HOUSE-W-101" / it.relative_to(at_work.folder / "made")).read_bytes() == it.read_bytes()

@@ -1,1 +1,0 @@
-"""What tools/try-recall-report fills and looks at."""
