@@ -1,6 +1,6 @@
 """What a user would write instead: Python's sqlite3 over the same file, with the office's checks.
 
-    beside.py FILE open | stock OWNER | trace OWNER LOT WAY | recall OWNER LOT | import CSV | write CSV
+    beside.py FILE open | stock OWNER | trace OWNER LOT WAY | recall OWNER LOT | scrap .. | import CSV | write CSV
     beside.py :memory: script < LINES
 """
 import sqlite3
@@ -73,6 +73,9 @@ class Base:
     def one(self, query, *values):
         return self.base.execute(query, values).fetchone()
 
+    def close(self):
+        self.base.close()
+
     def chain(self, query, owner, lot, way="forward", whose=None):
         """The lots that a chain joins to this one; over one owner's batches alone where it is said whose."""
         source, to = ("from", "to") if way == "forward" else ("to", "from")
@@ -96,6 +99,43 @@ class Base:
         print(f"{'steps':>6} {'owner':16} {'lot':16} {'disposition':11} {'on-hand':>14} {'shipped':>14}")
         for steps, owner_there, there, disposition, on_hand, shipped in self.chain(RECALL, owner, lot):
             print(f"{steps:6} {owner_there:16} {there:16} {DISPOSITIONS[disposition]:11} {on_hand:14} {shipped:14}")
+
+    # A command, and an owner's order
+
+    def scrap(self, owner, key, lot, sublot, amount, day):
+        self.base.execute("BEGIN IMMEDIATE")
+        self.look_at_room(owner, key)
+        known = self.one("SELECT material FROM lots WHERE owner = ? AND lot = ?", owner, lot)
+        held = self.one("SELECT amount FROM sublots WHERE owner = ? AND lot = ? AND sublot = ?", owner, lot, sublot)
+        if not known or not held or held[0] < int(amount):
+            raise Refused("UnknownLot, UnknownSublot or NotEnough")
+        self.base.execute(PUT_MOVE, (owner, key, 3, owner, lot, sublot, "", known[0], "", 0, 0, int(amount), int(day)))
+        self.base.execute(PUT_AMOUNT, (owner, lot, sublot, -int(amount)))
+        self.base.execute("COMMIT")
+        print("accepted")
+
+    def look_at_room(self, owner, key):
+        if self.one("SELECT 1 FROM moves WHERE owner = ? AND mkey = ?", owner, key):
+            raise Refused("KeyConflict")
+        if self.one("SELECT count(*) FROM moves WHERE owner = ?", owner)[0] >= 20_000:
+            raise Refused("LimitReached")
+
+    def place(self, owner, key, body):
+        """Places an order as an owner does over HTTP, and gives the reply's body."""
+        import json
+        order, recipe, batches = (json.loads(body)[it] for it in ("order", "recipe", "batches"))
+        self.base.execute("BEGIN IMMEDIATE")
+        if self.one("SELECT okey FROM owners WHERE owner = ?", owner) != (key,):
+            raise Refused("WrongKey")
+        if self.one("SELECT 1 FROM orders WHERE owner = ? AND ord = ?", owner, order):
+            raise Refused("OrderConflict")
+        if not self.one("SELECT 1 FROM recipes WHERE owner = ? AND recipe = ?", owner, recipe):
+            raise Refused("UnknownRecipe")
+        if self.one("SELECT count(*) FROM orders WHERE owner = ?", owner)[0] >= 2_000:
+            raise Refused("LimitReached")
+        self.base.execute("INSERT INTO orders VALUES (?, ?, ?, ?, 0)", (owner, order, recipe, batches))
+        self.base.execute("COMMIT")
+        return json.dumps({"batches": batches, "order": order, "recipe": recipe, "status": "open"})
 
     # An import
 

@@ -26,6 +26,15 @@ class Figures(NamedTuple):
         memory = None if self.memory is None else min(self.memory, other.memory)
         return Figures(min(self.processor, other.processor), min(self.clock, other.clock), memory, self.told)
 
+    def then(self, other):
+        """Those of this run and of another behind it, which tells what is told."""
+        memory = None if self.memory is None else max(self.memory, other.memory)
+        return Figures(self.processor + other.processor, self.clock + other.clock, memory, other.told, other.status)
+
+    def each(self, count):
+        """Those of one of so many that were done in this run."""
+        return self._replace(processor=self.processor / count, clock=self.clock / count)
+
 
 def hash_of(told):
     return hashlib.sha256(told).hexdigest()

@@ -119,7 +119,39 @@ class Genealogy(NamedTuple):
             yield receipt(owner, f"B{it:05}", f"T-{it + 1:05}", f"T-{it % 100 + 1:03}")
         for batch in range(1, self.batches + 1):
             for it, (kind, lot_owner, lot, material, segment, amount) in enumerate(self.actuals_of(batch, owner)):
-                yield owner, f"C{batch:05}-{it:03}", kind, lot_owner, lot, "S1", "", material, *batch_name(batch), segment, amount, 101
+                yield movement(owner, f"C{batch:05}-{it:03}", batch, (lot_owner, lot, material), kind, segment, amount)
+
+
+class Dense(NamedTuple):
+    """A genealogy with as many edges as its movements can have: a chain of batches, each of which consumes all lots that the one
+    before made, and produces as many; the first one consumes HOUSE's water so often."""
+    across: int
+
+    @property
+    def batches(self):
+        """As many as an owner may have of this width, or as were measured first."""
+        return {10: 480, 20: 250, 100: 49}.get(self.across, MOST_LOTS // self.across)
+
+    @property
+    def movements(self):
+        return 2 * self.across * self.batches
+
+    @property
+    def first(self):
+        return product(1, 0)
+
+    @property
+    def last(self):
+        return product(self.batches, 0)
+
+    def moves(self, owner):
+        """The rows of the owner's movements, in the order of their keys."""
+        for batch in range(1, self.batches + 1):
+            for it in range(2 * self.across):
+                is_made, at = divmod(it, self.across)
+                lot = (owner, product(batch - 1 + is_made, at), "PRODUCT") if batch > 1 or is_made else (HOUSE, WATER, "WATER")
+                what = (PRODUCED, 2, 1_000_000) if is_made else (CONSUMED, 1, 1)
+                yield movement(owner, f"C{batch:05}-{it:03}", batch, lot, *what)
 
 
 # An owner that has all that it may have, as near as whole batches come to it.
@@ -147,10 +179,16 @@ def receipt(owner, key, lot, material):
     return owner, key, RECEIVED, owner, lot, "S1", "", material, "", 0, 0, 1_000_000_000, 101
 
 
-def records(count):
-    """The lines of a file of so many actuals, for an office of running batches."""
+def movement(owner, key, batch, lot, kind, segment, amount):
+    """The row of an actual: what a batch of the owner consumed or produced of a lot, which is told with its owner and material."""
+    lot_owner, name, material = lot
+    return owner, key, kind, lot_owner, name, "S1", "", material, *batch_name(batch), segment, amount, 101
+
+
+def records(count, first=0):
+    """The lines of a file of so many actuals, for an office of running batches; the first one is told."""
     yield "key,owner,order,batch,segment,use,material,lot_owner,lot,sublot,amount,day\n"
-    for it in range(count):
+    for it in range(first, first + count):
         batch, at = it // MOST_OF_BATCH + 1, it % MOST_OF_BATCH
         owner, (order, number) = owner_name(0), batch_name(batch)
         what = f"1,consumed,RAW,{owner},{raw_lot(it % 100)}" if at % 2 == 0 else f"2,produced,PRODUCT,{owner},{product(batch, at // 100)}"
@@ -172,30 +210,37 @@ def filling(office, owners):
         yield base
 
 
-def put_moves(base, owners, genealogy):
+def put_moves(base, genealogies):
+    """The movements of each owner, in order."""
     base.execute(MOVE, receipt(HOUSE, "A00000", WATER, "WATER"))
-    for it in range(owners):
+    for it, genealogy in enumerate(genealogies):
         base.executemany(MOVE, genealogy.moves(owner_name(it)))
+
+
+def with_genealogies(office, genealogies, orders=0):
+    """An owner with each of these genealogies, and with so many orders besides."""
+    with filling(office, len(genealogies)) as base:
+        put_moves(base, genealogies)
+        base.executescript(DERIVED)
+        base.execute(ORDERS, (orders,))
 
 
 def with_genealogy(office, genealogy):
     """One owner with these movements."""
-    with filling(office, 1) as base:
-        put_moves(base, 1, genealogy)
-        base.executescript(DERIVED)
+    with_genealogies(office, [genealogy])
 
 
 def at_the_limits(office, owners):
     """So many owners, each with all that it may have."""
     with filling(office, owners) as base:
-        put_moves(base, owners, AT_THE_LIMITS)
+        put_moves(base, [AT_THE_LIMITS] * owners)
         base.executescript(DERIVED + FULL)
 
 
 def with_raw_lots(office, count):
     """An owner of so many raw lots, whose batches are running."""
     with filling(office, 1) as base:
-        put_moves(base, 1, Genealogy(count, 2, raw=count))
+        put_moves(base, [Genealogy(count, 2, raw=count)])
         base.executescript(DERIVED + RUNNING)
 
 
@@ -203,7 +248,7 @@ def with_orders(office, count):
     """So many orders, each owner with room for more, and 2,000 raw lots and running batches of the first one."""
     owners = -(-count // (MOST_ORDERS - 200))
     with filling(office, owners) as base:
-        put_moves(base, 1, Genealogy(2_000, 2, raw=2_000))
+        put_moves(base, [Genealogy(2_000, 2, raw=2_000)])
         base.executescript(DERIVED + RUNNING)
         base.execute(ORDERS, (-(-count // owners),))
 

@@ -5,18 +5,28 @@ import contextlib
 import selectors
 import socket
 import time
+from collections.abc import Callable
 from typing import NamedTuple
 
 LOOPBACK = "127.0.0.1"
 
 
+def connect(port, timeout):
+    return socket.create_connection((LOOPBACK, port), timeout=timeout)
+
+
 class Asking(NamedTuple):
-    """What is asked: the port, the request, how often at the most, by how many connections at once, and until when."""
+    """What is asked: the port, the request, how often at the most, by how many connections at once, and until when. And of those
+    who ask in a row: how they connect, the seconds from one of their requests to the next at the least, and for how many seconds
+    one that was begun in time is waited for behind the end."""
     port: int
     message: bytes
     count: int
     at_once: int
     end: float
+    connect: Callable = connect
+    pause: float = 0
+    patience: float = 0
 
 
 class Answers(NamedTuple):
@@ -48,11 +58,13 @@ def ask_in_a_row(asking, is_over=lambda: False):
     started = time.monotonic()
     while not is_over() and answers.statuses.total() < asking.count and (left := asking.end - time.monotonic()) > 0:
         began, told = time.perf_counter(), b""
-        with contextlib.suppress(OSError), socket.create_connection((LOOPBACK, asking.port), timeout=left) as peer:
+        with contextlib.suppress(OSError), asking.connect(asking.port, max(left, asking.patience)) as peer:
             peer.sendall(asking.message)
             while more := peer.recv(65536):
                 told += more
         note(answers, began, told)
+        if (left := began + asking.pause - time.perf_counter()) > 0:
+            time.sleep(left)
     return answers._replace(seconds=time.monotonic() - started)
 
 
@@ -124,5 +136,10 @@ def ask(asking, clients):
         return ask_in_a_row(asking)
     part = asking._replace(count=asking.count // clients, at_once=asking.at_once // clients)
     with concurrent.futures.ProcessPoolExecutor(clients) as pool:
-        told = list(pool.map(ask_at_once, [part] * clients))
+        return together(pool.map(ask_at_once, [part] * clients))
+
+
+def together(told):
+    """The answers of clients that asked at the same time."""
+    told = list(told)
     return Answers(sum((it.clocks for it in told), []), sum((it.statuses for it in told), collections.Counter()), max(it.seconds for it in told))

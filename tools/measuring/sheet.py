@@ -8,7 +8,7 @@ class Sheet:
     """The best figures of each row at each size, of each program and of what stands beside."""
 
     def __init__(self, names):
-        self.names, self.rows, self.wrong = names, {}, []
+        self.names, self.rows, self.wrong, self.ended = names, {}, [], []
 
     def note(self, row, size, name, figures):
         """Notes a run. What is told has to be the same in all runs, whoever tells it."""
@@ -17,15 +17,33 @@ class Sheet:
             self.wrong.append(f"{row}, {size:,}: {name} tells something else")
         known[name] = figures.better(known[name]) if name in known else figures
 
-    def print(self, title, what):
-        """Prints a table of the rows, in which a size is so many of these, and begins the next one."""
+    def print(self, work, title, what):
+        """Prints a table of the rows of a work, in which a size is so many of these, and begins the next one."""
         heads = ["work", what]
         for name in self.names:
             of = f"{name} " if len(self.names) > 1 else ""
             heads += [f"{of}ms", f"{of}clock", f"{of}MB", f"{of}growth"]
         print(f"\n{title}\n")
         print_table([*heads, f"{BESIDE} ms", "clock", "MB"], [line for row, sizes in self.rows.items() for line in self.lines_of(row, sizes)])
+        self.ended += [(f"{work}: {row}", sizes) for row, sizes in self.rows.items()]
         self.rows = {}
+
+    def print_all(self):
+        """Prints one table of all rows, each at its largest size: the processor's time of each program and of what stands beside,
+        how the first program compares with each, and how its time grew."""
+        first, *others = self.names
+        heads = ["work", "size", *(it for name in self.names for it in ([f"{name} ms"] if name == first else [f"{name} ms", f"{first} of {name}"])),
+                 f"{BESIDE} ms", f"{first} of {BESIDE}", f"{first} growth", f"{BESIDE} growth"]
+        print("\nAll of it at the largest size, milliseconds of processor\n")
+        print_table(heads, [self.line_of_all(row, sizes, others) for row, sizes in self.ended])
+
+    def line_of_all(self, row, sizes, others):
+        *_, before, size = [None, *sorted(sizes)]
+        first = sizes[size].get(self.names[0])
+        cells = [row, f"{size:,}", plain(first)[0]]
+        for name in [*others, BESIDE]:
+            cells += [plain(sizes[size].get(name))[0], ratio(first, sizes[size].get(name))]
+        return cells + [growth(sizes[size].get(it), size, sizes[before].get(it), before) if before else "" for it in (self.names[0], BESIDE)]
 
     def lines_of(self, row, sizes):
         """The cells of a row, a line for each size."""
@@ -52,6 +70,11 @@ def plain(figures):
     if figures is None:
         return ["", "", ""]
     return [milliseconds(figures.processor), milliseconds(figures.clock), "" if figures.memory is None else f"{figures.memory / 1e6:,.0f}"]
+
+
+def ratio(figures, others):
+    """The processor's time beside that of others."""
+    return f"{figures.processor / others.processor:.2f}" if figures and others and others.processor else ""
 
 
 def milliseconds(seconds):

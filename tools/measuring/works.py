@@ -1,4 +1,6 @@
 """The workloads: the offices of each, what is measured of a program at one, and what a user would write instead."""
+import contextlib
+import functools
 import json
 import os
 import pathlib
@@ -10,7 +12,7 @@ import trial
 
 from . import beside, offices
 from .clock import Figures, in_process, request, run, settled, status_of
-from .offices import AT_THE_LIMITS, HOUSE, KEY, WATER, Genealogy, owner_name
+from .offices import AT_THE_LIMITS, HOUSE, KEY, WATER, Dense, Genealogy, owner_name
 from .sheet import BESIDE, Sheet
 
 OWNER = owner_name(0)
@@ -20,8 +22,16 @@ IN_A_ROW = {"GET an order": (f"{GET} /orders/X-00001", 1_000), "GET all orders":
             "GET stock of 2,000 lots": (f"{GET} /stock", 20)}
 
 
+PLACED_IN_A_ROW = 100
+MOST_OF_FILE = 10_000  # actuals that are imported at a time
+
+
+def order(number):
+    return f'{{"order":"NEW-{number}","recipe":"R","batches":1}}'
+
+
 def place(number):
-    return f'> {OWNER} {KEY} POST /orders {{"order":"NEW-{number}","recipe":"R","batches":1}}'
+    return f"> {OWNER} {KEY} POST /orders {order(number)}"
 
 
 class Office(trial.Office):
@@ -71,10 +81,14 @@ class Bench:
 
 # An owner's genealogy
 
+def plant_traces(it):
+    """The traces and the recall that the plant asks for."""
+    return {"`trace` forward": ["trace", HOUSE, WATER, "forward"], "`trace` back": ["trace", OWNER, it.last, "back"], "`recall`": ["recall", HOUSE, WATER]}
+
+
 def questions(it):
     """What is asked of a genealogy by command."""
-    return {"`stock`": ["stock", OWNER], "`trace` forward": ["trace", HOUSE, WATER, "forward"], "`trace` back": ["trace", OWNER, it.last, "back"],
-            "`recall`": ["recall", HOUSE, WATER]}
+    return {"`stock`": ["stock", OWNER], **plant_traces(it)}
 
 
 # Placed, or at the limits refused.
@@ -90,37 +104,59 @@ def twice(row, line):
     return [(f"{row}, {it}", line, "200 ") for it in ("first", "again")]
 
 
+def line_of_trace(lot, way):
+    return f"{GET} /trace/{way}/{lot}"
+
+
+def traced(it):
+    """What a server is asked of which only traces are wanted."""
+    return [OPENING, *(asked for row, which in traces(it).items() for asked in twice(row, line_of_trace(*which)))]
+
+
 def requests(it):
-    """What two servers are asked: the one for traces first, the other for stock."""
-    lines = {row: f"{GET} /trace/{way}/{lot}" for row, (lot, way) in traces(it).items()}
-    forward = lines["GET trace forward"]
-    yield [OPENING, *(asked for row, line in lines.items() for asked in twice(row, line))]
-    yield [OPENING, *twice("GET stock", f"{GET} /stock"), *twice("GET trace forward after stock", forward),
-           *twice("GET an order", f"{GET} /orders/O-00001"), ("POST an order, first", place(1), PLACED), ("POST an order, again", place(2), PLACED),
-           ("GET trace forward after an order", forward, "200 ")]
+    """What another server is asked: first for stock, then for a trace, and for one behind an order."""
+    forward = line_of_trace(it.first, "forward")
+    return [OPENING, *twice("GET stock", f"{GET} /stock"), *twice("GET trace forward after stock", forward),
+            *twice("GET an order", f"{GET} /orders/O-00001"), ("POST an order, first", place(1), PLACED), ("POST an order, again", place(2), PLACED),
+            ("GET trace forward after an order", forward, "200 ")]
+
+
+def scrap(it):
+    """A command that looks at one owner, which opens the file."""
+    return "scrap", OWNER, "NEW", it.last, "S1", "1", "101"
+
+
+def asked_of_a_server(office, asked):
+    with office.serve() as server:
+        for row, line, wanted in asked:
+            yield row, request(server, line, wanted)
 
 
 def genealogy(office, it):
     yield "opening", office.measure("orders", HOUSE)
     for row, words in questions(it).items():
         yield row, office.measure(*words)
-    for asked in requests(it):
-        with office.serve() as server:
-            for row, line, wanted in asked:
-                yield row, request(server, line, wanted)
+    yield from asked_of_a_server(office, traced(it))
+    yield from asked_of_a_server(office, requests(it))
+    yield "opening, and `scrap`", office.measure(*scrap(it))
+
+
+def traced_instead(base, it):
+    """The owner's traces by a query each, whose answer is put into JSON."""
+    for row, (lot, way) in traces(it).items():
+        for which in ("first", "again"):
+            yield f"{row}, {which}", in_process(lambda: json.dumps(base.chain(beside.TRACE, OWNER, lot, way, OWNER)))
 
 
 def genealogy_instead(office, it):
     yield "opening", office.measure("open")
     for row, words in questions(it).items():
         yield row, office.measure(*words)
-    base = beside.Base(office.db)
-    asked = {row: lambda lot=lot, way=way: base.chain(beside.TRACE, OWNER, lot, way, OWNER) for row, (lot, way) in traces(it).items()}
-    asked["GET stock"] = lambda: base.base.execute(beside.STOCK, (OWNER,)).fetchall()
-    for row, ask in asked.items():
-        yield f"{row}, first", in_process(lambda: json.dumps(ask()))
-        yield f"{row}, again", in_process(lambda: json.dumps(ask()))
-    base.base.close()
+    with contextlib.closing(beside.Base(office.db)) as base:
+        yield from traced_instead(base, it)
+        for which in ("first", "again"):
+            yield f"GET stock, {which}", in_process(lambda: json.dumps(base.base.execute(beside.STOCK, (OWNER,)).fetchall()))
+    yield "opening, and `scrap`", office.measure(*scrap(it))
 
 
 def measure_owner(bench, words):
@@ -129,7 +165,7 @@ def measure_owner(bench, words):
             it = Genealogy(movements, actuals)
             base = bench.laid(f"an owner of {movements:,} movements in batches of {actuals}", offices.with_genealogy, it)
             bench.take(base, movements, genealogy, genealogy_instead, it)
-        bench.sheet.print(f"An owner of so many movements, in batches of {actuals} actuals", "movements")
+        bench.sheet.print(f"owner, {actuals} a batch", f"An owner of so many movements, in batches of {actuals} actuals", "movements")
 
 
 def measure_chain(bench, words):
@@ -137,7 +173,24 @@ def measure_chain(bench, words):
         it = Genealogy(2 * (lots - 1), 2, raw=0, is_chain=True)
         base = bench.laid(f"a chain of {lots:,} lots", offices.with_genealogy, it)
         bench.take(base, lots, genealogy, genealogy_instead, it)
-    bench.sheet.print("Lots in a chain, each made of the one before", "lots")
+    bench.sheet.print("chain", "Lots in a chain, each made of the one before", "lots")
+
+
+def dense(office, it):
+    yield from asked_of_a_server(office, traced(it))
+
+
+def dense_instead(office, it):
+    with contextlib.closing(beside.Base(office.db)) as base:
+        yield from traced_instead(base, it)
+
+
+def measure_dense(bench, words):
+    for across in words.across:
+        it = Dense(across)
+        base = bench.laid(f"{it.batches} batches that consume {across} lots and produce {across}", offices.with_genealogy, it)
+        bench.take(base, it.movements, dense, dense_instead, it)
+        bench.sheet.print(f"dense, {across} lots", f"A chain of {it.batches} batches that consume and produce {across} lots each", "actuals")
 
 
 def measure_limits(bench, words):
@@ -152,7 +205,7 @@ def measure_limits(bench, words):
                     bench.sheet.wrong.append(f"{name}: the stock of {owner} is not what SQL says")
             trial.put(None, office.db)
         bench.take(base, offices.count_rows(base), genealogy, genealogy_instead, AT_THE_LIMITS)
-    bench.sheet.print("An office of owners at the limits", "rows")
+    bench.sheet.print("limits", "An office of owners at the limits", "rows")
 
 
 # Orders
@@ -176,20 +229,23 @@ def orders(office):
         yield OPENING[0], request(server, *OPENING[1:])
         for row, (line, count) in IN_A_ROW.items():
             yield f"{row}, {count:,} in a row", in_a_row(server, [line] * count)
-        yield "POST an order, 100 in a row", in_a_row(server, [place(it) for it in range(100)])
+        yield "POST an order, in a row", in_a_row(server, [place(it) for it in range(PLACED_IN_A_ROW)])
         office.plant("unit-add", "U-900")
         yield "GET an order after a command", request(server, f"{GET} /orders/X-00001")
 
 
 def orders_instead(office):
     yield "opening", office.measure("open")
+    with contextlib.closing(beside.Base(office.db)) as base:
+        figures = in_process(lambda: [base.place(OWNER, KEY, order(it)) for it in range(PLACED_IN_A_ROW)])
+        yield "POST an order, in a row", figures.each(PLACED_IN_A_ROW)
 
 
 def measure_orders(bench, words):
     for count in words.orders:
         base = bench.laid(f"{count:,} orders", offices.with_orders, count)
         bench.take(base, count, orders, orders_instead)
-    bench.sheet.print("Orders of many owners, and 2,000 lots of the one that asks", "orders")
+    bench.sheet.print("orders", "Orders of many owners, and 2,000 lots of the one that asks", "orders")
 
 
 # Files that are written to
@@ -209,7 +265,7 @@ def measure_start(bench, _):
     base = bench.laid("a small file", offices.with_raw_lots, 1)
     for where in ("", ", on a disk"):
         bench.take(base, 1, start, start_instead, where, is_on_disk=where != "")
-    bench.sheet.print("A file of one lot, the program's start included", "lots")
+    bench.sheet.print("start", "A file of one lot, the program's start included", "lots")
 
 
 def importing(office, count, where):
@@ -239,7 +295,22 @@ def measure_import(bench, words):
     for count in words.records:
         for where in ("", ", on a disk"):
             bench.take(base, count, importing, importing_instead, count, where, is_on_disk=where != "")
-    bench.sheet.print("A file of actuals", "records")
+    bench.sheet.print("import", "A file of actuals", "records")
+
+
+def importing_in_parts(office, count):
+    """An owner's actuals in files of 10,000 at the most: what all of them take, and the last file by itself."""
+    parts = [(min(MOST_OF_FILE, count - first), first) for first in range(0, count, MOST_OF_FILE)]
+    figures = [office.measure("import", written(office, offices.records(*it))) for it in parts]
+    yield "`import` of all of them", functools.reduce(Figures.then, figures)
+    yield "the last file of them", figures[-1]
+
+
+def measure_actuals(bench, words):
+    base = bench.laid("running batches", offices.with_raw_lots, 100)
+    for count in words.actuals:
+        bench.take(base, count, importing_in_parts, importing_in_parts, count)
+    bench.sheet.print("actuals", "Actuals of one owner, a file for each 10,000", "actuals")
 
 
 # A script
@@ -262,8 +333,8 @@ def script_instead(office, count):
 def measure_script(bench, words):
     for count in words.lines:
         bench.take(None, count, script, script_instead, count)
-    bench.sheet.print("A script of receipts, and as many releases", "receipts")
+    bench.sheet.print("script", "A script of receipts, and as many releases", "receipts")
 
 
-WORKS = {"start": measure_start, "owner": measure_owner, "chain": measure_chain, "script": measure_script, "import": measure_import,
-         "orders": measure_orders, "limits": measure_limits}
+WORKS = {"start": measure_start, "owner": measure_owner, "chain": measure_chain, "dense": measure_dense, "script": measure_script,
+         "import": measure_import, "actuals": measure_actuals, "orders": measure_orders, "limits": measure_limits}
