@@ -106,6 +106,7 @@ SKIPPED = [
     Skipped("tools/try-recall-report 200", "200 offices; here it is 12: 15 minutes"),
     Skipped("tools/bench", "speed and memory, which have no right or wrong: see docs/speed.md"),
     Skipped("tools/load", "how soon many clients are answered: 7 minutes"),
+    Skipped("tools/attack", "what owners and the plant notice of attacks, which has no right or wrong: 4 minutes, and 4 with --site"),
     Skipped("tools/load-plants", "200 offices on one machine: 3 minutes"),
 ]
 

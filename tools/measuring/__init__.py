@@ -1,1 +1,1 @@
-"""What tools/bench and tools/load are made of."""
+"""What tools/bench and tools/load are made of, and tools/attack measures by."""

@@ -1,4 +1,4 @@
-"""The words that tools/bench and tools/load share."""
+"""The words that tools/bench, tools/load and tools/attack share."""
 import argparse
 import pathlib
 

@@ -138,7 +138,7 @@ def test_columns_are_those_of_the_office():
 
 # Words
 
-@pytest.mark.parametrize("name", ["bench", "load"])
+@pytest.mark.parametrize("name", ["bench", "load", "attack"])
 @pytest.mark.parametrize("words", [["--no-such"], ["--program", "/etc/passwd"], ["--seconds", "0"], ["nothing-like-that"]])
 def test_a_wrong_use_is_told_in_a_line(name, words):
     done = tool(name, *words)

@@ -15,9 +15,10 @@ ROOT = pathlib.Path(__file__).resolve().parent.parent.parent
 WRAPPER = """
 {user}
 daemon off;
+worker_processes {workers};
 pid {folder}/nginx.pid;
 error_log {folder}/error.log info;
-events {{ worker_connections 256; }}
+events {{ worker_connections {connections}; }}
 http {{
     include /etc/nginx/mime.types;
     access_log off;
@@ -147,13 +148,13 @@ class Proxy:
     and what stands in its place.
     """
 
-    def __init__(self, folder, office_port, around="", changes=(), port=None):
+    def __init__(self, folder, office_port, around="", changes=(), port=None, workers=1, connections=256):
         self.folder, self.port, self.it = pathlib.Path(folder), port or free_port(), None
         self._certify()
         self._lay_out_page()
         user = "user root;" if os.geteuid() == 0 else ""
         (self.folder / "nginx.conf").write_text(
-            WRAPPER.format(folder=self.folder, user=user, around=around, site=self._site(office_port, changes)))
+            WRAPPER.format(folder=self.folder, user=user, workers=workers, connections=connections, around=around, site=self._site(office_port, changes)))
 
     @property
     def address(self):

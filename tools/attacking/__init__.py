@@ -1,0 +1,1 @@
+"""What tools/attack does to a server, and what it measures meanwhile."""
