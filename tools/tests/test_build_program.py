@@ -54,7 +54,8 @@ with open(out / "incremental" / "kept.oantt.new", "w") as kept:
 os.replace(out / "incremental" / "kept.oantt.new", out / "incremental" / "kept.oantt")
 time.sleep(float(text.partition("seconds ")[2].partition("\n")[0] or 0.1))
 if "wrong" in text:
-    print("fn it::well: proved", f"src/lib.rt:3:1: error[unknown-name]: there is no {name}", "fn it::ill: no proof: write it", sep="\n")
+    print("fn it::well: proved", f"src/lib.rt:3:1: error[unknown-name]: there is no {name}", "note: src/lib.rt:4:1: it is not proved that it returns", sep="\n")
+    print("fn it::ill: no proof: write it", "logic=not-proved", sep="\n")
     print("rattle build: nothing was built, since only a proved crate is built")
     sys.exit(1)
 if verb == "run":
@@ -87,6 +88,12 @@ ALL = [*LIBRARIES, "toll"]
 PATIENCE = 60
 
 
+def heed_signals():
+    """Lets signals end what is started, also where these tests run in the background, which ignores some."""
+    for number in (signal.SIGHUP, signal.SIGINT, signal.SIGTERM):
+        signal.signal(number, signal.SIG_DFL)
+
+
 class Repository:
     """A repository with a toolchain that stands in for the real one."""
 
@@ -117,7 +124,7 @@ class Repository:
 
     def start(self, *words, program="toll"):
         how = {"stdin": subprocess.PIPE, "stdout": subprocess.PIPE, "stderr": subprocess.PIPE, "text": True}
-        return subprocess.Popen([self.folder / program, *words], env=self.environment, **how)
+        return subprocess.Popen([self.folder / program, *words], env=self.environment, preexec_fn=heed_signals, **how)
 
     def toll(self, *words, program="toll", given=""):
         done = self.start(*words, program=program)
@@ -210,7 +217,7 @@ def test_a_source_that_changed_builds_exactly_what_stands_on_it(built):
 
 
 def test_a_line_of_the_list_that_changed_builds_what_stands_on_it(built):
-    built.list(CRATES.replace("wide: low mid_a", "wide: low"))
+    built.list(CRATES.replace("wide: low mid_a", "wide: low mid_a slab"))
     assert built.toll("script").returncode == 0 and built.noted() == ["wide", "toll"]
 
 
@@ -271,8 +278,10 @@ def test_a_crate_that_fails_stops_what_stands_on_it_and_is_told(repository):
     assert (done.returncode, done.out) == (3, "")
     assert sorted(repository.noted()) == ["low", "mid_a", "mid_b", "short", "wide"]
     log = repository.out("mid_b") / "build.log"
-    assert f"toll: mid_b failed:\ntoll:     src/lib.rt:3:1: error[unknown-name]: there is no mid_b\ntoll:     fn it::ill: no proof: write it\ntoll:     all that was said: {log}\n" in done.err
-    assert done.err.endswith("toll: mid_b failed, and 2 crates stand on that\ntoll: the program couldn't be built\n")
+    told = ["mid_b failed:", "    src/lib.rt:3:1: error[unknown-name]: there is no mid_b", "    note: src/lib.rt:4:1: it is not proved that it returns",
+            "    fn it::ill: no proof: write it", f"    all that was said: {log}"]
+    assert "".join(f"toll: {it}\n" for it in told) in done.err
+    assert done.err.endswith("toll: mid_b failed; above it were left: 2\ntoll: the program couldn't be built\n")
     assert "nothing was built" in log.read_text() and repository.is_clean()
     assert (repository.out("mid_b") / "incremental" / "kept.oantt").read_text() == "wrong\n"
     repository.forget()
@@ -312,7 +321,7 @@ def test_ended_by_a_signal_it_leaves_nothing_but_what_was_finished(repository, n
 
 def test_ctrl_c_ends_all_at_once(repository):
     repository.write("low", "seconds 300\n")
-    how = {"stdin": subprocess.DEVNULL, "stderr": subprocess.PIPE, "text": True, "start_new_session": True}
+    how = {"stdin": subprocess.DEVNULL, "stderr": subprocess.PIPE, "text": True, "start_new_session": True, "preexec_fn": heed_signals}
     it = subprocess.Popen([repository.folder / "toll", "script"], env=repository.environment, **how)
     assert eventually(lambda: (repository.told / "pid-low").exists())
     os.killpg(it.pid, signal.SIGINT)
@@ -321,7 +330,7 @@ def test_ctrl_c_ends_all_at_once(repository):
 
 
 def test_of_two_at_once_the_second_waits(repository):
-    repository.write("low", "seconds 1\n")
+    repository.write("low", "seconds 2\n")
     first = repository.start("first")
     assert eventually(lambda: repository.has_begun("low"))
     second = repository.toll("second")
@@ -330,7 +339,7 @@ def test_of_two_at_once_the_second_waits(repository):
 
 
 def test_what_a_killed_build_left_goes_with_the_next(repository):
-    repository.write("low", "seconds 2\n")
+    repository.write("low", "seconds 4\n")
     it = repository.start(program="tools/build-program")
     assert eventually(lambda: repository.has_begun("low"))
     it.kill()
@@ -365,6 +374,10 @@ def test_it_tells_how_far_it_is_and_how_long_it_may_take(repository):
 
 def test_it_tells_within_thirty_seconds_by_itself():
     assert 10 <= float(re.search(r'"--every", type=float, default=(\d+)', (ROOT / "tools/build-program").read_text())[1]) <= 30
+
+
+def test_a_wrong_use_has_status_2(repository):
+    assert repository.build("--jobs", "0").returncode == 2 and repository.log() == ""
 
 
 def test_with_no_toolchain_it_says_so(repository):
