@@ -8,5 +8,6 @@ pub mod Runs
 pub mod Extremes
 pub mod Drawn
 pub mod Unique
-pub mod Fronts
 pub mod DrawnRows
+pub mod Walks
+pub mod EdgeJoints

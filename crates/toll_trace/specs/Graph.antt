@@ -1,17 +1,27 @@
 -- Graphs.
-use Rattle.std.specs.Prelude.{List, map}
-use Rattle.toll_trace.specs.Common.{IsPermutation, LotId, Edge}
+use Rattle.std.specs.Prelude.{List, Contains}
+use Rattle.toll_trace.specs.Common.{LotId, Edge}
 use Rattle.toll_trace.specs.declared.graph.Graph.{Graph}
+use Rattle.toll_trace.specs.declared.joints.Joints.{Joints}
 use Rattle.toll_trace.specs.declared.way.Way.{Way}
 use Rattle.toll_trace.specs.declared.way.Way.TheVariants.{Back, Forward}
-use Rattle.toll_trace.specs.Chain.{ends}
+use Rattle.toll_trace.specs.Chain.{edge_of}
+use Rattle.toll_trace.specs.Joints.{LeadsThrough}
 
--- the graph is of these edges: it holds the two ends of each, both ways
-pub record IsGraphOf (edges : List Edge) (graph : Graph) : Type 0 where
-  pub forward : IsPermutation (map (ends Forward) edges) graph.forward
-  pub back : IsPermutation (map (ends Back) edges) graph.back
+-- the graph's joints for that way
+abbrev pub joints_of : Way → Graph → Joints
+joints_of Back graph = graph.back
+joints_of Forward graph = graph.forward
 
--- the graph's index for that way: the lot that each step leaves, with the one that it comes to
-abbrev pub index_of : Way → Graph → List (LotId × LotId)
-index_of Back graph = graph.back
-index_of Forward graph = graph.forward
+-- in the graph a step that way comes from `a` to `b`
+abbrev pub Leads : Graph → Way → LotId → LotId → Type 0
+Leads graph way a b = LeadsThrough (joints_of way graph).entries (joints_of way graph).exits.items a b
+
+-- in the graph a step comes along just these edges, both ways
+pub record IsGraph (is_edge : Edge → Type 0) (graph : Graph) : Type 0 where
+  pub only : (way : Way) (a b : LotId) → Leads graph way a b → is_edge (edge_of way a b)
+  pub every : (way : Way) (a b : LotId) → is_edge (edge_of way a b) → Leads graph way a b
+
+-- the graph is of the edges of this list
+abbrev pub IsGraphOf : List Edge → Graph → Type 0
+IsGraphOf edges graph = IsGraph (Contains edges) graph

@@ -6,6 +6,7 @@ pub mod Trace
 pub mod Search
 pub mod Edges
 pub mod Uses
-pub mod Neighbours
+pub mod Joints
+pub mod Walk
 pub mod Graph
 pub mod Laws

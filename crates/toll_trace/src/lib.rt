@@ -8,8 +8,10 @@ mod found;
 mod graph;
 mod in_order;
 mod index;
+mod joints;
 mod laws;
 mod plain;
+mod search;
 mod step;
 mod way;
 

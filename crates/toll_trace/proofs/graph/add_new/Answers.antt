@@ -1,6 +1,0 @@
-use Rattle.std.proofs.Common.{arith}
-use Rattle.std.proofs.lemmas.Grind.{common_steps}
-use Rattle.toll_trace.proofs.graph.add_new.Goals as goal
-
-pub loop-to-preserved : goal.loop-to-preserved
-loop-to-preserved c = grind (arith, common_steps)
