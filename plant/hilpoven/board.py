@@ -15,14 +15,14 @@ RELOADS, TURNS, STALE = 30, 8, 180  # seconds until it is read anew, until a lis
 
 
 @click.command(short_help="makes a page for a screen in the plant")
-@click.option("--out", "target", metavar="FILE.html", required=True, type=click.Path(path_type=pathlib.Path), help="The page, which is replaced whole.")
+@click.option("--out", "target", metavar="FILE.html", required=True, type=click.Path(path_type=pathlib.Path), help="The page; it is replaced in one step.")
 @pass_context
 def board(context: Context, target: pathlib.Path) -> None:
     """Makes a page for a screen in the plant: what the units run, which orders wait for a batch, which lots wait for tests or
     for their release, and which owners are near a limit.
 
-    It is read anew by itself, so that it is made anew each minute by a timer. One that is older than three minutes says so. Its
-    rights are those of the page that it replaces.
+    A timer makes it every minute, and the page reloads itself. A page older than three minutes says so. It keeps the permissions of
+    the page that it replaces.
 
     Example: hilpoven board --out /srv/board/board.html
     """

@@ -26,8 +26,8 @@ from .years.carrying import carry_over
 
 ABOUT = """The plant's command of the order and lot genealogy office.
 
-Each command of `toll` is one of this: its answer is printed unchanged, and explained below it. What changes something is
-noted in the journal with who asked it.
+It passes each command to `toll`, prints the answer unchanged and explains it below. The journal records each command that changes
+something, with the user.
 
 Example: hilpoven stock ACME
 """
@@ -45,9 +45,9 @@ class Commands(Group):
 
 @click.group(cls=Commands, help=ABOUT, context_settings={"help_option_names": ["-h", "--help"], "max_content_width": 100})
 @click.version_option(VERSION, prog_name="hilpoven")
-@click.option("--db", metavar="FILE", default="", type=click.Path(readable=False), help=f"The office's file; that of {site.PATH} where it isn't said.")
-@click.option("--office", metavar="NAME", default="", help=f"The office whose units take {site.OFFICES}/NAME.env.")
-@click.option("--wait", metavar="SECONDS", type=click.FloatRange(0), help="How long to wait for a lock that somebody has.")
+@click.option("--db", metavar="FILE", default="", type=click.Path(readable=False), help=f"The office's file, instead of that in {site.PATH}.")
+@click.option("--office", metavar="NAME", default="", help=f"The office with the settings {site.OFFICES}/NAME.env.")
+@click.option("--wait", metavar="SECONDS", type=click.FloatRange(0), help="How long to wait for the lock.")
 @click.pass_context
 def hilpoven(context: click.Context, db: str, office: str, wait: float | None) -> None:
     """Reads the settings."""

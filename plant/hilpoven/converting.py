@@ -17,10 +17,10 @@ from .sheets.sheet import text_of
 @click.argument("target", metavar="[CSV]", required=False, type=click.Path(readable=False))
 @with_options
 def to_csv(source: str, target: str | None, **given: Any) -> None:
-    """Makes the file that `toll import` takes of a sheet; without CSV it goes to standard output.
+    """Converts a sheet to the CSV file that `toll import` reads. Without CSV it writes to standard output.
 
-    No value is changed. All that is refused is told at once, each with its row and column as the sheet has them, and nothing is
-    written then. `hilpoven import` gives a sheet to toll without a file between.
+    It changes no value. It reports all refused values with the sheet's rows and columns, and then writes nothing. `hilpoven import`
+    records a sheet directly.
 
     Example: hilpoven to-csv monday.xlsx monday.csv
     """

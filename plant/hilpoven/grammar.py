@@ -41,31 +41,31 @@ class Line:
 
 
 TABLE = """
-owner-add OWNER KEY | adds an owner, with the key by which it asks over HTTP. `owner add` keeps the key off the command line | owner-add ACME ACMEKEY1
-unit-add UNIT | adds a unit, which runs a batch at a time | unit-add KETTLE
-material-add OWNER MATERIAL MEASURE | adds a material, whose amounts are in this measure | material-add ACME SALT kg
-test-add OWNER MATERIAL TEST LOW HIGH | adds a test: a lot of the material is released only with a latest result within these limits | test-add ACME BRINE DENSITY 1100 1250
-recipe-add OWNER RECIPE SEGMENTS | adds a recipe of so many segments | recipe-add ACME BRINE-10 1
-require OWNER RECIPE SEGMENT USE SOURCE MATERIAL AMOUNT | says that a segment consumes or produces so much of SOURCE's material | require ACME BRINE-10 1 consumed HOUSE WATER 700
+owner-add OWNER KEY | adds an owner, who sends requests with this key. `owner add` keeps the key off the command line | owner-add ACME ACMEKEY1
+unit-add UNIT | adds a unit, which runs one batch at a time | unit-add KETTLE
+material-add OWNER MATERIAL MEASURE | adds a material with the measure of its amounts | material-add ACME SALT kg
+test-add OWNER MATERIAL TEST LOW HIGH | adds a test: a lot of the material can be released only if its latest result is within these limits | test-add ACME BRINE DENSITY 1100 1250
+recipe-add OWNER RECIPE SEGMENTS | adds a recipe with this number of segments | recipe-add ACME BRINE-10 1
+require OWNER RECIPE SEGMENT USE SOURCE MATERIAL AMOUNT | adds a requirement: the segment consumes or produces this amount of SOURCE's material | require ACME BRINE-10 1 consumed HOUSE WATER 700
 order ORDER RECIPE BATCHES | places an order of HOUSE; owners place theirs over HTTP | order C-1 CLEANING 1
-cancel ORDER | cancels an order of HOUSE of which no batch was opened | cancel C-1
-open OWNER ORDER UNIT | opens the next batch of an order on a unit, idle | open ACME O-1 KETTLE
-do OWNER ORDER BATCH COMMAND | commands a batch to another state | do ACME O-1 1 start
-close OWNER ORDER BATCH | closes a batch for good, which frees its unit | close ACME O-1 1
+cancel ORDER | cancels an order of HOUSE before its first batch is opened | cancel C-1
+open OWNER ORDER UNIT | opens the next batch of an order on a unit; it is idle | open ACME O-1 KETTLE
+do OWNER ORDER BATCH COMMAND | changes the state of a batch | do ACME O-1 1 start
+close OWNER ORDER BATCH | closes a batch permanently and frees its unit | close ACME O-1 1
 receive OWNER KEY MATERIAL LOT SUBLOT AMOUNT DAY | receives material into a sublot | receive ACME K1 SALT S-1 BAY1 500 261127
 split OWNER KEY LOT SUBLOT TARGET AMOUNT DAY | moves an amount to another sublot of the lot | split ACME K6 B-1 TOTE1 TOTE2 480 261127
-ship OWNER KEY LOT SUBLOT AMOUNT DAY | ships out of a sublot of a released lot | ship ACME K7 B-1 TOTE2 480 261127
-scrap OWNER KEY LOT SUBLOT AMOUNT DAY | scraps out of a sublot, whatever its lot's disposition | scrap HOUSE K3 W-102 TANK 50 261127
-result OWNER LOT TEST VALUE DAY | records a result of a test of a lot; -5 is written M5 | result ACME B-1 DENSITY 1180 261127
+ship OWNER KEY LOT SUBLOT AMOUNT DAY | ships from a sublot of a released lot | ship ACME K7 B-1 TOTE2 480 261127
+scrap OWNER KEY LOT SUBLOT AMOUNT DAY | scraps from a sublot, whatever its lot's disposition | scrap HOUSE K3 W-102 TANK 50 261127
+result OWNER LOT TEST VALUE DAY | records a test result of a lot; write M5 for -5 | result ACME B-1 DENSITY 1180 261127
 release LOT | releases a lot of HOUSE; owners release theirs over HTTP | release W-101
-reject LOT | rejects a lot of HOUSE for good | reject W-101
+reject LOT | rejects a lot of HOUSE permanently | reject W-101
 actual KEY OWNER ORDER BATCH SEGMENT USE MATERIAL LOT-OWNER LOT SUBLOT AMOUNT DAY | records what a segment of a batch consumed or produced | actual K2 ACME O-1 1 1 consumed SALT ACME S-1 BAY1 300 261127
-void OWNER KEY | takes back an actual while its batch isn't closed | void ACME K2
-orders OWNER | shows the owner's orders | orders ACME
-stock OWNER | shows the owner's sublots, also the empty ones | stock ACME
-batch OWNER ORDER BATCH | shows a batch: its state, and its requirements against its actuals | batch ACME O-1 1
-trace OWNER LOT WAY | shows the lots that a lot was made of, or went into | trace ACME B-1 back
-recall OWNER LOT | shows the lots that a lot went into, with what is on hand and what was shipped | recall HOUSE W-101
+void OWNER KEY | voids an actual while its batch is open | void ACME K2
+orders OWNER | lists the owner's orders | orders ACME
+stock OWNER | lists the owner's sublots, including empty ones | stock ACME
+batch OWNER ORDER BATCH | shows a batch: its state, its requirements and its actual amounts | batch ACME O-1 1
+trace OWNER LOT WAY | lists the lots that a lot was made of, or went into | trace ACME B-1 back
+recall OWNER LOT | lists the lots that a lot went into, with the amounts on hand and shipped | recall HOUSE W-101
 """
 
 

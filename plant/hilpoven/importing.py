@@ -182,15 +182,15 @@ def print_report(sheet: Sheet, report: Report, what: str) -> None:
 @click.command("import")
 @click.argument("path", metavar="SHEET", type=click.Path(readable=False))
 @with_options
-@click.option("--check", is_flag=True, help="Only looks at the sheet, and gives nothing to toll.")
+@click.option("--check", is_flag=True, help="Checks the sheet and records nothing.")
 @pass_context
 def import_command(context: Context, path: str, check: bool, **given: Any) -> None:
-    """Gives a sheet to toll: actuals, receipts or results. SHEET is text with commas, semicolons or tabs, an .xlsx or an .ods; `-` is
+    """Records a sheet of actuals, receipts or results. SHEET is text with commas, semicolons or tabs, an .xlsx or an .ods; `-` is
     standard input.
 
-    Its first row is the header, with the columns in any order. No value is changed: a row with one that can't be read, or that a
-    sheet may have made of another, is told by its row and column, and the others go in. What was given before counts once, so a
-    sheet that was put right is given again as it is. toll takes what is too large in parts.
+    The first row holds the column names, in any order. The command changes no value. It refuses a row with a value that is invalid
+    or that the spreadsheet may have changed, reports its row and column, and records the other rows. What is already recorded counts
+    once, so correct the sheet and import it again. toll takes a large sheet in parts.
 
     Example: hilpoven import monday.xlsx
     """

@@ -79,19 +79,19 @@ def moment(text: str | None) -> str | None:
 
 
 @click.group("journal", cls=Group, invoke_without_command=True)
-@click.option("--since", metavar="TIME", help="From this day or time of Greenwich on, such as 2026-11-27T14:30.")
+@click.option("--since", metavar="TIME", help="From this day or time on, in UTC, such as 2026-11-27T14:30.")
 @click.option("--until", metavar="TIME", help="Before this day or time.")
-@click.option("--who", "whom", metavar="NAME", help="Of this login or owner alone.")
-@click.option("--word", metavar="WORD", help="With this word in it, such as a lot's name.")
-@click.option("--site-log", "site_logs", metavar="FILE", multiple=True, help="The site's log; those of the settings where it isn't said.")
-@click.option("--no-site", is_flag=True, help="What the plant did alone.")
-@click.option("--questions", is_flag=True, help="Owners' requests that only ask, too.")
+@click.option("--who", "whom", metavar="NAME", help="Only this login or owner.")
+@click.option("--word", metavar="WORD", help="Only entries with this word, such as a lot's name.")
+@click.option("--site-log", "site_logs", metavar="FILE", multiple=True, help="The site's log, instead of those in the settings.")
+@click.option("--no-site", is_flag=True, help="Only the plant's commands.")
+@click.option("--questions", is_flag=True, help="Also the owners' requests that change nothing.")
 @click.option("--csv", "form", flag_value="csv", help="As CSV, for a spreadsheet.")
 @click.option("--json", "form", flag_value="json", help="As JSON, for a program.")
 @click.pass_context
 def journal_group(ctx: click.Context, since: str | None, until: str | None, whom: str | None, word: str | None, site_logs: tuple[str, ...],
                   no_site: bool, questions: bool, form: str | None) -> None:
-    """Tells who did what when: each command that the plant gave by hilpoven, and what owners asked over HTTP, by time.
+    """Shows who did what and when: the plant's commands and the owners' requests, ordered by time.
 
     Example: hilpoven journal --since 2026-11-27 --word B-1
     """
@@ -121,13 +121,12 @@ def head_of(text: str) -> tuple[int, str]:
 
 
 @journal_group.command()
-@click.option("--head", "heads", metavar="'LINES HASH'", multiple=True, help="What `journal head` printed before, and was kept elsewhere.")
+@click.option("--head", "heads", metavar="'LINES HASH'", multiple=True, help="What `journal head` printed earlier, kept elsewhere.")
 @pass_context
 def verify(context: Context, heads: tuple[str, ...]) -> None:
-    """Looks whether a line of the journal was changed, is missing or cut.
+    """Checks whether a line of the journal was changed, is missing or cut.
 
-    Lines that are missing at the end, and a journal that was written anew as a whole, are found by a head that was kept
-    elsewhere.
+    Only a head that you kept elsewhere shows that lines are missing at the end, or that the whole journal was rewritten.
 
     Example: hilpoven journal verify --head "812 3f0a.."
     """
@@ -144,7 +143,7 @@ def verify(context: Context, heads: tuple[str, ...]) -> None:
 @journal_group.command()
 @pass_context
 def head(context: Context) -> None:
-    """Prints how many lines the journal has, and the hash of the last one, to be kept where nobody of this machine can change it.
+    """Prints the number of lines and the hash of the last one. Keep it where nobody on this machine can change it.
 
     Example: hilpoven journal head
     """

@@ -12,13 +12,13 @@ from .tables import LISTINGS, Listing
 
 def list_command(name: str, listing: Listing) -> click.Command:
     """The subcommand of a table."""
-    options: list[click.Parameter] = [click.Option(["--owner"], metavar="OWNER", help="Of this owner alone; HOUSE is the plant.")] if "owner" in listing.columns else []
-    options += [click.Option(["--lot"], metavar="LOT", help="Of lots of this name alone.")] if listing.lot else []
-    options += [click.Option(["--key"], metavar="KEY", help="Of movements with this key alone.")] if "key" in listing.columns else []
+    options: list[click.Parameter] = [click.Option(["--owner"], metavar="OWNER", help="Only this owner; HOUSE is the plant.")] if "owner" in listing.columns else []
+    options += [click.Option(["--lot"], metavar="LOT", help="Only lots with this name.")] if listing.lot else []
+    options += [click.Option(["--key"], metavar="KEY", help="Only movements with this key.")] if "key" in listing.columns else []
     options += [click.Option(["--open", "only_open"], is_flag=True, help=f"Only {listing.open_about}.")] if listing.is_open else []
     options += [click.Option(["--csv", "form"], flag_value="csv", help="As CSV, for a spreadsheet."),
                 click.Option(["--json", "form"], flag_value="json", help="As JSON, for a program.")]
-    text = f"Shows {listing.about}.\n\nExample: hilpoven list {name}{' --owner ACME' if 'owner' in listing.columns else ''}"
+    text = f"Lists {listing.about}.\n\nExample: hilpoven list {name}{' --owner ACME' if 'owner' in listing.columns else ''}"
 
     @pass_context
     def show(context: Context, form: str | None = None, **asked: str | None) -> None:
@@ -39,5 +39,5 @@ def read(context: Context, listing: Listing, asked: dict[str, Any]) -> tuple[lis
         return list(listing.columns), [tuple(it) for it in base.execute(listing.sql(**asked), parameters)]
 
 
-list_group = Group("list", short_help="shows what is there: owners, units, lots and all else", help="Shows what is there: owners, units, lots and all else.\n\nExample: hilpoven list lots --owner ACME --open",
+list_group = Group("list", short_help="lists owners, units, lots and everything else", help="Lists owners, units, lots and everything else.\n\nExample: hilpoven list lots --owner ACME --open",
                          commands={name: list_command(name, it) for name, it in LISTINGS.items()})

@@ -68,9 +68,9 @@ def check_name(name: str) -> None:
         raise Failure(f"NAME: `{name}` {fault}", WRONG_USE)
 
 
-owner_group = Group("owner", help="Adds an owner, or gives it another key.\n\nExample: hilpoven owner add ACME --random",
-                          short_help="adds an owner, or gives it another key")
-random_option = click.option("--random", "is_random", is_flag=True, help="Makes the key, and prints it once.")
+owner_group = Group("owner", help="Adds an owner, or changes its key.\n\nExample: hilpoven owner add ACME --random",
+                          short_help="adds an owner, or changes its key")
+random_option = click.option("--random", "is_random", is_flag=True, help="Makes the key and prints it once.")
 
 
 @owner_group.command()
@@ -78,10 +78,10 @@ random_option = click.option("--random", "is_random", is_flag=True, help="Makes 
 @random_option
 @pass_context
 def add(context: Context, name: str, is_random: bool) -> None:
-    """Adds an owner. Its key is the one line of standard input, or made with --random.
+    """Adds an owner. It reads the key from standard input, one line, or makes one with --random.
 
-    toll takes a key on its command line, which others may see for a moment. So it is given one that is worth nothing, which is
-    replaced by the owner's before this ends.
+    toll takes a key on its command line, where others may see it. So toll gets a throwaway key, which this command then replaces by
+    the owner's key.
 
     Example: hilpoven owner add ACME < keyfile
     """
@@ -110,9 +110,9 @@ def add(context: Context, name: str, is_random: bool) -> None:
 @random_option
 @pass_context
 def key_command(context: Context, name: str, is_random: bool) -> None:
-    """Gives an owner another key, where the old one has leaked. It is the one line of standard input, or made with --random.
+    """Changes an owner's key, if the old one leaked. It reads the key from standard input, one line, or makes one with --random.
 
-    A server sees the new key with the next request. Backups have the old key still.
+    A running server uses the new key from the next request on. Backups keep the old key.
 
     Example: hilpoven owner key ACME --random
     """

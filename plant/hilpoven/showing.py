@@ -178,7 +178,7 @@ def show_command(name: str, words: str, make: Callable[..., Thing], example: str
                          help=f"Shows {about[0].lower()}{about[1:]}.\n\nExample: hilpoven show {name} {example}")
 
 
-show_group = Group("show", short_help="shows one thing with all about it", help="Shows one thing with all about it.\n\nExample: hilpoven show lot ACME B-1", commands={
+show_group = Group("show", short_help="shows everything about one lot, batch, order or unit", help="Shows everything about one lot, batch, order or unit.\n\nExample: hilpoven show lot ACME B-1", commands={
     "lot": show_command("lot", "OWNER LOT", lot, "ACME B-1"),
     "batch": show_command("batch", "OWNER ORDER BATCH", batch, "ACME O-1 1"),
     "order": show_command("order", "OWNER ORDER", order, "ACME O-1"),

@@ -142,14 +142,14 @@ def print_gauges(found: Status, is_whole: bool) -> None:
 
 @click.command()
 @click.option("--prometheus", is_flag=True, help="As metrics, for monitoring.")
-@click.option("--all", "is_whole", is_flag=True, help="Shows how full each owner is of everything.")
+@click.option("--all", "is_whole", is_flag=True, help="Shows every owner against every limit.")
 @pass_context
 def status(context: Context, prometheus: bool, is_whole: bool) -> None:
-    """Tells whether the office is well, and how full it is.
+    """Checks the office's health, and shows how full it is.
 
-    The file opens, a server answers, the newest backup isn't old; and each owner's rows against each limit, in percent, with
-    those from 80 % on first. Where days are dates as YYMMDD, it tells by what day an owner is full at the pace of the last 90
-    days. It ends with status 0 where all is well, with 1 where something wants attention, and with 3 where something isn't well.
+    It checks that the file opens, that a server answers and that the newest backup is recent. It compares each owner's rows with
+    each limit, in percent, those from 80 % on first. If days are YYMMDD dates, it estimates from the last 90 days when an owner
+    reaches a limit. It exits with 0 if all is well, with 1 if something needs attention, and with 3 if something failed.
 
     Example: hilpoven status
     """

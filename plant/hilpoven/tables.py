@@ -89,13 +89,13 @@ LISTINGS: dict[str, Listing] = {
         "movements with their keys, in the order in which they were recorded",
         plain("m.owner", key="m.mkey", kind=word_of("m.kind", KINDS), lot_owner="m.lot_owner", lot="m.lot", sublot="m.sublot", target="m.target",
               material="m.material", order="m.ord", batch="nullif(m.number, 0)", segment="nullif(m.segment, 0)", amount="m.amount", day="m.day",
-              void=f"CASE WHEN {STANDING} THEN '' ELSE 'void' END"), "moves AS m", "m.rowid", STANDING, "movements that stand", "m.lot = :lot"),
+              void=f"CASE WHEN {STANDING} THEN '' ELSE 'void' END"), "moves AS m", "m.rowid", STANDING, "movements that are not voided", "m.lot = :lot"),
     "results": Listing(
         "results of tests, in the order in which they were recorded", plain("owner lot test number value day"), "results", "rowid",
         "number = (SELECT max(x.number) FROM results AS x WHERE x.owner = results.owner AND x.lot = results.lot AND x.test = results.test)",
         "the latest result of each test", "lot = :lot"),
     "voids": Listing(
-        "actuals that were taken back", plain("v.owner", key="v.mkey", kind=word_of("m.kind", KINDS), lot_owner="m.lot_owner", lot="m.lot", sublot="m.sublot",
-                                               order="m.ord", batch="m.number", amount="m.amount", day="m.day"),
+        "voided actuals", plain("v.owner", key="v.mkey", kind=word_of("m.kind", KINDS), lot_owner="m.lot_owner", lot="m.lot", sublot="m.sublot",
+                                 order="m.ord", batch="m.number", amount="m.amount", day="m.day"),
         "voids AS v JOIN moves AS m USING (owner, mkey)", "v.rowid", lot="m.lot = :lot"),
 }

@@ -33,7 +33,7 @@ WHERE s.owner IS NULL
 @click.argument("file", metavar="FILE", type=click.Path(readable=False))
 @pass_context
 def new(context: Context, file: str) -> None:
-    """Makes a new office, where no file is yet. No other command makes one: a typing error in a name is told.
+    """Creates a new office. The file must not exist. No other command creates one, so a mistyped name is reported.
 
     Example: hilpoven new /var/lib/toll/office.db
     """
@@ -58,14 +58,14 @@ def new(context: Context, file: str) -> None:
 
 @click.command()
 @click.argument("folder", metavar="[FOLDER]", required=False, default="", type=click.Path(readable=False))
-@click.option("--keep", type=click.IntRange(1), metavar="N", help="How many of the newest stay; those of the settings, 30, where it isn't said.")
-@click.option("--days", type=click.IntRange(0), metavar="N", help="Of how many days the last one stays; those of the settings, 0, where it isn't said.")
+@click.option("--keep", type=click.IntRange(1), metavar="N", help="How many of the newest backups to keep; as in the settings, or 30, by default.")
+@click.option("--days", type=click.IntRange(0), metavar="N", help="For how many days to keep the last one; as in the settings, or 0, by default.")
 @pass_context
 def backup(context: Context, folder: str, keep: int | None, days: int | None) -> None:
-    """Makes a backup in a folder, while the file is served, and looks at what was made.
+    """Makes a backup in a folder, while the server runs, and checks it.
 
-    Its name is that of the file with the time of Greenwich. SQLite looks at all of it, and toll opens a copy of it, before it
-    has its name: so there is a whole backup or none. A server need not open its file anew for it.
+    Its name is that of the file with the time in UTC. SQLite checks all of it, and toll opens a copy of it, before it gets its name:
+    so there is a complete backup or none. The server doesn't need to reopen its file.
 
     Example: hilpoven backup /var/lib/toll/backup
     """
@@ -84,10 +84,10 @@ def backup(context: Context, folder: str, keep: int | None, days: int | None) ->
 @click.argument("file", metavar="BACKUP", type=click.Path(readable=False))
 @pass_context
 def restore(context: Context, file: str) -> None:
-    """Puts a backup in the place of the office's file.
+    """Restores a backup.
 
-    It looks at the backup as a whole, stops where a server has the file, moves the file and its log into a folder beside it,
-    puts a copy of the backup in place, and asks toll. What was recorded since the backup is recorded again from its sheets.
+    It checks the whole backup, stops if a server has the file, moves the file and its log into a folder next to it, copies the
+    backup into place, and checks it with toll. Import the sheets since the backup again.
 
     Example: hilpoven restore /var/lib/toll/backup/office-20261127-010203.db
     """
@@ -106,7 +106,7 @@ def restore(context: Context, file: str) -> None:
 @click.command()
 @pass_context
 def verify(context: Context) -> None:
-    """Looks at all of the office: SQLite's own check, sublots against movements, toll's opening, and the journal.
+    """Checks all of the office: SQLite's own check, sublots against movements, opening by toll, and the journal.
 
     Example: hilpoven verify
     """

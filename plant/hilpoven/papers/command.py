@@ -19,13 +19,13 @@ from .printing import Document
 from .records import BatchId, LotId
 
 papers_group = Group("papers", short_help="makes papers: recall, batch record, certificate, lot card, statement",
-                     help="Makes papers: what is handed out about material, as pages, PDF and tables.\n\nExample: hilpoven papers recall HOUSE W-101 recall")
+                     help="Makes the documents that the plant hands out, as pages, PDF and tables.\n\nExample: hilpoven papers recall HOUSE W-101 recall")
 
 
 def paper(make: Callable[..., Any]) -> Callable[..., Any]:
     """The values that each paper takes: where it goes, and whether it is printed."""
-    make = click.option("--no-pdf", is_flag=True, help="Makes no PDF, which takes a second a page.")(make)
-    make = click.option("--tar", is_flag=True, help="Gives the papers to standard output, as a tar of a folder.")(make)
+    make = click.option("--no-pdf", is_flag=True, help="Makes no PDF, which saves a second a page.")(make)
+    make = click.option("--tar", is_flag=True, help="Writes the documents to standard output, as a tar of a folder.")(make)
     return click.argument("folder", metavar="[FOLDER]", required=False, type=click.Path(path_type=pathlib.Path))(make)
 
 
@@ -48,10 +48,10 @@ def give(context: Context, name: str, make: Callable[[Chain, Made], list[Documen
 @paper
 @pass_context
 def recall(context: Context, owner: str, lot: str, **where: Any) -> None:
-    """Makes the papers of a recall: for the plant, and for each owner concerned.
+    """Makes a recall: for the plant, and for each affected owner.
 
-    FOLDER is made, whole or not at all. Its folder plant has all of it, and its folder owners one for each owner, with that owner's
-    lots alone. Each begins with what to do first; then where it lies, what left, where it went, and the balance of each lot.
+    FOLDER is created completely or not at all. Its folder plant has everything, and its folder owners one folder for each owner, with
+    only that owner's lots. Each starts with what to do first; then where it lies, what left, where it went, and each lot's balance.
 
     Example: hilpoven papers recall HOUSE W-101 recall
     """
@@ -66,7 +66,7 @@ def recall(context: Context, owner: str, lot: str, **where: Any) -> None:
 @paper
 @pass_context
 def batch(context: Context, owner: str, order: str, number: str, **where: Any) -> None:
-    """Makes the record of a batch, for its owner: what is required, what was recorded, and the lots taken and made with their tests.
+    """Makes a batch record for the owner: requirements, actual amounts, and the lots consumed and produced with their tests.
 
     Example: hilpoven papers batch ACME O-1 1 record
     """
@@ -81,9 +81,9 @@ def batch(context: Context, owner: str, order: str, number: str, **where: Any) -
 @paper
 @pass_context
 def certificate(context: Context, owner: str, lot: str, **where: Any) -> None:
-    """Makes the certificate of analysis of a lot: each test with its limits, its latest result and whether it passes.
+    """Makes a certificate of analysis: each test with its limits, its latest result and whether it passes.
 
-    One of a lot that isn't released says so across the page.
+    If the lot isn't released, the page says so across its whole width.
 
     Example: hilpoven papers certificate ACME B-1 certificate
     """
@@ -97,7 +97,7 @@ def certificate(context: Context, owner: str, lot: str, **where: Any) -> None:
 @paper
 @pass_context
 def lot_command(context: Context, owner: str, lot: str, **where: Any) -> None:
-    """Makes the card of a lot: its tests, sublots, balance and movements, with a picture of one step back and forth.
+    """Makes a lot card: tests, sublots, balance and movements, with a picture of one step back and forward.
 
     Example: hilpoven papers lot ACME B-1 card
     """
@@ -107,12 +107,12 @@ def lot_command(context: Context, owner: str, lot: str, **where: Any) -> None:
 
 @papers_group.command()
 @click.argument("owner", metavar="OWNER")
-@click.option("--from", "first", metavar="DAY", required=True, help="The first day that is told.")
-@click.option("--to", "last", metavar="DAY", required=True, help="The last day that is told.")
+@click.option("--from", "first", metavar="DAY", required=True, help="The first day.")
+@click.option("--to", "last", metavar="DAY", required=True, help="The last day.")
 @paper
 @pass_context
 def statement(context: Context, owner: str, first: str, last: str, **where: Any) -> None:
-    """Makes the statement of an owner: what came, what went and what is there of each lot, between two days.
+    """Makes an owner's statement: receipts, uses, shipments and stock of each lot, between two days.
 
     Example: hilpoven papers statement ACME --from 261101 --to 261130 statement
     """

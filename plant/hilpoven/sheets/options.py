@@ -17,14 +17,14 @@ from .values import KINDS, TRAPS, Kind
 
 OPTIONS = [
     click.option("--what", type=click.Choice(list(KINDS)), default="actuals", show_default=True, help="What the sheet holds."),
-    click.option("--digits", metavar="COLUMN,..", multiple=True, help="Takes names that are digits alone: 100000 may have been 1E5, 7 007."),
-    click.option("--dates", metavar="COLUMN,..", multiple=True, help="Takes names with the form of a date, as 2026-01-02."),
-    click.option("--decimals", metavar="COLUMN,..", multiple=True, help="Takes whole numbers with decimals, as 300.00."),
-    click.option("--capitals", is_flag=True, help="Takes names with lower-case letters, by their capitals."),
-    click.option("--hidden", is_flag=True, help="Takes rows and columns that the sheet hides, as a filter does."),
-    click.option("--ignore", "ignored", metavar="COLUMN,..", multiple=True, help="Leaves out columns, by their headers."),
-    click.option("--header-row", type=click.IntRange(1), metavar="N", default=None, help="The row of the header; the first that isn't empty else."),
-    click.option("--sheet", "name", metavar="NAME", help="Which sheet, where several hold something, or the one that does is hidden."),
+    click.option("--digits", metavar="COLUMN,..", multiple=True, help="Accepts names of only digits: 100000 may have been 1E5, 7 may have been 007."),
+    click.option("--dates", metavar="COLUMN,..", multiple=True, help="Accepts names that look like a date, such as 2026-01-02."),
+    click.option("--decimals", metavar="COLUMN,..", multiple=True, help="Accepts whole numbers with decimals, such as 300.00."),
+    click.option("--capitals", is_flag=True, help="Accepts lower-case names as capitals."),
+    click.option("--hidden", is_flag=True, help="Imports hidden rows and columns, such as those that a filter hides."),
+    click.option("--ignore", "ignored", metavar="COLUMN,..", multiple=True, help="Ignores these columns."),
+    click.option("--header-row", type=click.IntRange(1), metavar="N", default=None, help="The row with the column names; the first row that isn't empty by default."),
+    click.option("--sheet", "name", metavar="NAME", help="Which sheet of the workbook, if several hold data or the sheet is hidden."),
 ]
 
 

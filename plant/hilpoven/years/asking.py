@@ -13,10 +13,10 @@ from ..output import Row, as_csv, print_table
 from . import accounts, chain, tracing
 from .chain import History
 
-years_group = Group("years", short_help="asks all files of the office, from the first to the newest",
-                    help="Asks all files of the office, from the first to the newest, as if there had been one.\n\nExample: hilpoven years recall ACME S-1")
+years_group = Group("years", short_help="searches all files of the office, from the first to the newest",
+                    help="Searches all files of the office, from the first to the newest, as if they were one.\n\nExample: hilpoven years recall ACME S-1")
 csv_option = click.option("--csv", "is_csv", is_flag=True, help="As CSV, for a spreadsheet.")
-in_option = click.option("--in", "file", metavar="FILE", default="", help="The lot that this file has by the name, where it came again; else the newest of them.")
+in_option = click.option("--in", "file", metavar="FILE", default="", help="Choose the lot in this file, if several lots have the name; the newest by default.")
 
 
 def print_rows(columns: Sequence[str], rows: Sequence[Row], is_csv: bool, title: str = "") -> None:
@@ -41,7 +41,7 @@ def came(history: History, file: int) -> str:
 @csv_option
 @pass_context
 def files(context: Context, is_csv: bool) -> None:
-    """Shows the files of the office, and looks whether each earlier one is the one that was carried over.
+    """Lists the files of the office, and checks that each earlier one is unchanged.
 
     Example: hilpoven years files
     """
@@ -57,7 +57,7 @@ def files(context: Context, is_csv: bool) -> None:
 @csv_option
 @pass_context
 def recall(context: Context, owner: str, lot: str, file: str, is_csv: bool) -> None:
-    """Shows the lots that a lot went into, with what is on hand of each and what was shipped, over all files.
+    """Lists the lots that a lot went into, with the amounts on hand and shipped, over all files.
 
     Example: hilpoven years recall ACME S-1
     """
@@ -92,7 +92,7 @@ def look_at(office: Office, history: History, found: list[tracing.Recalled], own
 @csv_option
 @pass_context
 def trace(context: Context, owner: str, lot: str, way: str, file: str, is_csv: bool) -> None:
-    """Shows the lots that a lot was made of, or went into, over all files.
+    """Lists the lots that a lot was made of, or went into, over all files.
 
     Example: hilpoven years trace ACME B-1 back
     """
@@ -127,7 +127,7 @@ def lot_card(context: Context, owner: str, lot: str, file: str, is_json: bool) -
 @csv_option
 @pass_context
 def statement(context: Context, owner: str, first: str, last: str, is_csv: bool) -> None:
-    """Shows what came, went and is left of each lot of an owner between two days, over all files.
+    """Shows receipts, uses, shipments and stock of each of an owner's lots between two days, over all files.
 
     Example: hilpoven years statement ACME --from 261101 --to 261130
     """

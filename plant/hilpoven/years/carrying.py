@@ -168,15 +168,15 @@ def do(context: Context, work: Work) -> None:
 
 @click.command(COMMAND)
 @click.argument("new", metavar="NEW", type=click.Path())
-@click.option("--day", metavar="DAY", default="", help="The day of the receipts by which stock comes over; today's, as YYMMDD, where it isn't said.")
-@click.option("--plan", "is_plan", is_flag=True, help="Only tells what would be done, how full the new file begins, and what is in the way.")
+@click.option("--day", metavar="DAY", default="", help="The day of the receipts that carry the stock over; today, as YYMMDD, by default.")
+@click.option("--plan", "is_plan", is_flag=True, help="Only shows what would be done, how full the new file would be, and what prevents it.")
 @pass_context
 def carry_over(context: Context, new: str, day: str, is_plan: bool) -> None:
-    """Goes on in a new file, which begins with what lies in the plant. Nothing that was recorded is lost.
+    """Continues in a new file that starts with the stock in the plant. Nothing that was recorded is lost.
 
-    NEW is how the new file is called until it takes the name of the office's file, which becomes NAME-1.db beside it, read-only.
-    All batches are closed, and no server runs. toll itself is told what makes the new file; it is compared with the old one
-    before it is put in place. Where this is stopped, one office that works is left, and the same command begins anew.
+    NEW is the new file's name until it takes the name of the office's file, which becomes NAME-1.db next to it, read-only. Close all
+    batches and stop the server first. toll's own commands build the new file, which is compared with the old one before it takes its
+    place. If the command is interrupted, a working office remains; run the same command again.
 
     Example: hilpoven carry-over /var/lib/toll/next.db
     """
