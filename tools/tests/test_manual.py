@@ -22,7 +22,7 @@ def test_it_has_the_words_of_each_value():
 
 def test_it_has_the_faults_that_a_command_may_be_told():
     rows = re.findall(r"^\| `(\w+)` \| (.*?) \|", (ROOT / "docs" / "operations.md").read_text().split("## Faults, and what to do")[1], re.M)
-    told = {name for name, meaning in rows if not meaning.startswith(("told by a server alone", "an earlier fault"))}
+    told = {name for name, meaning in rows if not meaning.startswith(("server only", "an earlier fault"))}
     assert len(rows) == 13 and set(re.findall(r"^\.It fault (\w+)$", TEXT, re.M)) == told
 
 
