@@ -1,11 +1,11 @@
 -- Commands of which the changes are held back.
 use Rattle.std.proofs.Common.{◌≡◌, ◌++◌, false, Option, [], Result, Ok, Err, inl, inr, refl, sym, ap, subst, ◌∙◌}
 use Rattle.toll_desk.proofs.Common.{append-nil, changes_of, Decision, Refusal, verdict_of, History, Refused as RefusedFor, Content, after, Meaning, OverHeld, KeepFault, CannotRead, Judged, PlantAsked}
-use Rattle.toll_keep.specs.Overlays.{IsOver, ReadsThrough}
-use Rattle.toll_keep.specs.declared.overlay.Overlay.{Overlay}
-use Rattle.toll_desk.specs.Asking.{is_accepted, plant_told}
+use Rattle.toll_keep.specs.PendingChanges.{IsOver, ReadsThrough}
+use Rattle.toll_keep.specs.declared.pending_changes.PendingChanges.{PendingChanges}
+use Rattle.toll_desk.specs.Translations.{is_accepted, plant_told}
 use Rattle.toll_desk.specs.Clauses.{IsPlantPlanned}
-use Rattle.toll_desk.specs.PlantHeld.{IsHeldAs, IsPlannedOn, IsPlantHeld, IsToldOver, IsVerdictOrMemory}
+use Rattle.toll_desk.specs.PlantStaged.{IsPlannedOn, IsPlantStaged, IsStagedAs, IsToldOver, IsVerdictOrMemory}
 use Rattle.toll_desk.specs.Plans.{IsPlantDecision}
 use Rattle.toll_desk.specs.Subjects.{concerned}
 use Rattle.toll_desk.specs.Reads.{AreBoth}
@@ -20,7 +20,7 @@ use Rattle.toll_desk.proofs.Lift.{leads_nowhere}
 pub planned_as : (c : Content) (H : History) (q : PlantAsked) (d : Decision) (plan : PlantPlan) → plant_told plan.reply ≡ Ok (Judged (verdict_of d)) → plan.changes.items ≡ changes_of d → IsPlantDecision c H q d → IsPlantPlanned c H q plan
 planned_as c H q d plan told changes decided = rw (told, changes) (decided.answer, decided.leads)
 
-module _ {K : Type 0} (meaning : Meaning K) (old new : K) (before : Overlay) where
+module _ {K : Type 0} (meaning : Meaning K) (old new : K) (before : PendingChanges) where
   abbrev Through : {X : Type 0} → Result X KeepFault → Type 0
   Through r = ReadsThrough meaning old new before r
 
@@ -38,12 +38,12 @@ module _ {K : Type 0} (meaning : Meaning K) (old new : K) (before : Overlay) whe
   through_answer : {X Y : Type 0} (x : X) (y : Y) → Through (answered x) → Through (answered y)
   through_answer x y reads = record { answered = λ first through. reads.answered first through; failed = λ first through. tt; kept = reads.kept }
 
-  module _ (mid now : Overlay) (both : Option Both) (q : PlantAsked) (plan : PlantPlan) (reply : PlantReply)
+  module _ (mid now : PendingChanges) (both : Option Both) (q : PlantAsked) (plan : PlantPlan) (reply : PlantReply)
       (reads : Through (answered both)) (are : OverHeld meaning old new (λ c. IsOver c before → AreBoth (after before.changes.items c) (concerned q) both)) (over : OverHeld meaning old new (λ c. IsOver c before → IsOver c mid)) (same : mid.changes.items ≡ before.changes.items)
       (quiet : is_accepted (plant_told plan.reply) ≡ false → plan.changes.items ≡ []) (judged : IsVerdictOrMemory (plant_told plan.reply)) (planned : IsPlannedOn both q plan)
       (still : (c : Content) → IsOver c mid → IsOver c now) where
     -- a plan over the rows that were read, of which the changes are held back or there was no memory for it
-    pub held_now : IsHeldAs mid now plan reply → IsPlantHeld meaning old new before now q (Ok reply)
+    pub held_now : IsStagedAs mid now plan reply → IsPlantStaged meaning old new before now q (Ok reply)
     held_now (inl held) = record {
       reading = inr (through_answer both reply reads);
       made = plan.changes.items;
@@ -64,8 +64,8 @@ module _ {K : Type 0} (meaning : Meaning K) (old new : K) (before : Overlay) whe
     }
 
   -- rows that couldn't be read
-  pub unheld : {X : Type 0} (now : Overlay) (q : PlantAsked) (fault : KeepFault) → Through {X = X} (failed fault) → OverHeld meaning old new (λ c. IsOver c before → IsOver c now) → now.changes.items ≡ before.changes.items
-      → IsPlantHeld meaning old new before now q (Err fault)
+  pub unheld : {X : Type 0} (now : PendingChanges) (q : PlantAsked) (fault : KeepFault) → Through {X = X} (failed fault) → OverHeld meaning old new (λ c. IsOver c before → IsOver c now) → now.changes.items ≡ before.changes.items
+      → IsPlantStaged meaning old new before now q (Err fault)
   unheld now q fault reads over same = record {
     reading = inr (through_fault fault reads);
     made = [];
@@ -77,9 +77,9 @@ module _ {K : Type 0} (meaning : Meaning K) (old new : K) (before : Overlay) whe
   }
 
 -- a command that couldn't be read is refused, and no row is looked at
-pub unread_held : {K : Type 0} (meaning : Meaning K) (keep : K) (o : Overlay) (why : Refusal) → IsPlantHeld meaning keep keep o o (CannotRead why) (Ok (Refused why))
+pub unread_held : {K : Type 0} (meaning : Meaning K) (keep : K) (o : PendingChanges) (why : Refusal) → IsPlantStaged meaning keep keep o o (CannotRead why) (Ok (Refused why))
 unread_held meaning keep o why = record {
-  reading = inl (record { keep = refl; overlay = refl; told = refl; answered = refl });
+  reading = inl (record { keep = refl; pending = refl; told = refl; answered = refl });
   made = [];
   held = sym (append-nil o.changes.items);
   quiet = λ none. refl;

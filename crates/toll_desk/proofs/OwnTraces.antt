@@ -8,8 +8,8 @@ use Rattle.toll_trace.specs.declared.way.Way.{Way}
 use Rattle.toll_trace.proofs.Unique.{trace_same}
 use Rattle.toll_desk.specs.Forms.{asked_to_trace, traced_from, traced_way}
 use Rattle.toll_desk.specs.Questions.{may_trace}
-use Rattle.toll_desk.specs.declared.form.Tracing.{Tracing}
-use Rattle.toll_desk.specs.declared.form.Tracing.TheVariants.{Back, Forward, HouseForward}
+use Rattle.toll_desk.specs.declared.form.TraceRequest.{TraceRequest}
+use Rattle.toll_desk.specs.declared.form.TraceRequest.TheVariants.{Back, Forward, HouseForward}
 use Rattle.toll_desk.proofs.OwnerPlans.{slice_read, some_read}
 
 -- ---- members that pass a test
@@ -88,23 +88,23 @@ house_begins H o lot e lawful other is (inr to) =
     absurd (false≢true (sym other ∙ ap (λ p. same_bytes p house_name) (sym own) ∙ same_bytes-refl house_name))
 
 -- a lot where an edge of the owner begins or ends is one to trace
-pub joined_traces : (H : History) (o : Bytes) (t : Tracing) (edges : List Edge) → IsLawful H → same_bytes o house_name ≡ false → AreEdges (IsOwnEdge (acts o H)) edges → list_any (touches (traced_from o t)) edges ≡ true → may_trace H o t ≡ true
+pub joined_traces : (H : History) (o : Bytes) (t : TraceRequest) (edges : List Edge) → IsLawful H → same_bytes o house_name ≡ false → AreEdges (IsOwnEdge (acts o H)) edges → list_any (touches (traced_from o t)) edges ≡ true → may_trace H o t ≡ true
 joined_traces H o t edges lawful other are any = with_edge t (joined_edge (IsOwnEdge (acts o H)) edges are (traced_from o t) any)
   where
-    with_edge : (t : Tracing) → (e : Edge) × IsOwnEdge (acts o H) e × ((e.from ≡ traced_from o t) ⊎ (e.to ≡ traced_from o t)) → may_trace H o t ≡ true
+    with_edge : (t : TraceRequest) → (e : Edge) × IsOwnEdge (acts o H) e × ((e.from ≡ traced_from o t) ⊎ (e.to ≡ traced_from o t)) → may_trace H o t ≡ true
     with_edge (Back lot) found = joined_known H o (lot_id o lot) found.0 lawful found.1 found.2
     with_edge (Forward lot) found = joined_known H o (lot_id o lot) found.0 lawful found.1 found.2
     with_edge (HouseForward lot) found = subst (λ l. has_consumed (acts o H) l ≡ true) (house_begins H o lot found.0 lawful other found.1 found.2) (edge_consumes (acts o H) found.0 found.1)
 
-pub traced : (H : History) (o : Bytes) (t : Tracing) (edges : List Edge) (trace : List Step) → may_trace H o t ≡ true → AreEdges (IsOwnEdge (acts o H)) edges → IsTrace (IsJoined edges (traced_way t)) (traced_from o t) trace → IsAnswer o H (asked_to_trace t) (TellTrace trace)
+pub traced : (H : History) (o : Bytes) (t : TraceRequest) (edges : List Edge) (trace : List Step) → may_trace H o t ≡ true → AreEdges (IsOwnEdge (acts o H)) edges → IsTrace (IsJoined edges (traced_way t)) (traced_from o t) trace → IsAnswer o H (asked_to_trace t) (TellTrace trace)
 traced H o t edges trace may are is = told t may (trace_as (IsOwnEdge (acts o H)) edges are (traced_way t) (traced_from o t) trace is)
   where
-    told : (t : Tracing) → may_trace H o t ≡ true → IsTrace (IsOwnJoined (acts o H) (traced_way t)) (traced_from o t) trace → IsAnswer o H (asked_to_trace t) (TellTrace trace)
+    told : (t : TraceRequest) → may_trace H o t ≡ true → IsTrace (IsOwnJoined (acts o H) (traced_way t)) (traced_from o t) trace → IsAnswer o H (asked_to_trace t) (TellTrace trace)
     told (Back lot) may is = rw may (record { trace = trace; traced = is; told = refl })
     told (Forward lot) may is = rw may (record { trace = trace; traced = is; told = refl })
     told (HouseForward lot) may is = rw may (record { trace = trace; traced = is; told = refl })
 
-pub not_traced : (H : History) (o : Bytes) (t : Tracing) → may_trace H o t ≡ false → IsAnswer o H (asked_to_trace t) (TellRefused UnknownLot)
+pub not_traced : (H : History) (o : Bytes) (t : TraceRequest) → may_trace H o t ≡ false → IsAnswer o H (asked_to_trace t) (TellRefused UnknownLot)
 not_traced H o (Back lot) may_not = rw may_not refl
 not_traced H o (Forward lot) may_not = rw may_not refl
 not_traced H o (HouseForward lot) may_not = rw may_not refl

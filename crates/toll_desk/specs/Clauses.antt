@@ -7,7 +7,7 @@ use Rattle.toll_base.specs.declared.lot.Edge.{Edge}
 use Rattle.toll_trace.specs.declared.way.Way.TheVariants.{Forward}
 use Rattle.toll_answers.specs.Agreement.{IsPlantTrace}
 use Rattle.toll_answers.specs.Edges.{AreOwnEdges}
-use Rattle.toll_desk.specs.Asking.{plant_told, told_of}
+use Rattle.toll_desk.specs.Translations.{plant_told, told_of}
 use Rattle.toll_desk.specs.Outcome.{IsDone}
 use Rattle.toll_desk.specs.Plans.{Disposes, IsOwnDecision, IsPlan, IsPlanFor, IsPlanOver, LeadsTo}
 use Rattle.toll_desk.specs.Questions.{AreSlicesFor, is_known_lot}

@@ -2,12 +2,12 @@ pub mod Common
 pub mod Standing
 pub mod Held
 pub mod Reads
-pub mod Asking
+pub mod Translations
 pub mod Admission
 pub mod Plans
 pub mod Outcome
 pub mod Clauses
-pub mod PlantHeld
+pub mod PlantStaged
 pub mod PlantServed
 pub mod Forms
 pub mod Subjects

@@ -1,7 +1,7 @@
 -- What is so of a command or question of the plant that was answered over a keep.
 use Rattle.std.specs.Prelude.{◌≡◌, ◌≢◌, false, Ok, Err}
 use Rattle.toll_desk.specs.Common.{Refusal, Refused, Meaning, Content, ContentKeepsRules, IsSpared, Settles, Memory, Damaged, CannotRead, Judged}
-use Rattle.toll_desk.specs.Asking.{asked_by, asks_recall, is_accepted, plant_told, IsValidDeed}
+use Rattle.toll_desk.specs.Translations.{asked_by, asks_recall, is_accepted, plant_told, IsValidCommand}
 use Rattle.toll_desk.specs.Outcome.{GoesFor}
 use Rattle.toll_desk.specs.Clauses.{IsPlantDone}
 use Rattle.toll_desk.specs.Reads.{Over}
@@ -26,7 +26,7 @@ module _ {K : Type 0} (meaning : Meaning K) where
     -- over a lawful history nothing is told Damaged
     pub undamaged : Over meaning old new (λ c H. plant_told reply ≢ Err Damaged)
     -- the values of the command are within their bounds
-    pub valid : IsValidDeed (asked_by command)
+    pub valid : IsValidCommand (asked_by command)
     -- what is not accepted leaves the content
     pub quiet : meaning.is_honest new → (c : Content) → meaning.holds old c → is_accepted (plant_told reply) ≡ false → meaning.holds new c
     -- the answer and the rows are those that the history gives

@@ -3,13 +3,13 @@ use Rattle.std.specs.Prelude.{◌≡◌, ◌⊎◌, Bool, ◌&&◌, true, false,
 use Rattle.toll_desk.specs.Common.{Global, Bytes, lot_id, Slice, house_name, LotId, History, acts, owner_known, IsRowsOf, lot_row, Step, IsRecall, recall_line, RecallLine, Meaning, IsReading, HaveRead, KeepFault, Damaged}
 use Rattle.toll_answers.specs.Views.{has_consumed}
 use Rattle.toll_keep.specs.Slices.{has_slice}
-use Rattle.toll_desk.specs.declared.form.Tracing.{Tracing}
-use Rattle.toll_desk.specs.declared.form.Tracing.TheVariants.{Back, Forward, HouseForward}
+use Rattle.toll_desk.specs.declared.form.TraceRequest.{TraceRequest}
+use Rattle.toll_desk.specs.declared.form.TraceRequest.TheVariants.{Back, Forward, HouseForward}
 
 -- ---- traces
 
 -- the owner has the lot; a lot of HOUSE, a batch of the owner consumed
-abbrev pub may_trace : History → Bytes → Tracing → Bool
+abbrev pub may_trace : History → Bytes → TraceRequest → Bool
 may_trace H o (Back lot) = is_some (lot_row H o lot)
 may_trace H o (Forward lot) = is_some (lot_row H o lot)
 may_trace H o (HouseForward lot) = has_consumed (acts o H) (lot_id house_name lot)

@@ -13,9 +13,9 @@ concerned (AsksRecall lot) = lot.owner
 concerned (CannotRead why) = house_name
 
 -- something is to be done, and this is so of it
-abbrev pub IsDeed : (Action → Type 0) → PlantAsked → Type 0
-IsDeed P (Does c) = P c.action
-IsDeed P _ = ⊥
+abbrev pub IsCommandSuchThat : (Action → Type 0) → PlantAsked → Type 0
+IsCommandSuchThat P (Does c) = P c.action
+IsCommandSuchThat P _ = ⊥
 
 -- it is decided over HOUSE's rows too
 abbrev pub is_shared : Action → Bool

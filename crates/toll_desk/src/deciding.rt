@@ -8,18 +8,18 @@ ghost use Rattle.toll_answers.specs.PlantAnswers.{Does};
 ghost use Rattle.toll_work.specs.Opening.{IsToldOfUnit};
 ghost use Rattle.toll_keep.specs.Goes.{IsReading};
 ghost use Rattle.toll_keep.specs.Meaning.{OverHeld};
-ghost use Rattle.toll_keep.specs.Overlays.{IsOver, OverLaid, ReadsThrough};
-ghost use Rattle.toll_desk.specs.Asking.{asked_by};
+ghost use Rattle.toll_keep.specs.PendingChanges.{IsOver, OverLaid, ReadsThrough};
+ghost use Rattle.toll_desk.specs.Translations.{asked_by};
 ghost use Rattle.toll_desk.specs.Plans.{IsOwnDecision, IsPlantDecision};
 ghost use Rattle.toll_desk.specs.Reads.{AreBoth, Over};
-ghost use Rattle.toll_desk.specs.Subjects.{IsDeed, IsOwn, is_shared};
+ghost use Rattle.toll_desk.specs.Subjects.{IsCommandSuchThat, IsOwn, is_shared};
 
 use crate::decisions::{decide_own, decide_shared};
 use crate::plant_cmd::PlantCmd;
 use crate::units::{decide_owner, decide_unit, find_unit};
 use std::alloc::Global;
 use toll_base::{Decision, Name, Refusal, Slice};
-use toll_keep::{Keep, KeepFault, Overlay};
+use toll_keep::{Keep, KeepFault, PendingChanges};
 use toll_work::open_batch;
 
 /// The decision on a command. [`Refusal::UnknownOwner`] comes before the checks of all but the adding
@@ -29,7 +29,7 @@ pub fn decide<K: Keep>(
     keep: &mut K,
     command: &PlantCmd,
 ) -> Result<Decision, KeepFault>
-    requires { IsDeed IsValid (asked_by command.now) }
+    requires { IsCommandSuchThat IsValid (asked_by command.now) }
     ensures reads { IsReading K.meaning keep.old keep.new result }
     ensures over { Over K.meaning keep.old keep.new (λ c H. IfOk result (IsPlantDecision c H (asked_by command.now))) }
 {
@@ -50,8 +50,8 @@ fn decide_over<K: Keep>(
     keep: &mut K,
     command: &PlantCmd,
 ) -> Result<Decision, KeepFault>
-    requires own { IsDeed IsOwn (asked_by command.now) }
-    requires valid { IsDeed IsValid (asked_by command.now) }
+    requires own { IsCommandSuchThat IsOwn (asked_by command.now) }
+    requires valid { IsCommandSuchThat IsValid (asked_by command.now) }
     ensures reads { IsReading K.meaning keep.old keep.new result }
     ensures over { Over K.meaning keep.old keep.new (λ c H. IfOk result (IsPlantDecision c H (asked_by command.now))) }
 {
@@ -86,8 +86,8 @@ fn decide_both<K: Keep>(
     keep: &mut K,
     command: &PlantCmd,
 ) -> Result<Decision, KeepFault>
-    requires shared { IsDeed (λ a. is_shared a ≡ true) (asked_by command.now) }
-    requires valid { IsDeed IsValid (asked_by command.now) }
+    requires shared { IsCommandSuchThat (λ a. is_shared a ≡ true) (asked_by command.now) }
+    requires valid { IsCommandSuchThat IsValid (asked_by command.now) }
     ensures reads { IsReading K.meaning keep.old keep.new result }
     ensures over { Over K.meaning keep.old keep.new (λ c H. IfOk result (IsPlantDecision c H (asked_by command.now))) }
 {
@@ -101,20 +101,20 @@ fn decide_both<K: Keep>(
     }
 }
 
-/// The rows of the owner, where it is known, and HOUSE's: those of the keep with the overlay's changes put.
+/// The rows of the owner, where it is known, and HOUSE's: those of the keep with the pending changes put.
 pub fn both_over<K: Keep>(
     alloc: Global,
     keep: &mut K,
-    overlay: &mut Overlay,
+    pending: &mut PendingChanges,
     owner: &Name,
 ) -> Result<Option<Both>, KeepFault>
-    ensures reading { ReadsThrough K.meaning keep.old keep.new overlay.old result }
-    ensures both { OverLaid K.meaning keep.old keep.new overlay.old (λ c. IfOk result (AreBoth c owner.now)) }
-    ensures over { OverHeld K.meaning keep.old keep.new (λ c. IsOver c overlay.old → IsOver c overlay.new) }
-    ensures changes { overlay.new.changes.items ≡ overlay.old.changes.items }
+    ensures reading { ReadsThrough K.meaning keep.old keep.new pending.old result }
+    ensures both { OverLaid K.meaning keep.old keep.new pending.old (λ c. IfOk result (AreBoth c owner.now)) }
+    ensures over { OverHeld K.meaning keep.old keep.new (λ c. IsOver c pending.old → IsOver c pending.new) }
+    ensures changes { pending.new.changes.items ≡ pending.old.changes.items }
 {
-    match overlay.slice(alloc, keep, owner) {
-        Ok(Some(own)) => house_over(alloc, keep, overlay, own),
+    match pending.slice(alloc, keep, owner) {
+        Ok(Some(own)) => house_over(alloc, keep, pending, own),
         Ok(None) => Ok(None),
         Err(fault) => Err(fault),
     }
@@ -124,15 +124,15 @@ pub fn both_over<K: Keep>(
 fn house_over<K: Keep>(
     alloc: Global,
     keep: &mut K,
-    overlay: &mut Overlay,
+    pending: &mut PendingChanges,
     own: Slice,
 ) -> Result<Option<Both>, KeepFault>
-    ensures reading { ReadsThrough K.meaning keep.old keep.new overlay.old result }
-    ensures both { OverLaid K.meaning keep.old keep.new overlay.old (λ c. IfOk result (λ both. both ≡ Some (record { own = own; house = c.rows house_name }))) }
-    ensures over { OverHeld K.meaning keep.old keep.new (λ c. IsOver c overlay.old → IsOver c overlay.new) }
-    ensures changes { overlay.new.changes.items ≡ overlay.old.changes.items }
+    ensures reading { ReadsThrough K.meaning keep.old keep.new pending.old result }
+    ensures both { OverLaid K.meaning keep.old keep.new pending.old (λ c. IfOk result (λ both. both ≡ Some (record { own = own; house = c.rows house_name }))) }
+    ensures over { OverHeld K.meaning keep.old keep.new (λ c. IsOver c pending.old → IsOver c pending.new) }
+    ensures changes { pending.new.changes.items ≡ pending.old.changes.items }
 {
-    match overlay.slice(alloc, keep, &Name::house()) {
+    match pending.slice(alloc, keep, &Name::house()) {
         Ok(Some(house)) => Ok(Some(Both { own, house })),
         Ok(None) => Ok(None),
         Err(fault) => Err(fault),
@@ -144,7 +144,7 @@ fn both_of<K: Keep>(alloc: Global, keep: &mut K, owner: &Name) -> Result<Option<
     ensures reads { IsReading K.meaning keep.old keep.new result }
     ensures both { OverHeld K.meaning keep.old keep.new (λ c. IfOk result (AreBoth c owner.now)) }
 {
-    both_over(alloc, keep, &mut Overlay::new(alloc), owner)
+    both_over(alloc, keep, &mut PendingChanges::new(alloc), owner)
 }
 
 // ---- the opening of a batch

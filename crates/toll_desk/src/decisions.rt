@@ -5,9 +5,9 @@ ghost use Rattle.toll_base.specs.Changes.{changes_of};
 ghost use Rattle.toll_history.specs.Command.{by};
 ghost use Rattle.toll_history.specs.Decision.{Decides, DecidesWith, DecisionKeepsRules};
 ghost use Rattle.toll_history.specs.OwnChanges.{PutsOnly};
-ghost use Rattle.toll_desk.specs.Asking.{asked_by};
+ghost use Rattle.toll_desk.specs.Translations.{asked_by};
 ghost use Rattle.toll_desk.specs.Plans.{PutsShared};
-ghost use Rattle.toll_desk.specs.Subjects.{IsDeed, IsOfLot, IsOwn, is_shared};
+ghost use Rattle.toll_desk.specs.Subjects.{IsCommandSuchThat, IsOfLot, IsOwn, is_shared};
 
 use crate::plant_cmd::PlantCmd;
 use std::alloc::{AllocError, Global};
@@ -22,8 +22,8 @@ use toll_work::{
 
 /// The decision over the rows of the slice's owner.
 pub fn decide_own(alloc: Global, slice: &Slice, command: &PlantCmd) -> Result<Decision, AllocError>
-    requires { IsDeed IsOwn (asked_by command.now) }
-    ensures decides { IsDeed (λ a. IfOk result (Decides (by slice.now.owner a) slice.now)) (asked_by command.now) }
+    requires { IsCommandSuchThat IsOwn (asked_by command.now) }
+    ensures decides { IsCommandSuchThat (λ a. IfOk result (Decides (by slice.now.owner a) slice.now)) (asked_by command.now) }
     ensures rules { IfOk result (DecisionKeepsRules slice.now) }
     ensures own { IfOk result (λ d. PutsOnly slice.now.owner (changes_of d)) }
 {
@@ -70,8 +70,8 @@ pub fn decide_own(alloc: Global, slice: &Slice, command: &PlantCmd) -> Result<De
 
 // The same of a movement, and of a lot's release and rejection.
 fn decide_lot(alloc: Global, slice: &Slice, command: &PlantCmd) -> Result<Decision, AllocError>
-    requires { IsDeed IsOfLot (asked_by command.now) }
-    ensures decides { IsDeed (λ a. IfOk result (Decides (by slice.now.owner a) slice.now)) (asked_by command.now) }
+    requires { IsCommandSuchThat IsOfLot (asked_by command.now) }
+    ensures decides { IsCommandSuchThat (λ a. IfOk result (Decides (by slice.now.owner a) slice.now)) (asked_by command.now) }
     ensures rules { IfOk result (DecisionKeepsRules slice.now) }
     ensures own { IfOk result (λ d. PutsOnly slice.now.owner (changes_of d)) }
 {
@@ -123,8 +123,8 @@ pub fn decide_shared(
     house: &Slice,
     command: &PlantCmd,
 ) -> Result<Decision, AllocError>
-    requires { IsDeed (λ a. is_shared a ≡ true) (asked_by command.now) }
-    ensures decides { IsDeed (λ a. IfOk result (DecidesWith (by own.now.owner a) own.now house.now)) (asked_by command.now) }
+    requires { IsCommandSuchThat (λ a. is_shared a ≡ true) (asked_by command.now) }
+    ensures decides { IsCommandSuchThat (λ a. IfOk result (DecidesWith (by own.now.owner a) own.now house.now)) (asked_by command.now) }
     ensures rules { IfOk result (DecisionKeepsRules own.now) }
     ensures house_rules { same_bytes own.now.owner house.now.owner ≡ false → IfOk result (DecisionKeepsRules house.now) }
     ensures own { IfOk result (λ d. PutsShared own.now.owner (changes_of d)) }

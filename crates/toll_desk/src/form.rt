@@ -1,7 +1,7 @@
 //! What each request looks at, and what it then does.
 ghost use Rattle.std.specs.Prelude.{◌≡◌};
 ghost use Rattle.toll_desk.specs.Forms.{asked_in};
-ghost use Rattle.toll_desk.specs.Asking.{asked_of};
+ghost use Rattle.toll_desk.specs.Translations.{asked_of};
 
 use crate::request::Request;
 use toll_base::{BatchNo, Name};
@@ -10,16 +10,16 @@ use toll_base::{BatchNo, Name};
 #[derive(Clone, Copy)]
 pub enum Form {
     /// The owner's rows are read, and shown.
-    Read(Reading),
+    Read(ReadRequest),
     /// The edges of the owner's batches are followed.
-    Trace(Tracing),
+    Trace(TraceRequest),
     /// It is decided over the owner's rows, and changes them.
-    Write(Writing),
+    Write(WriteRequest),
 }
 
 /// What is read of the owner's rows.
 #[derive(Clone, Copy)]
-pub enum Reading {
+pub enum ReadRequest {
     Orders,
     Order(Name),
     Batch { order: Name, number: BatchNo },
@@ -29,7 +29,7 @@ pub enum Reading {
 
 /// From which lot edges are followed, and which way.
 #[derive(Clone, Copy)]
-pub enum Tracing {
+pub enum TraceRequest {
     Back(Name),
     Forward(Name),
     HouseForward(Name),
@@ -37,7 +37,7 @@ pub enum Tracing {
 
 /// What is decided.
 #[derive(Clone, Copy)]
-pub enum Writing {
+pub enum WriteRequest {
     Place {
         order: Name,
         recipe: Name,
@@ -53,25 +53,25 @@ pub fn form_of(request: &Request) -> Form
     ensures { asked_of request.now ≡ asked_in result }
 {
     match *request {
-        Request::Orders => Form::Read(Reading::Orders),
-        Request::Order(order) => Form::Read(Reading::Order(order)),
+        Request::Orders => Form::Read(ReadRequest::Orders),
+        Request::Order(order) => Form::Read(ReadRequest::Order(order)),
         Request::Place {
             order,
             recipe,
             batches,
-        } => Form::Write(Writing::Place {
+        } => Form::Write(WriteRequest::Place {
             order,
             recipe,
             batches,
         }),
-        Request::Cancel(order) => Form::Write(Writing::Cancel(order)),
-        Request::Batch { order, number } => Form::Read(Reading::Batch { order, number }),
-        Request::Stock => Form::Read(Reading::Stock),
-        Request::Lot(lot) => Form::Read(Reading::Lot(lot)),
-        Request::Release(lot) => Form::Write(Writing::Release(lot)),
-        Request::Reject(lot) => Form::Write(Writing::Reject(lot)),
-        Request::Back(lot) => Form::Trace(Tracing::Back(lot)),
-        Request::Forward(lot) => Form::Trace(Tracing::Forward(lot)),
-        Request::HouseForward(lot) => Form::Trace(Tracing::HouseForward(lot)),
+        Request::Cancel(order) => Form::Write(WriteRequest::Cancel(order)),
+        Request::Batch { order, number } => Form::Read(ReadRequest::Batch { order, number }),
+        Request::Stock => Form::Read(ReadRequest::Stock),
+        Request::Lot(lot) => Form::Read(ReadRequest::Lot(lot)),
+        Request::Release(lot) => Form::Write(WriteRequest::Release(lot)),
+        Request::Reject(lot) => Form::Write(WriteRequest::Reject(lot)),
+        Request::Back(lot) => Form::Trace(TraceRequest::Back(lot)),
+        Request::Forward(lot) => Form::Trace(TraceRequest::Forward(lot)),
+        Request::HouseForward(lot) => Form::Trace(TraceRequest::HouseForward(lot)),
     }
 }

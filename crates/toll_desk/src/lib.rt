@@ -4,12 +4,11 @@
 #![tactic(auto)]
 
 mod admission;
-mod carrying;
+mod commands;
+mod committing;
 mod deciding;
 mod decisions;
-mod deeds;
 mod form;
-mod holding;
 mod owner;
 mod plant;
 mod plant_cmd;
@@ -17,19 +16,20 @@ mod questions;
 mod reading;
 mod recalls;
 mod request;
+mod staging;
 mod standing;
 mod tracing;
 mod units;
 mod writing;
 
 pub use admission::admit;
-pub use carrying::carry;
-pub use holding::plant_hold;
+pub use committing::commit;
 pub use owner::{owner_do, owner_plan};
 pub use plant::plant_do;
 pub use plant_cmd::{PlantCmd, PlantReply};
 pub use recalls::recall;
 pub use request::{Planned, Reply, Request};
+pub use staging::plant_stage;
 pub use standing::{
     a_unit_is_held_by_one_batch, all_edges_are_the_plants, changes_that_keep_the_rules_fit,
     edges_are_the_owners, lawful_rows_keep_the_rules, nothing_stands_for_no_commands,

@@ -4,11 +4,11 @@ ghost use Rattle.toll_keep.specs.Content.{ContentKeepsRules};
 ghost use Rattle.toll_keep.specs.Goes.{Goes, IsReading, IsSpared, Settles};
 ghost use Rattle.toll_keep.specs.Meaning.{OverHeld};
 ghost use Rattle.toll_desk.specs.Clauses.{IfPlacedAgain, IsOwnerDone, IsPlannedBy, IsPlannedFor, OverOwner};
-ghost use Rattle.toll_desk.specs.Asking.{asked_of, may_change, told_of};
+ghost use Rattle.toll_desk.specs.Translations.{asked_of, may_change, told_of};
 ghost use Rattle.toll_desk.specs.Reads.{Over};
 
 use crate::admission::admit;
-use crate::carrying::carry;
+use crate::committing::commit;
 use crate::form::{Form, form_of};
 use crate::reading::read_rows;
 use crate::request::{Planned, Reply, Request};
@@ -77,6 +77,6 @@ pub fn owner_do<K: Keep>(
     ensures done { IsOwnerDone K.meaning keep.old keep.new owner.now key.now (asked_of request.now) (told_of result) }
 {
     let planned = owner_plan(alloc, keep, owner, key, request);
-    let made = carry(alloc, keep, &planned.changes);
+    let made = commit(alloc, keep, &planned.changes);
     planned.finished(made)
 }

@@ -1,7 +1,7 @@
 //! The plant's commands and questions over a keep.
 ghost use Rattle.toll_desk.specs.PlantServed.{IsPlantServed};
 
-use crate::deeds::do_deed;
+use crate::commands::run_command;
 use crate::plant_cmd::{PlantCmd, PlantReply};
 use crate::questions::ask;
 use std::alloc::Global;
@@ -24,6 +24,6 @@ pub fn plant_do<K: Keep>(alloc: Global, keep: &mut K, command: &PlantCmd) -> Pla
         | PlantCmd::Batch { .. }
         | PlantCmd::Trace { .. }
         | PlantCmd::Recall { .. } => ask(alloc, keep, command),
-        _ => do_deed(alloc, keep, command),
+        _ => run_command(alloc, keep, command),
     }
 }

@@ -3,7 +3,7 @@ ghost use Rattle.std.specs.Prelude.{◌≡◌, false, [], Ok};
 ghost use Rattle.toll_base.specs.Changes.{changes_of};
 ghost use Rattle.toll_history.specs.Decision.{verdict_of};
 ghost use Rattle.toll_answers.specs.PlantAnswers.{Judged};
-ghost use Rattle.toll_desk.specs.Asking.{asked_by, is_accepted, plant_told, IsValidDeed};
+ghost use Rattle.toll_desk.specs.Translations.{asked_by, is_accepted, plant_told, IsValidCommand};
 ghost use Rattle.toll_desk.specs.Outcome.{finished};
 ghost use Rattle.toll_desk.specs.Subjects.{concerned};
 
@@ -219,7 +219,7 @@ impl PlantCmd {
     /// A law: its values are within the bounds of their types. A proof learns so of a number from its
     /// [`get`](toll_base::Bounded::get).
     pub fn keeps_bounds(&self)
-        ensures { IsValidDeed (asked_by self.now) }
+        ensures { IsValidCommand (asked_by self.now) }
     {
         match *self {
             PlantCmd::Order { batches, .. } => {

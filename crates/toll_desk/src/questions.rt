@@ -9,7 +9,7 @@ ghost use Rattle.toll_answers.specs.Edges.{ArePlantEdges, IsPlantEdge};
 ghost use Rattle.toll_answers.specs.PlantAnswers.{IsPlantAnswer, AreOrdersShown, IsTraceShown, AsksTrace, AsksRecall, AsksBatch, Shows, after_plant};
 ghost use Rattle.toll_keep.specs.Goes.{IsReading, Keeps};
 ghost use Rattle.toll_desk.specs.Clauses.{IsRefusedAs, IsTextAs};
-ghost use Rattle.toll_desk.specs.Asking.{asked_by, asks_recall, is_accepted, plant_told};
+ghost use Rattle.toll_desk.specs.Translations.{asked_by, asks_recall, is_accepted, plant_told};
 ghost use Rattle.toll_desk.specs.Questions.{IsGoing, is_known_lot};
 ghost use Rattle.toll_desk.specs.Reads.{Over};
 ghost use Rattle.toll_desk.specs.Subjects.{AsksRows, IsQuestion, asked_of_rows};

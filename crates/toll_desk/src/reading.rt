@@ -9,9 +9,9 @@ ghost use Rattle.toll_answers.specs.Told.{AskBatch, AskOrders};
 ghost use Rattle.toll_keep.specs.Goes.{IsReading};
 ghost use Rattle.toll_desk.specs.Clauses.{IsReadAs, OverKnown};
 ghost use Rattle.toll_desk.specs.Forms.{asked_to_read};
-ghost use Rattle.toll_desk.specs.Asking.{told_of};
+ghost use Rattle.toll_desk.specs.Translations.{told_of};
 
-use crate::form::Reading;
+use crate::form::ReadRequest;
 use crate::request::Reply;
 use std::alloc::{AllocError, Global};
 use toll_answers::{lot_view, stock_lines};
@@ -20,7 +20,7 @@ use toll_keep::{Keep, KeepFault};
 use toll_work::batch_view;
 
 /// What an owner is told of its rows.
-pub fn read_rows<K: Keep>(alloc: Global, keep: &mut K, owner: &Name, reading: &Reading) -> Reply
+pub fn read_rows<K: Keep>(alloc: Global, keep: &mut K, owner: &Name, reading: &ReadRequest) -> Reply
     ensures reads { IsReading K.meaning keep.old keep.new (told_of result) }
     ensures over { OverKnown K.meaning keep.old keep.new owner.now (λ c H. IfOk (told_of result) (IsAnswer owner.now H (asked_to_read reading.now))) }
 {
@@ -34,19 +34,19 @@ pub fn read_rows<K: Keep>(alloc: Global, keep: &mut K, owner: &Name, reading: &R
     }
 }
 
-fn read_over(alloc: Global, slice: &Slice, reading: &Reading) -> Result<Reply, AllocError>
+fn read_over(alloc: Global, slice: &Slice, reading: &ReadRequest) -> Result<Reply, AllocError>
     ensures told { IfOk result (λ reply. is_ok (told_of reply) ≡ true) }
     ensures over { OverRows slice.now (λ H. IsReadAs H slice.now.owner (asked_to_read reading.now) result) }
 {
     match reading {
-        Reading::Orders => orders_shown(alloc, slice),
-        Reading::Order(order) => Ok(order_shown(slice, order)),
-        Reading::Batch { order, number } => batch_shown(alloc, slice, order, *number),
-        Reading::Stock => match stock_lines(alloc, slice) {
+        ReadRequest::Orders => orders_shown(alloc, slice),
+        ReadRequest::Order(order) => Ok(order_shown(slice, order)),
+        ReadRequest::Batch { order, number } => batch_shown(alloc, slice, order, *number),
+        ReadRequest::Stock => match stock_lines(alloc, slice) {
             Ok(lines) => Ok(Reply::Stock(lines)),
             Err(error) => Err(error),
         },
-        Reading::Lot(lot) => lot_shown(alloc, slice, lot),
+        ReadRequest::Lot(lot) => lot_shown(alloc, slice, lot),
     }
 }
 

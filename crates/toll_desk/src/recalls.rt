@@ -127,7 +127,7 @@ fn add_slice<K: Keep>(
     ensures kept { IsKept K.meaning keep.old keep.new }
     ensures over { Over K.meaning keep.old keep.new (λ c H. AreMoreSlices H step.now slices.old.items slices.new.items result) }
 {
-    if place_of(slices, &step.lot.owner).is_some() {
+    if index_of_owner(slices, &step.lot.owner).is_some() {
         return Ok(());
     }
     match keep.slice(alloc, &step.lot.owner) {
@@ -151,7 +151,7 @@ fn add_totals(alloc: Global, slices: &mut Vec<LotTotals>, slice: Slice) -> Resul
 }
 
 // Where the rows of this owner are.
-fn place_of(slices: &[LotTotals], owner: &Name) -> Option<usize>
+fn index_of_owner(slices: &[LotTotals], owner: &Name) -> Option<usize>
     ensures { result ≡ position (is_of owner.now) slices.now }
 {
     slices
@@ -182,7 +182,7 @@ fn lines_of(
 fn line_of(slices: &[LotTotals], step: &Step) -> Option<RecallLine>
     ensures { (H : History) (steps : List Step) → IsLawful H → AreSlicesFor H steps slices.now → Contains steps step.now → IsLineOf H step.now result }
 {
-    match place_of(slices, &step.lot.owner) {
+    match index_of_owner(slices, &step.lot.owner) {
         Some(at) => line_in(&slices[at], step),
         None => None,
     }

@@ -1,6 +1,6 @@
 //! Owners' requests, and the replies to them.
 ghost use Rattle.std.specs.Prelude.{◌≡◌, []};
-ghost use Rattle.toll_desk.specs.Asking.{told_of};
+ghost use Rattle.toll_desk.specs.Translations.{told_of};
 ghost use Rattle.toll_desk.specs.Outcome.{finished};
 
 use std::alloc::Global;

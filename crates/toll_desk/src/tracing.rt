@@ -10,10 +10,10 @@ ghost use Rattle.toll_trace.specs.Trace.{IsTrace};
 ghost use Rattle.toll_keep.specs.Goes.{IsReading};
 ghost use Rattle.toll_desk.specs.Clauses.{IsToldAs, IsTracedOver, OverOwner};
 ghost use Rattle.toll_desk.specs.Forms.{asked_to_trace, traced_from, traced_way};
-ghost use Rattle.toll_desk.specs.Asking.{told_of};
+ghost use Rattle.toll_desk.specs.Translations.{told_of};
 ghost use Rattle.toll_desk.specs.Questions.{may_trace};
 
-use crate::form::Tracing;
+use crate::form::TraceRequest;
 use crate::request::Reply;
 use std::alloc::{AllocError, Global};
 use toll_answers::has_consumed;
@@ -23,7 +23,12 @@ use toll_trace::{Step, Way, trace_one_way};
 
 /// The trace of an owner that was admitted, over the edges of its own batches. [`Refusal::UnknownLot`]
 /// where the owner has no such lot; of a lot of HOUSE, where no batch of the owner consumed it.
-pub fn trace_own<K: Keep>(alloc: Global, keep: &mut K, owner: &Name, tracing: &Tracing) -> Reply
+pub fn trace_own<K: Keep>(
+    alloc: Global,
+    keep: &mut K,
+    owner: &Name,
+    tracing: &TraceRequest,
+) -> Reply
     ensures reads { IsReading K.meaning keep.old keep.new (told_of result) }
     ensures over { OverOwner K.meaning keep.old keep.new owner.now (λ c H. IsToldAs H owner.now (asked_to_trace tracing.now) (told_of result)) }
 {
@@ -45,7 +50,7 @@ fn trace_apart<K: Keep>(
     alloc: Global,
     keep: &mut K,
     owner: &Name,
-    tracing: &Tracing,
+    tracing: &TraceRequest,
     edges: &[Edge],
 ) -> Reply
     ensures reads { IsReading K.meaning keep.old keep.new (told_of result) }
@@ -68,12 +73,12 @@ fn trace_apart<K: Keep>(
 }
 
 // Whether the slice's owner has the lot; of a lot of HOUSE, whether a batch of the owner consumed it.
-fn may_trace(slice: &Slice, tracing: &Tracing) -> bool
+fn may_trace(slice: &Slice, tracing: &TraceRequest) -> bool
     ensures { (H : History) → IsLawful H → IsRowsOf H slice.now → result ≡ may_trace H slice.now.owner tracing.now }
 {
     match tracing {
-        Tracing::Back(lot) | Tracing::Forward(lot) => slice.lot(lot).is_some(),
-        Tracing::HouseForward(lot) => has_consumed(
+        TraceRequest::Back(lot) | TraceRequest::Forward(lot) => slice.lot(lot).is_some(),
+        TraceRequest::HouseForward(lot) => has_consumed(
             slice,
             &LotId {
                 owner: Name::house(),
@@ -106,23 +111,23 @@ pub fn trace_over(
     trace_one_way(alloc, edges, from, way)
 }
 
-fn traced_from(owner: &Name, tracing: &Tracing) -> LotId
+fn traced_from(owner: &Name, tracing: &TraceRequest) -> LotId
     ensures { result ≡ traced_from owner.now tracing.now }
 {
     match *tracing {
-        Tracing::Back(lot) | Tracing::Forward(lot) => LotId { owner: *owner, lot },
-        Tracing::HouseForward(lot) => LotId {
+        TraceRequest::Back(lot) | TraceRequest::Forward(lot) => LotId { owner: *owner, lot },
+        TraceRequest::HouseForward(lot) => LotId {
             owner: Name::house(),
             lot,
         },
     }
 }
 
-fn traced_way(tracing: &Tracing) -> Way
+fn traced_way(tracing: &TraceRequest) -> Way
     ensures { result ≡ traced_way tracing.now }
 {
     match tracing {
-        Tracing::Back(_) => Way::Back,
-        Tracing::Forward(_) | Tracing::HouseForward(_) => Way::Forward,
+        TraceRequest::Back(_) => Way::Back,
+        TraceRequest::Forward(_) | TraceRequest::HouseForward(_) => Way::Forward,
     }
 }

@@ -7,9 +7,9 @@ ghost use Rattle.toll_keep.specs.Goes.{IsReading};
 ghost use Rattle.toll_keep.specs.Meaning.{OverHeld};
 ghost use Rattle.toll_desk.specs.Clauses.{IfPlacedAgain, IsDisposedOver, IsPlannedFor, IsPlannedOver, OverKnown};
 ghost use Rattle.toll_desk.specs.Forms.{asked_to_write};
-ghost use Rattle.toll_desk.specs.Asking.{is_granted, told_of};
+ghost use Rattle.toll_desk.specs.Translations.{is_granted, told_of};
 
-use crate::form::Writing;
+use crate::form::WriteRequest;
 use crate::reading::{lot_shown, order_shown};
 use crate::request::{Planned, Reply};
 use std::alloc::{AllocError, Global};
@@ -20,7 +20,12 @@ use toll_stock::{reject, release};
 use toll_work::{cancel_order, place_order};
 
 /// The reply to an owner as it will stand, and what must be applied for it. Nothing is changed.
-pub fn plan_write<K: Keep>(alloc: Global, keep: &mut K, owner: &Name, writing: &Writing) -> Planned
+pub fn plan_write<K: Keep>(
+    alloc: Global,
+    keep: &mut K,
+    owner: &Name,
+    writing: &WriteRequest,
+) -> Planned
     ensures reads { IsReading K.meaning keep.old keep.new (told_of result.reply) }
     ensures quiet { is_granted (told_of result.reply) ≡ false → result.changes.items ≡ [] }
     ensures once { OverHeld K.meaning keep.old keep.new (λ c. IfPlacedAgain (c.rows owner.now) (asked_to_write writing.now) (result.changes.items ≡ [])) }
@@ -36,24 +41,24 @@ pub fn plan_write<K: Keep>(alloc: Global, keep: &mut K, owner: &Name, writing: &
     }
 }
 
-fn write_over(alloc: Global, slice: &Slice, writing: &Writing) -> Result<Planned, AllocError>
+fn write_over(alloc: Global, slice: &Slice, writing: &WriteRequest) -> Result<Planned, AllocError>
     ensures told { IfOk result (λ planned. is_ok (told_of planned.reply) ≡ true) }
     ensures quiet { IfOk result (λ planned. is_granted (told_of planned.reply) ≡ false → planned.changes.items ≡ []) }
     ensures once { IfPlacedAgain slice.now (asked_to_write writing.now) (IfOk result (λ planned. planned.changes.items ≡ [])) }
     ensures over { OverOwnRows slice.now (λ H. IsPlannedOver H slice.now (asked_to_write writing.now) result) }
 {
     match *writing {
-        Writing::Place {
+        WriteRequest::Place {
             order,
             recipe,
             batches,
         } => plan_order(alloc, slice, order, recipe, batches),
-        Writing::Cancel(order) => plan_cancelling(alloc, slice, order),
-        Writing::Release(lot) => {
+        WriteRequest::Cancel(order) => plan_cancelling(alloc, slice, order),
+        WriteRequest::Release(lot) => {
             let decision = release(alloc, slice, lot)?;
             disposed(alloc, slice, &lot, Disposition::Released, decision)
         }
-        Writing::Reject(lot) => {
+        WriteRequest::Reject(lot) => {
             let decision = reject(alloc, slice, lot)?;
             disposed(alloc, slice, &lot, Disposition::Rejected, decision)
         }

@@ -2,8 +2,8 @@
 use Rattle.toll_keep.specs.Content.{Content}
 use Rattle.toll_keep.specs.Remembered.{IsOf, OnlyKnownHaveRows}
 use Rattle.toll_keep.specs.declared.keep.Keep.{Ghosts}
-use Rattle.toll_keep.specs.declared.remembering.Remembering.{Remembering}
+use Rattle.toll_keep.specs.declared.cached_keep.CachedKeep.{CachedKeep}
 
 -- the keep inside holds the content, all that is remembered is of it, and only known owners have rows in it
-abbrev pub HoldsAround : {K : Type 0} {g : Ghosts K} → (K → Content → Type 0) → Remembering K g → Content → Type 0
+abbrev pub HoldsAround : {K : Type 0} {g : Ghosts K} → (K → Content → Type 0) → CachedKeep K g → Content → Type 0
 HoldsAround holds r c = holds r.keep c × IsOf c r.recollection × OnlyKnownHaveRows c

@@ -8,4 +8,4 @@ pub mod Slices
 pub mod Remembered
 pub mod Around
 pub mod Reads
-pub mod Overlays
+pub mod PendingChanges

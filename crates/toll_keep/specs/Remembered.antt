@@ -3,7 +3,7 @@ use Rattle.std.specs.Prelude.{◌≡◌, Bool, true, false, Option, Some, None, 
 use Rattle.toll_keep.specs.Common.{Global, Bytes, Slice, empty_slice, list_any, Change, Put}
 use Rattle.toll_keep.specs.Content.{Content, after, knows, slice_of}
 use Rattle.toll_keep.specs.Meaning.{Meaning, OverHeld}
-use Rattle.toll_keep.specs.declared.recollection.Recollection.{Recollection}
+use Rattle.toll_keep.specs.declared.cache.Cache.{Cache}
 
 -- each of the slices is its owner's, whom the content knows
 abbrev pub AreOf : Content → List Slice → Type 0
@@ -22,13 +22,13 @@ abbrev pub AreRows : {R : Type 0} → List R → Option (Vec R Global) → Type 
 AreRows rows known = IfSome known (λ v. v.items ≡ rows)
 
 -- all that is remembered is of the content: its slices, its owners and its units
-pub record IsOf (c : Content) (r : Recollection) : Type 0 where
+pub record IsOf (c : Content) (r : Cache) : Type 0 where
   pub slices : AreOf c r.slices.items
   pub owners : AreRows c.owners r.owners
   pub units : AreRows c.units r.units
 
 -- nothing is remembered
-pub record IsNothing (r : Recollection) : Type 0 where
+pub record IsNothing (r : Cache) : Type 0 where
   pub slices : r.slices.items ≡ []
   pub owners : r.owners ≡ None
   pub units : r.units ≡ None

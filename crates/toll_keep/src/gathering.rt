@@ -7,10 +7,10 @@ ghost use Rattle.toll_keep.specs.Meaning.{OverHeld};
 ghost use Rattle.toll_keep.specs.Reads.{HaveRead, IsKept};
 ghost use Rattle.toll_keep.specs.Remembered.{IfOf, IsNothing, IsOf, OnlyKnownHaveRows};
 
+use crate::cache::Cache;
+use crate::cached_slice::CachedSlice;
 use crate::fault::KeepFault;
 use crate::keep::Keep;
-use crate::known::Known;
-use crate::recollection::Recollection;
 use crate::remembered::remembered_edges;
 use crate::telling::tell_rows;
 use std::alloc::{AllocError, Global};
@@ -22,7 +22,7 @@ use toll_trace::{edges_of, put_in_order};
 pub fn read_all_edges<K: Keep>(
     alloc: Global,
     keep: &mut K,
-    recollection: &mut Recollection,
+    recollection: &mut Cache,
 ) -> Result<Vec<Edge>, KeepFault>
     ensures reading { (¬ (IsNothing recollection.old) → HaveRead K.meaning keep.old keep.old) → IsReading K.meaning keep.old keep.new result }
     ensures reads { OverHeld K.meaning keep.old keep.new (λ c. IsOf c recollection.old → OnlyKnownHaveRows c → TellsAllEdges c result) }
@@ -38,7 +38,7 @@ pub fn read_all_edges<K: Keep>(
 fn gather<K: Keep>(
     alloc: Global,
     keep: &mut K,
-    slices: &mut Vec<Known>,
+    slices: &mut Vec<CachedSlice>,
     owners: &[OwnerRow],
 ) -> Result<Vec<Edge>, KeepFault>
     ensures reads { (first : K) → HaveRead K.meaning first keep.old → IsReading K.meaning first keep.new result }
@@ -59,7 +59,7 @@ fn gather<K: Keep>(
 fn add_edges<K: Keep>(
     alloc: Global,
     keep: &mut K,
-    slices: &mut Vec<Known>,
+    slices: &mut Vec<CachedSlice>,
     owner: &Name,
     edges: &mut Vec<Edge>,
 ) -> Result<(), KeepFault>
@@ -76,7 +76,7 @@ fn add_edges<K: Keep>(
 fn own_edges<K: Keep>(
     alloc: Global,
     keep: &mut K,
-    slices: &mut Vec<Known>,
+    slices: &mut Vec<CachedSlice>,
     owner: &Name,
 ) -> Result<Vec<Edge>, KeepFault>
     ensures reads { (first : K) → HaveRead K.meaning first keep.old → IsReading K.meaning first keep.new result }

@@ -3,11 +3,11 @@ ghost use Rattle.std.specs.Prelude.{◌≡◌, ◌↔◌, false, List, Contains}
 ghost use Rattle.toll_keep.specs.Content.{Content};
 ghost use Rattle.toll_keep.specs.Around.{HoldsAround};
 ghost use Rattle.toll_keep.specs.Slices.{Kept, content_of};
-ghost use Rattle.toll_keep.specs.declared.remembering.Remembering.{Remembering};
+ghost use Rattle.toll_keep.specs.declared.cached_keep.CachedKeep.{CachedKeep};
 
+use crate::cached_keep::CachedKeep;
 use crate::keep::Keep;
 use crate::mem_keep::MemKeep;
-use crate::remembering::Remembering;
 
 /// A keep in memory is always honest and live, and surely so, never closed, and meets no cause of Disk.
 pub fn a_keep_in_memory_is_always_open()
@@ -27,16 +27,16 @@ pub fn a_keep_in_memory_has_its_content()
 /// A keep that remembers is honest, live, unsure and closed just where the keep inside is, and meets the
 /// causes of Disk that it meets.
 pub fn a_remembering_keep_is_as_open_as_the_one_inside<K: Keep>()
-    ensures honest { (r : Remembering K ⟦<K as Keep>⟧) → ⟦<Remembering<K> as Keep>⟧.meaning.is_honest r ↔ K.meaning.is_honest r.keep }
-    ensures live { (r : Remembering K ⟦<K as Keep>⟧) → ⟦<Remembering<K> as Keep>⟧.meaning.is_live r ↔ K.meaning.is_live r.keep }
-    ensures unsure { (r : Remembering K ⟦<K as Keep>⟧) → ⟦<Remembering<K> as Keep>⟧.meaning.is_unsure r ≡ K.meaning.is_unsure r.keep }
-    ensures closed { (r : Remembering K ⟦<K as Keep>⟧) → ⟦<Remembering<K> as Keep>⟧.meaning.is_closed r ≡ K.meaning.is_closed r.keep }
-    ensures cause { (old new : Remembering K ⟦<K as Keep>⟧) → ⟦<Remembering<K> as Keep>⟧.meaning.has_cause old new ↔ K.meaning.has_cause old.keep new.keep }
+    ensures honest { (r : CachedKeep K ⟦<K as Keep>⟧) → ⟦<CachedKeep<K> as Keep>⟧.meaning.is_honest r ↔ K.meaning.is_honest r.keep }
+    ensures live { (r : CachedKeep K ⟦<K as Keep>⟧) → ⟦<CachedKeep<K> as Keep>⟧.meaning.is_live r ↔ K.meaning.is_live r.keep }
+    ensures unsure { (r : CachedKeep K ⟦<K as Keep>⟧) → ⟦<CachedKeep<K> as Keep>⟧.meaning.is_unsure r ≡ K.meaning.is_unsure r.keep }
+    ensures closed { (r : CachedKeep K ⟦<K as Keep>⟧) → ⟦<CachedKeep<K> as Keep>⟧.meaning.is_closed r ≡ K.meaning.is_closed r.keep }
+    ensures cause { (old new : CachedKeep K ⟦<K as Keep>⟧) → ⟦<CachedKeep<K> as Keep>⟧.meaning.has_cause old new ↔ K.meaning.has_cause old.keep new.keep }
 {}
 
 /// A keep that remembers holds what the keep inside holds, where all that it remembers is of that, and
 /// only known owners have rows. A stop leaves what the keep inside leaves.
 pub fn a_remembering_keep_has_the_content_inside<K: Keep>()
-    ensures holds { (r : Remembering K ⟦<K as Keep>⟧) (c : Content) → ⟦<Remembering<K> as Keep>⟧.meaning.holds r c ↔ HoldsAround K.meaning.holds r c }
-    ensures leaves { (r : Remembering K ⟦<K as Keep>⟧) (cs : List Content) → ⟦<Remembering<K> as Keep>⟧.meaning.leaves r cs ↔ K.meaning.leaves r.keep cs }
+    ensures holds { (r : CachedKeep K ⟦<K as Keep>⟧) (c : Content) → ⟦<CachedKeep<K> as Keep>⟧.meaning.holds r c ↔ HoldsAround K.meaning.holds r c }
+    ensures leaves { (r : CachedKeep K ⟦<K as Keep>⟧) (cs : List Content) → ⟦<CachedKeep<K> as Keep>⟧.meaning.leaves r cs ↔ K.meaning.leaves r.keep cs }
 {}

@@ -1,22 +1,23 @@
 //! What keeps the rows of the office, and the plainest one: lists in memory.
 #![tactic(auto)]
 
+mod cache;
+mod cached_keep;
+mod cached_slice;
 mod everyone;
 mod fault;
 mod gathering;
 mod ghosts;
 mod holder;
 mod keep;
-mod known;
 mod mem_keep;
-mod overlay;
+mod pending_changes;
 mod plant_row;
-mod recollection;
 mod remembered;
-mod remembering;
 mod slices;
 mod telling;
 
+pub use cached_keep::CachedKeep;
 pub use fault::KeepFault;
 pub use ghosts::{
     a_keep_in_memory_has_its_content, a_keep_in_memory_is_always_open,
@@ -25,5 +26,4 @@ pub use ghosts::{
 pub use holder::Holder;
 pub use keep::Keep;
 pub use mem_keep::MemKeep;
-pub use overlay::Overlay;
-pub use remembering::Remembering;
+pub use pending_changes::PendingChanges;

@@ -5,20 +5,20 @@ ghost use Rattle.toll_keep.specs.Content.{Content, slice_of};
 ghost use Rattle.toll_keep.specs.Remembered.{AreOf};
 ghost use Rattle.toll_keep.specs.Slices.{is_of};
 
-use crate::known::Known;
+use crate::cached_slice::CachedSlice;
 use crate::slices::shared;
 use std::alloc::{AllocError, Global};
 use toll_base::{Change, Edge, Name, Row, Slice};
 
 // Where the owner's slice is.
-fn place_of(slices: &[Known], owner: &Name) -> Option<usize>
+fn place_of(slices: &[CachedSlice], owner: &Name) -> Option<usize>
     ensures { result ≡ position (is_of owner.now) slices.now }
 {
     slices.iter().position(|slice| *slice.owner() == *owner)
 }
 
 /// The owner's slice, where it is remembered.
-pub fn remembered<'a>(slices: &'a [Known], owner: &Name) -> Option<&'a Known>
+pub fn remembered<'a>(slices: &'a [CachedSlice], owner: &Name) -> Option<&'a CachedSlice>
     ensures found { is_some result ≡ is_some (position (is_of owner.now) slices.now) }
     ensures own { IfSome result (λ slice. (c : Content) → AreOf c slices.now → slice_of c owner.now ≡ Some slice.now) }
     ensures some { IfSome result (λ _. slices.now ≢ []) }
@@ -29,7 +29,7 @@ pub fn remembered<'a>(slices: &'a [Known], owner: &Name) -> Option<&'a Known>
 /// The edges of the owner's slice, where that is remembered.
 pub fn remembered_edges(
     alloc: Global,
-    slices: &mut Vec<Known>,
+    slices: &mut Vec<CachedSlice>,
     owner: &Name,
 ) -> Option<Result<Vec<Edge>, AllocError>>
     ensures same { slices.new.items ≡ slices.old.items }
@@ -44,7 +44,7 @@ pub fn remembered_edges(
 /// there is memory, and then the two share their rows.
 pub fn remember(
     alloc: Global,
-    slices: &mut Vec<Known>,
+    slices: &mut Vec<CachedSlice>,
     changes: &[Change],
     owner: &Name,
     read: Slice,
@@ -52,7 +52,7 @@ pub fn remember(
     ensures put { IfOk result (λ slice. slice ≡ after_changes changes.now read) }
     ensures own { (c : Content) → slice_of c owner.now ≡ Some (after_changes changes.now read) → AreOf c slices.old.items → AreOf c slices.new.items }
 {
-    let mut known = Known::of(read);
+    let mut known = CachedSlice::of(read);
     follow(alloc, &mut known, changes)?;
     let mut slice = known.into_slice();
     if *slice.owner() != *owner {
@@ -61,7 +61,7 @@ pub fn remember(
     let Ok(copied) = shared(alloc, &mut slice) else {
         return Ok(slice);
     };
-    let _ = slices.push(Known::of(copied));
+    let _ = slices.push(CachedSlice::of(copied));
     Ok(slice)
 }
 
@@ -69,7 +69,7 @@ pub fn remember(
 /// is the owner's and there is memory.
 pub fn remember_edges(
     alloc: Global,
-    slices: &mut Vec<Known>,
+    slices: &mut Vec<CachedSlice>,
     owner: &Name,
     mut read: Slice,
 ) -> Result<Vec<Edge>, AllocError>
@@ -77,7 +77,7 @@ pub fn remember_edges(
     ensures own { (c : Content) → slice_of c owner.now ≡ Some read → AreOf c slices.old.items → AreOf c slices.new.items }
 {
     read.share(alloc)?;
-    let mut known = Known::of(read);
+    let mut known = CachedSlice::of(read);
     let edges = known.edges(alloc)?;
     if *known.owner() != *owner {
         return Ok(edges);
@@ -90,7 +90,7 @@ pub fn remember_edges(
 /// there is no memory, or a row does not fit, the slices are of no more use.
 pub fn follow_all(
     alloc: Global,
-    slices: &mut Vec<Known>,
+    slices: &mut Vec<CachedSlice>,
     changes: &[Change],
 ) -> Result<(), AllocError>
     ensures { OnOk result (slices.new.items ≡ map (after_changes changes.now) slices.old.items) }
@@ -103,7 +103,7 @@ pub fn follow_all(
 
 /// Makes the changes in this slice, in place where no other copy has its rows. Where there is no memory,
 /// or a row does not fit, the slice is of no more use.
-pub fn follow(alloc: Global, slice: &mut Known, changes: &[Change]) -> Result<(), AllocError>
+pub fn follow(alloc: Global, slice: &mut CachedSlice, changes: &[Change]) -> Result<(), AllocError>
     ensures { OnOk result (slice.new ≡ after_changes changes.now slice.old) }
 {
     for change in changes {
@@ -112,7 +112,7 @@ pub fn follow(alloc: Global, slice: &mut Known, changes: &[Change]) -> Result<()
     Ok(())
 }
 
-fn follow_one(alloc: Global, slice: &mut Known, change: &Change) -> Result<(), AllocError>
+fn follow_one(alloc: Global, slice: &mut CachedSlice, change: &Change) -> Result<(), AllocError>
     ensures { OnOk result (slice.new ≡ after_change change.now slice.old) }
 {
     // Named for the proof: a change may have a row.

@@ -7,9 +7,9 @@ ghost use Rattle.toll_keep.specs.Meaning.{OverHeld};
 ghost use Rattle.toll_keep.specs.Reads.{HaveRead, IsKept};
 ghost use Rattle.toll_keep.specs.Remembered.{AreOf, AreRows, IfOf, OnlyKnownHaveRows, OverPut};
 
+use crate::cached_slice::CachedSlice;
 use crate::fault::KeepFault;
 use crate::keep::Keep;
-use crate::known::Known;
 use crate::plant_row::PlantRow;
 use crate::remembered::{remember, remember_edges, remembered, remembered_edges};
 use std::alloc::{AllocError, Global};
@@ -20,7 +20,7 @@ use toll_base::{Change, Edge, Name, Slice};
 pub fn tell_slice<K: Keep>(
     alloc: Global,
     keep: &mut K,
-    slices: &mut Vec<Known>,
+    slices: &mut Vec<CachedSlice>,
     changes: &[Change],
     owner: &Name,
 ) -> Result<Option<Slice>, KeepFault>
@@ -42,7 +42,7 @@ pub fn tell_slice<K: Keep>(
 pub fn tell_edges<K: Keep>(
     alloc: Global,
     keep: &mut K,
-    slices: &mut Vec<Known>,
+    slices: &mut Vec<CachedSlice>,
     owner: &Name,
 ) -> Result<Vec<Edge>, KeepFault>
     ensures reading { (slices.old.items ≢ [] → HaveRead K.meaning keep.old keep.old) → IsReading K.meaning keep.old keep.new result }
@@ -59,7 +59,7 @@ pub fn tell_edges<K: Keep>(
 fn read_edges<K: Keep>(
     alloc: Global,
     keep: &mut K,
-    slices: &mut Vec<Known>,
+    slices: &mut Vec<CachedSlice>,
     owner: &Name,
 ) -> Result<Vec<Edge>, KeepFault>
     ensures reading { IsReading K.meaning keep.old keep.new result }
@@ -73,7 +73,7 @@ fn read_edges<K: Keep>(
 // The edges of a slice that was read, which is remembered. None are told, without memory, where there is none.
 fn edges_read(
     alloc: Global,
-    slices: &mut Vec<Known>,
+    slices: &mut Vec<CachedSlice>,
     owner: &Name,
     read: Option<Slice>,
 ) -> Result<Vec<Edge>, AllocError>

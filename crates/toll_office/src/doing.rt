@@ -3,13 +3,13 @@ ghost use Rattle.toll_office.specs.Doing.{IsScriptDone};
 
 use sqlite::MemStore;
 use std::alloc::Global;
-use toll_keep::{Keep, Remembering};
+use toll_keep::{CachedKeep, Keep};
 use toll_programs::{ScriptEnd, script};
 use toll_protocol::{Sink, Source};
 use toll_sql::SqlKeep;
 
 /// The keep of an office in memory.
-type MemoryKeep = Remembering<SqlKeep<MemStore>>;
+type MemoryKeep = CachedKeep<SqlKeep<MemStore>>;
 
 /// Runs a script over an office that is empty at first and kept in memory. Memory too where there is none
 /// for the office.
@@ -17,7 +17,7 @@ pub fn do_script<R: Source, W: Sink>(alloc: Global, reader: &mut R, writer: &mut
     ensures { IsScriptDone ⟦<MemoryKeep as Keep>⟧ R.Source W.Sink reader.old reader.new writer.old writer.new result }
 {
     match SqlKeep::in_memory(alloc) {
-        Ok(keep) => script(alloc, reader, writer, &mut Remembering::new(alloc, keep)),
+        Ok(keep) => script(alloc, reader, writer, &mut CachedKeep::new(alloc, keep)),
         Err(_) => ScriptEnd::Memory,
     }
 }

@@ -3,19 +3,19 @@
 //! nobody else changes it; and an office in memory for a script.
 #![tactic(auto)]
 
-mod asking;
 mod doing;
+mod file_server;
 mod office;
-mod plant_door;
+mod plant_listener;
 mod programs;
 mod serving;
 mod socket_file;
+mod socket_stream;
 mod sockets;
-mod stream;
 mod timed;
 
 pub use doing::do_script;
-pub use office::{Tables, place_of};
+pub use office::{SqlOpener, office_at};
 pub use programs::run;
 pub use serving::{Served, serve_all, serve_one};
 pub use sockets::Sockets;

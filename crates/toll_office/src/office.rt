@@ -9,33 +9,33 @@ use std::fs;
 use std::fs::{File, OpenOptions};
 use std::io::ErrorKind;
 use std::os::unix::fs::OpenOptionsExt;
-use toll_keep::Remembering;
-use toll_service::{FILE_MODE, OfficeFault, Opener, Place, take_lock};
+use toll_keep::CachedKeep;
+use toll_service::{FILE_MODE, KeepOpener, OfficeFault, OfficePath, take_lock};
 use toll_sql::{OpenFault, SqlKeep};
 
 /// The keep of an office on a file.
-pub type FileKeep = Remembering<SqlKeep<FileStore<StoreFile>>>;
+pub type FileKeep = CachedKeep<SqlKeep<FileStore<StoreFile>>>;
 
 /// The path that names no file for `sqlite`.
 const NO_FILE: &str = ":memory:";
 
 /// Opens an office whose rows stand in tables. Where there is no office in the file yet, one is made.
 #[derive(Clone, Copy)]
-pub struct Tables;
+pub struct SqlOpener;
 
 /// Where the office in this file stands.
-pub fn place_of<'a>(rt: &'a HostRuntime, path: &'a str) -> Place<'a, Tables> {
-    Place {
+pub fn office_at<'a>(rt: &'a HostRuntime, path: &'a str) -> OfficePath<'a, SqlOpener> {
+    OfficePath {
         rt,
         path,
-        opener: Tables,
+        opener: SqlOpener,
     }
 }
 
 /// An office whose making was stopped may have its tables in the log alone, or no tables in a file that is
 /// not empty: so where the file is not as its length says, it is looked at the other way. A file that isn't
 /// there beside a log that has bytes was moved away, and its log would be written anew: it is NotOurs.
-impl Opener<FileKeep> for Tables {
+impl KeepOpener<FileKeep> for SqlOpener {
     ghost is_opened = { λ keep. IsOpened keep };
 
     fn lock(&mut self, rt: &HostRuntime, path: &str) -> Result<File, OfficeFault> {
@@ -79,13 +79,13 @@ fn open_as(rt: &HostRuntime, path: &str, is_fresh: bool) -> Result<FileKeep, Off
     ensures { IfOk result IsOpened }
 {
     match SqlKeep::open_from(rt, path, is_fresh, Unknown) {
-        Ok(keep) => Ok(Remembering::new(rt.alloc(), keep)),
-        Err(fault) => Err(told_as(fault)),
+        Ok(keep) => Ok(CachedKeep::new(rt.alloc(), keep)),
+        Err(fault) => Err(office_fault_of(fault)),
     }
 }
 
 // The fault as that of an office in a file.
-fn told_as(fault: OpenFault) -> OfficeFault
+fn office_fault_of(fault: OpenFault) -> OfficeFault
     ensures { office_fault_name result ≡ name_of fault }
 {
     match fault {

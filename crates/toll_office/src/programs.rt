@@ -1,7 +1,7 @@
 //! The programs.
-use crate::asking::FileServer;
 use crate::doing::do_script;
-use crate::office::place_of;
+use crate::file_server::FileServer;
+use crate::office::office_at;
 use crate::serving::serve_all;
 use crate::sockets::Sockets;
 use std::alloc::{AllocError, Global};
@@ -12,7 +12,7 @@ use std::{env, io};
 use toll_programs::{
     FrontFault, MOST_FILE_BYTES, Status, Task, read_front, task_of, tell_end, usage_of, warn,
 };
-use toll_server::Served;
+use toll_server::ServingEnd;
 use toll_service::{do_file, do_words};
 
 /// How many standard streams there are.
@@ -85,7 +85,7 @@ fn run_script(rt: &HostRuntime) -> u64 {
 fn run_words(rt: &HostRuntime, file: &str, words: &[&str]) -> u64 {
     let (mut output, mut error) = (io::writer(rt), rt.stderr());
     do_words(
-        &mut place_of(rt, file),
+        &mut office_at(rt, file),
         &mut FileServer,
         words,
         &mut output,
@@ -100,7 +100,7 @@ fn run_import(rt: &HostRuntime, file: &str, actuals: &str) -> u64 {
     };
     let (mut output, mut error) = (io::writer(rt), rt.stderr());
     do_file(
-        &mut place_of(rt, file),
+        &mut office_at(rt, file),
         &mut FileServer,
         &text,
         &mut output,
@@ -127,8 +127,8 @@ fn run_serve(rt: &HostRuntime, file: &str, port: u16, count: u64) -> u64 {
         return fail(rt, Status::Failed, "fault Write");
     }
     match serve_all(rt, &mut sockets, file, count) {
-        Served::All | Served::Spent => u64::from(Status::Done.code()),
-        Served::Fault => fail(rt, Status::Failed, "fault Net"),
+        ServingEnd::All | ServingEnd::Spent => u64::from(Status::Done.code()),
+        ServingEnd::Fault => fail(rt, Status::Failed, "fault Net"),
     }
 }
 

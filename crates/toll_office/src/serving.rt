@@ -1,10 +1,10 @@
 //! Serving owners on a socket.
-use crate::office::place_of;
+use crate::office::office_at;
 use crate::sockets::Sockets;
 use crate::timed::Timed;
 use std::net::{TcpListener, TcpStream};
 use toll_protocol::{ReadFault, read_request, write_whole};
-use toll_server::Served as Ended;
+use toll_server::ServingEnd as Ended;
 use toll_service::{Out, answer_once, serve_place};
 
 /// What came of one connection.
@@ -28,7 +28,11 @@ pub fn serve_one(rt: &HostRuntime, listener: &TcpListener, path: &str) -> Served
         return Served::AcceptFault;
     };
     match take_request(rt, &socket) {
-        Ok(request) => give(rt, &socket, &answer_once(&mut place_of(rt, path), &request)),
+        Ok(request) => give(
+            rt,
+            &socket,
+            &answer_once(&mut office_at(rt, path), &request),
+        ),
         Err(_) => Served::ReadFault,
     }
 }
@@ -38,10 +42,10 @@ pub fn serve_one(rt: &HostRuntime, listener: &TcpListener, path: &str) -> Served
 /// itself does it, but for how often the file is opened: it stays open between requests while nobody else
 /// changes it.
 pub fn serve_all(rt: &HostRuntime, sockets: &mut Sockets<'_>, path: &str, count: u64) -> Ended {
-    serve_place(sockets, place_of(rt, path), count)
+    serve_place(sockets, office_at(rt, path), count)
 }
 
-// The request that the peer sends, which it must within the time.
+// The request that the client sends, which it must within the time.
 fn take_request(rt: &HostRuntime, socket: &TcpStream) -> Result<Vec<u8>, ReadFault> {
     match Timed::new(rt, socket) {
         Ok(mut timed) => read_request(rt.alloc(), &mut timed),
@@ -49,7 +53,7 @@ fn take_request(rt: &HostRuntime, socket: &TcpStream) -> Result<Vec<u8>, ReadFau
     }
 }
 
-// Gives the peer its reply, which it must take within the time.
+// Gives the client its reply, which it must take within the time.
 fn give(rt: &HostRuntime, socket: &TcpStream, reply: &Out) -> Served {
     let Ok(mut timed) = Timed::new(rt, socket) else {
         return Served::WriteFault;

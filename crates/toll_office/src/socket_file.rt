@@ -14,21 +14,21 @@ const MOST_EARLY: usize = 8192;
 pub struct SocketFile<'a> {
     rt: &'a HostRuntime,
     path: String,
-    made: Place,
+    made: FileId,
     listener: UnixListener,
 }
 
 /// Where a file lies on which disk.
 #[derive(Clone, Copy, PartialEq, Eq)]
-struct Place {
+struct FileId {
     device: u64,
     inode: u64,
 }
 
-impl Place {
+impl FileId {
     fn of(rt: &HostRuntime, path: &str) -> io::Result<Self> {
         let found = fs::symlink_metadata(rt, path)?;
-        Ok(Place {
+        Ok(FileId {
             device: found.dev(),
             inode: found.ino(),
         })
@@ -43,7 +43,7 @@ impl Drop for SocketFile<'_> {
             made,
             listener: _,
         } = self;
-        if matches!(Place::of(rt, path.as_str()), Ok(found) if found == made) {
+        if matches!(FileId::of(rt, path.as_str()), Ok(found) if found == made) {
             let _ = fs::remove_file(rt, path.as_str());
         }
     }
@@ -56,7 +56,7 @@ impl<'a> SocketFile<'a> {
     pub fn listen(rt: &'a HostRuntime, path: String) -> io::Result<Self> {
         clear(rt, path.as_str())?;
         let listener = UnixListener::bind(rt, path.as_str())?;
-        let made = Place::of(rt, path.as_str())?;
+        let made = FileId::of(rt, path.as_str())?;
         let file = SocketFile {
             rt,
             path,
@@ -77,7 +77,7 @@ impl<'a> SocketFile<'a> {
         }
     }
 
-    /// Has it be told, by this token, when somebody comes.
+    /// Registers it by this token, to be told when somebody connects.
     pub fn register(&mut self, registry: &Registry, token: Token) -> io::Result<()> {
         registry.register(&mut self.listener, token, Interest::READABLE)
     }

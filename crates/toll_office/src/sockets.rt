@@ -1,24 +1,24 @@
 //! The sockets of the system.
-use crate::plant_door::{DoorFault, PlantDoor};
-use crate::stream::Stream;
+use crate::plant_listener::{ListenerFault, PlantListener};
+use crate::socket_stream::SocketStream;
 use mio::net::TcpListener;
 use mio::{Events, Interest, Poll, Token};
 use std::io;
 use std::io::ErrorKind;
 use std::net::{Ipv4Addr, SocketAddr, SocketAddrV4};
 use std::time::{Duration, Instant};
-use toll_server::{Coming, Door, World, WorldFault};
-use toll_service::{ServingFault, Watch};
+use toll_server::{Accepted, Listener, Network, NetworkFault};
+use toll_service::{FaultLog, ServingFault};
 
 /// How many events one wait gives.
 const MOST_EVENTS: usize = 256;
 
-/// The doors' tokens. A peer's is its key behind them.
+/// The listeners' tokens. A connection's is its key behind them.
 const OWNERS: usize = 0;
 
 const PLANT: usize = 1;
 
-const FIRST_PEER: usize = 2;
+const FIRST_CONNECTION: usize = 2;
 
 /// A port of this machine, a socket file for the plant, and those who came in by them.
 #[derive(Drop)]
@@ -27,11 +27,11 @@ pub struct Sockets<'a> {
     office: &'a str,
     poll: Poll,
     events: Events,
-    told: usize,
+    delivered: usize,
     owners: TcpListener,
-    plant: Result<PlantDoor<'a>, DoorFault>,
-    door: Watch,
-    room: Watch,
+    plant: Result<PlantListener<'a>, ListenerFault>,
+    listener: FaultLog,
+    resources: FaultLog,
     since: Instant,
 }
 
@@ -50,14 +50,14 @@ impl<'a> Sockets<'a> {
             office,
             poll,
             events: Events::with_capacity(rt.alloc(), MOST_EVENTS)?,
-            told: 0,
+            delivered: 0,
             owners,
-            plant: Err(DoorFault::Locked),
-            door: Watch::new(),
-            room: Watch::new(),
+            plant: Err(ListenerFault::Locked),
+            listener: FaultLog::new(),
+            resources: FaultLog::new(),
             since: Instant::now(rt)?,
         };
-        sockets.open_plant_door();
+        sockets.open_plant_listener();
         Ok(sockets)
     }
 
@@ -66,64 +66,67 @@ impl<'a> Sockets<'a> {
         Ok(self.owners.local_addr()?.port())
     }
 
-    // Opens the plant's door, unless it was found that it can't be.
-    fn open_plant_door(&mut self) {
-        if !matches!(self.plant, Err(DoorFault::Locked)) {
+    // Opens the plant's listener, unless it was found that it can't be.
+    fn open_plant_listener(&mut self) {
+        if !matches!(self.plant, Err(ListenerFault::Locked)) {
             return;
         }
-        self.plant = PlantDoor::open(self.rt, self.office);
-        if let Ok(door) = &mut self.plant {
-            if door.register(self.poll.registry(), Token(PLANT)).is_err() {
-                self.plant = Err(DoorFault::Socket);
+        self.plant = PlantListener::open(self.rt, self.office);
+        if let Ok(listener) = &mut self.plant {
+            if listener
+                .register(self.poll.registry(), Token(PLANT))
+                .is_err()
+            {
+                self.plant = Err(ListenerFault::Socket);
             }
         }
         let fault = self.plant.is_err().then_some(ServingFault::Door);
-        self.door.note(self.rt, fault);
+        self.listener.update(self.rt, fault);
     }
 
     // The next connection, of the plant first.
-    fn accept(&self) -> io::Result<(Door, Stream)> {
-        if let Ok(door) = &self.plant {
-            match door.accept() {
-                Ok(stream) => return Ok((Door::Plant, Stream::Plant(stream))),
+    fn accept(&self) -> io::Result<(Listener, SocketStream)> {
+        if let Ok(listener) = &self.plant {
+            match listener.accept() {
+                Ok(stream) => return Ok((Listener::Plant, SocketStream::Plant(stream))),
                 Err(fault) if fault.kind() == ErrorKind::WouldBlock => {}
                 Err(fault) => return Err(fault),
             }
         }
         let (stream, _) = self.owners.accept()?;
-        Ok((Door::Owners, Stream::Owner(stream)))
+        Ok((Listener::Owners, SocketStream::Owner(stream)))
     }
 
     // The next connection, which is known by this key from then on.
-    fn take(&self, key: usize) -> io::Result<(Door, Stream)> {
-        let (door, mut stream) = self.accept()?;
-        let token = Token(key.saturating_add(FIRST_PEER));
+    fn take(&self, key: usize) -> io::Result<(Listener, SocketStream)> {
+        let (listener, mut stream) = self.accept()?;
+        let token = Token(key.saturating_add(FIRST_CONNECTION));
         stream.register(self.poll.registry(), token)?;
-        Ok((door, stream))
+        Ok((listener, stream))
     }
 }
 
-impl World for Sockets<'_> {
-    type Socket = Stream;
+impl Network for Sockets<'_> {
+    type Stream = SocketStream;
 
-    fn wait(&mut self, most: Option<u64>) -> Result<(), WorldFault> {
-        self.told = 0;
+    fn wait(&mut self, most: Option<u64>) -> Result<(), NetworkFault> {
+        self.delivered = 0;
         let waited = self
             .poll
             .poll(&mut self.events, most.map(Duration::from_millis));
-        self.open_plant_door();
+        self.open_plant_listener();
         match waited {
             Ok(()) => Ok(()),
             Err(fault) if fault.kind() == ErrorKind::Interrupted => Ok(()),
-            Err(_) => Err(WorldFault),
+            Err(_) => Err(NetworkFault),
         }
     }
 
     fn next_ready(&mut self) -> Option<usize> {
         for _ in 0..MOST_EVENTS {
-            let event = self.events.iter().nth(self.told)?;
-            self.told = self.told.saturating_add(1);
-            if let Some(key) = event.token().0.checked_sub(FIRST_PEER) {
+            let event = self.events.iter().nth(self.delivered)?;
+            self.delivered = self.delivered.saturating_add(1);
+            if let Some(key) = event.token().0.checked_sub(FIRST_CONNECTION) {
                 return Some(key);
             }
         }
@@ -131,22 +134,22 @@ impl World for Sockets<'_> {
     }
 
     // One that left before it was taken is passed over, since who waits behind it is not told again.
-    fn take_next(&mut self, key: usize) -> Result<Coming<Stream>, WorldFault> {
+    fn accept_next(&mut self, key: usize) -> Result<Accepted<SocketStream>, NetworkFault> {
         for _ in 0..MOST_EVENTS {
             match self.take(key) {
-                Ok((door, stream)) => {
-                    self.room.note(self.rt, None);
-                    return Ok(Coming::Came(door, stream));
+                Ok((listener, stream)) => {
+                    self.resources.update(self.rt, None);
+                    return Ok(Accepted::Connected(listener, stream));
                 }
                 Err(fault) => match fault.kind() {
-                    ErrorKind::WouldBlock => return Ok(Coming::Nobody),
+                    ErrorKind::WouldBlock => return Ok(Accepted::NoneWaiting),
                     ErrorKind::ConnectionAborted | ErrorKind::Interrupted => {}
                     _ => break,
                 },
             }
         }
-        self.room.note(self.rt, Some(ServingFault::Room));
-        Ok(Coming::NoRoom)
+        self.resources.update(self.rt, Some(ServingFault::Room));
+        Ok(Accepted::NoResources)
     }
 
     fn now(&mut self) -> u64 {

@@ -4,7 +4,7 @@ use std::io::{ErrorKind, Read, Write};
 use std::net::TcpStream;
 use std::time::{Duration, Instant};
 
-/// How many seconds a peer may take for its request, and again for taking the reply.
+/// How many seconds a client may take for its request, and again for taking the reply.
 const MOST_SECONDS: u64 = 10;
 
 /// A socket whose reads and writes fail once the time is up, however little they were given at a time.

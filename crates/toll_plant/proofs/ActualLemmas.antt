@@ -1,7 +1,7 @@
 -- The commands of records.
 use Rattle.std.proofs.Common.{◌≡◌, Bool, true, false, cond, Option, Some, None, List, [], ◌∷◌, length, refl, ap, sym, subst, inl, inr}
 use Rattle.std.specs.Prelude.{◌==◌, IsSome, Result, Ok, Err}
-use Rattle.toll_plant.proofs.Common.{AllByRecursion, Refusal, IsValidDeed, asked_by, PlantCmd, looks_at_two}
+use Rattle.toll_plant.proofs.Common.{AllByRecursion, Refusal, IsValidCommand, asked_by, PlantCmd, looks_at_two}
 use Rattle.toll_base.proofs.Texts.{nat_eq-exact}
 use Rattle.toll_base.specs.Lots.{lot_id}
 use Rattle.toll_base.specs.declared.movement.Move.TheVariants as move
@@ -11,7 +11,7 @@ use Rattle.toll_plant.specs.Files.{Fields, command_in}
 use Rattle.toll_plant.specs.Imports.{commands_in}
 use Rattle.toll_plant.specs.Table.{actual_line}
 use Rattle.toll_plant.specs.Words.{command_read, command_with, values_read}
-use Rattle.toll_plant.specs.declared.argument.Given.{Given}
+use Rattle.toll_plant.specs.declared.argument.ArgumentValue.{ArgumentValue}
 use Rattle.toll_plant.specs.Imports.{CanBeHeld, HasValidValues}
 use Rattle.toll_plant.proofs.ImportRuns.{IsDeed, IsDeedOrNone}
 use Rattle.toll_plant.proofs.TableLemmas.{actual_makes, made, values_have}
@@ -22,29 +22,29 @@ asks_actual fields same = made actual_line fields (values_read actual_line.value
 
 -- what is asked records a movement, or can't be read, and is decided over two owners' rows at most
 abbrev IsDeedOfTwo : PlantCmd → Type 0
-IsDeedOfTwo command = IsDeed (asked_by command) × (looks_at_two (asked_by command) ≡ true) × IsValidDeed (asked_by command)
+IsDeedOfTwo command = IsDeed (asked_by command) × (looks_at_two (asked_by command) ≡ true) × IsValidCommand (asked_by command)
 
--- the command that the values of an actual make is such a deed
-abbrev MakeDeed : List Given → Type 0
+-- the command that the values of an actual make is such a command
+abbrev MakeDeed : List ArgumentValue → Type 0
 MakeDeed values = (command : PlantCmd) → command_from actual_line.command values ≡ Some command → IsDeedOfTwo command
 
-deeds_made : (fields : Fields) (read : Result (List Given) Refusal) → length fields ≡ length actual_line.values → values_read actual_line.values fields ≡ read
+deeds_made : (fields : Fields) (read : Result (List ArgumentValue) Refusal) → length fields ≡ length actual_line.values → values_read actual_line.values fields ≡ read
     → (command : PlantCmd) → command_read actual_line.command read ≡ Some command → IsDeedOfTwo command
 deeds_made fields (Err why) same e command is =
     let read : Unread why ≡ command = cc is in
-    (inr (why, ap asked_by (sym read)), ap (λ c. looks_at_two (asked_by c)) (sym read), subst (λ c. IsValidDeed (asked_by c)) read tt)
+    (inr (why, ap asked_by (sym read)), ap (λ c. looks_at_two (asked_by c)) (sym read), subst (λ c. IsValidCommand (asked_by c)) read tt)
 deeds_made fields (Ok values) same e command is =
     values_have actual_line.values MakeDeed fields values same
     (λ key owner order number segment role material lot_owner lot sublot amount within day command is.
     let made : Actual key owner order number segment role material (lot_id lot_owner lot) sublot amount day ≡ command = cc is in
-    (inl (owner, record { key = key; what = move.Actual order number segment role material (lot_id lot_owner lot) sublot; amount = amount; day = day }, ap asked_by (sym made)), ap (λ c. looks_at_two (asked_by c)) (sym made), subst (λ c. IsValidDeed (asked_by c)) made within))
+    (inl (owner, record { key = key; what = move.Actual order number segment role material (lot_id lot_owner lot) sublot; amount = amount; day = day }, ap asked_by (sym made)), ap (λ c. looks_at_two (asked_by c)) (sym made), subst (λ c. IsValidCommand (asked_by c)) made within))
     e command is
 
 in_record : (fields : Fields) (b : Bool) → (length fields == length actual_line.values) ≡ b → (command : PlantCmd) → cond b (command_with actual_line fields) None ≡ Some command → IsDeedOfTwo command
 in_record fields true same command is = deeds_made fields (values_read actual_line.values fields) (nat_eq-exact (length fields) (length actual_line.values) same) refl command is
 in_record fields false same command is = absurd (cc is)
 
--- what is so of each such deed, and where there is none, is so of what records give
+-- what is so of each such command, and where there is none, is so of what records give
 module _ (P : Option PlantCmd → Type 0) (none : P None) (so : (c : PlantCmd) → IsDeedOfTwo c → P (Some c)) where
   so_or_none : (command : Option PlantCmd) → ((c : PlantCmd) → command ≡ Some c → IsDeedOfTwo c) → P command
   so_or_none None deed = none
@@ -54,7 +54,7 @@ module _ (P : Option PlantCmd → Type 0) (none : P None) (so : (c : PlantCmd) �
   all_so [] = tt
   all_so (fields ∷ records) = (so_or_none (command_in fields) (in_record fields (length fields == length actual_line.values) refl), all_so records)
 
--- records give deeds or nothing
+-- records give commands or nothing
 pub all_deeds : (records : List Fields) → AllByRecursion IsDeedOrNone (commands_in records)
 all_deeds = all_so IsDeedOrNone tt (λ c deed. deed.0)
 

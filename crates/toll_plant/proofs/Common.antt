@@ -28,9 +28,9 @@ pub use Rattle.toll_base.specs.declared.decision.Change.{Change}
 pub use Rattle.toll_base.specs.declared.movement.MoveRow.{MoveRow}
 pub use Rattle.toll_base.specs.declared.refusal.Refusal.TheVariants.{KeyConflict, UnknownOwner, Voided}
 pub use Rattle.toll_base.specs.declared.role.Role.{Role}
-pub use Rattle.toll_desk.specs.Asking.{is_accepted, plant_told}
+pub use Rattle.toll_desk.specs.Translations.{is_accepted, plant_told}
 pub use Rattle.toll_desk.specs.Plans.{LeadsTo}
-pub use Rattle.toll_desk.specs.PlantHeld.{IsPlantHeld, IsToldOver, IsUnasked, IsVerdictOrMemory, looks_at_two}
+pub use Rattle.toll_desk.specs.PlantStaged.{IsPlantStaged, IsToldOver, IsUnasked, IsVerdictOrMemory, looks_at_two}
 pub use Rattle.toll_history.proofs.Acts.{any_acts, count_acts}
 pub use Rattle.toll_history.proofs.KeysOnce.{found_once, void_of_actual}
 pub use Rattle.toll_history.specs.Command.{Command, Record, by}
@@ -38,8 +38,8 @@ pub use Rattle.toll_history.specs.History.{adds_owner, owner_known}
 pub use Rattle.toll_history.specs.Movements.{has_key, movement_of, movements, voided_in, voids_key}
 pub use Rattle.toll_history.specs.Verdict.{grown, verdict}
 pub use Rattle.toll_keep.proofs.Calls.{Rests, goes_as, goes_fault, goes_memory, goes_then, read_fault, settles}
-pub use Rattle.toll_keep.specs.Overlays.{IsOver, IsReadThrough, ReadsThrough}
+pub use Rattle.toll_keep.specs.PendingChanges.{IsOver, IsReadThrough, ReadsThrough}
 pub use Rattle.toll_keep.specs.Reads.{IsKept}
 pub use Rattle.toll_keep.specs.declared.fault.KeepFault.TheVariants.{Closed, Disk}
-pub use Rattle.toll_plant.specs.Common.{Accepted, AllByRecursion, BadAmount, BadName, Bytes, Content, Damaged, Does, Goes, History, IsLawful, IsPlantAnswer, IsReading, IsValidDeed, Judged, KeepFault, Meaning, Memory, PlantAsked, PlantCmd, PlantTold, Refusal, Refused, Repeated, Settles, StandsFor, Verdict, acts, after, after_plant, asked_by, bytes_eq, is_some_where, list_all, list_any, same_bytes, where_so}
+pub use Rattle.toll_plant.specs.Common.{Accepted, AllByRecursion, BadAmount, BadName, Bytes, Content, Damaged, Does, Goes, History, IsLawful, IsPlantAnswer, IsReading, IsValidCommand, Judged, KeepFault, Meaning, Memory, PlantAsked, PlantCmd, PlantTold, Refusal, Refused, Repeated, Settles, StandsFor, Verdict, acts, after, after_plant, asked_by, bytes_eq, is_some_where, list_all, list_any, same_bytes, where_so}
 pub use mathlib.Core.Bool.{false≢true}

@@ -2,8 +2,8 @@
 use Rattle.std.proofs.Common.{◌≡◌, ◌+◌, ◌<◌, ℕ, zero, suc, true, false, Option, Some, None, List, [], ◌∷◌, ◌++◌, length, get_or, drop, Result, Ok, Err, refl, sym, subst, ap, ◌∙◌, inl, inr, append_assoc, arith}
 use Rattle.std.specs.Prelude.{◌⊎◌, take, IsOk, IsSome}
 use mathlib.Core.Bool.{or-false}
-use Rattle.toll_plant.proofs.Common.{AllByRecursion, list_any, append-nil, take_more, list_any-append, false≢true, Verdict, Accepted, Repeated, Refused, History, IsLawful, Content, after, IsReading, Meaning, IsOver, IsReadThrough, ReadsThrough, IsKept, KeepFault, Memory, read_fault, StandsFor, CannotRead, Does, AsksOrders, AsksStock, AsksBatch, AsksTrace, AsksRecall, IsPlantAnswer, Judged, PlantAsked, PlantTold, after_plant, IsPlantHeld, IsToldOver, IsUnasked, IsVerdictOrMemory, IsValidDeed, asked_by, is_accepted as is_granted, plant_told, LeadsTo, Change, PlantCmd}
-use Rattle.toll_keep.specs.declared.overlay.Overlay.{Overlay}
+use Rattle.toll_plant.proofs.Common.{AllByRecursion, list_any, append-nil, take_more, list_any-append, false≢true, Verdict, Accepted, Repeated, Refused, History, IsLawful, Content, after, IsReading, Meaning, IsOver, IsReadThrough, ReadsThrough, IsKept, KeepFault, Memory, read_fault, StandsFor, CannotRead, Does, AsksOrders, AsksStock, AsksBatch, AsksTrace, AsksRecall, IsPlantAnswer, Judged, PlantAsked, PlantTold, after_plant, IsPlantStaged, IsToldOver, IsUnasked, IsVerdictOrMemory, IsValidCommand, asked_by, is_accepted as is_granted, plant_told, LeadsTo, Change, PlantCmd}
+use Rattle.toll_keep.specs.declared.pending_changes.PendingChanges.{PendingChanges}
 use Rattle.toll_answers.proofs.OwnReplies.{lawful-grow}
 use Rattle.toll_desk.specs.declared.plant_cmd.PlantReply.{PlantReply}
 use Rattle.toll_plant.specs.HeldRecords.{IsAsked, IsIdle, IsRecordHeld, IsRecordOver}
@@ -70,7 +70,7 @@ calm_outcome (Ok told) judges ok = ap (λ t. is_fault (outcome_of (Ok t))) judge
     go (Refused why) = refl
 
 -- a lawful history is lawful after it
-lawful_plant : (H : History) (asked : PlantAsked) → IsLawful H → IsValidDeed asked → IsLawful (after_plant H asked)
+lawful_plant : (H : History) (asked : PlantAsked) → IsLawful H → IsValidCommand asked → IsLawful (after_plant H asked)
 lawful_plant H (Does c) lawful valid = lawful-grow H c lawful valid
 lawful_plant H (CannotRead why) lawful valid = lawful
 lawful_plant H (AsksOrders o) lawful valid = lawful
@@ -79,7 +79,7 @@ lawful_plant H (AsksBatch o order number) lawful valid = lawful
 lawful_plant H (AsksTrace lot way) lawful valid = lawful
 lawful_plant H (AsksRecall lot) lawful valid = lawful
 
-record_over : (c : Content) (H : History) (command : PlantCmd) (outcome : Result PlantTold KeepFault) (made : List Change) → StandsFor c H → IsLawful H → IsValidDeed (asked_by command) → IsVerdictOrMemory outcome → (is_granted outcome ≡ false → made ≡ [])
+record_over : (c : Content) (H : History) (command : PlantCmd) (outcome : Result PlantTold KeepFault) (made : List Change) → StandsFor c H → IsLawful H → IsValidCommand (asked_by command) → IsVerdictOrMemory outcome → (is_granted outcome ≡ false → made ≡ [])
     → IsToldOver c H (asked_by command) made outcome → IsRecordOver c H (Some command) (outcome_of outcome) made
 record_over c H command (Err fault) made stands lawful valid judges quiet told = record {
   next = H;
@@ -96,11 +96,11 @@ record_over c H command (Ok what) made stands lawful valid judges quiet told =
       leads = told.1;
     })
 
-module _ {K : Type 0} (meaning : Meaning K) (old new : K) (before now : Overlay) where
+module _ {K : Type 0} (meaning : Meaning K) (old new : K) (before now : PendingChanges) where
   -- a record that gives no command asks nothing
   pub none_held : new ≡ old → now ≡ before → IsRecordHeld meaning old new before now None (Ok came.BadRecord)
   none_held same still = record {
-    reading = inl (record { keep = same; overlay = still; answered = refl; calm = refl });
+    reading = inl (record { keep = same; pending = still; answered = refl; calm = refl });
     made = [];
     held = ap (λ o. o.changes.items) still ∙ sym (append-nil before.changes.items);
     quiet = λ none. refl;
@@ -110,14 +110,14 @@ module _ {K : Type 0} (meaning : Meaning K) (old new : K) (before now : Overlay)
     told = λ honest c there laid H stands lawful. record { next = H; comes = (refl, refl); lawful = lawful; leads = record { stands = stands; fits = tt } };
   }
 
-  module _ (command : PlantCmd) (valid : IsValidDeed (asked_by command)) where
+  module _ (command : PlantCmd) (valid : IsValidCommand (asked_by command)) where
     reads_of : (reply : PlantReply) → IsVerdictOrMemory (plant_told reply) → IsUnasked old new before now (Ok reply) ⊎ ReadsThrough meaning old new before (Ok reply)
         → IsIdle old new before now (Ok (outcome_of (plant_told reply))) ⊎ ReadsThrough {X = Outcome} meaning old new before (Ok (outcome_of (plant_told reply)))
-    reads_of reply judges (inl unasked) = inl (record { keep = unasked.keep; overlay = unasked.overlay; answered = refl; calm = calm_outcome (plant_told reply) judges unasked.told })
+    reads_of reply judges (inl unasked) = inl (record { keep = unasked.keep; pending = unasked.pending; answered = refl; calm = calm_outcome (plant_told reply) judges unasked.told })
     reads_of reply judges (inr reads) = inr (record { answered = λ first through. reads.answered first through; failed = λ first through. tt; kept = reads.kept })
 
     -- a command that was held back
-    pub some_held : (reply : PlantReply) → IsPlantHeld meaning old new before now (asked_by command) (Ok reply) → IsRecordHeld meaning old new before now (Some command) (Ok (outcome_of (plant_told reply)))
+    pub some_held : (reply : PlantReply) → IsPlantStaged meaning old new before now (asked_by command) (Ok reply) → IsRecordHeld meaning old new before now (Some command) (Ok (outcome_of (plant_told reply)))
     some_held reply is = record {
       reading = reads_of reply is.judged is.reading;
       made = is.made;
@@ -138,7 +138,7 @@ module _ {K : Type 0} (meaning : Meaning K) (old new : K) (before now : Overlay)
     })
 
     -- or whose rows couldn't be read
-    pub unread_held : (fault : KeepFault) → IsPlantHeld meaning old new before now (asked_by command) (Err fault) → IsRecordHeld meaning old new before now (Some command) (Err fault)
+    pub unread_held : (fault : KeepFault) → IsPlantStaged meaning old new before now (asked_by command) (Err fault) → IsRecordHeld meaning old new before now (Some command) (Err fault)
     unread_held fault is = record {
       reading = failed_of fault is.reading;
       made = is.made;
@@ -152,12 +152,12 @@ module _ {K : Type 0} (meaning : Meaning K) (old new : K) (before now : Overlay)
 
 -- ---- records one after another
 
-module _ {K : Type 0} (meaning : Meaning K) (first keep next : K) (before now : Overlay) where
+module _ {K : Type 0} (meaning : Meaning K) (first keep next : K) (before now : PendingChanges) where
   abbrev Reading : Result Outcome KeepFault → Type 0
   Reading r = IsIdle keep next before now r ⊎ ReadsThrough meaning keep next before r
 
   pub through_next : (o : Outcome) → Reading (Ok o) → IsReadThrough meaning first keep before → IsReadThrough meaning first next now
-  through_next o (inl idle) through = subst (λ k. IsReadThrough meaning first k now) (sym idle.keep) (subst (IsReadThrough meaning first keep) (sym idle.overlay) through)
+  through_next o (inl idle) through = subst (λ k. IsReadThrough meaning first k now) (sym idle.keep) (subst (IsReadThrough meaning first keep) (sym idle.pending) through)
   through_next o (inr reads) through = inr (reads.answered first through)
 
   pub kept_one : (r : Result Outcome KeepFault) → Reading r → IsKept meaning keep next
@@ -178,7 +178,7 @@ module _ {K : Type 0} (meaning : Meaning K) (first keep next : K) (before now : 
   failed_next fault (inl idle) through = absurd (cc idle.answered)
   failed_next fault (inr reads) through = let reading = reads.failed first through in read_fault meaning first next fault reading.goes reading.keeps reading.whole
 
-pub asked_all : {K : Type 0} (meaning : Meaning K) (first now : K) (o : Overlay) → IsReadThrough meaning first now o → IsAsked meaning first now (Ok tt)
+pub asked_all : {K : Type 0} (meaning : Meaning K) (first now : K) (o : PendingChanges) → IsReadThrough meaning first now o → IsAsked meaning first now (Ok tt)
 asked_all meaning first now o (inl none) = inl (none.0, refl)
 asked_all meaning first now o (inr have) = inr have
 

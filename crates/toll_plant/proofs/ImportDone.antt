@@ -3,7 +3,7 @@ use Rattle.std.proofs.Common.{◌≡◌, ℕ, ◌+◌, ◌-◌, ◌<◌, ◌≤�
 use Rattle.std.specs.Prelude.{◌⊎◌, ◌==◌, min, take}
 use Rattle.toll_plant.proofs.Common.{AllByRecursion, drop-append-add, drop_all, drop_min, length-drop, length-take, length-take-le, take_min, take_rest, Meaning, KeepFault, PlantCmd}
 use Rattle.toll_plant.specs.Imports.{AreGroupsServed, AreRecordsServed, Group, HasValidValues, IsGroupServed, NoneEnded, all_commands, all_told, outcomes_in}
-use Rattle.toll_plant.specs.UnderWay.{GoesOn, UnderWay, left_behind}
+use Rattle.toll_plant.specs.ImportStates.{ImportState, IsResumed, left_behind}
 use Rattle.toll_plant.specs.declared.grouping.TheConstants.{GROUP_RECORDS}
 use Rattle.toll_plant.specs.declared.outcome.Outcome.{Outcome}
 
@@ -33,11 +33,11 @@ some_left : (empty : Bool) (piece left : Commands) → piece ≡ left → empty 
 some_left empty piece left is result not none =
     let never : true ≡ false = sym (result ∙ ap (λ commands. length commands == 0) (is ∙ none)) ∙ not in cc never
 
-module _ {K : Type 0} (meaning : Meaning K) (old new : K) (was now : UnderWay) (commands piece group : Commands) (next k : ℕ) (empty : Bool) (told : List Outcome) (end : End) where
+module _ {K : Type 0} (meaning : Meaning K) (old new : K) (was now : ImportState) (commands piece group : Commands) (next k : ℕ) (empty : Bool) (told : List Outcome) (end : End) where
   -- a group has acted
   pub group_acted : piece ≡ drop next commands → drop next commands ≡ was.left → AllByRecursion HasValidValues (drop next commands) → empty ≡ (length piece == 0) → empty ≡ false
       → k ≡ min (length piece) GROUP_RECORDS → group ≡ take k piece → IsGroupServed meaning old new group told end → outcomes_in now.lines ≡ outcomes_in was.lines ++ told
-      → now.left ≡ left_behind end (drop GROUP_RECORDS (drop next commands)) → GoesOn meaning old new was now
+      → now.left ≡ left_behind end (drop GROUP_RECORDS (drop next commands)) → IsResumed meaning old new was now
   group_acted is before valid tests not count front served said left =
       let all : piece ≡ was.left = is ∙ before in
       let group_is : group ≡ take GROUP_RECORDS was.left =
@@ -79,14 +79,14 @@ module _ {K : Type 0} (meaning : Meaning K) (first : K) (commands : Commands) wh
     pub bounded : AllByRecursion (λ g. length g.commands ≤ GROUP_RECORDS) groups
 
   -- or one met a fault, and none is left
-  abbrev pub SoFar : K → UnderWay → Type 0
+  abbrev pub SoFar : K → ImportState → Type 0
   SoFar keep import =
       DoneSo keep import.left (outcomes_in import.lines) ⊎ ((import.left ≡ []) × AreRecordsServed meaning first commands (outcomes_in import.lines) keep)
 
-  pub so_begun : (import : UnderWay) → import.left ≡ commands → import.lines ≡ [] → SoFar first import
+  pub so_begun : (import : ImportState) → import.left ≡ commands → import.lines ≡ [] → SoFar first import
   so_begun import all none = inl (record { groups = []; served = refl; calm = tt; asked = all; said = ap outcomes_in (sym none); bounded = tt })
 
-  module _ (keep next : K) (was now : UnderWay) (so : DoneSo keep was.left (outcomes_in was.lines)) (told : List Outcome) (said : outcomes_in now.lines ≡ outcomes_in was.lines ++ told) where
+  module _ (keep next : K) (was now : ImportState) (so : DoneSo keep was.left (outcomes_in was.lines)) (told : List Outcome) (said : outcomes_in now.lines ≡ outcomes_in was.lines ++ told) where
     abbrev group : Commands
     group = take GROUP_RECORDS was.left
 
@@ -123,18 +123,18 @@ module _ {K : Type 0} (meaning : Meaning K) (first : K) (commands : Commands) wh
       ),
     )
 
-  pub so_on : (keep next : K) (was now : UnderWay) → (was.left ≡ [] → ⊥) → SoFar keep was → GoesOn meaning keep next was now → SoFar next now
+  pub so_on : (keep next : K) (was now : ImportState) → (was.left ≡ [] → ⊥) → SoFar keep was → IsResumed meaning keep next was now → SoFar next now
   so_on keep next was now have (inl so) (inl acted) = one_more keep next was now so acted.told acted.said acted.end acted.served acted.left
   so_on keep next was now have so (inr over) = absurd (have over.0)
   so_on keep next was now have (inr done) went = absurd (have done.0)
 
   -- all records were served, or those up to a fault
-  pub so_over : (keep : K) (import : UnderWay) → import.left ≡ [] → SoFar keep import → AreRecordsServed meaning first commands (outcomes_in import.lines) keep
+  pub so_over : (keep : K) (import : ImportState) → import.left ≡ [] → SoFar keep import → AreRecordsServed meaning first commands (outcomes_in import.lines) keep
   so_over keep import none (inl so) = (so.groups, record { rest = import.left; asked = so.asked; said = so.said; all = λ calm. none; bounded = so.bounded }, so.served)
   so_over keep import none (inr done) = done.1
 
 -- fewer records are left
-pub fewer : {K : Type 0} (meaning : Meaning K) (keep next : K) (was now : UnderWay) → (was.left ≡ [] → ⊥) → GoesOn meaning keep next was now → length now.left < length was.left
+pub fewer : {K : Type 0} (meaning : Meaning K) (keep next : K) (was now : ImportState) → (was.left ≡ [] → ⊥) → IsResumed meaning keep next was now → length now.left < length was.left
 fewer meaning keep next was now have (inl acted) =
     subst (λ left. length left < length was.left) (sym acted.left) (fewer_behind GROUP_RECORDS was.left acted.end (omega arith) have)
 fewer meaning keep next was now have (inr over) = absurd (have over.0)

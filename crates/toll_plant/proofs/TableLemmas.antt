@@ -13,13 +13,13 @@ use Rattle.toll_plant.specs.Words.{command_read, command_with, in_front, values_
 use Rattle.toll_plant.proofs.OfficeLemmas.{line_taken}
 use Rattle.toll_base.proofs.Bools.{both}
 use Rattle.toll_base.proofs.Texts.{nat_eq-exact}
-use Rattle.toll_plant.specs.declared.argument.Given.{Given}
-use Rattle.toll_plant.specs.declared.argument.Given.TheVariants as given
-use Rattle.toll_plant.specs.declared.argument.Reading.{Reading}
-use Rattle.toll_plant.specs.declared.argument.Reading.TheVariants as by
+use Rattle.toll_plant.specs.declared.argument.ArgumentValue.{ArgumentValue}
+use Rattle.toll_plant.specs.declared.argument.ArgumentValue.TheVariants as given
+use Rattle.toll_plant.specs.declared.argument.ArgumentKind.{ArgumentKind}
+use Rattle.toll_plant.specs.declared.argument.ArgumentKind.TheVariants as by
 
 -- the fact holds of each value that is read so
-abbrev pub HoldsOfAll : Reading → (Given → Type 0) → Type 0
+abbrev pub HoldsOfAll : ArgumentKind → (ArgumentValue → Type 0) → Type 0
 HoldsOfAll by.Name P = (name : Bytes) → P (given.Name name)
 HoldsOfAll by.OwnerKey P = (key : Bytes) → P (given.OwnerKey key)
 HoldsOfAll by.Measure P = (measure : Bytes) → P (given.Measure measure)
@@ -33,16 +33,16 @@ HoldsOfAll by.BatchNo P = (number : ℕ) → P (given.BatchNo number)
 HoldsOfAll by.Value P = (value : ℤ) → P (given.Value value)
 
 -- the fact holds of all lists of values that are read so
-abbrev pub HoldsOfEach : List Argument → (List Given → Type 0) → Type 0
+abbrev pub HoldsOfEach : List Argument → (List ArgumentValue → Type 0) → Type 0
 HoldsOfEach [] P = P []
 HoldsOfEach (a ∷ rest) P = HoldsOfAll a.reading (λ value. HoldsOfEach rest (λ values. P (value ∷ values)))
 
-read_has : {A : Type 0} (why : Refusal) (made : A → Given) (o : Option A) (P : Given → Type 0) (v : Given) → ((x : A) → P (made x)) → or_refused why made o ≡ Ok v → P v
+read_has : {A : Type 0} (why : Refusal) (made : A → ArgumentValue) (o : Option A) (P : ArgumentValue → Type 0) (v : ArgumentValue) → ((x : A) → P (made x)) → or_refused why made o ≡ Ok v → P v
 read_has why made None P v all e = absurd (cc e)
 read_has why made (Some x) P v all e = let same : made x ≡ v = cc in subst P same (all x)
 
 -- an amount that is read is one
-amount_has : (word : Bytes) (o : Option ℕ) (P : Given → Type 0) (v : Given) → ((n : ℕ) → IsAmount n → P (given.Amount n))
+amount_has : (word : Bytes) (o : Option ℕ) (P : ArgumentValue → Type 0) (v : ArgumentValue) → ((n : ℕ) → IsAmount n → P (given.Amount n))
     → or_refused BadAmount given.Amount (option_and_then (λ n. where_so (nat_le 1 n && nat_le n 1000000000) n) o) ≡ Ok v → P v
 amount_has word None P v all e = absurd (cc e)
 amount_has word (Some n) P v all e = on (nat_le 1 n && nat_le n 1000000000) refl e
@@ -54,7 +54,7 @@ amount_has word (Some n) P v all e = on (nat_le 1 n && nat_le n 1000000000) refl
         subst P same (all n (leb-true 1 n least, leb-true n 1000000000 most))
     on false within is = absurd (cc is)
 
-value_has : (r : Reading) (P : Given → Type 0) (word : Bytes) (v : Given) → HoldsOfAll r P → read_as r word ≡ Ok v → P v
+value_has : (r : ArgumentKind) (P : ArgumentValue → Type 0) (word : Bytes) (v : ArgumentValue) → HoldsOfAll r P → read_as r word ≡ Ok v → P v
 value_has by.Name P word v all e = read_has BadName given.Name (where_so (is_name word) word) P v all e
 value_has by.OwnerKey P word v all e = read_has BadName given.OwnerKey (where_so (is_owner_key word) word) P v all e
 value_has by.Measure P word v all e = read_has BadName given.Measure (where_so (is_measure word) word) P v all e
@@ -68,19 +68,19 @@ value_has by.BatchNo P word v all e = read_has BadAmount given.BatchNo (number_w
 value_has by.Value P word v all e = read_has BadAmount given.Value (value_of word) P v all e
 
 -- what the first value and those behind it are, where all were read
-record Parts (first : Result Given Refusal) (behind : Result (List Given) Refusal) (values : List Given) : Type 0 where
-  value : Given
-  others : List Given
+record Parts (first : Result ArgumentValue Refusal) (behind : Result (List ArgumentValue) Refusal) (values : List ArgumentValue) : Type 0 where
+  value : ArgumentValue
+  others : List ArgumentValue
   read : first ≡ Ok value
   all_read : behind ≡ Ok others
   whole : value ∷ others ≡ values
 
-parts : (first : Result Given Refusal) (behind : Result (List Given) Refusal) (values : List Given) → in_front first behind ≡ Ok values → Parts first behind values
+parts : (first : Result ArgumentValue Refusal) (behind : Result (List ArgumentValue) Refusal) (values : List ArgumentValue) → in_front first behind ≡ Ok values → Parts first behind values
 parts (Err why) behind values e = absurd (cc e)
 parts (Ok value) (Err why) values e = absurd (cc e)
 parts (Ok value) (Ok others) values e = record { value = value; others = others; read = refl; all_read = refl; whole = cc }
 
-pub values_have : (arguments : List Argument) (P : List Given → Type 0) (words : List Bytes) (values : List Given) → length words ≡ length arguments
+pub values_have : (arguments : List Argument) (P : List ArgumentValue → Type 0) (words : List Bytes) (values : List ArgumentValue) → length words ≡ length arguments
     → HoldsOfEach arguments P → values_read arguments words ≡ Ok values → P values
 values_have [] P words values same all e = let whole : [] ≡ values = cc in subst P whole all
 values_have (a ∷ rest) P [] values same all e = absurd (omega arith)
@@ -139,7 +139,7 @@ found_has P p (y ∷ ys) x all e = on (p y) (found_has P p ys x all.1) e
     on true later e = let same : y ≡ x = cc in subst P same all.0
     on false later e = later e
 
-pub made : (l : Line) (words : List Bytes) (read : Result (List Given) Refusal) → Makes l → length words ≡ length l.values → values_read l.values words ≡ read
+pub made : (l : Line) (words : List Bytes) (read : Result (List ArgumentValue) Refusal) → Makes l → length words ≡ length l.values → values_read l.values words ≡ read
     → IsSome (command_read l.command read)
 made l words (Err why) makes same e = refl
 made l words (Ok values) makes same e = values_have l.values (λ vs. IsSome (command_from l.command vs)) words values same makes e

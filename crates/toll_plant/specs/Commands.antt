@@ -8,8 +8,8 @@ use Rattle.toll_desk.specs.declared.plant_cmd.PlantCmd.TheVariants as cmd
 use Rattle.toll_plant.specs.declared.taken.Taken.{Taken}
 use Rattle.toll_plant.specs.declared.command.CommandName.{CommandName}
 use Rattle.toll_plant.specs.declared.command.CommandName.TheVariants as called
-use Rattle.toll_plant.specs.declared.argument.Given.{Given}
-use Rattle.toll_plant.specs.declared.argument.Given.TheVariants.{Name, OwnerKey, Measure, Role, Way, StateCommand, Amount, Day, Segment, BatchNo, Value}
+use Rattle.toll_plant.specs.declared.argument.ArgumentValue.{ArgumentValue}
+use Rattle.toll_plant.specs.declared.argument.ArgumentValue.TheVariants.{Name, OwnerKey, Measure, Role, Way, StateCommand, Amount, Day, Segment, BatchNo, Value}
 
 -- limits, if the test says that the low one is not above the high one
 abbrev pub limits_if : (low high : ℤ) (b : Bool) → (T b → low ≤ℤ high) → Option Limits
@@ -26,7 +26,7 @@ test_add owner material test (Some limits) = cmd.TestAdd owner material test lim
 test_add owner material test None = cmd.Unread BadAmount
 
 -- what was used or made, where these are the values that say it
-abbrev pub taken_from : List Given → Option Taken
+abbrev pub taken_from : List ArgumentValue → Option Taken
 taken_from (Role role ∷ Name material ∷ Name lot_owner ∷ Name lot ∷ Name sublot ∷ Amount amount ∷ Day day ∷ []) = Some (record { role = role; material = material; lot = lot_id lot_owner lot; sublot = sublot; amount = amount; day = day })
 taken_from _ = None
 
@@ -35,7 +35,7 @@ abbrev pub actual_of : (key owner order : Bytes) (number segment : ℕ) → Take
 actual_of key owner order number segment t = cmd.Actual key owner order number segment t.role t.material t.lot t.sublot t.amount t.day
 
 -- the command of this name with these values, where they are its values
-abbrev pub command_from : CommandName → List Given → Option PlantCmd
+abbrev pub command_from : CommandName → List ArgumentValue → Option PlantCmd
 command_from called.OwnerAdd (Name owner ∷ OwnerKey key ∷ []) = Some (cmd.OwnerAdd owner key)
 command_from called.UnitAdd (Name unit ∷ []) = Some (cmd.UnitAdd unit)
 command_from called.MaterialAdd (Name owner ∷ Name material ∷ Measure measure ∷ []) = Some (cmd.MaterialAdd owner material measure)

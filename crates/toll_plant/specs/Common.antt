@@ -6,7 +6,7 @@ pub use Rattle.toll_base.specs.Bytes.{Bytes, same_bytes}
 pub use Rattle.toll_base.specs.Words.{count, is_some_where, total, where_so}
 pub use Rattle.toll_base.specs.declared.refusal.Refusal.{Refusal}
 pub use Rattle.toll_base.specs.declared.refusal.Refusal.TheVariants.{BadAmount, BadName}
-pub use Rattle.toll_desk.specs.Asking.{IsValidDeed, asked_by}
+pub use Rattle.toll_desk.specs.Translations.{IsValidCommand, asked_by}
 pub use Rattle.toll_desk.specs.Reads.{Over}
 pub use Rattle.toll_desk.specs.Standing.{StandsFor}
 pub use Rattle.toll_desk.specs.declared.plant_cmd.PlantCmd.{PlantCmd}

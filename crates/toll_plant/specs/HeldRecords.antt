@@ -2,9 +2,9 @@
 use Rattle.std.specs.Prelude.{◌≡◌, ◌++◌, ◌⊎◌, true, false, Option, IsSome, List, [], ◌∷◌, Result, Ok, Err, IfErr, IfOk, IsOk, OnErr, OnOk}
 use Rattle.toll_plant.specs.Common.{list_any, History, IsLawful, Content, Fits, after, FindsNoDamage, Goes, IsReading, Settles, Meaning, OverHeld, OverLive, KeepFault, Memory, StandsFor, Over, PlantCmd}
 use Rattle.toll_base.specs.declared.decision.Change.{Change}
-use Rattle.toll_keep.specs.Overlays.{IsOver, ReadsThrough}
+use Rattle.toll_keep.specs.PendingChanges.{IsOver, ReadsThrough}
 use Rattle.toll_keep.specs.Reads.{HaveRead, IsKept}
-use Rattle.toll_keep.specs.declared.overlay.Overlay.{Overlay}
+use Rattle.toll_keep.specs.declared.pending_changes.PendingChanges.{PendingChanges}
 use Rattle.toll_desk.specs.Plans.{LeadsTo}
 use Rattle.toll_plant.specs.Imports.{Comes, EndWith, IsImport, IsOpenOutcome, refused_at}
 use Rattle.toll_plant.specs.Outcomes.{is_accepted, is_fault}
@@ -20,15 +20,15 @@ pub record IsRecordOver (c : Content) (H : History) (command : Option PlantCmd) 
   pub lawful : IsLawful next
   pub leads : LeadsTo c made next
 
--- the record met no fault, and neither the keep nor the overlay was asked
-pub record IsIdle {K : Type 0} (old new : K) (before now : Overlay) (result : Result Outcome KeepFault) : Type 0 where
+-- the record met no fault, and neither the keep nor the pending changes were asked
+pub record IsIdle {K : Type 0} (old new : K) (before now : PendingChanges) (result : Result Outcome KeepFault) : Type 0 where
   pub keep : new ≡ old
-  pub overlay : now ≡ before
+  pub pending : now ≡ before
   pub answered : IsOk result
   pub calm : IfOk result (λ o. is_fault o ≡ false)
 
--- this came of the record over what the keep holds with the changes of the overlay put, and what it changes the overlay holds back too; or its rows couldn't be read
-pub record IsRecordHeld {K : Type 0} (meaning : Meaning K) (old new : K) (before now : Overlay) (command : Option PlantCmd) (result : Result Outcome KeepFault) : Type 0 where
+-- this came of the record over what the keep holds with the pending changes put, and what it changes is pending too; or its rows couldn't be read
+pub record IsRecordHeld {K : Type 0} (meaning : Meaning K) (old new : K) (before now : PendingChanges) (command : Option PlantCmd) (result : Result Outcome KeepFault) : Type 0 where
   pub reading : IsIdle old new before now result ⊎ ReadsThrough meaning old new before result
   pub made : List Change
   pub held : now.changes.items ≡ before.changes.items ++ made

@@ -1,8 +1,8 @@
 -- What comes of the records of a file of actuals.
 use Rattle.std.specs.Prelude.{◌≡◌, ◌≢◌, ◌+◌, ◌⊎◌, ◌≤◌, ℕ, true, false, if◌then◌else◌, Option, Some, None, List, [], ◌∷◌, ◌++◌, length, map, take, Result, Ok, Err}
 use Rattle.std.specs.Bool.{MatchBool}
-use Rattle.toll_plant.specs.Common.{AllByRecursion, list_any, Bytes, History, Verdict, IsLawful, FindsNoDamage, Goes, Settles, Meaning, OverHeld, Content, KeepFault, Memory, Damaged, Judged, IsPlantAnswer, after_plant, StandsFor, IsValidDeed, asked_by, Over, PlantCmd}
-use Rattle.toll_desk.specs.PlantHeld.{looks_at_two}
+use Rattle.toll_plant.specs.Common.{AllByRecursion, list_any, Bytes, History, Verdict, IsLawful, FindsNoDamage, Goes, Settles, Meaning, OverHeld, Content, KeepFault, Memory, Damaged, Judged, IsPlantAnswer, after_plant, StandsFor, IsValidCommand, asked_by, Over, PlantCmd}
+use Rattle.toll_desk.specs.PlantStaged.{looks_at_two}
 use Rattle.toll_desk.specs.Outcome.{HoldsFor, LeavesOr}
 use Rattle.toll_plant.specs.Files.{Fields, HasActuals, command_in}
 use Rattle.toll_plant.specs.Outcomes.{judged, is_accepted, is_fault}
@@ -67,7 +67,7 @@ CanBeHeld (Some command) = looks_at_two (asked_by command) ≡ true
 -- the values of the record's command, where it gives one, are within their bounds
 abbrev pub HasValidValues : Option PlantCmd → Type 0
 HasValidValues None = Unit {0}
-HasValidValues (Some command) = IsValidDeed (asked_by command)
+HasValidValues (Some command) = IsValidCommand (asked_by command)
 
 -- the outcome of the last record, where it met a fault
 abbrev pub last_outcome : Result (Unit {0}) KeepFault → List Outcome

@@ -12,7 +12,7 @@ pub mod Outcomes
 pub mod Files
 pub mod ImportFaults
 pub mod Imports
-pub mod UnderWay
+pub mod ImportStates
 pub mod HeldRecords
 pub mod ImportTexts
 pub mod ImportLaws

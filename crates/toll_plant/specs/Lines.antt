@@ -1,13 +1,13 @@
 -- The lines of words that commands are written in, and the words that fit one.
 use Rattle.std.specs.Prelude.{Bool, false, not, ◌&&◌, ◌==◌, List, [], ◌∷◌, length, find, codes, Option, Some, None, if◌then◌else◌, option_and_then}
 use Rattle.toll_plant.specs.Common.{list_all, bytes_eq, Bytes}
-use Rattle.toll_plant.specs.declared.argument.Reading.{Reading}
+use Rattle.toll_plant.specs.declared.argument.ArgumentKind.{ArgumentKind}
 use Rattle.toll_plant.specs.declared.command.CommandName.{CommandName}
 
 -- a value: what it is called, and how it is read
 pub record Argument : Type 0 where
   pub name : Bytes
-  pub reading : Reading
+  pub reading : ArgumentKind
 
 -- the words of a command: its name, and its values in order
 pub record Line : Type 0 where

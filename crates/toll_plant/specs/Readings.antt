@@ -10,10 +10,10 @@ use Rattle.toll_base.specs.declared.role.Role.TheVariants.{Consumed, Produced}
 use Rattle.toll_base.specs.declared.value.TheConstants.{LEAST_VALUE, MOST_VALUE}
 use Rattle.toll_trace.specs.declared.way.Way.{Way}
 use Rattle.toll_trace.specs.declared.way.Way.TheVariants.{Back, Forward}
-use Rattle.toll_plant.specs.declared.argument.Reading.{Reading}
-use Rattle.toll_plant.specs.declared.argument.Reading.TheVariants as by
-use Rattle.toll_plant.specs.declared.argument.Given.{Given}
-use Rattle.toll_plant.specs.declared.argument.Given.TheVariants as given
+use Rattle.toll_plant.specs.declared.argument.ArgumentKind.{ArgumentKind}
+use Rattle.toll_plant.specs.declared.argument.ArgumentKind.TheVariants as by
+use Rattle.toll_plant.specs.declared.argument.ArgumentValue.{ArgumentValue}
+use Rattle.toll_plant.specs.declared.argument.ArgumentValue.TheVariants as given
 
 -- ---- words
 
@@ -47,12 +47,12 @@ value_of (b ∷ word) =
 -- ---- values
 
 -- what was read, or the refusal of bytes that are nothing of the kind
-abbrev pub or_refused : {A : Type 0} → Refusal → (A → Given) → Option A → Result Given Refusal
+abbrev pub or_refused : {A : Type 0} → Refusal → (A → ArgumentValue) → Option A → Result ArgumentValue Refusal
 or_refused why made None = Err why
 or_refused why made (Some value) = Ok (made value)
 
 -- a value as it is read, or the refusal of one that can't be read
-abbrev pub read_as : Reading → Bytes → Result Given Refusal
+abbrev pub read_as : ArgumentKind → Bytes → Result ArgumentValue Refusal
 read_as by.Name word = or_refused BadName given.Name (where_so (is_name word) word)
 read_as by.OwnerKey word = or_refused BadName given.OwnerKey (where_so (is_owner_key word) word)
 read_as by.Measure word = or_refused BadName given.Measure (where_so (is_measure word) word)

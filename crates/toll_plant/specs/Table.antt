@@ -2,13 +2,13 @@
 use Rattle.std.specs.Prelude.{List, [], ◌∷◌, codes}
 use Rattle.toll_base.specs.Bytes.{Bytes}
 use Rattle.toll_plant.specs.Lines.{Argument, Line}
-use Rattle.toll_plant.specs.declared.argument.Reading.{Reading}
-use Rattle.toll_plant.specs.declared.argument.Reading.TheVariants.{Name, OwnerKey, Measure, Role, Way, StateCommand, Amount, Day, Segment, BatchNo, Value}
+use Rattle.toll_plant.specs.declared.argument.ArgumentKind.{ArgumentKind}
+use Rattle.toll_plant.specs.declared.argument.ArgumentKind.TheVariants.{Name, OwnerKey, Measure, Role, Way, StateCommand, Amount, Day, Segment, BatchNo, Value}
 use Rattle.toll_plant.specs.declared.command.CommandName.{CommandName}
 use Rattle.toll_plant.specs.declared.command.CommandName.TheVariants as to
 
 -- a value of this name, which is read so
-abbrev value : Bytes → Reading → Argument
+abbrev value : Bytes → ArgumentKind → Argument
 value name reading = record { name = name; reading = reading }
 
 -- a command of this name, with these values

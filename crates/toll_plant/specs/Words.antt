@@ -7,25 +7,25 @@ use Rattle.toll_plant.specs.Lines.{Argument, Line, line_of}
 use Rattle.toll_plant.specs.Readings.{read_as}
 use Rattle.toll_plant.specs.Table.{plant_lines}
 use Rattle.toll_plant.specs.Usages.{usage_text}
-use Rattle.toll_plant.specs.declared.argument.Given.{Given}
+use Rattle.toll_plant.specs.declared.argument.ArgumentValue.{ArgumentValue}
 use Rattle.toll_plant.specs.declared.command.CommandName.{CommandName}
 use Rattle.toll_plant.specs.declared.fault.WordsFault.{WordsFault}
 use Rattle.toll_plant.specs.declared.fault.WordsFault.TheVariants.{Memory, Usage}
 
 -- a value in front of those that come behind it: the first that can't be read tells
-abbrev pub in_front : Result Given Refusal → Result (List Given) Refusal → Result (List Given) Refusal
+abbrev pub in_front : Result ArgumentValue Refusal → Result (List ArgumentValue) Refusal → Result (List ArgumentValue) Refusal
 in_front (Err why) behind = Err why
 in_front (Ok value) (Err why) = Err why
 in_front (Ok value) (Ok values) = Ok (value ∷ values)
 
 -- the values, each read in its way, or the refusal of the first that can't be read
-abbrev pub values_read : List Argument → List Bytes → Result (List Given) Refusal
+abbrev pub values_read : List Argument → List Bytes → Result (List ArgumentValue) Refusal
 values_read [] words = Ok []
 values_read (a ∷ arguments) [] = Ok []
 values_read (a ∷ arguments) (word ∷ words) = in_front (read_as a.reading word) (values_read arguments words)
 
 -- the command of values that were read, or that a value is refused
-abbrev pub command_read : CommandName → Result (List Given) Refusal → Option PlantCmd
+abbrev pub command_read : CommandName → Result (List ArgumentValue) Refusal → Option PlantCmd
 command_read name (Err why) = Some (Unread why)
 command_read name (Ok values) = command_from name values
 

@@ -3,33 +3,33 @@ ghost use Rattle.std.specs.Prelude.{◌≡◌};
 ghost use Rattle.toll_plant.specs.Commands.{command_from, limits_of, test_add};
 ghost use Rattle.toll_plant.specs.declared.command.CommandName.TheVariants as called;
 
-use crate::argument::{Given, from_values};
+use crate::argument::{ArgumentValue, from_values};
 use toll_base::{Limits, Name, RequirementRow, Value};
 use toll_desk::PlantCmd;
 
 /// An owner with its key.
-pub fn owner_add(values: &[Given]) -> Option<PlantCmd>
+pub fn owner_add(values: &[ArgumentValue]) -> Option<PlantCmd>
     ensures { result ≡ command_from called.OwnerAdd values.now }
 {
     from_values!(values => OwnerAdd { owner: Name, key: OwnerKey })
 }
 
 /// A unit.
-pub fn unit_add(values: &[Given]) -> Option<PlantCmd>
+pub fn unit_add(values: &[ArgumentValue]) -> Option<PlantCmd>
     ensures { result ≡ command_from called.UnitAdd values.now }
 {
     from_values!(values => UnitAdd { unit: Name })
 }
 
 /// A material of an owner, with its measure.
-pub fn material_add(values: &[Given]) -> Option<PlantCmd>
+pub fn material_add(values: &[ArgumentValue]) -> Option<PlantCmd>
     ensures { result ≡ command_from called.MaterialAdd values.now }
 {
     from_values!(values => MaterialAdd { owner: Name, material: Name, measure: Measure })
 }
 
 /// A test of a material: [`PlantCmd::Unread`] where the low limit is above the high one.
-pub fn test_add(values: &[Given]) -> Option<PlantCmd>
+pub fn test_add(values: &[ArgumentValue]) -> Option<PlantCmd>
     ensures { result ≡ command_from called.TestAdd values.now }
 {
     from_values!(
@@ -54,14 +54,14 @@ fn test_within(owner: Name, material: Name, test: Name, low: Value, high: Value)
 }
 
 /// A recipe of an owner.
-pub fn recipe_add(values: &[Given]) -> Option<PlantCmd>
+pub fn recipe_add(values: &[ArgumentValue]) -> Option<PlantCmd>
     ensures { result ≡ command_from called.RecipeAdd values.now }
 {
     from_values!(values => RecipeAdd { owner: Name, recipe: Name, segments: Segment })
 }
 
 /// A requirement of a recipe.
-pub fn require(values: &[Given]) -> Option<PlantCmd>
+pub fn require(values: &[ArgumentValue]) -> Option<PlantCmd>
     ensures { result ≡ command_from called.Require values.now }
 {
     from_values!(

@@ -14,12 +14,12 @@ use toll_trace::Way;
 #[derive(Clone, Copy)]
 pub struct Argument<'a> {
     pub name: &'a str,
-    pub reading: Reading,
+    pub reading: ArgumentKind,
 }
 
 /// How a value is read.
 #[derive(Clone, Copy)]
-pub enum Reading {
+pub enum ArgumentKind {
     Name,
     OwnerKey,
     Measure,
@@ -35,7 +35,7 @@ pub enum Reading {
 
 /// A value that was read.
 #[derive(Clone, Copy)]
-pub enum Given {
+pub enum ArgumentValue {
     Name(Name),
     OwnerKey(OwnerKey),
     Measure(Measure),
@@ -53,7 +53,7 @@ pub enum Given {
 macro_rules! from_values {
     ($values:expr, [$($value:ident: $kind:ident),*] => $made:expr) => {
         match *$values {
-            [$($crate::argument::Given::$kind($value)),*] => Some($made),
+            [$($crate::argument::ArgumentValue::$kind($value)),*] => Some($made),
             _ => None,
         }
     };
@@ -67,27 +67,35 @@ pub(crate) use from_values;
 // The greatest size of a value of a test.
 const MOST_SIZE: u64 = 1_000_000_000;
 
-impl Reading {
+impl ArgumentKind {
     /// The value that these bytes write: [`Refusal::BadName`] for bytes that are no name, key,
     /// measure or word of their kind, [`Refusal::BadAmount`] for bytes that are no number or one out
     /// of its bounds.
-    pub fn read(self, word: &[u8]) -> Result<Given, Refusal>
+    pub fn read(self, word: &[u8]) -> Result<ArgumentValue, Refusal>
         ensures { result ≡ read_as self word.now }
     {
         match self {
-            Reading::Name => Ok(Given::Name(Name::parse(word)?)),
-            Reading::OwnerKey => Ok(Given::OwnerKey(OwnerKey::parse(word)?)),
-            Reading::Measure => Ok(Given::Measure(Measure::parse(word)?)),
-            Reading::Role => Ok(Given::Role(role_of(word).ok_or(Refusal::BadName)?)),
-            Reading::Way => Ok(Given::Way(way_of(word).ok_or(Refusal::BadName)?)),
-            Reading::StateCommand => Ok(Given::StateCommand(StateCommand::read(word).ok_or(
-                Refusal::BadName,
+            ArgumentKind::Name => Ok(ArgumentValue::Name(Name::parse(word)?)),
+            ArgumentKind::OwnerKey => Ok(ArgumentValue::OwnerKey(OwnerKey::parse(word)?)),
+            ArgumentKind::Measure => Ok(ArgumentValue::Measure(Measure::parse(word)?)),
+            ArgumentKind::Role => Ok(ArgumentValue::Role(role_of(word).ok_or(Refusal::BadName)?)),
+            ArgumentKind::Way => Ok(ArgumentValue::Way(way_of(word).ok_or(Refusal::BadName)?)),
+            ArgumentKind::StateCommand => Ok(ArgumentValue::StateCommand(StateCommand::read(
+                word,
+            ).ok_or(Refusal::BadName)?)),
+            ArgumentKind::Amount => Ok(ArgumentValue::Amount(bounded(word).ok_or(
+                Refusal::BadAmount,
             )?)),
-            Reading::Amount => Ok(Given::Amount(bounded(word).ok_or(Refusal::BadAmount)?)),
-            Reading::Day => Ok(Given::Day(bounded(word).ok_or(Refusal::BadAmount)?)),
-            Reading::Segment => Ok(Given::Segment(bounded(word).ok_or(Refusal::BadAmount)?)),
-            Reading::BatchNo => Ok(Given::BatchNo(bounded(word).ok_or(Refusal::BadAmount)?)),
-            Reading::Value => Ok(Given::Value(value_of(word).ok_or(Refusal::BadAmount)?)),
+            ArgumentKind::Day => Ok(ArgumentValue::Day(bounded(word).ok_or(Refusal::BadAmount)?)),
+            ArgumentKind::Segment => Ok(ArgumentValue::Segment(bounded(word).ok_or(
+                Refusal::BadAmount,
+            )?)),
+            ArgumentKind::BatchNo => Ok(ArgumentValue::BatchNo(bounded(word).ok_or(
+                Refusal::BadAmount,
+            )?)),
+            ArgumentKind::Value => Ok(ArgumentValue::Value(value_of(word).ok_or(
+                Refusal::BadAmount,
+            )?)),
         }
     }
 }

@@ -3,7 +3,7 @@ ghost use Rattle.std.specs.Prelude.{◌≡◌};
 ghost use Rattle.toll_plant.specs.Commands.{command_from};
 
 use crate::additions::{material_add, owner_add, recipe_add, require, test_add, unit_add};
-use crate::argument::Given;
+use crate::argument::ArgumentValue;
 use crate::batches::{cancel, close, do_batch, open, order};
 use crate::lots::{reject, release, result};
 use crate::movements::{actual, receive, scrap, ship, split, void};
@@ -41,7 +41,7 @@ pub enum CommandName {
 }
 
 /// The command with these values: `None` where a value is missing, of another kind or too much.
-pub fn command_from(name: CommandName, values: &[Given]) -> Option<PlantCmd>
+pub fn command_from(name: CommandName, values: &[ArgumentValue]) -> Option<PlantCmd>
     ensures { result ≡ command_from name values.now }
 {
     match name {

@@ -8,8 +8,8 @@ ghost use Rattle.toll_plant.specs.Outcomes.{is_accepted};
 use crate::outcome::Outcome;
 use std::alloc::Global;
 use toll_base::{Change, Row};
-use toll_desk::{PlantCmd, carry, plant_hold};
-use toll_keep::{Keep, KeepFault, Overlay};
+use toll_desk::{PlantCmd, commit, plant_stage};
+use toll_keep::{Keep, KeepFault, PendingChanges};
 
 /// How many records of a file are done with one change of the keep, at most. A disk is waited for once for
 /// so many, and what is held back until then takes little memory.
@@ -77,22 +77,22 @@ fn hold_all<K: Keep>(
 {
     // Named for the proof: a change may have a row.
     let _row: Option<Row> = None;
-    let mut overlay = Overlay::new(alloc);
+    let mut pending = PendingChanges::new(alloc);
     for command in commands {
-        let outcome = match act(alloc, keep, &mut overlay, command) {
+        let outcome = match act(alloc, keep, &mut pending, command) {
             Ok(outcome) => outcome,
             Err(fault) => return Err(fault),
         };
         told.push_reserved(outcome);
         if outcome.is_fault() {
             return Ok(Held {
-                changes: overlay.into_changes(),
+                changes: pending.into_changes(),
                 end: Err(KeepFault::Memory),
             });
         }
     }
     Ok(Held {
-        changes: overlay.into_changes(),
+        changes: pending.into_changes(),
         end: Ok(()),
     })
 }
@@ -101,15 +101,15 @@ fn hold_all<K: Keep>(
 fn act<K: Keep>(
     alloc: Global,
     keep: &mut K,
-    overlay: &mut Overlay,
+    pending: &mut PendingChanges,
     command: &Option<PlantCmd>,
 ) -> Result<Outcome, KeepFault>
     requires { CanBeHeld command.now }
-    ensures { IsRecordHeld K.meaning keep.old keep.new overlay.old overlay.new command.now result }
+    ensures { IsRecordHeld K.meaning keep.old keep.new pending.old pending.new command.now result }
 {
     match command {
         None => Ok(Outcome::BadRecord),
-        Some(command) => match plant_hold(alloc, keep, overlay, command) {
+        Some(command) => match plant_stage(alloc, keep, pending, command) {
             Ok(reply) => Ok(Outcome::of(reply)),
             Err(fault) => Err(fault),
         },
@@ -128,7 +128,7 @@ fn make<K: Keep>(
     ensures within { vec_len told.new ≤ vec_len told.old }
     ensures capacity { vec_capacity told.new ≡ vec_capacity told.old }
 {
-    match carry(alloc, keep, &held.changes) {
+    match commit(alloc, keep, &held.changes) {
         Ok(()) => held.end,
         Err(fault) => refuse(told, fault),
     }

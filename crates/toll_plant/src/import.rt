@@ -2,7 +2,7 @@
 ghost use Rattle.std.specs.Prelude.{◌≡◌, ◌↔◌, ◌+◌, ◌++◌, ◌≤◌, IsTrue, IfErr, IfOk, [], length, vec_capacity, vec_len};
 ghost use Rattle.toll_plant.specs.ImportFaults.{IsRefusedFor};
 ghost use Rattle.toll_plant.specs.Imports.{AreNumbered, outcomes_in};
-ghost use Rattle.toll_plant.specs.UnderWay.{GoesOn, IsBegun, IsUnderWay};
+ghost use Rattle.toll_plant.specs.ImportStates.{IsBegun, IsResumed, IsUnderWay};
 
 use crate::actuals::actuals;
 use crate::grouping::{GROUP_RECORDS, import_group};
@@ -29,9 +29,9 @@ pub struct Import {
 /// The commands of the records that are left, and the lines of those that were come to.
 impl Model for Import {
     ghost use Rattle.std.specs.Prelude.{drop};
-    ghost use Rattle.toll_plant.specs.UnderWay.{IsUnderWay, UnderWay};
+    ghost use Rattle.toll_plant.specs.ImportStates.{ImportState, IsUnderWay};
 
-    ghost Value = { UnderWay };
+    ghost Value = { ImportState };
 
     ghost view = { λ i. record { left = drop i.next i.commands.items; lines = i.lines.items } };
 
@@ -71,8 +71,8 @@ impl Import {
 
     /// The next [`GROUP_RECORDS`] records act, or all that are left, as [`import_group`] says. Behind a fault
     /// none is left. Where none is left, nothing is done.
-    pub fn go_on<K: Keep>(&mut self, alloc: Global, keep: &mut K)
-        ensures { GoesOn K.meaning keep.old keep.new self.old self.new }
+    pub fn resume<K: Keep>(&mut self, alloc: Global, keep: &mut K)
+        ensures { IsResumed K.meaning keep.old keep.new self.old self.new }
     {
         let left = &self.commands[self.next..];
         if left.is_empty() {

@@ -49,7 +49,7 @@ pub fn import_actuals<K: Keep>(
 {
     let mut import = Import::of(alloc, file)?;
     while !import.is_over() {
-        import.go_on(alloc, keep);
+        import.resume(alloc, keep);
     }
     Ok(import.into_report())
 }

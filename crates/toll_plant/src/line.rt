@@ -1,5 +1,5 @@
 //! The lines of words that commands are written in.
-use crate::argument::{Argument, Reading};
+use crate::argument::{Argument, ArgumentKind};
 use crate::command::CommandName;
 
 /// The words of a command: its name, and its values in order.
@@ -15,7 +15,7 @@ macro_rules! argument {
     ($name:literal, $reading:ident) => {
         Argument {
             name: $name,
-            reading: Reading::$reading,
+            reading: ArgumentKind::$reading,
         }
     };
 }

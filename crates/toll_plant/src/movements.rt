@@ -3,12 +3,12 @@ ghost use Rattle.std.specs.Prelude.{◌≡◌};
 ghost use Rattle.toll_plant.specs.Commands.{command_from};
 ghost use Rattle.toll_plant.specs.declared.command.CommandName.TheVariants as called;
 
-use crate::argument::{Given, from_values};
+use crate::argument::{ArgumentValue, from_values};
 use crate::taken::Taken;
 use toll_desk::PlantCmd;
 
 /// Material received into a lot.
-pub fn receive(values: &[Given]) -> Option<PlantCmd>
+pub fn receive(values: &[ArgumentValue]) -> Option<PlantCmd>
     ensures { result ≡ command_from called.Receive values.now }
 {
     from_values!(values => Receive {
@@ -17,7 +17,7 @@ pub fn receive(values: &[Given]) -> Option<PlantCmd>
 }
 
 /// Material put into another sublot.
-pub fn split(values: &[Given]) -> Option<PlantCmd>
+pub fn split(values: &[ArgumentValue]) -> Option<PlantCmd>
     ensures { result ≡ command_from called.Split values.now }
 {
     from_values!(values => Split {
@@ -26,7 +26,7 @@ pub fn split(values: &[Given]) -> Option<PlantCmd>
 }
 
 /// Material shipped out of a sublot.
-pub fn ship(values: &[Given]) -> Option<PlantCmd>
+pub fn ship(values: &[ArgumentValue]) -> Option<PlantCmd>
     ensures { result ≡ command_from called.Ship values.now }
 {
     from_values!(values => Ship {
@@ -35,7 +35,7 @@ pub fn ship(values: &[Given]) -> Option<PlantCmd>
 }
 
 /// Material scrapped out of a sublot.
-pub fn scrap(values: &[Given]) -> Option<PlantCmd>
+pub fn scrap(values: &[ArgumentValue]) -> Option<PlantCmd>
     ensures { result ≡ command_from called.Scrap values.now }
 {
     from_values!(values => Scrap {
@@ -44,16 +44,16 @@ pub fn scrap(values: &[Given]) -> Option<PlantCmd>
 }
 
 /// An actual of a batch.
-pub fn actual(values: &[Given]) -> Option<PlantCmd>
+pub fn actual(values: &[ArgumentValue]) -> Option<PlantCmd>
     ensures { result ≡ command_from called.Actual values.now }
 {
     match *values {
         [
-            Given::Name(key),
-            Given::Name(owner),
-            Given::Name(order),
-            Given::BatchNo(number),
-            Given::Segment(segment),
+            ArgumentValue::Name(key),
+            ArgumentValue::Name(owner),
+            ArgumentValue::Name(order),
+            ArgumentValue::BatchNo(number),
+            ArgumentValue::Segment(segment),
             ref rest @ ..,
         ] => {
             let taken = Taken::from_values(rest)?;
@@ -76,7 +76,7 @@ pub fn actual(values: &[Given]) -> Option<PlantCmd>
 }
 
 /// An actual that is taken back.
-pub fn void(values: &[Given]) -> Option<PlantCmd>
+pub fn void(values: &[ArgumentValue]) -> Option<PlantCmd>
     ensures { result ≡ command_from called.Void values.now }
 {
     from_values!(values => Void { owner: Name, key: Name })

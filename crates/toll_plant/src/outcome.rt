@@ -1,6 +1,6 @@
 //! What comes of a record.
 ghost use Rattle.std.specs.Prelude.{◌≡◌};
-ghost use Rattle.toll_desk.specs.Asking.{plant_told};
+ghost use Rattle.toll_desk.specs.Translations.{plant_told};
 ghost use Rattle.toll_plant.specs.Outcomes.{is_accepted, is_fault, outcome_of};
 
 use std::fmt;

@@ -2,7 +2,7 @@
 ghost use Rattle.std.specs.Prelude.{◌≡◌};
 ghost use Rattle.toll_plant.specs.Commands.{taken_from};
 
-use crate::argument::{Given, from_values};
+use crate::argument::{ArgumentValue, from_values};
 use toll_base::{Amount, Day, LotId, Name, Role};
 
 /// What was used or made in a segment of a batch, and when.
@@ -18,7 +18,7 @@ pub struct Taken {
 
 impl Taken {
     /// What these values say: `None` where one is missing, of another kind or too much.
-    pub fn from_values(values: &[Given]) -> Option<Self>
+    pub fn from_values(values: &[ArgumentValue]) -> Option<Self>
         ensures { result ≡ taken_from values.now }
     {
         from_values!(

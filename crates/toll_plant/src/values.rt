@@ -4,7 +4,7 @@ ghost use Rattle.toll_plant.specs.Shown.{shown, shown_argument};
 ghost use Rattle.toll_plant.specs.Unread.{IsUnread};
 ghost use Rattle.toll_plant.specs.Words.{command_with, values_read};
 
-use crate::argument::{Argument, Given};
+use crate::argument::{Argument, ArgumentValue};
 use crate::command::command_from;
 use crate::line::Line;
 use std::alloc::{AllocError, Global};
@@ -45,7 +45,7 @@ fn read_all<S: AsSlice<u8>>(
     alloc: Global,
     arguments: &[Argument<'_>],
     words: &[S],
-) -> Result<Vec<Given>, Unread>
+) -> Result<Vec<ArgumentValue>, Unread>
     ensures values { IfOk result (λ values. values_read (map shown_argument arguments.now) (map S.items words.now) ≡ Ok values.items) }
     ensures unread { IfErr result (IsUnread (values_read (map shown_argument arguments.now) (map S.items words.now))) }
 {

@@ -11,8 +11,8 @@ use Rattle.toll_plant.specs.Lines.{Line, line_of}
 use Rattle.toll_plant.specs.Table.{plant_lines}
 use Rattle.toll_plant.specs.Words.{command_of_words, command_with}
 use Rattle.toll_wire.specs.declared.event.Event.{Event}
-use Rattle.toll_programs.specs.Asked.{Adds, deeds_of, lines_in}
-use Rattle.toll_programs.specs.Script.{Asking, AsksFor, IsFirstBad, NoneBad, asked_by, asks, asks_if, bad, command, command_asked, deeds_in, deeds_of_lines, is_bad, nothing, script_lines, words_in}
+use Rattle.toll_programs.specs.ScriptEvents.{Adds, lines_in, script_events_of}
+use Rattle.toll_programs.specs.Script.{AsksFor, IsFirstBad, LineMeaning, NoneBad, asked_by, asks, asks_if, bad, command, command_asked, events_in_line, events_of_lines, is_bad, nothing, script_lines, words_in}
 
 -- ---- the words of a command
 
@@ -49,27 +49,27 @@ pub record ReadSoFar (text : Bytes) (number : ℕ) (events : List Event) (others
   pub whole : script_lines text ≡ before ++ others
   pub counted : number ≡ length before
   pub sound : NoneBad before
-  pub asked : deeds_of events ≡ deeds_of_lines before
+  pub asked : script_events_of events ≡ events_of_lines before
 
 pub none_read : (text : Bytes) (events : List Event) → events ≡ [] → ReadSoFar text 0 events (script_lines text)
-none_read text events none = record { before = []; whole = refl; counted = refl; sound = tt; asked = ap deeds_of none }
+none_read text events none = record { before = []; whole = refl; counted = refl; sound = tt; asked = ap script_events_of none }
 
 none_bad_more : (before : List Bytes) (line : Bytes) → NoneBad before → is_bad (asked_by line) ≡ false → NoneBad (before ++ line ∷ [])
 none_bad_more [] line sound here = (here, tt)
 none_bad_more (l ∷ before) line sound here = (sound.0, none_bad_more before line sound.1 here)
 
-deeds_more : (before : List Bytes) (line : Bytes) → deeds_of_lines (before ++ line ∷ []) ≡ deeds_of_lines before ++ deeds_in (asked_by line)
-deeds_more [] line = append-nil (deeds_in (asked_by line))
+deeds_more : (before : List Bytes) (line : Bytes) → events_of_lines (before ++ line ∷ []) ≡ events_of_lines before ++ events_in_line (asked_by line)
+deeds_more [] line = append-nil (events_in_line (asked_by line))
 deeds_more (l ∷ before) line =
-    ap (λ ds. deeds_in (asked_by l) ++ ds) (deeds_more before line)
-    ∙ sym (append_assoc (deeds_in (asked_by l)) (deeds_of_lines before) (deeds_in (asked_by line)))
+    ap (λ ds. events_in_line (asked_by l) ++ ds) (deeds_more before line)
+    ∙ sym (append_assoc (events_in_line (asked_by l)) (events_of_lines before) (events_in_line (asked_by line)))
 
-added : (asking : Asking) (old new : List Event) → Adds asking old new → deeds_of new ≡ deeds_of old ++ deeds_in asking
-added nothing old new same = ap deeds_of same ∙ sym (append-nil (deeds_of old))
+added : (asking : LineMeaning) (old new : List Event) → Adds asking old new → script_events_of new ≡ script_events_of old ++ events_in_line asking
+added nothing old new same = ap script_events_of same ∙ sym (append-nil (script_events_of old))
 added (asks deed) old new more = more
 added bad old new never = absurd never
 
-added_well : (asking : Asking) (old new : List Event) → Adds asking old new → is_bad asking ≡ false
+added_well : (asking : LineMeaning) (old new : List Event) → Adds asking old new → is_bad asking ≡ false
 added_well nothing old new same = refl
 added_well (asks deed) old new more = refl
 added_well bad old new never = absurd never
@@ -82,7 +82,7 @@ line_done text number old new lines line others r pieces adds = record {
   whole = r.whole ∙ (ap (λ ls. r.before ++ ls) pieces ∙ sym (append_assoc r.before (line ∷ []) (left others)));
   counted = omega (arith, r.counted, length-append r.before (line ∷ []));
   sound = none_bad_more r.before line r.sound (added_well (asked_by line) old new adds);
-  asked = added (asked_by line) old new adds ∙ (ap (λ ds. ds ++ deeds_in (asked_by line)) r.asked ∙ sym (deeds_more r.before line));
+  asked = added (asked_by line) old new adds ∙ (ap (λ ds. ds ++ events_in_line (asked_by line)) r.asked ∙ sym (deeds_more r.before line));
 }
 
 pub line_bad : (text : Bytes) (number : ℕ) (events : List Event) (lines line : Bytes) (others : Option (Bor Bytes))
@@ -98,8 +98,8 @@ line_bad text number events lines line others r pieces is = record {
 }
 
 pub lines_done : (text : Bytes) (number : ℕ) (events : List Event) (rest : Option (Bor Bytes))
-    → ReadSoFar text number events (left rest) → ((lines : Bor Bytes) → rest ≡ Some lines → ⊥) → AsksFor text (deeds_of events)
+    → ReadSoFar text number events (left rest) → ((lines : Bor Bytes) → rest ≡ Some lines → ⊥) → AsksFor text (script_events_of events)
 lines_done text number events None r none =
     let all = sym (r.whole ∙ append-nil r.before) in
-    record { sound = subst NoneBad all r.sound; asked = r.asked ∙ ap deeds_of_lines all }
+    record { sound = subst NoneBad all r.sound; asked = r.asked ∙ ap events_of_lines all }
 lines_done text number events (Some lines) r none = absurd (none lines refl)

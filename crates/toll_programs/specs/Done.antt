@@ -3,7 +3,7 @@ use Rattle.std.specs.Prelude.{ℕ, Result}
 use Rattle.toll_programs.specs.Common.{Bytes, PlantCmd, PlantReply, Meaning, ImportFault, ImportReport}
 use Rattle.toll_desk.specs.PlantServed.{IsPlantServed}
 use Rattle.toll_programs.specs.Imported.{IsImported}
-use Rattle.toll_programs.specs.Told.{IsImportTold, IsReplyTold, Streams}
+use Rattle.toll_programs.specs.StreamOutput.{IsImportTold, IsReplyTold, Streams}
 
 -- a command was done over a keep, and what it was answered was told
 abbrev pub IsCommandDone : {K : Type 0} → Meaning K → K → K → PlantCmd → Streams → ℕ → Type 0

@@ -5,7 +5,7 @@ use Rattle.toll_desk.specs.Reads.{Over}
 use Rattle.toll_protocol.specs.declared.streams.sink.Sink as sink
 use Rattle.toll_protocol.specs.declared.streams.source.Source as source
 use Rattle.toll_wire.specs.OfficeRuns.{AreServed, IsRunOf}
-use Rattle.toll_programs.specs.Asked.{deeds_of}
+use Rattle.toll_programs.specs.ScriptEvents.{script_events_of}
 use Rattle.toll_programs.specs.Inputs.{IsTooLong, IsWhole}
 use Rattle.toll_programs.specs.Printing.{printed}
 use Rattle.toll_programs.specs.Script.{AsksFor, IsFirstBad, NoneBad, StopsForMemory, script_lines}
@@ -20,7 +20,7 @@ pub record RanOver {K : Type 0} (meaning : Meaning K) (old new : K) (events : Li
 -- the input's events, in order, got these answers, and so they ran
 pub record Runs (Ran : List Event → List Answer → Type 0) (input : Bytes) (answers : List Answer) : Type 0 where
   pub events : List Event
-  pub asked : AsksFor input (deeds_of events)
+  pub asked : AsksFor input (script_events_of events)
   pub ran : Ran events answers
 
 -- a script that was read from one stream was run, and the lines of its answers went to another

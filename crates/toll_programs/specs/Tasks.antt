@@ -5,37 +5,37 @@ use Rattle.toll_plant.specs.Readings.{number_within}
 use Rattle.toll_programs.specs.declared.task.TheConstants.{IMPORT_USAGE, MOST_CONNECTIONS, SERVE_USAGE, USAGE}
 
 -- a script; a command or question in these words, an import, or so many connections on a port, over the office in a file
-pub data Asking : Type 0 where
-  Script : Asking
-  Words : (file : Bytes) (words : List Bytes) → Asking
-  Import : (file actuals : Bytes) → Asking
-  Serve : (file : Bytes) (port count : ℕ) → Asking
+pub data RequestedTask : Type 0 where
+  Script : RequestedTask
+  Words : (file : Bytes) (words : List Bytes) → RequestedTask
+  Import : (file actuals : Bytes) → RequestedTask
+  Serve : (file : Bytes) (port count : ℕ) → RequestedTask
 
 -- a port of 16 bits, and at least one connection
-abbrev pub asked_of_numbers : (file port count : Bytes) → Option Asking
-asked_of_numbers file port count = option_and_then (λ p. option_map (Serve file p) (number_within 1 MOST_CONNECTIONS count)) (number_within 0 65535 port)
+abbrev pub serve_task : (file port count : Bytes) → Option RequestedTask
+serve_task file port count = option_and_then (λ p. option_map (Serve file p) (number_within 1 MOST_CONNECTIONS count)) (number_within 0 65535 port)
 
 -- behind `serve` stand a port and a count
-abbrev pub asked_of_serving : (file : Bytes) → List Bytes → Option Asking
-asked_of_serving file (port ∷ count ∷ []) = asked_of_numbers file port count
-asked_of_serving file _ = None
+abbrev pub serving_task : (file : Bytes) → List Bytes → Option RequestedTask
+serving_task file (port ∷ count ∷ []) = serve_task file port count
+serving_task file _ = None
 
 -- behind `import` stands the name of a file of actuals
-abbrev pub asked_of_import : (file : Bytes) → List Bytes → Option Asking
-asked_of_import file (actuals ∷ []) = Some (Import file actuals)
-asked_of_import file _ = None
+abbrev pub import_task : (file : Bytes) → List Bytes → Option RequestedTask
+import_task file (actuals ∷ []) = Some (Import file actuals)
+import_task file _ = None
 
 -- over the office in a file: words of which the first is `import` or `serve` are none of the plant's
-abbrev pub asked_of_office : (file : Bytes) → List Bytes → Option Asking
-asked_of_office file [] = None
-asked_of_office file (first ∷ words) =
-    if bytes_eq first (codes "import") then asked_of_import file words
-    else (if bytes_eq first (codes "serve") then asked_of_serving file words else Some (Words file (first ∷ words)))
+abbrev pub office_task : (file : Bytes) → List Bytes → Option RequestedTask
+office_task file [] = None
+office_task file (first ∷ words) =
+    if bytes_eq first (codes "import") then import_task file words
+    else (if bytes_eq first (codes "serve") then serving_task file words else Some (Words file (first ∷ words)))
 
-abbrev pub asked_for : List Bytes → Option Asking
-asked_for (word ∷ []) = if bytes_eq word (codes "script") then Some Script else None
-asked_for (word ∷ file ∷ words) = if bytes_eq word (codes "--db") then asked_of_office file words else None
-asked_for _ = None
+abbrev pub requested_task : List Bytes → Option RequestedTask
+requested_task (word ∷ []) = if bytes_eq word (codes "script") then Some Script else None
+requested_task (word ∷ file ∷ words) = if bytes_eq word (codes "--db") then office_task file words else None
+requested_task _ = None
 
 -- how the form is called that stands behind the file, where it has a usage of its own
 abbrev pub usage_for_form : List Bytes → Option Bytes

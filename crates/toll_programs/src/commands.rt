@@ -1,7 +1,7 @@
 //! One command or question of the plant, as the program answers it.
 ghost use Rattle.toll_programs.specs.Done.{IsCommandDone};
 ghost use Rattle.toll_programs.specs.Printing.{refusal_line};
-ghost use Rattle.toll_programs.specs.Told.{IsReplyTold, IsShownIfRoom, streams_of};
+ghost use Rattle.toll_programs.specs.StreamOutput.{IsReplyTold, IsShownIfRoom, streams_of};
 
 use crate::printing::{fault_line, refusal_text};
 use crate::status::Status;

@@ -9,13 +9,13 @@ pub fn cut(text: &[u8], at: u8) -> Option<(&[u8], &[u8])>
         (λ parts. pieces_at at text.now ≡ parts.0.now ∷ pieces_at at parts.1.now) }
     ensures shorter { IfSome result (λ parts. length parts.1.now < length text.now) }
 {
-    match place_of(text, at) {
+    match position_of(text, at) {
         None => None,
         Some(place) => Some((&text[..place], &text[place + 1..])),
     }
 }
 
-fn place_of(text: &[u8], byte: u8) -> Option<usize>
+fn position_of(text: &[u8], byte: u8) -> Option<usize>
     ensures { result ≡ position (λ b. b == byte) text.now }
 {
     text.iter().position(|b| *b == byte)

@@ -1,5 +1,5 @@
 //! How the program ends after a script.
-ghost use Rattle.toll_programs.specs.Told.{IsEndTold, stream_of};
+ghost use Rattle.toll_programs.specs.StreamOutput.{IsEndTold, stream_of};
 
 use crate::scripts::ScriptEnd;
 use crate::status::Status;

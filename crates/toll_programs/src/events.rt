@@ -1,7 +1,7 @@
 //! The events of a script.
 ghost use Rattle.std.specs.Prelude.{◌≡◌, ◌∷◌, ◌<◌, ◌≤◌, IfOk, IfErr, IfSome, OnOk, Ok, Err, map, length, option_map};
 ghost use Rattle.std.specs.Str.{is_utf8};
-ghost use Rattle.toll_programs.specs.Asked.{deeds_of, IsFaultOf, GivesEvent, Gives, Adds, lines_in, IsFaultOfScript};
+ghost use Rattle.toll_programs.specs.ScriptEvents.{script_events_of, IsFaultOf, GivesEvent, Gives, Adds, lines_in, IsFaultOfScript};
 ghost use Rattle.toll_programs.specs.Script.{AsksFor, script_lines, asked_by, request_asked, command_asked, is_request, takes_memory, words_in};
 
 use crate::cutting::cut;
@@ -28,7 +28,7 @@ enum LineFault {
 
 /// The events of the lines of a script, in order.
 pub fn events_of(alloc: Global, text: &[u8]) -> Result<Vec<Event>, ScriptFault>
-    ensures events { IfOk result (λ events. AsksFor text.now (deeds_of events.items)) }
+    ensures events { IfOk result (λ events. AsksFor text.now (script_events_of events.items)) }
     ensures fault { IfErr result (IsFaultOfScript text.now) }
 {
     let mut events = Vec::new(alloc);

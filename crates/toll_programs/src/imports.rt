@@ -4,7 +4,7 @@ ghost use Rattle.std.specs.List.{list_any};
 ghost use Rattle.toll_plant.specs.Outcomes.{is_fault};
 ghost use Rattle.toll_programs.specs.Done.{IsImportDone};
 ghost use Rattle.toll_programs.specs.Statuses.{after_lines, is_turned_away};
-ghost use Rattle.toll_programs.specs.Told.{IsImportTold, IsReportTold, after_refused_file, refused_file, streams_of};
+ghost use Rattle.toll_programs.specs.StreamOutput.{IsImportTold, IsReportTold, after_refused_file, refused_file, streams_of};
 
 use crate::status::Status;
 use crate::telling::{tell, warn};

@@ -3,37 +3,37 @@
 //! of a server: what is asked is handed to it, and what it tells is passed on.
 #![tactic(auto)]
 
-mod asking;
+mod calling;
 mod commands;
+mod connector;
 mod cutting;
 mod ending;
 mod events;
-mod handing;
 mod imports;
 mod input;
 mod laws;
-mod noting;
-mod passing;
 mod printing;
+mod printing_responses;
 mod request_line;
 mod scripts;
 mod status;
 mod task;
 mod telling;
+mod tracked_stream;
 mod version;
 
-pub use asking::{Connector, ask_server};
+pub use calling::run_on_server;
 pub use commands::plant_line;
+pub use connector::{Connector, try_server};
 pub use ending::tell_end;
-pub use handing::hand_over;
 pub use imports::{plant_import, show_import};
 pub use input::{FrontFault, read_front};
 pub use laws::{limits_are_those_defined, the_usage_has_every_command};
-pub use noting::{Noted, Noting};
 pub use request_line::RequestLine;
 pub use scripts::{ScriptEnd, script};
 pub use status::Status;
 pub use task::{MOST_CONNECTIONS, Task, task_of, usage_of};
 pub use telling::{numbered, tell, warn};
 pub use toll_plant::MOST_FILE_BYTES;
+pub use tracked_stream::{TrackedStream, TracksReads};
 pub use version::VERSION;

@@ -1,7 +1,7 @@
 //! The words that the program is called with.
 ghost use Rattle.std.specs.Prelude.{◌≡◌, map, option_map};
 ghost use Rattle.toll_programs.specs.ShownTask.{shown_task};
-ghost use Rattle.toll_programs.specs.Tasks.{asked_for, asked_of_import, asked_of_office, asked_of_serving, usage_for, usage_for_form};
+ghost use Rattle.toll_programs.specs.Tasks.{import_task, office_task, requested_task, serving_task, usage_for, usage_for_form};
 
 use toll_base::number;
 
@@ -77,7 +77,7 @@ PORT is 0 to 65535, and 0 takes a free one; COUNT, from 1 to 1000000, is how man
 /// What the words behind the program's name ask for: `None` where they are none of its four forms.
 /// Words behind the file of which the first is `import` or `serve` are no command of the plant's.
 pub fn task_of<'a>(words: &'a [&'a str]) -> Option<Task<'a>>
-    ensures { option_map shown_task result ≡ asked_for (map (λ w. w.now) words.entry.now) }
+    ensures { option_map shown_task result ≡ requested_task (map (λ w. w.now) words.entry.now) }
 {
     match words {
         [word] if *word == "script" => Some(Task::Script),
@@ -88,7 +88,7 @@ pub fn task_of<'a>(words: &'a [&'a str]) -> Option<Task<'a>>
 
 // What is asked for over the office in a file.
 fn task_of_office<'a>(file: &'a str, words: &'a [&'a str]) -> Option<Task<'a>>
-    ensures { option_map shown_task result ≡ asked_of_office file.now (map (λ w. w.now) words.entry.now) }
+    ensures { option_map shown_task result ≡ office_task file.now (map (λ w. w.now) words.entry.now) }
 {
     match words {
         [] => None,
@@ -99,7 +99,7 @@ fn task_of_office<'a>(file: &'a str, words: &'a [&'a str]) -> Option<Task<'a>>
 }
 
 fn task_of_import<'a>(file: &'a str, words: &'a [&'a str]) -> Option<Task<'a>>
-    ensures { option_map shown_task result ≡ asked_of_import file.now (map (λ w. w.now) words.entry.now) }
+    ensures { option_map shown_task result ≡ import_task file.now (map (λ w. w.now) words.entry.now) }
 {
     match words {
         [actuals] => Some(Task::Import { file, actuals }),
@@ -108,7 +108,7 @@ fn task_of_import<'a>(file: &'a str, words: &'a [&'a str]) -> Option<Task<'a>>
 }
 
 fn task_of_serving<'a>(file: &'a str, words: &'a [&'a str]) -> Option<Task<'a>>
-    ensures { option_map shown_task result ≡ asked_of_serving file.now (map (λ w. w.now) words.entry.now) }
+    ensures { option_map shown_task result ≡ serving_task file.now (map (λ w. w.now) words.entry.now) }
 {
     let [port, count] = words else {
         return None;

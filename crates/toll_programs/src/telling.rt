@@ -1,6 +1,6 @@
 //! What the program writes, and how it ends.
 ghost use Rattle.std.specs.Prelude.{◌≡◌, ◌≤◌, ◌++◌, codes, decimal, length};
-ghost use Rattle.toll_programs.specs.Told.{IsTold, IsWarned, stream_of};
+ghost use Rattle.toll_programs.specs.StreamOutput.{IsTold, IsWarned, stream_of};
 
 use crate::status::Status;
 use arrayvec::ArrayString;

@@ -3,10 +3,10 @@ use Rattle.std.proofs.Common.{◌≡◌, ◌∙◌, ℕ, List, drop, map, sym, a
 use Rattle.httparse.specs.Grammar.{RequestHead}
 use Rattle.httparse.specs.Spans.{name_and_value}
 use Rattle.toll_protocol.specs.Head.{IsHeadOf}
-use Rattle.toll_protocol.specs.Arriving.{Outcome, Arrives, checked}
+use Rattle.toll_protocol.specs.Parsing.{ParseResult, IsParsedAs, checked}
 use Rattle.toll_protocol.proofs.Fronts.{one_head, one_len}
 
-pub arrives_once : (text : List ℕ) (a b : Outcome) → Arrives text a → Arrives text b → a ≡ b
+pub arrives_once : (text : List ℕ) (a b : ParseResult) → IsParsedAs text a → IsParsedAs text b → a ≡ b
 arrives_once text a b (inl one) (inl two) =
     let (n, h, is, e) = one in
     let (m, k, other, f) = two in

@@ -2,8 +2,8 @@
 use Rattle.std.proofs.Common.{◌≡◌, ◌≢◌, ℕ, ◌+◌, ◌<◌, true, false, List, [], ◌∷◌, length, get_or, drop, map, refl, sym, ap, ◌∙◌, add-one}
 use Rattle.std.proofs.Math.Seq.{drop-cons}
 use Rattle.toll_protocol.specs.Found.{seen}
-use Rattle.toll_protocol.specs.declared.http_messages.field.Found.{Found}
-use Rattle.toll_protocol.specs.declared.http_messages.field.Found.TheVariants.{Absent, Once, Several}
+use Rattle.toll_protocol.specs.declared.http_messages.field.FieldMatch.{FieldMatch}
+use Rattle.toll_protocol.specs.declared.http_messages.field.FieldMatch.TheVariants.{Absent, Once, Several}
 use Rattle.toll_protocol.specs.Fields.{Pair, Seen, absent, once, several, found_among, values_of, is_named}
 
 -- what was found so far, and the values that are left
@@ -51,7 +51,7 @@ module _ {A : Type 0} (h : A → Pair) (name : List ℕ) (xs : List A) (i : ℕ)
       → joined s (values_of name (map h (drop i xs))) ≡ all → joined s (values_of name (map h (drop (i + 1) xs))) ≡ all
   step_no lt test inv = sym (ap (joined s) (values_no h name xs i d lt test)) ∙ inv
 
-pub seen_present : (f : Found) → (f ≡ Absent → ⊥) → seen f ≢ absent
+pub seen_present : (f : FieldMatch) → (f ≡ Absent → ⊥) → seen f ≢ absent
 seen_present Absent no_such = absurd (no_such refl)
 seen_present (Once v) no_such = λ e. cc e
 seen_present Several no_such = λ e. cc e

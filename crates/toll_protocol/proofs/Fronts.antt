@@ -11,7 +11,7 @@ use Rattle.toll_protocol.specs.declared.http_messages.failure.Failure.TheVariant
 use Rattle.toll_protocol.specs.Limits.{body_limit}
 use Rattle.toll_protocol.specs.Fields.{Pair, named, is_present, length_claimed}
 use Rattle.toll_protocol.specs.Head.{EndsHead, IsHeadLen, IsHeadOf, IsSearched}
-use Rattle.toll_protocol.specs.Arriving.{Outcome, refused, Arrives, IsSettled, HasBody, checked, by_length, host_fails}
+use Rattle.toll_protocol.specs.Parsing.{ParseResult, refused, IsParsedAs, IsSettled, HasBody, checked, by_length, host_fails}
 
 front : (text more : List ℕ) (n : ℕ) → n ≤ length text → take n (text ++ more) ≡ take n text
 front text more n le = take-append-le n text more le
@@ -70,12 +70,12 @@ checked_more : (h : RequestHead) (rest more : List ℕ) → HasBody h rest
     → checked h (map name_and_value h.fields) (rest ++ more) ≡ checked h (map name_and_value h.fields) rest
 checked_more h rest more enough =
     let fields = map name_and_value h.fields in
-    ap (λ (t : Outcome). cond (host_fails h.minor (named (codes "host") fields)) (refused BadRequest)
+    ap (λ (t : ParseResult). cond (host_fails h.minor (named (codes "host") fields)) (refused BadRequest)
     (cond (is_present (named (codes "transfer-encoding") fields)) (refused NotImplemented) t))
     (length_more (length_claimed (named (codes "content-length") fields)) h fields rest more enough)
 
 -- the text says what it says with more behind it
-settled_then : (text more : List ℕ) (outcome : Outcome) → IsSettled text → Arrives text outcome → Arrives (text ++ more) outcome
+settled_then : (text more : List ℕ) (outcome : ParseResult) → IsSettled text → IsParsedAs text outcome → IsParsedAs (text ++ more) outcome
 settled_then text more outcome (inl far) (inl head) = let (n, h, is, e) = head in absurd (far.0 n is.shortest.within is.short is.shortest.ends)
 settled_then text more outcome (inl far) (inr none) =
     inr (
@@ -107,7 +107,7 @@ settled_then text more outcome (inr near) (inr none) =
     )
 
 -- and with more behind it what it says without
-settled_back : (text more : List ℕ) (outcome : Outcome) → IsSettled text → Arrives (text ++ more) outcome → Arrives text outcome
+settled_back : (text more : List ℕ) (outcome : ParseResult) → IsSettled text → IsParsedAs (text ++ more) outcome → IsParsedAs text outcome
 settled_back text more outcome (inl far) (inl head) =
     let (n, h, is, e) = head in
     let le : n ≤ length text = omega (arith, is.short, far.1) in
@@ -123,7 +123,7 @@ settled_back text more outcome (inr near) (inl head) =
     inl (n, h, there, e ∙ rw (same, drop-append-le n text more len.within) (checked_more h (drop n text) more (enough h there)))
 settled_back text more outcome (inr near) (inr none) = inr (λ n h is. none.0 n h (head_more text more n h is), none.1)
 
-pub settled : (text more : List ℕ) (outcome : Outcome) → IsSettled text → Arrives text outcome ↔ Arrives (text ++ more) outcome
+pub settled : (text more : List ℕ) (outcome : ParseResult) → IsSettled text → IsParsedAs text outcome ↔ IsParsedAs (text ++ more) outcome
 settled text more outcome is = (settled_then text more outcome is, settled_back text more outcome is)
 
 -- a text with a head is settled where the body is there

@@ -6,6 +6,6 @@ pub mod HeadLemmas
 pub mod Fronts
 pub mod Takes
 pub mod Arrivals
-pub mod ParcelLemmas
+pub mod FrameLemmas
 pub mod WordLemmas
 pub mod MessageLemmas

@@ -1,16 +1,16 @@
 -- Messages are read in one way.
 use Rattle.std.proofs.Common.{◌≡◌, ◌∙◌, ℕ, ◌<◌, ◌≤◌, ◌^◌, List, [], ◌++◌, length, Option, None, Some, sym, ap, refl, arith, length-append}
-use Rattle.toll_protocol.specs.PlantMessages.{IsAskedBy, IsToldBy, asked_text, file_text, told_text}
-use Rattle.toll_protocol.specs.Parcels.{Holds, IsParcelOf, parcel}
+use Rattle.toll_protocol.specs.PlantMessages.{IsCall, IsResponse, call_text, file_text, response_text}
+use Rattle.toll_protocol.specs.Frames.{HasFrame, IsFrameOf, frame}
 use Rattle.toll_protocol.specs.Words.{words_text}
-use Rattle.toll_protocol.specs.declared.parcels.asked.TheConstants.{MOST_ASKED_BYTES}
-use Rattle.toll_protocol.proofs.ParcelLemmas.{one_held, one_parcel}
+use Rattle.toll_protocol.specs.declared.frames.call.TheConstants.{MOST_CALL_BYTES}
+use Rattle.toll_protocol.proofs.FrameLemmas.{one_held, one_parcel}
 use Rattle.toll_protocol.proofs.WordLemmas.{one_list}
 
--- a text is the parcel of one content
-pub one_content : (most : ℕ) (text a b : List ℕ) → most < 2 ^ 32 → IsParcelOf most text a → IsParcelOf most text b → a ≡ b
+-- a text is the frame of one content
+pub one_content : (most : ℕ) (text a b : List ℕ) → most < 2 ^ 32 → IsFrameOf most text a → IsFrameOf most text b → a ≡ b
 one_content most text a b short p q =
-    let same : parcel a ++ [] ≡ parcel b ++ [] = ap (λ t. t ++ []) (sym p.0 ∙ q.0) in
+    let same : frame a ++ [] ≡ frame b ++ [] = ap (λ t. t ++ []) (sym p.0 ∙ q.0) in
     (one_parcel a b [] [] (omega (arith, p.1)) (omega (arith, q.1)) same).0
 
 one_file : (file other : Option (List ℕ)) → file_text file ≡ file_text other → file ≡ other
@@ -19,32 +19,32 @@ one_file None (Some other) same = absurd cc
 one_file (Some file) None same = absurd cc
 one_file (Some file) (Some other) same = cc
 
-words_short : (words : List (List ℕ)) (file : Option (List ℕ)) → length (words_text words) ≤ length (asked_text words file)
+words_short : (words : List (List ℕ)) (file : Option (List ℕ)) → length (words_text words) ≤ length (call_text words file)
 words_short words file = omega (arith, length-append (words_text words) (file_text file))
 
-pub one_asked : (text : List ℕ) (words others : List (List ℕ)) (file another : Option (List ℕ)) → IsAskedBy text words file → IsAskedBy text others another
+pub one_asked : (text : List ℕ) (words others : List (List ℕ)) (file another : Option (List ℕ)) → IsCall text words file → IsCall text others another
     → (words ≡ others) × (file ≡ another)
 one_asked text words others file another p q =
-    let same = one_content _ text (asked_text words file) (asked_text others another) (omega arith) p.1 q.1 in
+    let same = one_content _ text (call_text words file) (call_text others another) (omega arith) p.1 q.1 in
     let (texts, files) = one_parcel (words_text words) (words_text others) (file_text file) (file_text another)
     (omega (arith, p.1.1, words_short words file)) (omega (arith, q.1.1, words_short others another)) same in
     (one_list words others p.0 q.0 texts, one_file file another files)
 
 -- the parts of what is asked are those that stand in it
-pub asked_parts : (text content front rest : List ℕ) (words : List (List ℕ)) (file : Option (List ℕ)) → IsParcelOf MOST_ASKED_BYTES text content
-    → Holds MOST_ASKED_BYTES content front rest → IsAskedBy text words file → (front ≡ words_text words) × (rest ≡ file_text file)
+pub asked_parts : (text content front rest : List ℕ) (words : List (List ℕ)) (file : Option (List ℕ)) → IsFrameOf MOST_CALL_BYTES text content
+    → HasFrame MOST_CALL_BYTES content front rest → IsCall text words file → (front ≡ words_text words) × (rest ≡ file_text file)
 asked_parts text content front rest words file is held asked =
-    let same : content ≡ asked_text words file = one_content _ text content (asked_text words file) (omega arith) is asked.1 in
+    let same : content ≡ call_text words file = one_content _ text content (call_text words file) (omega arith) is asked.1 in
     one_held _ content front (words_text words) rest (file_text file) (omega arith) held (same, omega (arith, asked.1.1, words_short words file))
 
-told_short : (status : ℕ) (output error : List ℕ) → length output ≤ length (told_text status output error)
+told_short : (status : ℕ) (output error : List ℕ) → length output ≤ length (response_text status output error)
 told_short status output error = omega (arith, length-append output error)
 
-pub one_told : (text : List ℕ) (status other : ℕ) (output error another wrong : List ℕ) → IsToldBy text status output error → IsToldBy text other another wrong
+pub one_told : (text : List ℕ) (status other : ℕ) (output error another wrong : List ℕ) → IsResponse text status output error → IsResponse text other another wrong
     → (status ≡ other) × (output ≡ another) × (error ≡ wrong)
 one_told text status other output error another wrong p q =
-    let same = one_content _ text (told_text status output error) (told_text other another wrong) (omega arith) p q in
-    let rest : parcel output ++ error ≡ parcel another ++ wrong = cc in
+    let same = one_content _ text (response_text status output error) (response_text other another wrong) (omega arith) p q in
+    let rest : frame output ++ error ≡ frame another ++ wrong = cc in
     let (outputs, errors) = one_parcel output another error wrong
     (omega (arith, p.1, told_short status output error)) (omega (arith, q.1, told_short other another wrong)) rest in
     (cc, outputs, errors)

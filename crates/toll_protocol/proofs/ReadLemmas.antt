@@ -5,12 +5,12 @@ use Rattle.std.proofs.lemmas.List.{take-append-le}
 use Rattle.std.proofs.lemmas.List.Elements.{All-append, All-cons, All-nil}
 use Rattle.std.proofs.lemmas.List.Folds.{concat-append}
 use Rattle.std.proofs.Math.Seq.{take-append_seam}
-use Rattle.toll_protocol.specs.Streams.{AllGave, IsEachReadWhile, OneMoreRead, ReadsWhile}
+use Rattle.toll_protocol.specs.Streams.{AllNonEmpty, IsEachReadWhile, OneMoreRead, ReadsWhile}
 
 -- it was read only while this was so of what it gave meanwhile, which is this, by reads that each gave something
 pub record GaveWhile (P : List ℕ → Type 0) (old new : Option (List (List ℕ))) (given : List ℕ) : Type 0 where
   pub chunks_after : (before : List (List ℕ)) → old ≡ Some before
-      → (chunks : List (List ℕ)) × (new ≡ Some (before ++ chunks)) × (concat chunks ≡ given) × AllGave chunks × IsEachReadWhile P chunks
+      → (chunks : List (List ℕ)) × (new ≡ Some (before ++ chunks)) × (concat chunks ≡ given) × AllNonEmpty chunks × IsEachReadWhile P chunks
 
 told_more : (b c : Option (List (List ℕ))) (before chunks : List (List ℕ)) (bytes : List ℕ) → b ≡ Some (before ++ chunks) → OneMoreRead b c bytes
     → c ≡ Some (before ++ (chunks ++ bytes ∷ []))
@@ -19,10 +19,10 @@ told_more b c before chunks bytes told one =
     next ∙ ap (λ l. Some l) (append_assoc before chunks (bytes ∷ []))
 
 module _ (P : List ℕ → Type 0) where
-  each_more : (chunks : List (List ℕ)) (bytes : List ℕ) → IsEachReadWhile P chunks → AllGave chunks → P (concat chunks)
+  each_more : (chunks : List (List ℕ)) (bytes : List ℕ) → IsEachReadWhile P chunks → AllNonEmpty chunks → P (concat chunks)
       → IsEachReadWhile P (chunks ++ bytes ∷ [])
   each_more chunks bytes each full so i lt =
-      let IsFront : List (List ℕ) → Type 0 = λ front. AllGave front × P (concat front) in
+      let IsFront : List (List ℕ) → Type 0 = λ front. AllNonEmpty front × P (concat front) in
       below_more (λ k. IsFront (take k (chunks ++ bytes ∷ []))) (length chunks)
       (λ k below. subst IsFront (sym (take-append-le k chunks (bytes ∷ []) (omega arith))) (each k below))
       (subst IsFront (sym (take-append_seam chunks (bytes ∷ []))) (full, so)) i (omega (arith, lt, length-append chunks (bytes ∷ [])))

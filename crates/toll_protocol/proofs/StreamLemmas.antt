@@ -3,7 +3,7 @@ use Rattle.std.proofs.Common.{◌≡◌, ◌∙◌, ℕ, ◌<◌, Bool, true, fa
 use Rattle.std.specs.Prelude.{◌==◌, IfSome}
 use Rattle.std.specs.Io.KnownBytes.{Consumes, IsAtEnd}
 use Rattle.std.proofs.lemmas.Bool.Decides.{nat_tests}
-use Rattle.toll_protocol.specs.Streams.{HasFailed, Notes}
+use Rattle.toll_protocol.specs.Streams.{HasFailed, RecordsFailure}
 
 -- ---- bytes
 
@@ -15,23 +15,23 @@ read_all (Some input) (Some rest) given p end = sym (p ∙ (ap (λ l. given ++ l
 
 -- ---- failures
 
-pub none_failed : (a : Option Bool) → Notes a a false
+pub none_failed : (a : Option Bool) → RecordsFailure a a false
 none_failed None = tt
 none_failed (Some true) = refl
 none_failed (Some false) = refl
 
-pub none_more_failed : (a b c : Option Bool) → Notes a b false → Notes b c false → Notes a c false
+pub none_more_failed : (a b c : Option Bool) → RecordsFailure a b false → RecordsFailure b c false → RecordsFailure a c false
 none_more_failed None b c p q = tt
-none_more_failed (Some true) b c p q = let same = subst (λ (o : Option Bool). Notes o c false) p q in same
-none_more_failed (Some false) b c p q = let same = subst (λ (o : Option Bool). Notes o c false) p q in same
+none_more_failed (Some true) b c p q = let same = subst (λ (o : Option Bool). RecordsFailure o c false) p q in same
+none_more_failed (Some false) b c p q = let same = subst (λ (o : Option Bool). RecordsFailure o c false) p q in same
 
-pub one_failed : (a b c : Option Bool) → Notes a b false → Notes b c true → HasFailed a c
+pub one_failed : (a b c : Option Bool) → RecordsFailure a b false → RecordsFailure b c true → HasFailed a c
 one_failed None b c p q is = absurd (cc is)
 one_failed (Some true) b c p q is = absurd (cc is)
-one_failed (Some false) b c p q is = let same = subst (λ (o : Option Bool). Notes o c true) p q in same
+one_failed (Some false) b c p q is = let same = subst (λ (o : Option Bool). RecordsFailure o c true) p q in same
 
 -- a write that took some bytes didn't fail
-pub none_failed_by_some : (a b c : Option Bool) (n : ℕ) → 0 < n → Notes a b false → Notes b c (n == 0) → Notes a c false
+pub none_failed_by_some : (a b c : Option Bool) (n : ℕ) → 0 < n → RecordsFailure a b false → RecordsFailure b c (n == 0) → RecordsFailure a c false
 none_failed_by_some a b c n some p q =
     let taken : (n == 0) ≡ false = grind (arith, nat_tests) in
-    none_more_failed a b c p (subst (Notes b c) taken q)
+    none_more_failed a b c p (subst (RecordsFailure b c) taken q)

@@ -2,15 +2,15 @@
 use Rattle.std.proofs.Common.{◌∙◌, ℕ, List, ◌++◌, sym, ap, subst, Option, None, Some, append-nil, inl, inr}
 use Rattle.std.specs.Prelude.{◌⊎◌, ◌↔◌, IfSome}
 use Rattle.std.specs.Io.KnownBytes.{Consumes, IsAtEnd}
-use Rattle.toll_protocol.specs.Arriving.{Arrives, IsSettled, Outcome}
+use Rattle.toll_protocol.specs.Parsing.{IsParsedAs, IsSettled, ParseResult}
 use Rattle.toll_protocol.proofs.Fronts.{settled}
 
 -- what was read comes to what the stream comes to
 pub same_as_stream : (a b : Option (List ℕ)) (given : List ℕ) → Consumes a b given → IsSettled given ⊎ IsAtEnd b
-    → IfSome a (λ stream. (outcome : Outcome) → Arrives given outcome ↔ Arrives stream outcome)
+    → IfSome a (λ stream. (outcome : ParseResult) → IsParsedAs given outcome ↔ IsParsedAs stream outcome)
 same_as_stream None b given p enough = tt
 same_as_stream (Some stream) None given p enough = absurd p
 same_as_stream (Some stream) (Some rest) given p (inl is) =
-    λ outcome. subst (λ s. Arrives given outcome ↔ Arrives s outcome) (sym p) (settled given rest outcome is)
+    λ outcome. subst (λ s. IsParsedAs given outcome ↔ IsParsedAs s outcome) (sym p) (settled given rest outcome is)
 same_as_stream (Some stream) (Some rest) given p (inr end) =
-    λ outcome. subst (λ s. Arrives given outcome ↔ Arrives s outcome) (sym (p ∙ (ap (λ l. given ++ l) end ∙ append-nil given))) (λ x. x, λ x. x)
+    λ outcome. subst (λ s. IsParsedAs given outcome ↔ IsParsedAs s outcome) (sym (p ∙ (ap (λ l. given ++ l) end ∙ append-nil given))) (λ x. x, λ x. x)

@@ -8,9 +8,9 @@ pub mod Head
 pub mod Filled
 pub mod Fields
 pub mod Found
-pub mod Arriving
-pub mod Arrived
+pub mod Parsing
+pub mod Parsed
 pub mod HttpMessages
-pub mod Parcels
+pub mod Frames
 pub mod Words
 pub mod PlantMessages

@@ -1,6 +1,6 @@
 -- The limits of a request.
 use Rattle.std.specs.Prelude.{ℕ, ◌+◌}
-use Rattle.toll_protocol.specs.declared.http_messages.arrival.TheConstants.{BODY_LIMIT}
+use Rattle.toll_protocol.specs.declared.http_messages.http_request.TheConstants.{BODY_LIMIT}
 use Rattle.toll_protocol.specs.declared.http_messages.head.TheConstants.{HEAD_LIMIT, FIELD_LIMIT}
 
 -- how many bytes a head may have

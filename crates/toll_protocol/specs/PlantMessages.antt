@@ -1,10 +1,10 @@
 -- What the plant and the server of a file say to one another.
 use Rattle.std.specs.Prelude.{◌≡◌, ℕ, ◌≤◌, List, [], ◌∷◌, ◌++◌, Option, Some, None, codes, length}
 use Rattle.toll_base.specs.Bytes.{Bytes}
-use Rattle.toll_protocol.specs.Parcels.{IsParcelOf, parcel}
+use Rattle.toll_protocol.specs.Frames.{IsFrameOf, frame}
 use Rattle.toll_protocol.specs.Words.{AreWords, words_text}
-use Rattle.toll_protocol.specs.declared.parcels.asked.TheConstants.{MOST_ASKED_BYTES}
-use Rattle.toll_protocol.specs.declared.parcels.told.TheConstants.{MOST_TOLD_BYTES}
+use Rattle.toll_protocol.specs.declared.frames.call.TheConstants.{MOST_CALL_BYTES}
+use Rattle.toll_protocol.specs.declared.frames.response.TheConstants.{MOST_RESPONSE_BYTES}
 
 -- nothing, or a 1 and the bytes of the file
 abbrev pub file_text : Option Bytes → Bytes
@@ -12,34 +12,34 @@ file_text None = []
 file_text (Some file) = 1 ∷ file
 
 -- what the plant asks: words, and the file that they name, if they name one
-abbrev pub asked_text : List Bytes → Option Bytes → Bytes
-asked_text words file = parcel (words_text words) ++ file_text file
+abbrev pub call_text : List Bytes → Option Bytes → Bytes
+call_text words file = frame (words_text words) ++ file_text file
 
 -- the words are words, and all of it is short enough
-abbrev pub CanBeAsked : List Bytes → Option Bytes → Type 0
-CanBeAsked words file = AreWords words × (length (asked_text words file) ≤ MOST_ASKED_BYTES)
+abbrev pub FitsCall : List Bytes → Option Bytes → Type 0
+FitsCall words file = AreWords words × (length (call_text words file) ≤ MOST_CALL_BYTES)
 
--- the text is a parcel that asks this
-abbrev pub IsAskedBy : Bytes → List Bytes → Option Bytes → Type 0
-IsAskedBy text words file = AreWords words × IsParcelOf MOST_ASKED_BYTES text (asked_text words file)
+-- the text is a frame of this call
+abbrev pub IsCall : Bytes → List Bytes → Option Bytes → Type 0
+IsCall text words file = AreWords words × IsFrameOf MOST_CALL_BYTES text (call_text words file)
 
 -- the text asks this and nothing else
-abbrev pub AsksOnly : Bytes → List Bytes → Option Bytes → Type 0
-AsksOnly text words file = (others : List Bytes) (another : Option Bytes) → IsAskedBy text others another → (words ≡ others) × (file ≡ another)
+abbrev pub IsOnlyCall : Bytes → List Bytes → Option Bytes → Type 0
+IsOnlyCall text words file = (others : List Bytes) (another : Option Bytes) → IsCall text others another → (words ≡ others) × (file ≡ another)
 
 -- what the plant is told: an exit status, what goes to standard output, and what goes to standard error
-abbrev pub told_text : ℕ → Bytes → Bytes → Bytes
-told_text status output error = status ∷ parcel output ++ error
+abbrev pub response_text : ℕ → Bytes → Bytes → Bytes
+response_text status output error = status ∷ frame output ++ error
 
--- the text is a parcel that tells this
-abbrev pub IsToldBy : Bytes → ℕ → Bytes → Bytes → Type 0
-IsToldBy text status output error = IsParcelOf MOST_TOLD_BYTES text (told_text status output error)
+-- the text is a frame of this response
+abbrev pub IsResponse : Bytes → ℕ → Bytes → Bytes → Type 0
+IsResponse text status output error = IsFrameOf MOST_RESPONSE_BYTES text (response_text status output error)
 
 -- the text tells this and nothing else
-abbrev pub TellsOnly : Bytes → ℕ → Bytes → Bytes → Type 0
-TellsOnly text status output error = (other : ℕ) (another wrong : Bytes) → IsToldBy text other another wrong
+abbrev pub IsOnlyResponse : Bytes → ℕ → Bytes → Bytes → Type 0
+IsOnlyResponse text status output error = (other : ℕ) (another wrong : Bytes) → IsResponse text other another wrong
     → (status ≡ other) × (output ≡ another) × (error ≡ wrong)
 
 -- what a server says first: which build it is
-abbrev pub greeting_text : Bytes → Bytes
-greeting_text version = codes "toll " ++ version
+abbrev pub handshake_text : Bytes → Bytes
+handshake_text version = codes "toll " ++ version

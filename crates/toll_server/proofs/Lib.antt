@@ -1,4 +1,4 @@
-pub mod HallLemmas
-pub mod PlaceLemmas
+pub mod ConnectionLemmas
+pub mod ExpiryLemmas
 pub mod RunLemmas
 pub mod TallyLemmas

@@ -1,11 +1,11 @@
--- What a world has done, step by step; and who stays meanwhile.
+-- What a network has done, step by step; and who stays meanwhile.
 use Rattle.std.proofs.Common.{◌≡◌, ◌≢◌, ℕ, Option, None, Some, sym, subst}
 use Rattle.std.specs.Prelude.{IfSome, option_map}
 use Rattle.slab.specs.Slab.{Slab, get}
-use Rattle.toll_server.specs.Halls.{KeepsHeard}
-use Rattle.toll_server.specs.Stages.{progress_of}
-use Rattle.toll_server.specs.Worlds.{Tallies, Tally}
-use Rattle.toll_server.specs.declared.peer.Peer.{Peer}
+use Rattle.toll_server.specs.Connections.{KeepsSubmitted}
+use Rattle.toll_server.specs.ConnectionStates.{last_poll}
+use Rattle.toll_server.specs.Networks.{Tallies, Tally}
+use Rattle.toll_server.specs.declared.connection.Connection.{Connection}
 
 pub tallies_same : (P : Tally → Tally → Type 0) (a b c : Option Tally) → c ≡ b → Tallies P a b → Tallies P a c
 tallies_same P a b c is p = subst (Tallies P a) (sym is) p
@@ -27,11 +27,11 @@ tallies_then P R Q (Some t) (Some u) None p r more = absurd r
 tallies_then P R Q (Some t) (Some u) (Some v) p r more = more t u v p r
 
 module _ {S T : Type 0} where
-  keep_more : (key : ℕ) (old middle new : Option (Peer S T)) → IfSome old (λ peer. progress_of peer.stage ≢ None → middle ≡ Some peer)
-      → IfSome middle (λ peer. progress_of peer.stage ≢ None → new ≡ Some peer) → IfSome old (λ peer. progress_of peer.stage ≢ None → new ≡ Some peer)
+  keep_more : (key : ℕ) (old middle new : Option (Connection S T)) → IfSome old (λ connection. last_poll connection.state ≢ None → middle ≡ Some connection)
+      → IfSome middle (λ connection. last_poll connection.state ≢ None → new ≡ Some connection) → IfSome old (λ connection. last_poll connection.state ≢ None → new ≡ Some connection)
   keep_more key None middle new p q = tt
-  keep_more key (Some peer) middle new p q = λ some.
-      let stays = subst (λ (o : Option (Peer S T)). IfSome o (λ peer. progress_of peer.stage ≢ None → new ≡ Some peer)) (p some) q in stays some
+  keep_more key (Some connection) middle new p q = λ some.
+      let stays = subst (λ (o : Option (Connection S T)). IfSome o (λ connection. last_poll connection.state ≢ None → new ≡ Some connection)) (p some) q in stays some
 
-  pub keeps_more : (old middle new : Slab (Peer S T)) → KeepsHeard old middle → KeepsHeard middle new → KeepsHeard old new
+  pub keeps_more : (old middle new : Slab (Connection S T)) → KeepsSubmitted old middle → KeepsSubmitted middle new → KeepsSubmitted old new
   keeps_more old middle new p q key = keep_more key (get old key) (get middle key) (get new key) (p key) (q key)

@@ -1,6 +1,6 @@
-pub mod Askings
-pub mod Stages
+pub mod RequestBuffers
+pub mod ConnectionStates
 pub mod Runs
 pub mod Steps
-pub mod Worlds
-pub mod Halls
+pub mod Networks
+pub mod Connections

@@ -1,21 +1,21 @@
--- What was handed to the office, one turn after another.
+-- What was handed to the service, one turn after another.
 use Rattle.std.specs.Prelude.{◌≡◌, ◌==◌, ℕ, List, [], ◌∷◌, ⊤, Option, None, Some, if◌then◌else◌}
-use Rattle.toll_server.specs.Stages.{left_by}
-use Rattle.toll_server.specs.declared.door.Door.{Door}
-use Rattle.toll_server.specs.declared.progress.Progress.{Progress}
+use Rattle.toll_server.specs.ConnectionStates.{pending_task}
+use Rattle.toll_server.specs.declared.listener.Listener.{Listener}
+use Rattle.toll_server.specs.declared.poll.Poll.{Poll}
 
--- what is handed to the office: a request, which came in by that door, or a task that it left
-pub data Handed (T : Type 0) : Type 0 where
-  Request : (door : Door) → (asked : List ℕ) → Handed T
-  Task : (task : T) → Handed T
+-- what is handed to the service: a request, which came in at that listener, or a task that it left
+pub data Input (T : Type 0) : Type 0 where
+  Request : (listener : Listener) → (request : List ℕ) → Input T
+  Task : (task : T) → Input T
 
--- a turn of the office: for whom it was, by a number; what was handed to it; and what came of it
+-- a turn of the service: for whom it was, by a number; what was handed to it; and what came of it
 pub record Turn (T : Type 0) : Type 0 where
   pub whose : ℕ
-  pub handed : Handed T
-  pub progress : Progress T
+  pub input : Input T
+  pub poll : Poll T
 
--- what the office has left to do for whom
+-- what the service has left to do for whom
 abbrev pub Tasks : Type 0 → Type 0
 Tasks T = ℕ → Option T
 
@@ -26,7 +26,7 @@ module _ {T : Type 0} where
 
   -- what is left to do after a turn
   abbrev pub after_turn : Tasks T → Turn T → Tasks T
-  after_turn left turn whose = if whose == turn.whose then left_by turn.progress else left whose
+  after_turn left turn whose = if whose == turn.whose then pending_task turn.poll else left whose
 
   -- the same after several, one after another
   abbrev pub after_turns : Tasks T → List (Turn T) → Tasks T
@@ -34,27 +34,27 @@ module _ {T : Type 0} where
   after_turns left (turn ∷ turns) = after_turns (after_turn left turn) turns
 
   -- for whom nothing is left to do, a request is handed on, and for whom a task is left, that task
-  abbrev pub IsOwn : Option T → Handed T → Type 0
-  IsOwn left (Request door asked) = left ≡ None
+  abbrev pub IsOwn : Option T → Input T → Type 0
+  IsOwn left (Request listener request) = left ≡ None
   IsOwn left (Task task) = left ≡ Some task
 
   -- so it is with each turn after those before it: each task is handed on once, for whom it was left
   abbrev pub AreOwn : Tasks T → List (Turn T) → Type 0
   AreOwn left [] = ⊤
-  AreOwn left (turn ∷ turns) = IsOwn (left turn.whose) turn.handed × AreOwn (after_turn left turn) turns
+  AreOwn left (turn ∷ turns) = IsOwn (left turn.whose) turn.input × AreOwn (after_turn left turn) turns
 
-module _ {O T : Type 0} (answers : O → Door → List ℕ → Progress T → O → Type 0) (goes_on : O → T → Progress T → O → Type 0) where
-  -- what was handed to this office comes to that, and leaves such an office
-  abbrev pub ComesTo : O → Handed T → Progress T → O → Type 0
-  ComesTo old (Request door asked) progress new = answers old door asked progress new
-  ComesTo old (Task task) progress new = goes_on old task progress new
+module _ {O T : Type 0} (answers : O → Listener → List ℕ → Poll T → O → Type 0) (resumes : O → T → Poll T → O → Type 0) where
+  -- what was handed to this service comes to that, and leaves such a service
+  abbrev pub Yields : O → Input T → Poll T → O → Type 0
+  Yields old (Request listener request) poll new = answers old listener request poll new
+  Yields old (Task task) poll new = resumes old task poll new
 
-  -- each turn is one of the office that those before it left
+  -- each turn is one of the service that those before it left
   abbrev pub Runs : O → List (Turn T) → O → Type 0
   Runs old [] new = new ≡ old
-  Runs old (turn ∷ turns) new = (middle : O) × ComesTo old turn.handed turn.progress middle × Runs middle turns new
+  Runs old (turn ∷ turns) new = (middle : O) × Yields old turn.input turn.poll middle × Runs middle turns new
 
-  -- the office became this one by turns, and by nothing else; and what was left to do became what is left
+  -- the service became this one by turns, and by nothing else; and what was left to do became what is left
   pub record IsRun (old new : O) (left now_left : Tasks T) : Type 0 where
     pub turns : List (Turn T)
     pub runs : Runs old turns new

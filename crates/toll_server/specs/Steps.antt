@@ -1,26 +1,26 @@
--- One step of a peer.
+-- One step of a connection.
 use Rattle.std.specs.Prelude.{◌≡◌, ◌↔◌, ◌⊎◌, ◌+◌, ◌-◌, ◌^◌, ℕ, min, Bool, List, [], ◌++◌, length, Option, Some, None, IsSome, option_map}
 use Rattle.std.specs.Io.KnownBytes.{Appends, Consumes, IsAtEnd}
 use Rattle.toll_protocol.specs.Streams.{HasFailed, bytes_between}
-use Rattle.toll_protocol.specs.declared.streams.outgoing.Outgoing.{Outgoing}
+use Rattle.toll_protocol.specs.declared.streams.response_writer.ResponseWriter.{ResponseWriter}
 use Rattle.toll_protocol.specs.declared.streams.sink.Sink as sink
-use Rattle.toll_server.specs.Askings.{IsWhole, came_of, door_of}
-use Rattle.toll_server.specs.Stages.{progress_of, reply_of, task_of}
-use Rattle.toll_server.specs.declared.asking.Asking.{Asking}
-use Rattle.toll_server.specs.declared.door.Door.{Door}
-use Rattle.toll_server.specs.declared.peer.Peer.{Peer}
-use Rattle.toll_server.specs.declared.peer.TheConstants.{MOST_MILLISECONDS}
-use Rattle.toll_server.specs.declared.progress.Progress.{Progress}
-use Rattle.toll_server.specs.declared.progress.Progress.TheVariants.{Left}
-use Rattle.toll_server.specs.declared.step.Step.{Step}
-use Rattle.toll_server.specs.declared.step.Step.TheVariants.{Waits, Answered}
+use Rattle.toll_server.specs.RequestBuffers.{IsComplete, bytes_received, listener_of}
+use Rattle.toll_server.specs.ConnectionStates.{last_poll, reply_of, task_of}
+use Rattle.toll_server.specs.declared.request_buffer.RequestBuffer.{RequestBuffer}
+use Rattle.toll_server.specs.declared.listener.Listener.{Listener}
+use Rattle.toll_server.specs.declared.connection.Connection.{Connection}
+use Rattle.toll_server.specs.declared.connection.TheConstants.{MOST_MILLISECONDS}
+use Rattle.toll_server.specs.declared.poll.Poll.{Poll}
+use Rattle.toll_server.specs.declared.poll.Poll.TheVariants.{Pending}
+use Rattle.toll_server.specs.declared.step_result.StepResult.{StepResult}
+use Rattle.toll_server.specs.declared.step_result.StepResult.TheVariants.{Waits, Answered}
 
 -- the reply, all of it, once there is one
-abbrev pub text_of : Option Outgoing → Option (List ℕ)
+abbrev pub text_of : Option ResponseWriter → Option (List ℕ)
 text_of reply = option_map (λ r. r.bytes.items) reply
 
 -- how many bytes of it were written
-abbrev pub written_of : Option Outgoing → ℕ
+abbrev pub written_of : Option ResponseWriter → ℕ
 written_of None = 0
 written_of (Some r) = r.written
 
@@ -29,62 +29,63 @@ abbrev pub part_of : Option (List ℕ) → ℕ → ℕ → List ℕ
 part_of None begun done = []
 part_of (Some text) begun done = bytes_between begun done text
 
--- the socket was given the bytes of the reply that follow those that it was given before, and no others
-abbrev pub Gave : Option (List ℕ) → Option (List ℕ) → Option Outgoing → Option Outgoing → Type 0
-Gave held now_held was now = Appends held now_held (part_of (text_of now) (written_of was) (written_of now))
+-- the stream was given the bytes of the reply that follow those that it was given before, and no others
+abbrev pub WritesNextBytes : Option (List ℕ) → Option (List ℕ) → Option ResponseWriter → Option ResponseWriter → Type 0
+WritesNextBytes held now_held was now = Appends held now_held (part_of (text_of now) (written_of was) (written_of now))
 
 -- all of the reply was written
-abbrev pub IsGiven : Option Outgoing → Type 0
-IsGiven None = ⊥
-IsGiven (Some r) = r.written ≡ length r.bytes.items
+abbrev pub IsWhollyWritten : Option ResponseWriter → Type 0
+IsWhollyWritten None = ⊥
+IsWhollyWritten (Some r) = r.written ≡ length r.bytes.items
 
 module _ {O T : Type 0} where
-  -- the office answers all that came from a peer, once that is whole; who has a task or a reply keeps it, and the office does nothing
-  abbrev pub Hands : (O → Door → List ℕ → Progress T → O → Type 0) → Option (Progress T) → Option (Progress T) → Asking → O → O → Type 0
-  Hands answers None None asking old new = new ≡ old
-  Hands answers None (Some progress) asking old new = answers old (door_of asking) (came_of asking) progress new
-  Hands answers (Some was) now asking old new = (now ≡ Some was) × (new ≡ old)
+  -- the service answers all that came from a connection, once that is whole; who has a task or a reply keeps it, and the service does nothing
+  abbrev pub AnswersWhenComplete : (O → Listener → List ℕ → Poll T → O → Type 0) → Option (Poll T) → Option (Poll T) → RequestBuffer → O → O → Type 0
+  AnswersWhenComplete answers None None request old new = new ≡ old
+  AnswersWhenComplete answers None (Some poll) request old new = answers old (listener_of request) (bytes_received request) poll new
+  AnswersWhenComplete answers (Some was) now request old new = (now ≡ Some was) × (new ≡ old)
 
-  -- the office goes on with a peer's task, once; where it has none, nothing comes of it, and the office does nothing
-  abbrev pub HandsOn : (O → T → Progress T → O → Type 0) → Option (Progress T) → Option (Progress T) → O → O → Type 0
-  HandsOn goes_on (Some (Left task)) None old new = ⊥
-  HandsOn goes_on (Some (Left task)) (Some progress) old new = goes_on old task progress new
-  HandsOn goes_on was now old new = (now ≡ was) × (new ≡ old)
+  -- the service goes on with a connection's task, once; where it has none, nothing comes of it, and the service does nothing
+  abbrev pub ResumesTask : (O → T → Poll T → O → Type 0) → Option (Poll T) → Option (Poll T) → O → O → Type 0
+  ResumesTask resumes (Some (Pending task)) None old new = ⊥
+  ResumesTask resumes (Some (Pending task)) (Some poll) old new = resumes old task poll new
+  ResumesTask resumes was now old new = (now ≡ was) × (new ≡ old)
 
--- what has come of a request is what the socket gave behind what had come; and once it was handed to the office, it was all that it takes, or the stream's end
-pub record Came (unread now_unread : Option (List ℕ)) (was now : Asking) (IsHanded : Type 0) : Type 0 where
+-- what was received of a request is what the stream gave behind what was received before; and once it was handed to the service, it was all that it takes, or
+-- the stream's end
+pub record Received (unread now_unread : Option (List ℕ)) (was now : RequestBuffer) (IsHanded : Type 0) : Type 0 where
   pub given : List ℕ
   pub rest : Option (List ℕ)
   pub consumed : Consumes unread rest given
-  pub behind : came_of now ≡ came_of was ++ given
-  pub same_door : door_of now ≡ door_of was
-  pub early : ¬ IsHanded → (now_unread ≡ rest) × ¬ (IsWhole now)
-  pub whole : IsHanded → IsWhole now ⊎ IsAtEnd rest
+  pub behind : bytes_received now ≡ bytes_received was ++ given
+  pub same_listener : listener_of now ≡ listener_of was
+  pub early : ¬ IsHanded → (now_unread ≡ rest) × ¬ (IsComplete now)
+  pub whole : IsHanded → IsComplete now ⊎ IsAtEnd rest
 
 module _ {S T : Type 0} where
-  -- who was not handed to the office was heard
-  abbrev pub Hears : (S → Option (List ℕ)) → Peer S T → Peer S T → Type 0
-  Hears unread old new =
-      progress_of old.stage ≡ None → Came (unread old.socket) (unread new.socket) old.request new.request (IsSome (progress_of new.stage))
+  -- who was not handed to the service was read
+  abbrev pub ReceivesRequest : (S → Option (List ℕ)) → Connection S T → Connection S T → Type 0
+  ReceivesRequest unread old new =
+      last_poll old.state ≡ None → Received (unread old.stream) (unread new.stream) old.request new.request (IsSome (last_poll new.state))
 
   -- whose request isn't whole has met a read that failed, as one does that would wait
-  abbrev pub IsUnread : (S → Option Bool) → Peer S T → Peer S T → Type 0
-  IsUnread reads old new = progress_of new.stage ≡ None → HasFailed (reads old.socket) (reads new.socket)
+  abbrev pub IsReadBlocked : (S → Option Bool) → Connection S T → Connection S T → Type 0
+  IsReadBlocked reads old new = last_poll new.state ≡ None → HasFailed (reads old.stream) (reads new.stream)
 
-  -- the socket was given the next bytes of the reply; the step is the last where it has all of them, and where it waits for the socket, a write
-  -- has failed, as one does that would wait; who has a task waits
-  pub record Writes (to : sink.Ghosts S) (old new : Peer S T) (step : Step) : Type 0 where
-    pub gave : Gave (to.held old.socket) (to.held new.socket) (reply_of old.stage) (reply_of new.stage)
-    pub given : step ≡ Answered ↔ IsGiven (reply_of new.stage)
-    pub stuck : step ≡ Waits → IsSome (reply_of new.stage) → HasFailed (to.has_failed old.socket) (to.has_failed new.socket)
-    pub pending : IsSome (task_of new.stage) → step ≡ Waits
+  -- the stream was given the next bytes of the reply; the step is the last where it has all of them, and where it waits for the stream, a write has failed,
+  -- as one does that would wait; who has a task waits
+  pub record Writes (to : sink.Ghosts S) (old new : Connection S T) (step : StepResult) : Type 0 where
+    pub wrote : WritesNextBytes (to.held old.stream) (to.held new.stream) (reply_of old.state) (reply_of new.state)
+    pub given : step ≡ Answered ↔ IsWhollyWritten (reply_of new.state)
+    pub blocked : step ≡ Waits → IsSome (reply_of new.state) → HasFailed (to.has_failed old.stream) (to.has_failed new.stream)
+    pub pending : IsSome (task_of new.state) → step ≡ Waits
 
--- when the time is over that a peer has from this moment on
-abbrev pub until_from : ℕ → ℕ
-until_from now = min (now + MOST_MILLISECONDS) (2 ^ 64 - 1)
+-- when the time is over that a connection has from this moment on
+abbrev pub deadline_from : ℕ → ℕ
+deadline_from now = min (now + MOST_MILLISECONDS) (2 ^ 64 - 1)
 
 -- the time for the reply begins when there is one, and no other time changes
-abbrev pub until_after : Option Outgoing → Option Outgoing → ℕ → ℕ → ℕ
-until_after None None until now = until
-until_after None (Some r) until now = until_from now
-until_after (Some was) reply until now = until
+abbrev pub deadline_after : Option ResponseWriter → Option ResponseWriter → ℕ → ℕ → ℕ
+deadline_after None None deadline now = deadline
+deadline_after None (Some r) deadline now = deadline_from now
+deadline_after (Some was) reply deadline now = deadline

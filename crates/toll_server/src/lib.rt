@@ -1,27 +1,28 @@
-//! Many peers side by side, and one office that answers their requests one after another. The sockets, the
-//! clock and the waiting are a `World`'s, so that all that is decided here is proved over any.
+//! Many connections side by side, and one service that answers their requests one after another. The
+//! streams, the clock and the waiting are a `Network`'s, so that all that is decided here is proved over
+//! any.
 #![tactic(auto)]
 
-mod among;
-mod asking;
-mod door;
-mod hall;
-mod office;
-mod peer;
-mod places;
-mod progress;
+mod connection;
+mod connection_state;
+mod connections;
+mod expiry;
+mod filter;
+mod listener;
+mod network;
+mod poll;
+mod request_buffer;
+mod service;
 mod serving;
-mod stage;
-mod step;
-mod world;
+mod step_result;
 
-pub use asking::Asking;
-pub use door::Door;
-pub use office::Office;
-pub use peer::{MOST_MILLISECONDS, Peer};
-pub use progress::Progress;
-pub use serving::{Served, serve};
-pub use stage::Stage;
-pub use step::Step;
-pub use toll_protocol::Socket;
-pub use world::{Coming, World, WorldFault};
+pub use connection::{Connection, MOST_MILLISECONDS};
+pub use connection_state::ConnectionState;
+pub use listener::Listener;
+pub use network::{Accepted, Network, NetworkFault};
+pub use poll::Poll;
+pub use request_buffer::RequestBuffer;
+pub use service::Service;
+pub use serving::{ServingEnd, serve};
+pub use step_result::StepResult;
+pub use toll_protocol::Stream;

@@ -1,77 +1,77 @@
-//! Serving peers side by side.
+//! Serving connections side by side.
 ghost use Rattle.std.specs.Prelude.{◌≡◌};
-ghost use Rattle.toll_server.specs.Halls.{tasks_in};
+ghost use Rattle.toll_server.specs.Connections.{tasks_in};
 ghost use Rattle.toll_server.specs.Runs.{IsRun, IsWholeRun};
-ghost use Rattle.toll_server.specs.Worlds.{EndsSo, Tallies};
+ghost use Rattle.toll_server.specs.Networks.{EndsSo, Tallies};
 
-use crate::hall::Hall;
-use crate::office::Office;
-use crate::world::World;
+use crate::connections::Connections;
+use crate::network::Network;
+use crate::service::Service;
 use std::alloc::Global;
 
 /// How serving ended.
 #[derive(Clone, Copy, Debug, PartialEq, Eq)]
-pub enum Served {
-    /// So many owners as were to come have come, and all peers have left.
+pub enum ServingEnd {
+    /// So many owners as were to be accepted were, and all connections are closed.
     All,
     /// There was nothing to wait for, or no connection could ever be taken again.
     Fault,
-    /// The world was waited for 18,446,744,073,709,551,615 times.
+    /// The network was waited for 18,446,744,073,709,551,615 times.
     Spent,
 }
 
-/// How many peers go on after one wait.
+/// How many connections go on after one wait.
 const MOST_READY: usize = 4096;
 
-/// Serves so many owners side by side, and those of the plant that come meanwhile. Each request is handed to
-/// the office as soon as it is complete. Where that leaves something to do, the office goes on with it turn
-/// by turn, between which requests are handed to it that became complete meanwhile. It changes by nothing
-/// else.
-pub fn serve<W: World, O: Office>(
+/// Serves so many owners side by side, and those of the plant that come meanwhile. Each request is handed
+/// to the service as soon as it is complete. Where that leaves something to do, the service goes on with it
+/// turn by turn, between which requests are handed to it that became complete meanwhile. It changes by
+/// nothing else.
+pub fn serve<W: Network, O: Service>(
     alloc: Global,
-    world: &mut W,
-    office: &mut O,
+    network: &mut W,
+    service: &mut O,
     count: u64,
-) -> Served
-    ensures run { IsWholeRun O.answers O.goes_on office.old office.new (result ≡ Served.All) }
-    ensures end { Tallies (EndsSo result count) (W.tally world.old) (W.tally world.new) }
+) -> ServingEnd
+    ensures run { IsWholeRun O.answers O.resumes service.old service.new (result ≡ ServingEnd.All) }
+    ensures end { Tallies (EndsSo result count) (W.tally network.old) (W.tally network.new) }
 {
-    let mut hall = Hall::new(alloc, count);
+    let mut connections = Connections::new(alloc, count);
     for _ in 0..u64::MAX {
-        if hall.let_in(alloc, world).is_err() {
-            return Served::Fault;
+        if connections.accept(alloc, network).is_err() {
+            return ServingEnd::Fault;
         }
-        if hall.is_over() {
-            return Served::All;
+        if connections.is_over() {
+            return ServingEnd::All;
         }
-        let patience = hall.patience(world.now());
-        if world.wait(patience).is_err() {
-            return Served::Fault;
+        let wait_limit = connections.wait_limit(network.now());
+        if network.wait(wait_limit).is_err() {
+            return ServingEnd::Fault;
         }
-        // what an answer takes is nobody's time but the office's
-        let now = world.now();
-        advance_all(alloc, world, &mut hall, office);
-        hall.go_on(alloc, office, now);
-        hall.turn_out(now);
+        // what an answer takes is no connection's time
+        let now = network.now();
+        advance_all(alloc, network, &mut connections, service);
+        connections.resume(alloc, service, now);
+        connections.close_expired(now);
     }
-    Served::Spent
+    ServingEnd::Spent
 }
 
 // Takes those as far as they go who may go on.
-fn advance_all<W: World, O: Office>(
+fn advance_all<W: Network, O: Service>(
     alloc: Global,
-    world: &mut W,
-    hall: &mut Hall<W::Socket, O::Task>,
-    office: &mut O,
+    network: &mut W,
+    connections: &mut Connections<W::Stream, O::Task>,
+    service: &mut O,
 )
-    ensures run { IsRun O.answers O.goes_on office.old office.new (tasks_in hall.old.peers) (tasks_in hall.new.peers) }
-    ensures tally { W.tally world.new ≡ W.tally world.old }
-    ensures to_come { hall.new.to_come ≡ hall.old.to_come }
+    ensures run { IsRun O.answers O.resumes service.old service.new (tasks_in connections.old.slots) (tasks_in connections.new.slots) }
+    ensures tally { W.tally network.new ≡ W.tally network.old }
+    ensures owners_left { connections.new.owners_left ≡ connections.old.owners_left }
 {
     for _ in 0..MOST_READY {
-        let Some(key) = world.next_ready() else {
+        let Some(key) = network.next_ready() else {
             break;
         };
-        hall.advance(alloc, key, office, world.now());
+        connections.advance(alloc, key, service, network.now());
     }
 }

@@ -12,17 +12,17 @@ pub use Rattle.toll_plant.specs.Common.{History, IsLawful}
 pub use Rattle.toll_plant.specs.ImportTexts.{import_text}
 pub use Rattle.toll_plant.specs.Imports.{AreNumbered, Comes, EndWith, HasValidValues, IsImport, commands_in, outcomes_in}
 pub use Rattle.toll_plant.specs.Outcomes.{is_fault, judged, outcome_of}
-pub use Rattle.toll_plant.specs.UnderWay.{HasActed, UnderWay, left_behind}
+pub use Rattle.toll_plant.specs.ImportStates.{HasActed, ImportState, left_behind}
 pub use Rattle.toll_plant.specs.declared.grouping.TheConstants.{GROUP_RECORDS}
 pub use Rattle.toll_plant.specs.declared.outcome.Outcome.{Outcome}
 pub use Rattle.toll_plant.specs.declared.report.ImportLine.{ImportLine}
-pub use Rattle.toll_programs.specs.Told.{IsFailing, IsImportTold, IsReplyTold, IsShown, IsShownIfRoom, IsTold, IsWarned, Streams, after_refused_file, no_memory, refused_file}
-pub use Rattle.toll_protocol.specs.PlantMessages.{IsAskedBy}
-pub use Rattle.toll_server.specs.Runs.{AreOwn, ComesTo, Handed, IsOwn, IsWholeRun, Request, Task, Tasks, Turn, after_turn}
-pub use Rattle.toll_server.specs.declared.door.Door.{Door}
-pub use Rattle.toll_server.specs.declared.door.Door.TheVariants.{Owners, Plant}
-pub use Rattle.toll_server.specs.declared.progress.Progress.{Progress}
-pub use Rattle.toll_server.specs.declared.progress.Progress.TheVariants.{Left, Told}
+pub use Rattle.toll_programs.specs.StreamOutput.{IsFailing, IsImportTold, IsReplyTold, IsShown, IsShownIfRoom, IsTold, IsWarned, Streams, after_refused_file, no_memory, refused_file}
+pub use Rattle.toll_protocol.specs.PlantMessages.{IsCall}
+pub use Rattle.toll_server.specs.Runs.{AreOwn, Input, IsOwn, IsWholeRun, Request, Task, Tasks, Turn, Yields, after_turn}
+pub use Rattle.toll_server.specs.declared.listener.Listener.{Listener}
+pub use Rattle.toll_server.specs.declared.listener.Listener.TheVariants.{Owners, Plant}
+pub use Rattle.toll_server.specs.declared.poll.Poll.{Poll}
+pub use Rattle.toll_server.specs.declared.poll.Poll.TheVariants.{Pending, Ready}
 pub use Rattle.toll_wire.specs.OfficeRuns.{AllShow, AreServed, IsRunOf, PlantShows}
 pub use Rattle.toll_wire.specs.Runs.{Answered, AreValid, Happening, IsRun}
 pub use Rattle.toll_wire.specs.Steps.{IsAnswered, http}

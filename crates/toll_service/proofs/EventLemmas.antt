@@ -1,16 +1,16 @@
--- What came in at the doors is a run of events.
+-- What came in at the listeners is a run of events.
 use Rattle.std.proofs.Common.{◌≡◌, ℕ, Bool, List, [], ◌∷◌, ◌++◌, Option, drop, Result, Ok, Err, refl, sym, subst, ap, ◌∙◌, inl, inr}
 use Rattle.std.specs.Prelude.{if◌then◌else◌, take}
-use Rattle.toll_service.proofs.Common.{list_any, append-nil, Bytes, PlantCmd, Content, Meaning, ComesTo as TurnComesTo, Handed, IsWholeRun, Request, Task, Turn, Door, Owners, Plant, Progress, Told, Left, EndWith, HasValidValues, outcomes_in, is_fault, HasActed, UnderWay, left_behind, GROUP_RECORDS, Outcome, Streams, AreServed, IsAnswered, Answer, Event}
+use Rattle.toll_service.proofs.Common.{list_any, append-nil, Bytes, PlantCmd, Content, Meaning, Yields as TurnComesTo, Input, IsWholeRun, Request, Task, Turn, Listener, Owners, Plant, Poll, Ready, Pending, EndWith, HasValidValues, outcomes_in, is_fault, HasActed, ImportState, left_behind, GROUP_RECORDS, Outcome, Streams, AreServed, IsAnswered, Answer, Event}
 use Rattle.toll_desk.specs.Reads.{Over}
 use Rattle.toll_keep.specs.declared.fault.KeepFault.{KeepFault}
 use Rattle.toll_plant.proofs.GroupChains.{all_take, calm_group, faulty_group, group_honest}
 use Rattle.toll_service.proofs.ImportRuns.{records_run}
 use Rattle.toll_service.proofs.Pieces.{run_behind, run_from, run_none}
-use Rattle.toll_service.specs.Doors.{ComesTo, IsDone, IsServedIfRoom, WentOn, lists_of}
+use Rattle.toll_service.specs.Listeners.{ImportResumed, ImportYields, IsDone, IsServedIfRoom, lists_of}
 use Rattle.toll_service.specs.Events.{AreAllEventsOf, AreEventsOf, AreGroupEvents, AreRecordEvents, AreTurnEvents, IsPrintedOf}
-use Rattle.toll_service.specs.Serving.{AnswersOver, GoesOnOver, HasServed, IsRunAs, IsRunWhereAnswered, RunsOver}
-use Rattle.toll_service.specs.Wanted.{Wanted, Does, Imports, Unknown, wanted_of}
+use Rattle.toll_service.specs.Serving.{AnswersOver, HasServed, IsRunAs, IsRunWhereAnswered, ResumesOver, RunsOver}
+use Rattle.toll_service.specs.Requested.{Requested, RunCommand, ImportFile, UnknownWords, requested_by_call}
 use Rattle.toll_wire.proofs.Serving.{all_honest, run_of, steps_of}
 use Rattle.toll_wire.specs.declared.event.Answer.TheVariants.{Bytes as Reply, Plant as CommandReply}
 use Rattle.toll_wire.specs.declared.event.Event.TheVariants.{Owner, Plant as Command}
@@ -51,21 +51,21 @@ module _ {K : Type 0} (meaning : Meaning K) (settled : (k : K) (c : Content) →
 
   -- ---- a request
 
-  done_ran : (old new : K) (wanted : Wanted) (s : Streams) (status : ℕ) → IsDone meaning old new wanted s status → Ran old new (λ events answers. IsPrintedOf wanted events answers s status)
-  done_ran old new (Does command) s status (reply, served, told) =
-      one_ran old new (Command command) (CommandReply reply) (λ events answers. IsPrintedOf (Does command) events answers s status) (new, served, refl) (refl, told)
-  done_ran old new (Imports file) s status (same, (fault, why, told)) =
-      nothing old new (λ events answers. IsPrintedOf (Imports file) events answers s status) same (Err fault, (refl, refl), told)
-  done_ran old new (Unknown words) s status (same, usage) = nothing old new (λ events answers. IsPrintedOf (Unknown words) events answers s status) same usage
+  done_ran : (old new : K) (wanted : Requested) (s : Streams) (status : ℕ) → IsDone meaning old new wanted s status → Ran old new (λ events answers. IsPrintedOf wanted events answers s status)
+  done_ran old new (RunCommand command) s status (reply, served, told) =
+      one_ran old new (Command command) (CommandReply reply) (λ events answers. IsPrintedOf (RunCommand command) events answers s status) (new, served, refl) (refl, told)
+  done_ran old new (ImportFile file) s status (same, (fault, why, told)) =
+      nothing old new (λ events answers. IsPrintedOf (ImportFile file) events answers s status) same (Err fault, (refl, refl), told)
+  done_ran old new (UnknownWords words) s status (same, usage) = nothing old new (λ events answers. IsPrintedOf (UnknownWords words) events answers s status) same usage
 
-  asked_ran : (old new : K) (door : Door) (asked : Bytes) (progress : Progress UnderWay) → IsServedIfRoom meaning old new door asked progress → Ran old new (AreTurnEvents (Request door asked) progress)
-  asked_ran old new Owners asked (Told told) (inl (goes_on, s)) =
+  asked_ran : (old new : K) (listener : Listener) (asked : Bytes) (poll : Poll ImportState) → IsServedIfRoom meaning old new listener asked poll → Ran old new (AreTurnEvents (Request listener asked) poll)
+  asked_ran old new Owners asked (Ready told) (inl (keep_usable, s)) =
       one_ran old new (Owner s.request) (Reply s.out) (AreEventsOf Owners asked told.items) (new, subst (λ bytes. IsAnswered meaning old new bytes s.out) (sym s.same) s.answered, refl) (s.same, s.tells)
-  asked_ran old new Owners asked (Told told) (inr (same, none)) = nothing old new (AreEventsOf Owners asked told.items) same none
-  asked_ran old new Owners asked (Left import) (inl (goes_on, never)) = absurd never
-  asked_ran old new Owners asked (Left import) (inr (same, never)) = absurd never
-  asked_ran old new Plant asked (Told told) (inl (goes_on, inl s)) =
-      so_are old new (λ events answers. IsPrintedOf (wanted_of s.words s.file) events answers (lists_of s.output s.error) s.status) (AreEventsOf Plant asked told.items)
+  asked_ran old new Owners asked (Ready told) (inr (same, none)) = nothing old new (AreEventsOf Owners asked told.items) same none
+  asked_ran old new Owners asked (Pending import) (inl (keep_usable, never)) = absurd never
+  asked_ran old new Owners asked (Pending import) (inr (same, never)) = absurd never
+  asked_ran old new Plant asked (Ready told) (inl (keep_usable, inl s)) =
+      so_are old new (λ events answers. IsPrintedOf (requested_by_call s.words s.file) events answers (lists_of s.output s.error) s.status) (AreEventsOf Plant asked told.items)
       (λ events answers printed. inl (record {
         words = s.words;
         file = s.file;
@@ -76,11 +76,11 @@ module _ {K : Type 0} (meaning : Meaning K) (settled : (k : K) (c : Content) →
         printed = printed;
         tells = s.telling.0;
       }))
-      (done_ran old new (wanted_of s.words s.file) (lists_of s.output s.error) s.status s.done)
-  asked_ran old new Plant asked (Told told) (inl (goes_on, inr (asks, same, none, on))) = nothing old new (AreEventsOf Plant asked told.items) same (inr (none, refl, refl))
-  asked_ran old new Plant asked (Told told) (inr (same, none)) = nothing old new (AreEventsOf Plant asked told.items) same (inr (none, refl, refl))
-  asked_ran old new Plant asked (Left import) (inl (goes_on, (begins, same, on))) = nothing old new (AreTurnEvents (Request Plant asked) (Left import)) same (begins, refl, refl)
-  asked_ran old new Plant asked (Left import) (inr (same, never)) = absurd never
+      (done_ran old new (requested_by_call s.words s.file) (lists_of s.output s.error) s.status s.done)
+  asked_ran old new Plant asked (Ready told) (inl (keep_usable, inr (asks, same, none, on))) = nothing old new (AreEventsOf Plant asked told.items) same (inr (none, refl, refl))
+  asked_ran old new Plant asked (Ready told) (inr (same, none)) = nothing old new (AreEventsOf Plant asked told.items) same (inr (none, refl, refl))
+  asked_ran old new Plant asked (Pending import) (inl (keep_usable, (begins, same, on))) = nothing old new (AreTurnEvents (Request Plant asked) (Pending import)) same (begins, refl, refl)
+  asked_ran old new Plant asked (Pending import) (inr (same, never)) = absurd never
 
   -- ---- an import that goes on
 
@@ -90,8 +90,8 @@ module _ {K : Type 0} (meaning : Meaning K) (settled : (k : K) (c : Content) →
   left_of (Ok done) told commands ends = let calm = calm_group (Ok done) told ends refl in rw calm refl
   left_of (Err fault) told commands ends = let faulty = faulty_group fault told ends in rw faulty refl
 
-  acted_ran : (old new : K) (was now : UnderWay) (progress : Progress UnderWay) (goes_on : Bool) → ComesTo now progress goes_on → HasActed meaning old new was now → Ran old new (AreGroupEvents was progress)
-  acted_ran old new was now progress goes_on comes acted =
+  acted_ran : (old new : K) (was now : ImportState) (poll : Poll ImportState) (keep_usable : Bool) → ImportYields now poll keep_usable → HasActed meaning old new was now → Ran old new (AreGroupEvents was poll)
+  acted_ran old new was now poll keep_usable comes acted =
       let group = take GROUP_RECORDS was.left in
       record {
         honest = group_honest meaning old new (record { commands = group; told = acted.told; end = acted.end }) acted.served;
@@ -107,38 +107,38 @@ module _ {K : Type 0} (meaning : Meaning K) (settled : (k : K) (c : Content) →
                 are = r.are;
                 said = acted.said;
                 left = acted.left ∙ left_of acted.end acted.told (drop GROUP_RECORDS was.left) acted.served.ends;
-                goes_on = goes_on;
+                keep_usable = keep_usable;
                 comes = comes;
               };
               run = run_from (meaning.holds new) H done.last r.events r.answers r.happenings r.told lawful r.shown r.valid r.run done.lawful done.left;
             };
       }
 
-  none_left : (was : UnderWay) (progress : Progress UnderWay) (goes_on : Bool) → was.left ≡ [] → ComesTo was progress goes_on → AreGroupEvents was progress [] []
-  none_left was progress goes_on none comes = record {
+  none_left : (was : ImportState) (poll : Poll ImportState) (keep_usable : Bool) → was.left ≡ [] → ImportYields was poll keep_usable → AreGroupEvents was poll [] []
+  none_left was poll keep_usable none comes = record {
     now = was;
     told = [];
     are = subst (λ left. AreRecordEvents [] (take GROUP_RECORDS left) [] []) (sym none) tt;
     said = sym (append-nil (outcomes_in was.lines));
     left = subst (λ left. left ≡ drop GROUP_RECORDS left) (sym none) refl;
-    goes_on = goes_on;
+    keep_usable = keep_usable;
     comes = comes;
   }
 
-  went_ran : (old new : K) (was : UnderWay) (progress : Progress UnderWay) (goes_on : Bool) → WentOn meaning old new was progress goes_on → Ran old new (AreGroupEvents was progress)
-  went_ran old new was progress goes_on w = elim w.went [
-    | inl acted ↦ acted_ran old new was w.now progress goes_on w.comes acted
-    | inr over ↦ nothing old new (AreGroupEvents was progress) over.1 (none_left was progress goes_on over.0 (subst (λ now. ComesTo now progress goes_on) over.2 w.comes))
+  went_ran : (old new : K) (was : ImportState) (poll : Poll ImportState) (keep_usable : Bool) → ImportResumed meaning old new was poll keep_usable → Ran old new (AreGroupEvents was poll)
+  went_ran old new was poll keep_usable w = elim w.resumed [
+    | inl acted ↦ acted_ran old new was w.now poll keep_usable w.comes acted
+    | inr over ↦ nothing old new (AreGroupEvents was poll) over.1 (none_left was poll keep_usable over.0 (subst (λ now. ImportYields now poll keep_usable) over.2 w.comes))
   ]
 
   -- ---- all turns
 
-  turn_ran : {O : Type 0} (keep : O → K) (old new : O) (handed : Handed UnderWay) (progress : Progress UnderWay)
-      → TurnComesTo (AnswersOver meaning keep) (GoesOnOver meaning keep) old handed progress new → Ran (keep old) (keep new) (AreTurnEvents handed progress)
-  turn_ran keep old new (Request door asked) progress one = asked_ran (keep old) (keep new) door asked progress one
-  turn_ran keep old new (Task import) progress (goes_on, went) = went_ran (keep old) (keep new) import progress goes_on went
+  turn_ran : {O : Type 0} (keep : O → K) (old new : O) (input : Input ImportState) (poll : Poll ImportState)
+      → TurnComesTo (AnswersOver meaning keep) (ResumesOver meaning keep) old input poll new → Ran (keep old) (keep new) (AreTurnEvents input poll)
+  turn_ran keep old new (Request listener asked) poll one = asked_ran (keep old) (keep new) listener asked poll one
+  turn_ran keep old new (Task import) poll (keep_usable, resumed) = went_ran (keep old) (keep new) import poll keep_usable resumed
 
-  one_part : (turn : Turn UnderWay) (turns : List (Turn UnderWay)) (events later : List Event) (answers behind : List Answer) → AreTurnEvents turn.handed turn.progress events answers
+  one_part : (turn : Turn ImportState) (turns : List (Turn ImportState)) (events later : List Event) (answers behind : List Answer) → AreTurnEvents turn.input turn.poll events answers
       → AreAllEventsOf turns later behind → AreAllEventsOf (turn ∷ turns) (events ++ later) (answers ++ behind)
   one_part turn turns events later answers behind one all = record {
     parts = record { turn = turn; events = events; answers = answers } ∷ all.parts;
@@ -148,10 +148,10 @@ module _ {K : Type 0} (meaning : Meaning K) (settled : (k : K) (c : Content) →
     answers_are = ap (λ others. answers ++ others) all.answers_are;
   }
 
-  turns_ran : {O : Type 0} (keep : O → K) (old new : O) (turns : List (Turn UnderWay)) → RunsOver meaning keep old turns new → Ran (keep old) (keep new) (AreAllEventsOf turns)
+  turns_ran : {O : Type 0} (keep : O → K) (old new : O) (turns : List (Turn ImportState)) → RunsOver meaning keep old turns new → Ran (keep old) (keep new) (AreAllEventsOf turns)
   turns_ran keep old new [] same = nothing (keep old) (keep new) (AreAllEventsOf []) (ap keep same) (record { parts = []; are = tt; turns_are = refl; events_are = refl; answers_are = refl })
   turns_ran keep old new (turn ∷ turns) (middle, one, rest) =
-      let first = turn_ran keep old middle turn.handed turn.progress one in
+      let first = turn_ran keep old middle turn.input turn.poll one in
       let others = turns_ran keep middle new turns rest in
       record {
         honest = λ now. first.honest (others.honest now);
@@ -167,19 +167,19 @@ module _ {K : Type 0} (meaning : Meaning K) (settled : (k : K) (c : Content) →
       }
 
   -- an office that has a keep is asked as the keep is
-  turn_over : {O : Type 0} (keep : O → K) (old new : O) (handed : Handed UnderWay) (progress : Progress UnderWay) → TurnComesTo (AnswersOver meaning keep) (GoesOnOver meaning keep) old handed progress new
-      → TurnComesTo (AnswersOver meaning (λ k. k)) (GoesOnOver meaning (λ k. k)) (keep old) handed progress (keep new)
-  turn_over keep old new (Request door asked) progress one = one
-  turn_over keep old new (Task import) progress one = one
+  turn_over : {O : Type 0} (keep : O → K) (old new : O) (input : Input ImportState) (poll : Poll ImportState) → TurnComesTo (AnswersOver meaning keep) (ResumesOver meaning keep) old input poll new
+      → TurnComesTo (AnswersOver meaning (λ k. k)) (ResumesOver meaning (λ k. k)) (keep old) input poll (keep new)
+  turn_over keep old new (Request listener asked) poll one = one
+  turn_over keep old new (Task import) poll one = one
 
-  runs_over : {O : Type 0} (keep : O → K) (old new : O) (turns : List (Turn UnderWay)) → RunsOver meaning keep old turns new → RunsOver meaning (λ k. k) (keep old) turns (keep new)
+  runs_over : {O : Type 0} (keep : O → K) (old new : O) (turns : List (Turn ImportState)) → RunsOver meaning keep old turns new → RunsOver meaning (λ k. k) (keep old) turns (keep new)
   runs_over keep old new [] same = ap keep same
-  runs_over keep old new (turn ∷ turns) (middle, one, rest) = (keep middle, turn_over keep old middle turn.handed turn.progress one, runs_over keep middle new turns rest)
+  runs_over keep old new (turn ∷ turns) (middle, one, rest) = (keep middle, turn_over keep old middle turn.input turn.poll one, runs_over keep middle new turns rest)
 
-  pub were_served : {O : Type 0} (keep : O → K) (old new : O) (turns : List (Turn UnderWay)) → IsRunWhereAnswered meaning keep old new turns
+  pub were_served : {O : Type 0} (keep : O → K) (old new : O) (turns : List (Turn ImportState)) → IsRunWhereAnswered meaning keep old new turns
   were_served keep old new turns runs = (turns_ran keep old new turns runs).run
 
-  pub has_served : {O : Type 0} (keep : O → K) (old new : O) (IsOver : Type 0) → IsWholeRun (AnswersOver meaning keep) (GoesOnOver meaning keep) old new IsOver → HasServed meaning (keep old) (keep new) IsOver
+  pub has_served : {O : Type 0} (keep : O → K) (old new : O) (IsOver : Type 0) → IsWholeRun (AnswersOver meaning keep) (ResumesOver meaning keep) old new IsOver → HasServed meaning (keep old) (keep new) IsOver
   has_served keep old new IsOver (left, run, over) = record {
     turns = run.turns;
     runs = runs_over keep old new run.turns run.runs;

@@ -2,7 +2,7 @@
 use Rattle.std.proofs.Common.{◌≡◌, Bool, true, false, List, [], ◌∷◌, Option, Some, None, Ok, refl, sym, ap, subst, ◌∙◌}
 use Rattle.toll_service.proofs.Common.{MatchBool, AllByRecursion, PlantCmd, PlantReply, History, Comes, HasValidValues, IsImport, is_fault, judged, outcome_of, Outcome, AllShow, PlantShows, http, Answer, Event}
 use Rattle.toll_plant.specs.Common.{Judged, IsPlantAnswer, after_plant, Verdict, Accepted, Repeated, Refused}
-use Rattle.toll_desk.specs.Asking.{asked_by, plant_told}
+use Rattle.toll_desk.specs.Translations.{asked_by, plant_told}
 use Rattle.toll_desk.specs.declared.plant_cmd.PlantReply.TheVariants as plant
 use Rattle.toll_plant.specs.declared.outcome.Outcome.TheVariants as came
 use Rattle.toll_service.specs.Events.{AreNone, AreRecordEvents}

@@ -6,4 +6,4 @@ pub mod EventLemmas
 pub mod WholeLemmas
 pub mod RequestLemmas
 pub mod UnwrittenLemmas
-pub mod SittingLemmas
+pub mod SessionLemmas

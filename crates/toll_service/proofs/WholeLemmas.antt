@@ -1,14 +1,14 @@
 -- All turns of one request.
 use Rattle.std.proofs.Common.{◌≡◌, ℕ, Bool, true, false, cond, List, [], ◌∷◌, ◌++◌, Option, Some, drop, Ok, refl, sym, ap, subst, ◌∙◌, append_assoc, take-append-drop, inl, arith}
 use Rattle.std.specs.Prelude.{◌==◌, ◌≢◌, take}
-use Rattle.toll_service.proofs.Common.{Vec, list_any, append-nil, Bytes, PlantCmd, AreOwn, Handed, IsOwn, Request, Task, Tasks, after_turn, Door, Owners, Plant, Progress, Told, Left, AreNumbered, commands_in, outcomes_in, is_fault, UnderWay, GROUP_RECORDS, Outcome, ImportLine, Answer, Event}
+use Rattle.toll_service.proofs.Common.{Vec, list_any, append-nil, Bytes, PlantCmd, AreOwn, Input, IsOwn, Request, Task, Tasks, after_turn, Listener, Owners, Plant, Poll, Ready, Pending, AreNumbered, commands_in, outcomes_in, is_fault, ImportState, GROUP_RECORDS, Outcome, ImportLine, Answer, Event}
 use Rattle.std.proofs.lemmas.Bool.Decides.{nat_tests}
 use Rattle.toll_base.proofs.Texts.{nat_eq-exact}
-use Rattle.toll_server.specs.Stages.{left_by}
+use Rattle.toll_server.specs.ConnectionStates.{pending_task}
 use Rattle.toll_service.proofs.RecordEvents.{records_longer, records_then}
-use Rattle.toll_service.specs.Doors.{BeginsImport, IsReportTelling, lists_of}
-use Rattle.toll_service.specs.Events.{AreEventsOf, AreGroupEvents, AreParts, AreRecordEvents, AreTurnEvents, IsPrintedOf, Part, answers_of, events_of, turns_of}
-use Rattle.toll_service.specs.Whole.{IsAllAsked, own_parts, told_or, told_to, up_to}
+use Rattle.toll_service.specs.Listeners.{BeginsImport, IsReportTelling, lists_of}
+use Rattle.toll_service.specs.Events.{AreEventsOf, AreGroupEvents, AreRecordEvents, AreServedTurns, AreTurnEvents, IsPrintedOf, ServedTurn, answers_of, events_of, turns_of}
+use Rattle.toll_service.specs.Whole.{IsAllAsked, first_response, own_parts, response_or, until_response}
 
 abbrev Commands : Type 0
 Commands = List (Option PlantCmd)
@@ -41,16 +41,16 @@ more_left false told more left behind events later answers others calm are some 
 -- ---- an import that is left
 
 -- the records that are left are these events, and this is told in the end
-record Ends (was : UnderWay) (text : Bytes) (events : List Event) (answers : List Answer) : Type 0 where
+record Ends (was : ImportState) (text : Bytes) (events : List Event) (answers : List Answer) : Type 0 where
   lines : List ImportLine
   told : List Outcome
   are : AreRecordEvents told was.left events answers
   said : outcomes_in lines ≡ outcomes_in was.lines ++ told
-  goes_on : Bool
-  telling : IsReportTelling lines text goes_on
+  keep_usable : Bool
+  telling : IsReportTelling lines text keep_usable
 
 -- its last turn
-last_turn : (was : UnderWay) (told : Vec ℕ) (events : List Event) (answers : List Answer) → AreGroupEvents was (Told told) events answers → Ends was told.items (events ++ []) (answers ++ [])
+last_turn : (was : ImportState) (told : Vec ℕ) (events : List Event) (answers : List Answer) → AreGroupEvents was (Ready told) events answers → Ends was told.items (events ++ []) (answers ++ [])
 last_turn was told events answers g =
     subst (λ es. Ends was told.items es (answers ++ [])) (sym (append-nil events))
     (subst (λ replies. Ends was told.items events replies) (sym (append-nil answers)) (record {
@@ -58,12 +58,12 @@ last_turn was told events answers g =
       told = g.told;
       are = all_left (list_any is_fault g.told) g.told was.left events answers refl g.are (sym g.left ∙ g.comes.0);
       said = g.said;
-      goes_on = g.goes_on;
+      keep_usable = g.keep_usable;
       telling = g.comes.1;
     }))
 
 -- another one, and those behind it
-next_turn : (was next : UnderWay) (text : Bytes) (events later : List Event) (answers others : List Answer) → AreGroupEvents was (Left next) events answers → Ends next text later others
+next_turn : (was next : ImportState) (text : Bytes) (events later : List Event) (answers others : List Answer) → AreGroupEvents was (Pending next) events answers → Ends next text later others
     → Ends was text (events ++ later) (answers ++ others)
 next_turn was next text events later answers others g rest =
     let same : next ≡ g.now = g.comes.1 in
@@ -73,39 +73,39 @@ next_turn was next text events later answers others g rest =
       are = more_left (list_any is_fault g.told) g.told rest.told was.left g.now.left events later answers others refl g.are g.comes.0 g.left
           (subst (λ import. AreRecordEvents rest.told import.left later others) same rest.are);
       said = rest.said ∙ ap (λ import. outcomes_in import.lines ++ rest.told) same ∙ ap (λ before. before ++ rest.told) g.said ∙ append_assoc (outcomes_in was.lines) g.told rest.told;
-      goes_on = rest.goes_on;
+      keep_usable = rest.keep_usable;
       telling = rest.telling;
     }
 
 -- what a turn for somebody who has an import left comes to
-one_turn : (was : UnderWay) (handed : Handed UnderWay) (progress : Progress UnderWay) (text : Bytes) (p : Part) (own : List Part) (later : Option Bytes) → IsOwn (Some was) handed
-    → AreTurnEvents handed progress p.events p.answers → told_or progress later ≡ Some text
-    → ((next : UnderWay) → left_by progress ≡ Some next → later ≡ Some text → Ends next text (events_of own) (answers_of own))
-    → Ends was text (events_of (p ∷ up_to progress own)) (answers_of (p ∷ up_to progress own))
-one_turn was (Request door asked) progress text p own later none turn told rest = absurd (cc none)
-one_turn was (Task import) (Told bytes) text p own later is turn told rest =
+one_turn : (was : ImportState) (input : Input ImportState) (poll : Poll ImportState) (text : Bytes) (p : ServedTurn) (own : List ServedTurn) (later : Option Bytes) → IsOwn (Some was) input
+    → AreTurnEvents input poll p.events p.answers → response_or poll later ≡ Some text
+    → ((next : ImportState) → pending_task poll ≡ Some next → later ≡ Some text → Ends next text (events_of own) (answers_of own))
+    → Ends was text (events_of (p ∷ until_response poll own)) (answers_of (p ∷ until_response poll own))
+one_turn was (Request listener asked) poll text p own later none turn told rest = absurd (cc none)
+one_turn was (Task import) (Ready bytes) text p own later is turn told rest =
     let same : import ≡ was = cc is in
     let text_is : bytes.items ≡ text = cc told in
-    subst (λ t. Ends was t (p.events ++ []) (p.answers ++ [])) text_is (last_turn was bytes p.events p.answers (subst (λ i. AreGroupEvents i (Told bytes) p.events p.answers) same turn))
-one_turn was (Task import) (Left next) text p own later is turn told rest =
+    subst (λ t. Ends was t (p.events ++ []) (p.answers ++ [])) text_is (last_turn was bytes p.events p.answers (subst (λ i. AreGroupEvents i (Ready bytes) p.events p.answers) same turn))
+one_turn was (Task import) (Pending next) text p own later is turn told rest =
     let same : import ≡ was = cc is in
-    next_turn was next text p.events (events_of own) p.answers (answers_of own) (subst (λ i. AreGroupEvents i (Left next) p.events p.answers) same turn) (rest next refl told)
+    next_turn was next text p.events (events_of own) p.answers (answers_of own) (subst (λ i. AreGroupEvents i (Pending next) p.events p.answers) same turn) (rest next refl told)
 
 module _ (whose : ℕ) (text : Bytes) where
   -- from a part on, which is its own or another's
-  from_part : (b : Bool) (tasks : Tasks UnderWay) (was : UnderWay) (p : Part) (parts : List Part) → (whose == p.turn.whose) ≡ b → tasks whose ≡ Some was
-      → IsOwn (tasks p.turn.whose) p.turn.handed → AreTurnEvents p.turn.handed p.turn.progress p.events p.answers
-      → cond b (told_or p.turn.progress (told_to whose parts)) (told_to whose parts) ≡ Some text
-      → ((next : UnderWay) → after_turn tasks p.turn whose ≡ Some next → told_to whose parts ≡ Some text → Ends next text (events_of (own_parts whose parts)) (answers_of (own_parts whose parts)))
-      → Ends was text (events_of (cond b (p ∷ up_to p.turn.progress (own_parts whose parts)) (own_parts whose parts))) (answers_of (cond b (p ∷ up_to p.turn.progress (own_parts whose parts)) (own_parts whose parts)))
+  from_part : (b : Bool) (tasks : Tasks ImportState) (was : ImportState) (p : ServedTurn) (parts : List ServedTurn) → (whose == p.turn.whose) ≡ b → tasks whose ≡ Some was
+      → IsOwn (tasks p.turn.whose) p.turn.input → AreTurnEvents p.turn.input p.turn.poll p.events p.answers
+      → cond b (response_or p.turn.poll (first_response whose parts)) (first_response whose parts) ≡ Some text
+      → ((next : ImportState) → after_turn tasks p.turn whose ≡ Some next → first_response whose parts ≡ Some text → Ends next text (events_of (own_parts whose parts)) (answers_of (own_parts whose parts)))
+      → Ends was text (events_of (cond b (p ∷ until_response p.turn.poll (own_parts whose parts)) (own_parts whose parts))) (answers_of (cond b (p ∷ until_response p.turn.poll (own_parts whose parts)) (own_parts whose parts)))
   from_part true tasks was p parts is left own turn told rest =
       let same : whose ≡ p.turn.whose = nat_eq-exact whose p.turn.whose is in
       let its : tasks p.turn.whose ≡ Some was = ap tasks (sym same) ∙ left in
-      one_turn was p.turn.handed p.turn.progress text p (own_parts whose parts) (told_to whose parts) (subst (λ task. IsOwn task p.turn.handed) its own) turn told
-      (λ next is_left. rest next (ap (λ b. cond b (left_by p.turn.progress) (tasks whose)) is ∙ is_left))
-  from_part false tasks was p parts is left own turn told rest = rest was (ap (λ b. cond b (left_by p.turn.progress) (tasks whose)) is ∙ left) told
+      one_turn was p.turn.input p.turn.poll text p (own_parts whose parts) (first_response whose parts) (subst (λ task. IsOwn task p.turn.input) its own) turn told
+      (λ next is_left. rest next (ap (λ b. cond b (pending_task p.turn.poll) (tasks whose)) is ∙ is_left))
+  from_part false tasks was p parts is left own turn told rest = rest was (ap (λ b. cond b (pending_task p.turn.poll) (tasks whose)) is ∙ left) told
 
-  from_left : (tasks : Tasks UnderWay) (was : UnderWay) (parts : List Part) → AreParts parts → AreOwn tasks (turns_of parts) → tasks whose ≡ Some was → told_to whose parts ≡ Some text
+  from_left : (tasks : Tasks ImportState) (was : ImportState) (parts : List ServedTurn) → AreServedTurns parts → AreOwn tasks (turns_of parts) → tasks whose ≡ Some was → first_response whose parts ≡ Some text
       → Ends was text (events_of (own_parts whose parts)) (answers_of (own_parts whose parts))
   from_left tasks was [] are own left told = absurd (cc told)
   from_left tasks was (p ∷ parts) are own left told =
@@ -114,7 +114,7 @@ module _ (whose : ℕ) (text : Bytes) where
 -- ---- a request
 
 -- an import that was asked for, and all that is told of it
-whole_import : (asked text : Bytes) (import : UnderWay) (events : List Event) (answers : List Answer) → BeginsImport asked import → Ends import text events answers → AreEventsOf Plant asked text events answers
+whole_import : (asked text : Bytes) (import : ImportState) (events : List Event) (answers : List Answer) → BeginsImport asked import → Ends import text events answers → AreEventsOf Plant asked text events answers
 whole_import asked text import events answers begins ends =
     let report = ends.telling in
     let none : outcomes_in import.lines ≡ [] = ap outcomes_in begins.begun.none in
@@ -141,29 +141,29 @@ whole_import asked text import events answers begins ends =
     })
 
 module _ (whose : ℕ) (asked text : Bytes) where
-  first_turn : (door : Door) (progress : Progress UnderWay) (p : Part) (own : List Part) (later : Option Bytes) → AreTurnEvents (Request door asked) progress p.events p.answers → told_or progress later ≡ Some text
-      → ((import : UnderWay) → left_by progress ≡ Some import → later ≡ Some text → Ends import text (events_of own) (answers_of own))
-      → AreEventsOf door asked text (events_of (p ∷ up_to progress own)) (answers_of (p ∷ up_to progress own))
-  first_turn door (Told bytes) p own later turn told rest =
+  first_turn : (listener : Listener) (poll : Poll ImportState) (p : ServedTurn) (own : List ServedTurn) (later : Option Bytes) → AreTurnEvents (Request listener asked) poll p.events p.answers → response_or poll later ≡ Some text
+      → ((import : ImportState) → pending_task poll ≡ Some import → later ≡ Some text → Ends import text (events_of own) (answers_of own))
+      → AreEventsOf listener asked text (events_of (p ∷ until_response poll own)) (answers_of (p ∷ until_response poll own))
+  first_turn listener (Ready bytes) p own later turn told rest =
       let text_is : bytes.items ≡ text = cc told in
-      subst (λ es. AreEventsOf door asked text es (p.answers ++ [])) (sym (append-nil p.events))
-      (subst (λ replies. AreEventsOf door asked text p.events replies) (sym (append-nil p.answers)) (subst (λ t. AreEventsOf door asked t p.events p.answers) text_is turn))
-  first_turn Owners (Left import) p own later turn told rest = absurd turn
-  first_turn Plant (Left import) p own later (begins, no_events, no_answers) told rest =
+      subst (λ es. AreEventsOf listener asked text es (p.answers ++ [])) (sym (append-nil p.events))
+      (subst (λ replies. AreEventsOf listener asked text p.events replies) (sym (append-nil p.answers)) (subst (λ t. AreEventsOf listener asked t p.events p.answers) text_is turn))
+  first_turn Owners (Pending import) p own later turn told rest = absurd turn
+  first_turn Plant (Pending import) p own later (begins, no_events, no_answers) told rest =
       subst (λ es. AreEventsOf Plant asked text (es ++ events_of own) (p.answers ++ answers_of own)) (sym no_events)
       (subst (λ replies. AreEventsOf Plant asked text (events_of own) (replies ++ answers_of own)) (sym no_answers)
       (whole_import asked text import (events_of own) (answers_of own) begins (rest import refl told)))
 
-  begun : (b : Bool) (tasks : Tasks UnderWay) (door : Door) (p : Part) (parts : List Part) → (whose == p.turn.whose) ≡ b → b ≡ true → p.turn.handed ≡ Request door asked
-      → AreTurnEvents p.turn.handed p.turn.progress p.events p.answers → cond b (told_or p.turn.progress (told_to whose parts)) (told_to whose parts) ≡ Some text → AreParts parts
+  begun : (b : Bool) (tasks : Tasks ImportState) (listener : Listener) (p : ServedTurn) (parts : List ServedTurn) → (whose == p.turn.whose) ≡ b → b ≡ true → p.turn.input ≡ Request listener asked
+      → AreTurnEvents p.turn.input p.turn.poll p.events p.answers → cond b (response_or p.turn.poll (first_response whose parts)) (first_response whose parts) ≡ Some text → AreServedTurns parts
       → AreOwn (after_turn tasks p.turn) (turns_of parts)
-      → AreEventsOf door asked text (events_of (cond b (p ∷ up_to p.turn.progress (own_parts whose parts)) (own_parts whose parts))) (answers_of (cond b (p ∷ up_to p.turn.progress (own_parts whose parts)) (own_parts whose parts)))
-  begun false tasks door p parts is its handed turn told are own = absurd (cc its)
-  begun true tasks door p parts is its handed turn told are own =
-      first_turn door p.turn.progress p (own_parts whose parts) (told_to whose parts) (subst (λ h. AreTurnEvents h p.turn.progress p.events p.answers) handed turn) told
-      (λ import is_left more. from_left whose text (after_turn tasks p.turn) import parts are own (ap (λ b. cond b (left_by p.turn.progress) (tasks whose)) is ∙ is_left) more)
+      → AreEventsOf listener asked text (events_of (cond b (p ∷ until_response p.turn.poll (own_parts whose parts)) (own_parts whose parts))) (answers_of (cond b (p ∷ until_response p.turn.poll (own_parts whose parts)) (own_parts whose parts)))
+  begun false tasks listener p parts is its input turn told are own = absurd (cc its)
+  begun true tasks listener p parts is its input turn told are own =
+      first_turn listener p.turn.poll p (own_parts whose parts) (first_response whose parts) (subst (λ h. AreTurnEvents h p.turn.poll p.events p.answers) input turn) told
+      (λ import is_left more. from_left whose text (after_turn tasks p.turn) import parts are own (ap (λ b. cond b (pending_task p.turn.poll) (tasks whose)) is ∙ is_left) more)
 
-pub all_asked : (tasks : Tasks UnderWay) (parts : List Part) → IsAllAsked tasks parts
-all_asked tasks [] whose door asked told are own first is_told = absurd first
-all_asked tasks (p ∷ parts) whose door asked told are own (same, handed) is_told =
-    begun whose asked told (whose == p.turn.whose) tasks door p parts refl (ap (λ n. whose == n) same ∙ eq_self whose) handed are.0 is_told are.1 own.1
+pub all_asked : (tasks : Tasks ImportState) (parts : List ServedTurn) → IsAllAsked tasks parts
+all_asked tasks [] whose listener asked told are own first is_told = absurd first
+all_asked tasks (p ∷ parts) whose listener asked told are own (same, input) is_told =
+    begun whose asked told (whose == p.turn.whose) tasks listener p parts refl (ap (λ n. whose == n) same ∙ eq_self whose) input are.0 is_told are.1 own.1

@@ -3,18 +3,18 @@ pub use Rattle.toll_base.specs.Bytes.{Bytes}
 pub use Rattle.toll_desk.specs.declared.plant_cmd.PlantCmd.{PlantCmd}
 pub use Rattle.toll_keep.specs.Meaning.{Meaning}
 pub use Rattle.toll_plant.specs.Imports.{AreNumbered, commands_in, outcomes_in}
-pub use Rattle.toll_plant.specs.UnderWay.{GoesOn, IsBegun, UnderWay}
+pub use Rattle.toll_plant.specs.ImportStates.{ImportState, IsBegun, IsResumed}
 pub use Rattle.toll_plant.specs.declared.import_fault.ImportFault.{ImportFault}
 pub use Rattle.toll_plant.specs.declared.report.ImportReport.{ImportReport}
 pub use Rattle.toll_programs.specs.Statuses.{code_of}
-pub use Rattle.toll_programs.specs.Told.{IsFailing, IsImportTold, IsReplyTold, Stream, Streams}
+pub use Rattle.toll_programs.specs.StreamOutput.{IsFailing, IsImportTold, IsReplyTold, Stream, Streams}
 pub use Rattle.toll_programs.specs.declared.status.Status.TheVariants.{Failed, Unread}
-pub use Rattle.toll_protocol.specs.PlantMessages.{IsAskedBy, IsToldBy}
-pub use Rattle.toll_server.specs.Runs.{AreOwn, Handed, Request, Runs, Task, Tasks, Turn, after_turns, no_tasks}
-pub use Rattle.toll_server.specs.declared.door.Door.{Door}
-pub use Rattle.toll_server.specs.declared.door.Door.TheVariants.{Owners, Plant}
-pub use Rattle.toll_server.specs.declared.progress.Progress.{Progress}
-pub use Rattle.toll_server.specs.declared.progress.Progress.TheVariants.{Left, Told}
+pub use Rattle.toll_protocol.specs.PlantMessages.{IsCall, IsResponse}
+pub use Rattle.toll_server.specs.Runs.{AreOwn, Input, Request, Runs, Task, Tasks, Turn, after_turns, no_tasks}
+pub use Rattle.toll_server.specs.declared.listener.Listener.{Listener}
+pub use Rattle.toll_server.specs.declared.listener.Listener.TheVariants.{Owners, Plant}
+pub use Rattle.toll_server.specs.declared.poll.Poll.{Poll}
+pub use Rattle.toll_server.specs.declared.poll.Poll.TheVariants.{Pending, Ready}
 pub use Rattle.toll_wire.specs.OutTexts.{out_bytes}
 pub use Rattle.toll_wire.specs.declared.event.Answer.{Answer}
 pub use Rattle.toll_wire.specs.declared.event.Event.{Event}

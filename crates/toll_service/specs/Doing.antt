@@ -4,8 +4,8 @@ use Rattle.toll_plant.specs.Table.{plant_lines}
 use Rattle.toll_plant.specs.Usages.{usage_text}
 use Rattle.toll_plant.specs.Words.{command_of_words}
 use Rattle.toll_programs.specs.Done.{IsCommandDone, IsImportDone}
-use Rattle.toll_programs.specs.Told.{IsTold, IsUntouched, no_memory}
-use Rattle.toll_programs.specs.HandingOver.{IsServerTold}
+use Rattle.toll_programs.specs.StreamOutput.{IsTold, IsUntouched, no_memory}
+use Rattle.toll_programs.specs.ServerCalls.{IsServerTold}
 use Rattle.toll_service.specs.Common.{Bytes, Meaning, PlantCmd, IsFailing, Streams, Failed, Unread}
 use Rattle.toll_service.specs.Faults.{fault_text}
 use Rattle.toll_service.specs.declared.office_fault.OfficeFault.{OfficeFault}

@@ -1,16 +1,16 @@
--- What came in at the doors of a server, as events of the office.
+-- What came in at the listeners of a server, as events of the office.
 use Rattle.std.specs.Prelude.{◌≡◌, ◌⊎◌, ℕ, Bool, if◌then◌else◌, List, [], ◌∷◌, ◌++◌, drop, flat_map, map, take, Option, Some, None, Result, Ok, Err}
 use Rattle.std.specs.Bool.{MatchBool}
 use Rattle.std.specs.List.{AllByRecursion, list_any}
-use Rattle.toll_service.specs.Common.{Bytes, PlantCmd, IsAskedBy, IsToldBy, Handed, Request, Task, Turn, Door, Owners, Plant, Progress, Told, Left, AreNumbered, commands_in, outcomes_in, UnderWay, ImportFault, ImportReport, IsImportTold, IsReplyTold, Streams, out_bytes, Answer, Event}
-use Rattle.toll_desk.specs.Asking.{plant_told}
+use Rattle.toll_service.specs.Common.{Bytes, PlantCmd, IsCall, IsResponse, Input, Request, Task, Turn, Listener, Owners, Plant, Poll, Ready, Pending, AreNumbered, commands_in, outcomes_in, ImportState, ImportFault, ImportReport, IsImportTold, IsReplyTold, Streams, out_bytes, Answer, Event}
+use Rattle.toll_desk.specs.Translations.{plant_told}
 use Rattle.toll_plant.specs.Files.{Fields, HasActuals}
 use Rattle.toll_plant.specs.Outcomes.{is_fault, outcome_of}
 use Rattle.toll_plant.specs.declared.grouping.TheConstants.{GROUP_RECORDS}
 use Rattle.toll_plant.specs.declared.outcome.Outcome.{Outcome}
 use Rattle.toll_plant.specs.declared.outcome.Outcome.TheVariants.{BadRecord}
-use Rattle.toll_service.specs.Doors.{BeginsImport, ComesTo, IsUsageTold, lists_of}
-use Rattle.toll_service.specs.Wanted.{Wanted, Does, Imports, Unknown, wanted_of}
+use Rattle.toll_service.specs.Listeners.{BeginsImport, ImportYields, IsUsageTold, lists_of}
+use Rattle.toll_service.specs.Requested.{Requested, RunCommand, ImportFile, UnknownWords, requested_by_call}
 use Rattle.toll_wire.specs.declared.event.Answer.TheVariants.{Bytes as Reply, Plant as CommandReply}
 use Rattle.toll_wire.specs.declared.event.Event.TheVariants.{Owner, Plant as Command}
 
@@ -33,74 +33,74 @@ AreImportEvents file (Ok report) events answers =
 AreImportEvents file (Err fault) events answers = (events ≡ []) × (answers ≡ [])
 
 -- what the plant wants is these events, and their answers are printed so
-abbrev pub IsPrintedOf : Wanted → List Event → List Answer → Streams → ℕ → Type 0
-IsPrintedOf (Does command) (Command c ∷ []) (CommandReply reply ∷ []) s status = (c ≡ command) × IsReplyTold s reply status
-IsPrintedOf (Imports file) events answers s status =
+abbrev pub IsPrintedOf : Requested → List Event → List Answer → Streams → ℕ → Type 0
+IsPrintedOf (RunCommand command) (Command c ∷ []) (CommandReply reply ∷ []) s status = (c ≡ command) × IsReplyTold s reply status
+IsPrintedOf (ImportFile file) events answers s status =
     (imported : Result ImportReport ImportFault) × AreImportEvents file imported events answers × IsImportTold s imported status
-IsPrintedOf (Unknown words) [] [] s status = IsUsageTold words s status
+IsPrintedOf (UnknownWords words) [] [] s status = IsUsageTold words s status
 IsPrintedOf _ _ _ s status = ⊥
 
--- a parcel of the plant asks for these events, and tells what is printed of their answers
-pub record IsParcelOf (asked told : Bytes) (events : List Event) (answers : List Answer) : Type 0 where
+-- a frame of the plant asks for these events, and tells what is printed of their answers
+pub record IsCallServed (asked told : Bytes) (events : List Event) (answers : List Answer) : Type 0 where
   pub words : List Bytes
   pub file : Option Bytes
-  pub asks : IsAskedBy asked words file
+  pub asks : IsCall asked words file
   pub output : Bytes
   pub error : Bytes
   pub status : ℕ
-  pub printed : IsPrintedOf (wanted_of words file) events answers (lists_of output error) status
-  pub tells : IsToldBy told status output error
+  pub printed : IsPrintedOf (requested_by_call words file) events answers (lists_of output error) status
+  pub tells : IsResponse told status output error
 
--- what came in at a door is these events, and their answers are told; where it is none, nothing is told
-abbrev pub AreEventsOf : Door → (asked told : Bytes) → List Event → List Answer → Type 0
+-- what came in at a listener is these events, and their answers are told; where it is none, nothing is told
+abbrev pub AreEventsOf : Listener → (asked told : Bytes) → List Event → List Answer → Type 0
 AreEventsOf Owners asked told (Owner bytes ∷ []) (Reply out ∷ []) = (bytes.items ≡ asked) × (told ≡ out_bytes out)
 AreEventsOf Owners asked told [] [] = told ≡ []
 AreEventsOf Owners asked told _ _ = ⊥
-AreEventsOf Plant asked told events answers = IsParcelOf asked told events answers ⊎ ((told ≡ []) × (events ≡ []) × (answers ≡ []))
+AreEventsOf Plant asked told events answers = IsCallServed asked told events answers ⊎ ((told ≡ []) × (events ≡ []) × (answers ≡ []))
 
 -- ---- turns
 
 -- the records of an import's next group are these events, and their answers tell the outcomes that come behind those before; and this is what it came to
-pub record AreGroupEvents (was : UnderWay) (progress : Progress UnderWay) (events : List Event) (answers : List Answer) : Type 0 where
-  pub now : UnderWay
+pub record AreGroupEvents (was : ImportState) (poll : Poll ImportState) (events : List Event) (answers : List Answer) : Type 0 where
+  pub now : ImportState
   pub told : List Outcome
   pub are : AreRecordEvents told (take GROUP_RECORDS was.left) events answers
   pub said : outcomes_in now.lines ≡ outcomes_in was.lines ++ told
   pub left : now.left ≡ (if list_any is_fault told then [] else drop GROUP_RECORDS was.left)
-  pub goes_on : Bool
-  pub comes : ComesTo now progress goes_on
+  pub keep_usable : Bool
+  pub comes : ImportYields now poll keep_usable
 
 -- what was handed over is these events, with these answers, and came to this; that an import begins is none
-abbrev pub AreTurnEvents : Handed UnderWay → Progress UnderWay → List Event → List Answer → Type 0
-AreTurnEvents (Request door asked) (Told told) events answers = AreEventsOf door asked told.items events answers
-AreTurnEvents (Request Owners asked) (Left import) events answers = ⊥
-AreTurnEvents (Request Plant asked) (Left import) events answers = BeginsImport asked import × (events ≡ []) × (answers ≡ [])
-AreTurnEvents (Task import) progress events answers = AreGroupEvents import progress events answers
+abbrev pub AreTurnEvents : Input ImportState → Poll ImportState → List Event → List Answer → Type 0
+AreTurnEvents (Request listener asked) (Ready told) events answers = AreEventsOf listener asked told.items events answers
+AreTurnEvents (Request Owners asked) (Pending import) events answers = ⊥
+AreTurnEvents (Request Plant asked) (Pending import) events answers = BeginsImport asked import × (events ≡ []) × (answers ≡ [])
+AreTurnEvents (Task import) poll events answers = AreGroupEvents import poll events answers
 
 -- a turn, with events and their answers
-pub record Part : Type 0 where
-  pub turn : Turn UnderWay
+pub record ServedTurn : Type 0 where
+  pub turn : Turn ImportState
   pub events : List Event
   pub answers : List Answer
 
 -- the turns of parts, and all of their events and answers, in order
-abbrev pub turns_of : List Part → List (Turn UnderWay)
+abbrev pub turns_of : List ServedTurn → List (Turn ImportState)
 turns_of parts = map (λ p. p.turn) parts
 
-abbrev pub events_of : List Part → List Event
+abbrev pub events_of : List ServedTurn → List Event
 events_of parts = flat_map (λ p. p.events) parts
 
-abbrev pub answers_of : List Part → List Answer
+abbrev pub answers_of : List ServedTurn → List Answer
 answers_of parts = flat_map (λ p. p.answers) parts
 
 -- each turn is its events, with their answers
-abbrev pub AreParts : List Part → Type 0
-AreParts parts = AllByRecursion (λ p. AreTurnEvents p.turn.handed p.turn.progress p.events p.answers) parts
+abbrev pub AreServedTurns : List ServedTurn → Type 0
+AreServedTurns parts = AllByRecursion (λ p. AreTurnEvents p.turn.input p.turn.poll p.events p.answers) parts
 
 -- turns one after another are these events, with these answers
-pub record AreAllEventsOf (turns : List (Turn UnderWay)) (events : List Event) (answers : List Answer) : Type 0 where
-  pub parts : List Part
-  pub are : AreParts parts
+pub record AreAllEventsOf (turns : List (Turn ImportState)) (events : List Event) (answers : List Answer) : Type 0 where
+  pub parts : List ServedTurn
+  pub are : AreServedTurns parts
   pub turns_are : turns_of parts ≡ turns
   pub events_are : events_of parts ≡ events
   pub answers_are : answers_of parts ≡ answers

@@ -1,11 +1,11 @@
 pub mod Common
-pub mod Wanted
+pub mod Requested
 pub mod Unwritten
-pub mod Doors
+pub mod Listeners
 pub mod Events
 pub mod Serving
 pub mod Whole
 pub mod Faults
-pub mod Sittings
+pub mod Sessions
 pub mod Openings
 pub mod Doing

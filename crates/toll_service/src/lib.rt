@@ -1,44 +1,44 @@
-//! A server's answers at its two doors, over any keep: owners' requests, and what the plant asks in parcels.
-//! What peers ask, side by side, is a run of events; so it is over an office that stands in a file, which is
-//! opened under its lock and stays open while nobody else changes it.
+//! A server's answers at its two listeners, over any keep: owners' requests, and what the plant asks in
+//! frames. What clients ask, side by side, is a run of events; so it is over an office that stands in a
+//! file, which is opened under its lock and stays open while nobody else changes it.
 #![tactic(auto)]
 
 mod answering;
-mod desk;
 mod doing;
-mod importing;
-mod kept_office;
+mod fault_log;
+mod keep_service;
 mod laws;
-mod lending;
 mod lock;
 mod locked_office;
 mod office_fault;
-mod opened;
-mod place;
+mod office_path;
+mod office_service;
+mod office_session;
+mod open_office;
+mod pending_import;
 mod plant;
 mod printout;
-mod reply;
-mod room;
+mod reserved_reply;
 mod serving;
-mod session;
-mod stuck;
-mod watch;
+mod shared_file;
+mod stopped_import;
+mod turn_result;
 mod words;
 
 pub use answering::answer_at;
-pub use desk::Desk;
 pub use doing::{answer_once, do_command, do_import};
-pub use importing::Importing;
-pub use kept_office::KeptOffice;
+pub use fault_log::{FaultLog, ServingFault};
+pub use keep_service::KeepService;
 pub use laws::{
     what_is_served_between_two_openings_is_a_run, what_one_asks_is_all_of_its_turns,
     what_peers_ask_over_a_keep_is_a_run,
 };
 pub use lock::{FILE_MODE, take_lock};
 pub use office_fault::OfficeFault;
-pub use place::{Opener, Place};
-pub use reply::Reply;
+pub use office_path::{KeepOpener, OfficePath};
+pub use office_service::OfficeService;
+pub use pending_import::PendingImport;
 pub use serving::{serve_keep, serve_place};
 pub use toll_wire::Out;
-pub use watch::{ServingFault, Watch};
+pub use turn_result::TurnResult;
 pub use words::{do_file, do_words};

@@ -1,46 +1,50 @@
 //! What the plant asks of a server.
 ghost use Rattle.std.specs.Prelude.{◌≡◌, [], map, IfNone, IfOk, IfSome, OnErr};
-ghost use Rattle.toll_protocol.specs.PlantMessages.{IsToldBy};
-ghost use Rattle.toll_server.specs.declared.door.Door.{Door};
-ghost use Rattle.toll_service.specs.Doors.{BeginsOrTells, IsDone, IsServed, lists_in};
-ghost use Rattle.toll_service.specs.Wanted.{Imports, is_import, wanted_alone, wanted_by};
+ghost use Rattle.toll_protocol.specs.PlantMessages.{IsResponse};
+ghost use Rattle.toll_server.specs.declared.listener.Listener.{Listener};
+ghost use Rattle.toll_service.specs.Listeners.{BeginsOrTells, IsDone, IsServed, lists_in};
+ghost use Rattle.toll_service.specs.Requested.{ImportFile, is_import, requested_by_words, requested_in};
 
-use crate::importing::Importing;
+use crate::pending_import::PendingImport;
 use crate::printout::Printout;
-use crate::reply::Reply;
-use crate::room::room;
+use crate::reserved_reply::reserve_reply;
+use crate::turn_result::TurnResult;
 use std::alloc::{AllocError, Global};
 use toll_keep::Keep;
 use toll_plant::{Import, WordsFault, command_of};
-use toll_protocol::Asked;
-use toll_server::Progress;
+use toll_protocol::Call;
+use toll_server::Poll;
 
-/// Answers a parcel, or begins the import that it asks for. There is memory for an exit status before
+/// Answers a frame, or begins the import that it asks for. There is memory for an exit status before
 /// anything is done.
-pub fn answer_plant<K: Keep>(alloc: Global, keep: &mut K, asked: &[u8]) -> Result<Reply, AllocError>
+pub fn answer_plant<K: Keep>(
+    alloc: Global,
+    keep: &mut K,
+    asked: &[u8],
+) -> Result<TurnResult, AllocError>
     ensures err { OnErr result (keep.new ≡ keep.old) }
-    ensures served { IfOk result (λ reply. IsServed K.meaning keep.old keep.new Door.Plant asked.now reply.progress reply.goes_on) }
+    ensures served { IfOk result (λ reply. IsServed K.meaning keep.old keep.new Listener.Plant asked.now reply.poll reply.keep_usable) }
 {
-    let Some(asked) = Asked::read(alloc, asked)? else {
-        return Ok(Reply {
-            progress: Progress::Told(Vec::new(alloc)),
-            goes_on: true,
+    let Some(asked) = Call::read(alloc, asked)? else {
+        return Ok(TurnResult {
+            poll: Poll::Ready(Vec::new(alloc)),
+            keep_usable: true,
         });
     };
-    let room = room(alloc)?;
+    let reserve_reply = reserve_reply(alloc)?;
     match import_in(&asked) {
-        Some(file) => Ok(begin(alloc, file, room)),
+        Some(file) => Ok(begin(alloc, file, reserve_reply)),
         None => {
             let printout = print(alloc, keep, &asked.words)?;
-            Ok(printout.told(alloc, room))
+            Ok(printout.told(alloc, reserve_reply))
         }
     }
 }
 
 // The file whose import is asked for.
-fn import_in<'a>(asked: &Asked<'a>) -> Option<&'a [u8]>
-    ensures some { IfSome result (λ file. wanted_by asked.now ≡ Imports file.now) }
-    ensures none { IfNone result (wanted_by asked.now ≡ wanted_alone (map (λ w. w.now) asked.now.words.items)) }
+fn import_in<'a>(asked: &Call<'a>) -> Option<&'a [u8]>
+    ensures some { IfSome result (λ file. requested_in asked.now ≡ ImportFile file.now) }
+    ensures none { IfNone result (requested_in asked.now ≡ requested_by_words (map (λ w. w.now) asked.now.words.items)) }
 {
     match asked.file {
         Some(file) if is_import(&asked.words) => Some(file),
@@ -49,23 +53,23 @@ fn import_in<'a>(asked: &Asked<'a>) -> Option<&'a [u8]>
 }
 
 // Begins an import, or tells why there is none.
-fn begin(alloc: Global, file: &[u8], room: Vec<u8>) -> Reply
-    requires { IsToldBy room.items 0 [] [] }
-    ensures { BeginsOrTells file.now result.progress result.goes_on }
+fn begin(alloc: Global, file: &[u8], reserve_reply: Vec<u8>) -> TurnResult
+    requires { IsResponse reserve_reply.items 0 [] [] }
+    ensures { BeginsOrTells file.now result.poll result.keep_usable }
 {
     match Import::of(alloc, file) {
-        Ok(import) => Reply {
-            progress: Progress::Left(Importing::new(import, room)),
-            goes_on: true,
+        Ok(import) => TurnResult {
+            poll: Poll::Pending(PendingImport::new(import, reserve_reply)),
+            keep_usable: true,
         },
-        Err(fault) => Printout::of_import(alloc, Err(fault)).told(alloc, room),
+        Err(fault) => Printout::of_import(alloc, Err(fault)).told(alloc, reserve_reply),
     }
 }
 
 // Does what words ask for but an import, once they are read.
 fn print<K: Keep>(alloc: Global, keep: &mut K, words: &[&str]) -> Result<Printout, AllocError>
     ensures err { OnErr result (keep.new ≡ keep.old) }
-    ensures done { IfOk result (λ p. IsDone K.meaning keep.old keep.new (wanted_alone (map (λ w. w.now) words.now)) (lists_in p) p.status) }
+    ensures done { IfOk result (λ p. IsDone K.meaning keep.old keep.new (requested_by_words (map (λ w. w.now) words.now)) (lists_in p) p.status) }
 {
     match command_of(alloc, words) {
         Ok(command) => Ok(Printout::of_command(alloc, keep, &command)),

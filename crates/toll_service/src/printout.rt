@@ -1,23 +1,23 @@
 //! What the program would print of what the plant asks.
 ghost use Rattle.std.specs.Prelude.{◌≡◌, []};
-ghost use Rattle.toll_protocol.specs.PlantMessages.{IsToldBy};
+ghost use Rattle.toll_protocol.specs.PlantMessages.{IsResponse};
 ghost use Rattle.toll_plant.specs.ImportTexts.{import_text};
 ghost use Rattle.toll_programs.specs.Done.{IsCommandDone};
 ghost use Rattle.toll_programs.specs.Statuses.{code_of};
-ghost use Rattle.toll_programs.specs.Told.{IsFailing, IsImportTold};
+ghost use Rattle.toll_programs.specs.StreamOutput.{IsFailing, IsImportTold};
 ghost use Rattle.toll_programs.specs.declared.status.Status.{Status};
-ghost use Rattle.toll_service.specs.Doors.{IsTellingIfRoom, IsTextIfRoom, IsToldSo, lists_in};
+ghost use Rattle.toll_service.specs.Listeners.{IsReadyWith, IsTellingIfRoom, IsTextIfRoom, lists_in};
 ghost use Rattle.toll_service.specs.Unwritten.{unwritten};
 
-use crate::reply::Reply;
-use crate::room::status_alone;
+use crate::reserved_reply::status_alone;
+use crate::turn_result::TurnResult;
 use std::alloc::{AllocError, Global};
 use toll_desk::PlantCmd;
 use toll_keep::Keep;
 use toll_plant::{ImportFault, ImportReport, import_text};
 use toll_programs::{Status, plant_line, show_import, warn};
-use toll_protocol::Told;
-use toll_server::Progress;
+use toll_protocol::Response;
+use toll_server::Poll;
 
 /// What goes to standard output and to standard error, and the exit status.
 #[derive(Drop)]
@@ -92,21 +92,21 @@ impl Printout {
 
     /// What the plant is told. Where there is no memory for all of this, that is the exit status with
     /// nothing printed, as where the program can write nothing.
-    pub fn told(&self, alloc: Global, room: Vec<u8>) -> Reply
-        requires { IsToldBy room.items 0 [] [] }
-        ensures { let p = self.now in IsToldSo result.progress (λ told. IsTellingIfRoom told result.goes_on p.status p.output.items p.error.items) }
+    pub fn told(&self, alloc: Global, reserved: Vec<u8>) -> TurnResult
+        requires { IsResponse reserved.items 0 [] [] }
+        ensures { let p = self.now in IsReadyWith result.poll (λ told. IsTellingIfRoom told result.keep_usable p.status p.output.items p.error.items) }
     {
-        let told = Told {
+        let told = Response {
             status: self.status,
             output: &self.output,
             error: &self.error,
         };
-        match told.packed(alloc) {
-            Ok(bytes) => Reply {
-                progress: Progress::Told(bytes),
-                goes_on: self.status != Status::Failed.code(),
+        match told.encode(alloc) {
+            Ok(bytes) => TurnResult {
+                poll: Poll::Ready(bytes),
+                keep_usable: self.status != Status::Failed.code(),
             },
-            Err(_) => status_alone(room, self.unwritten()),
+            Err(_) => status_alone(reserved, self.unwritten()),
         }
     }
 

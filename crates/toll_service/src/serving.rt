@@ -1,43 +1,44 @@
 //! Serving over a keep, and over an office in a file.
 ghost use Rattle.std.specs.Prelude.{◌≡◌};
-ghost use Rattle.toll_server.specs.Worlds.{EndsSo, Tallies};
+ghost use Rattle.toll_server.specs.Networks.{EndsSo, Tallies};
 ghost use Rattle.toll_service.specs.Serving.{HasServed};
 
-use crate::desk::Desk;
-use crate::kept_office::KeptOffice;
-use crate::place::{Opener, Place};
+use crate::keep_service::KeepService;
+use crate::office_path::{KeepOpener, OfficePath};
+use crate::office_service::OfficeService;
 use std::alloc::Global;
 use toll_keep::Keep;
-use toll_server::{Served, World, serve};
+use toll_server::{Network, ServingEnd, serve};
 
 /// Serves so many owners side by side over a keep, and the plant meanwhile, whose imports go on group by group
 /// with others in between. What they ask is a list of events, in the order in which it was done, and the keep
 /// changes by nothing else: a run, in which each owner's replies are those that its own events give by
 /// themselves.
-pub fn serve_keep<W: World, K: Keep>(
+pub fn serve_keep<W: Network, K: Keep>(
     alloc: Global,
     world: &mut W,
-    office: &mut KeptOffice<K>,
+    service: &mut KeepService<K>,
     count: u64,
-) -> Served
-    ensures served { HasServed K.meaning office.old.keep office.new.keep (result ≡ Served.All) }
+) -> ServingEnd
+    ensures served { HasServed K.meaning service.old.keep service.new.keep (result ≡ ServingEnd.All) }
     ensures end { Tallies (EndsSo result count) (W.tally world.old) (W.tally world.new) }
 {
-    serve(alloc, world, office, count)
+    serve(alloc, world, service, count)
 }
 
-/// Serves so many owners side by side over the office at this place, and the plant meanwhile. It is opened for
-/// the first request, stays open between requests while nobody else changes it, and is closed in the end.
-pub fn serve_place<W: World, K: Keep + Drop, O: Opener<K>>(
+/// Serves so many owners side by side over the office at this path, and the plant meanwhile. It is opened
+/// for the first request, stays open between requests while nobody else changes it, and is closed in the
+/// end.
+pub fn serve_place<W: Network, K: Keep + Drop, O: KeepOpener<K>>(
     world: &mut W,
-    place: Place<'_, O>,
+    office_path: OfficePath<'_, O>,
     count: u64,
-) -> Served
+) -> ServingEnd
     ensures end { Tallies (EndsSo result count) (W.tally world.old) (W.tally world.new) }
 {
-    let alloc = place.rt.alloc();
-    let mut desk = Desk::new(place);
-    let served = serve(alloc, world, &mut desk, count);
-    desk.close();
+    let alloc = office_path.rt.alloc();
+    let mut service = OfficeService::new(office_path);
+    let served = serve(alloc, world, &mut service, count);
+    service.close();
     served
 }

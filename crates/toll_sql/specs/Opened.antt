@@ -4,7 +4,7 @@ use Rattle.toll_sql.specs.Common.{Held, FileStore, Image}
 use Rattle.sqlite_trees.specs.declared.store.Store as store
 use Rattle.toll_keep.specs.Remembered.{IsNothing}
 use Rattle.toll_keep.specs.declared.keep.Keep as keep
-use Rattle.toll_keep.specs.declared.remembering.Remembering.{Remembering}
+use Rattle.toll_keep.specs.declared.cached_keep.CachedKeep.{CachedKeep}
 use Rattle.toll_sql.specs.FromFiles.{IsKeptFrom}
 use Rattle.toll_sql.specs.declared.sql_keep.SqlKeep.{SqlKeep}
 
@@ -14,5 +14,5 @@ IsFound conn = (fresh : Bool) × (image : Image) × IsKeptFrom fresh image conn
 
 -- a keep that remembers nothing yet, around one whose tables were
 abbrev pub IsOpened : {D : Type 0} {d : _} {g : store.Ghosts (FileStore D d)} {h : keep.Ghosts (SqlKeep (FileStore D d) g)}
-    → Remembering (SqlKeep (FileStore D d) g) h → Type 0
+    → CachedKeep (SqlKeep (FileStore D d) g) h → Type 0
 IsOpened {D} {d} {g} r = (inside : SqlKeep (FileStore D d) g) × (r.keep ≡ inside) × IsFound inside.conn × IsNothing r.recollection

@@ -1,9 +1,9 @@
-//! Tests of a server's doors: what is said in parcels, byte for byte; peers of a world of memory, in all orders in
-//! which their bytes may come; what they are told over a keep, and over an office that stays open in a file; and
-//! what comes of handing something to a server.
+//! Tests of a server's doors: what is said in frames, byte for byte; clients of a world of memory, in all
+//! orders in which their bytes may come; what they are told over a keep, and over an office that stays open
+//! in a file; and what comes of handing something to a server.
 
-mod handing;
-mod parcels;
-mod peers;
+mod calling;
+mod connections;
+mod frames;
 mod served;
 mod words;

@@ -7,14 +7,14 @@ use Rattle.toll_protocol.specs.declared.http_messages.failure.Failure.TheVariant
 use Rattle.toll_wire.specs.Routing.{AsksBy, AsksOf, IsAsking, ask_of, other_of}
 use Rattle.toll_wire.specs.Places.{LeadsTo, path_of}
 use Rattle.toll_wire.specs.Routes.{Route, routes}
-use Rattle.toll_wire.specs.Routers.{Served, served, shown, ask_of as ask_at}
+use Rattle.toll_wire.specs.Routers.{RouteMethods, served, shown, ask_of as ask_at}
 use Rattle.toll_wire.specs.declared.routes.route.Route.{Route as CodeRoute}
-use Rattle.toll_wire.specs.declared.routes.ask.Ask.{Ask}
-use Rattle.toll_wire.specs.declared.routes.asks.Asks.{Asks}
-use Rattle.toll_wire.specs.declared.routes.asks.Asks.TheVariants.{Failing}
+use Rattle.toll_wire.specs.declared.routes.request_kind.RequestKind.{RequestKind}
+use Rattle.toll_wire.specs.declared.routes.routed_request.RoutedRequest.{RoutedRequest}
+use Rattle.toll_wire.specs.declared.routes.routed_request.RoutedRequest.TheVariants.{Failing}
 use Rattle.toll_wire.specs.declared.routes.values.Values.{Values}
 
-pub asked_at : (verb : Verb) (target body path : Bytes) (r : Route) (v : Values) (kind : Ask) (asked : Result Asks AllocError) → path ≡ path_of target
+pub asked_at : (verb : Verb) (target body path : Bytes) (r : Route) (v : Values) (kind : RequestKind) (asked : Result RoutedRequest AllocError) → path ≡ path_of target
     → LeadsTo routes path (Some (r, v)) → Some kind ≡ ask_of verb r → IfOk asked (AsksBy kind v body) → IfOk asked (IsAsking verb target body)
 asked_at verb target body path r v kind (Err fault) is leads e by = tt
 asked_at verb target body path r v kind (Ok asks) is leads e by = record {
@@ -36,5 +36,5 @@ no_route verb target body path is leads = record { place = None; leads = subst (
 
 -- what the code's route asks for is what the route does
 pub ask_is : (verb : Verb) (e : CodeRoute) (r : Route) → shown e ≡ served r → ask_at verb e ≡ ask_of verb r
-ask_is Get e r same = ap (λ (s : Served). s.1) same
-ask_is Post e r same = ap (λ (s : Served). s.2) same
+ask_is Get e r same = ap (λ (s : RouteMethods). s.1) same
+ask_is Post e r same = ap (λ (s : RouteMethods). s.2) same

@@ -8,8 +8,8 @@ use Rattle.toll_wire.specs.Routing.{AsksOf, IsAsking, ask_of}
 use Rattle.toll_wire.specs.Places.{IsPath, LeadsTo, path_of}
 use Rattle.toll_wire.specs.Routers.{In}
 use Rattle.toll_wire.specs.Routes.{Route, routes}
-use Rattle.toll_wire.specs.declared.routes.asks.Asks.{Asks}
-use Rattle.toll_wire.specs.declared.routes.asks.Asks.TheVariants.{For}
+use Rattle.toll_wire.specs.declared.routes.routed_request.RoutedRequest.{RoutedRequest}
+use Rattle.toll_wire.specs.declared.routes.routed_request.RoutedRequest.TheVariants.{For}
 use Rattle.toll_wire.specs.declared.routes.parts.Parts.TheVariants as part
 use Rattle.toll_wire.specs.declared.routes.values.Values.{Values}
 use Rattle.toll_wire.specs.declared.routes.values.Values.TheVariants.{Nothing, Name, NameAndNumber}
@@ -43,7 +43,7 @@ in_at (x ∷ xs) zero d within = inl refl
 in_at (x ∷ xs) (suc n) d within = inr (in_at xs n d (omega arith))
 
 -- this is asked for at a path of the n-th route
-at : (verb : Verb) (n : ℕ) (v : Values) (path query body : Bytes) (asks : Asks) → IsQuery query → n < length routes → IsPath (row n) v path → AsksOf verb (ask_of verb (row n)) v body asks
+at : (verb : Verb) (n : ℕ) (v : Values) (path query body : Bytes) (asks : RoutedRequest) → IsQuery query → n < length routes → IsPath (row n) v path → AsksOf verb (ask_of verb (row n)) v body asks
     → IsAsking verb (path ++ query) body asks
 at verb n v path query body asks queried within is asked =
     let there = in_at routes n _ within in

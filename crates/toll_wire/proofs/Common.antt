@@ -26,7 +26,7 @@ pub use Rattle.toll_answers.specs.Told.{AskCancel, AskPlace, AskReject, AskRelea
 pub use Rattle.toll_base.specs.Bytes.{Bytes, same_bytes}
 pub use Rattle.toll_base.specs.Values.{IsBatchNo, is_digit, is_name, is_name_byte, is_text_of, number_of}
 pub use Rattle.toll_base.specs.declared.refusal.Refusal.TheVariants.{OrderExists, UnknownLot}
-pub use Rattle.toll_desk.specs.Asking.{IsValidDeed, asked_by, is_granted, may_change, plant_told, writes}
+pub use Rattle.toll_desk.specs.Translations.{IsValidCommand, asked_by, is_granted, may_change, plant_told, writes}
 pub use Rattle.toll_desk.specs.Outcome.{GoesFor, IsDone, finished}
 pub use Rattle.toll_desk.specs.Standing.{StandsFor}
 pub use Rattle.toll_desk.specs.declared.request.Request.{Request}
@@ -38,7 +38,7 @@ pub use Rattle.toll_keep.specs.Goes.{Goes, IsReading, Settles}
 pub use Rattle.toll_keep.specs.Meaning.{Meaning}
 pub use Rattle.toll_keep.specs.declared.fault.KeepFault.{KeepFault}
 pub use Rattle.toll_keep.specs.declared.fault.KeepFault.TheVariants.{Closed, Damaged, Disk, Memory}
-pub use Rattle.toll_protocol.specs.Arriving.{Outcome, refused, request}
+pub use Rattle.toll_protocol.specs.Parsing.{ParseResult, refused, request}
 unfoldable pub use Rattle.toll_protocol.specs.HttpMessages.{reply_text}
 pub use Rattle.toll_protocol.specs.declared.http_messages.failure.Failure.TheVariants.{Forbidden, MethodNotAllowed, NotImplemented}
 pub use Rattle.toll_protocol.specs.declared.http_messages.verb.Verb.{Verb}

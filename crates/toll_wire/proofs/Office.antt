@@ -7,7 +7,7 @@ use Rattle.toll_wire.specs.Places.{AreReadFrom, IsPath, LeadsTo, count, parts_of
 use Rattle.toll_wire.specs.Routers.{In, IsOffice, LeadsBy, tokens}
 use Rattle.toll_wire.specs.Routes.{routes, spelled}
 use Rattle.toll_wire.specs.Routes as spec
-use Rattle.toll_wire.specs.Routers.{Served, served, shown}
+use Rattle.toll_wire.specs.Routers.{RouteMethods, served, shown}
 use Rattle.toll_wire.specs.declared.routes.route.Route.{Route}
 use Rattle.toll_wire.specs.declared.routes.values.Values.{Values}
 use Rattle.toll_wire.proofs.Patterns.{IsFilled, filled_length, filled_once, is_plain, path_once}
@@ -61,7 +61,7 @@ found router path text other e taken is small texts_is f same walked long =
       there = there;
       shown_is = row.value_is;
       filled = given;
-      few = long ∙ (row.names_are ∙ ap count (sym (ap (λ (s : Served). s.0) row.value_is)));
+      few = long ∙ (row.names_are ∙ ap count (sym (ap (λ (s : RouteMethods). s.0) row.value_is)));
       are = all_map IsUtf8 (λ p. p.1) taken (are_texts (tokens r) (map (λ p. p.1) taken) path of_route.flat given texts_is.1);
     }
 
@@ -82,7 +82,7 @@ unread path e taken is none = nowhere path (λ r v i of_path.
     let other = path_is r v path (good r i) of_path in
     let same = same_route routes is.route r (map (λ p. p.1) taken) (texts_of v) path refl refl is.there i is.filled other in
     let here = subst (λ q. IsFilled (tokens q) (texts_of v) path) (sym same) other in
-    let parts : e.value.parts ≡ r.parts = ap (λ (s : Served). s.0) is.shown_is ∙ ap (λ (q : spec.Route). q.parts) same in
+    let parts : e.value.parts ≡ r.parts = ap (λ (s : RouteMethods). s.0) is.shown_is ∙ ap (λ (q : spec.Route). q.parts) same in
     none v (record {
       fill = of_path.parts ∙ sym parts;
       valid = of_path.valid;
@@ -93,7 +93,7 @@ unread path e taken is none = nowhere path (λ r v i of_path.
 pub read : (path : Bytes) (e : RouteOf Route) (taken : List (Bytes × Bytes)) (v : Values) → IsFound path e taken → AreReadFrom e.value.parts (map (λ p. p.1) taken) (Some v)
     → (r : spec.Route) × LeadsTo routes path (Some (r, v)) × (shown e.value ≡ served r)
 read path e taken v is are =
-    let parts : parts_of v ≡ is.route.parts = are.fill ∙ ap (λ (s : Served). s.0) is.shown_is in
+    let parts : parts_of v ≡ is.route.parts = are.fill ∙ ap (λ (s : RouteMethods). s.0) is.shown_is in
     let here = subst (λ l. IsFilled (tokens is.route) l path) are.texts_are is.filled in
     let of_path : IsPath is.route v path = record {
       parts = parts;

@@ -6,10 +6,10 @@ use Rattle.toll_wire.specs.Routing.{AsksAt, AsksBy, AsksOf, IsAsking, IsPlacing,
 use Rattle.toll_wire.specs.Places.{AreValues, IsPath, LeadsTo, parts_of, path_of, texts_of}
 use Rattle.toll_wire.specs.Routers.{holes}
 use Rattle.toll_wire.specs.Routes.{Route, routes, text_of}
-use Rattle.toll_wire.specs.declared.routes.ask.Ask.{Ask}
-use Rattle.toll_wire.specs.declared.routes.ask.Ask.TheVariants.{Place}
-use Rattle.toll_wire.specs.declared.routes.asks.Asks.{Asks}
-use Rattle.toll_wire.specs.declared.routes.asks.Asks.TheVariants.{For}
+use Rattle.toll_wire.specs.declared.routes.request_kind.RequestKind.{RequestKind}
+use Rattle.toll_wire.specs.declared.routes.request_kind.RequestKind.TheVariants.{Place}
+use Rattle.toll_wire.specs.declared.routes.routed_request.RoutedRequest.{RoutedRequest}
+use Rattle.toll_wire.specs.declared.routes.routed_request.RoutedRequest.TheVariants.{For}
 use Rattle.toll_wire.specs.declared.routes.values.Values.{Values}
 use Rattle.toll_wire.specs.declared.routes.parts.Parts.{Parts}
 use Rattle.toll_wire.specs.declared.routes.parts.Parts.TheVariants as part
@@ -55,27 +55,27 @@ body_once body None (Some q) one two = absurd (one q two)
 body_once body (Some p) None one two = absurd (two p one)
 body_once body (Some p) (Some q) one two = ap (λ x. Some x) (orders_once body p q one two)
 
-placing_once : (body : Bytes) (a b : Asks) → IsPlacing body a → IsPlacing body b → a ≡ b
+placing_once : (body : Bytes) (a b : RoutedRequest) → IsPlacing body a → IsPlacing body b → a ≡ b
 placing_once body a b (p, one, e) (q, two, f) = e ∙ (ap placing (body_once body p q one two) ∙ sym f)
 
 -- ---- one thing is asked for
 
-same_some : (a b : Asks) (o : Option Asks) → Some a ≡ o → Some b ≡ o → a ≡ b
+same_some : (a b : RoutedRequest) (o : Option RoutedRequest) → Some a ≡ o → Some b ≡ o → a ≡ b
 same_some a b o e f = let same : Some a ≡ Some b = e ∙ sym f in cc same
 
-by_once : (kind : Ask) (v : Values) (body : Bytes) (a b : Asks) → AsksBy kind v body a → AsksBy kind v body b → a ≡ b
+by_once : (kind : RequestKind) (v : Values) (body : Bytes) (a b : RoutedRequest) → AsksBy kind v body a → AsksBy kind v body b → a ≡ b
 by_once Place v body a b one two = placing_once body a b one two
 by_once kind v body a b one two = same_some a b (option_map For (request_from kind v)) one two
 
-of_once : (verb : Verb) (kind : Option Ask) (v : Values) (body : Bytes) (a b : Asks) → AsksOf verb kind v body a → AsksOf verb kind v body b → a ≡ b
+of_once : (verb : Verb) (kind : Option RequestKind) (v : Values) (body : Bytes) (a b : RoutedRequest) → AsksOf verb kind v body a → AsksOf verb kind v body b → a ≡ b
 of_once verb None v body a b e f = e ∙ sym f
 of_once verb (Some kind) v body a b one two = by_once kind v body a b one two
 
-at_once : (verb : Verb) (place : Option (Route × Values)) (body : Bytes) (a b : Asks) → AsksAt verb place body a → AsksAt verb place body b → a ≡ b
+at_once : (verb : Verb) (place : Option (Route × Values)) (body : Bytes) (a b : RoutedRequest) → AsksAt verb place body a → AsksAt verb place body b → a ≡ b
 at_once verb None body a b e f = e ∙ sym f
 at_once verb (Some place) body a b one two = of_once verb (ask_of verb place.0) place.1 body a b one two
 
-pub asking_once : (verb : Verb) (target body : Bytes) (a b : Asks) → IsAsking verb target body a → IsAsking verb target body b → a ≡ b
+pub asking_once : (verb : Verb) (target body : Bytes) (a b : RoutedRequest) → IsAsking verb target body a → IsAsking verb target body b → a ≡ b
 asking_once verb target body a b one two =
     let same = leads_once routes (path_of target) one.place two.place one.leads two.leads in
     at_once verb two.place body a b (subst (λ place. AsksAt verb place body a) same one.asked) two.asked

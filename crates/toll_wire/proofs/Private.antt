@@ -5,7 +5,7 @@ use Rattle.toll_base.specs.Values.{house_name}
 use Rattle.toll_history.proofs.Own.{part-own, part-other}
 use Rattle.toll_base.proofs.Texts.{same_bytes-exact}
 use Rattle.toll_answers.proofs.OwnReplies.{lawful-grow, has_key-part, reply-both_ways, after_reply-part}
-use Rattle.toll_wire.specs.Runs.{Asking, Asks, Fails, Saying, By, Nobody, Happening, Request, Plant, Answered, Text, Unavailable, PlantTells, PlantFault, Wire, IsTold, after_saying, IsStep, IsRun, accepts, is_own, own_events, told_by, told, IsAlone, IsPrivate, IsValidSaying, IsValidEvent, AreValid, claims}
+use Rattle.toll_wire.specs.Runs.{ClaimedRequest, Asks, Fails, Saying, By, Nobody, Happening, Request, Plant, Answered, Text, Unavailable, PlantTells, PlantFault, Wire, IsTold, after_saying, IsStep, IsRun, accepts, is_own, own_events, told_by, told, IsAlone, IsPrivate, IsValidSaying, IsValidEvent, AreValid, claims}
 
 -- ---- what a request makes of a history
 
@@ -78,13 +78,13 @@ module _ (wire : Wire) where
 
   module _ (o : Bytes) (not_house : same_bytes o house_name ≡ false) where
     -- what an owner is told over the whole it is told over its part
-    told_over_part : (H : History) → IsLawful H → (p : Bytes) (key : Option Bytes) (asking : Asking) (out : Bytes) → p ≡ o → IsTold wire H (By p key asking) out → IsTold wire (part o H) (By p key asking) out
+    told_over_part : (H : History) → IsLawful H → (p : Bytes) (key : Option Bytes) (asking : ClaimedRequest) (out : Bytes) → p ≡ o → IsTold wire H (By p key asking) out → IsTold wire (part o H) (By p key asking) out
     told_over_part H lawful p None asking out is told = told
     told_over_part H lawful p (Some key) (Asks q) out is told = (told.0, subst (λ w. IsReply w key (part o H) q told.0) (sym is) ((reply-both_ways o not_house H lawful key q told.0).1 (subst (λ w. IsReply w key H q told.0) is told.1)), told.2)
     told_over_part H lawful p (Some key) (Fails text) out is told =
         (told.0, told.1 ∙ ap (λ w. has_key w key H) is ∙ sym (has_key-part o not_house key H) ∙ ap (λ w. has_key w key (part o H)) (sym is), told.2)
 
-    after_over_part : (H : History) → IsLawful H → (p : Bytes) (key : Option Bytes) (asking : Asking) → p ≡ o → after_saying wire (part o H) (By p key asking) ≡ part o (after_saying wire H (By p key asking))
+    after_over_part : (H : History) → IsLawful H → (p : Bytes) (key : Option Bytes) (asking : ClaimedRequest) → p ≡ o → after_saying wire (part o H) (By p key asking) ≡ part o (after_saying wire H (By p key asking))
     after_over_part H lawful p None asking is = refl
     after_over_part H lawful p (Some key) (Asks q) is =
         ap (λ w. after_reply w key (part o H) q) is ∙ after_reply-part o not_house H lawful key q ∙ ap (λ w. part o (after_reply w key H q)) (sym is)

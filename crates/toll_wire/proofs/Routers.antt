@@ -7,7 +7,7 @@ use Rattle.matchit.specs.Route.{Scan, parse_route}
 use Rattle.matchit.specs.declared.error.InsertError.{InsertError}
 use Rattle.matchit.specs.declared.error.InsertError.TheVariants.{Conflict, InvalidParam, InvalidParamSegment, InvalidCatchAll, OutOfMemory}
 use Rattle.toll_wire.specs.Places.{count}
-use Rattle.toll_wire.specs.Routers.{In, IsOffice, Served, served, shown, tokens}
+use Rattle.toll_wire.specs.Routers.{In, IsOffice, RouteMethods, served, shown, tokens}
 use Rattle.toll_wire.specs.Routes as spec
 use Rattle.toll_wire.specs.Routes.{routes}
 use Rattle.toll_wire.specs.declared.routes.route.Route.{Route}
@@ -127,12 +127,12 @@ of_map f (x ∷ xs) y (inr i) = let later = of_map f xs y i in (later.0, inr lat
 
 -- what a row says of its route, and what the route says
 abbrev Said : Type 0
-Said = List ℕ × List ℕ × ℕ × Served
+Said = List ℕ × List ℕ × ℕ × RouteMethods
 
-abbrev pub said_of : List ℕ × RouteOf Route → List ℕ × List ℕ × ℕ × Served
+abbrev pub said_of : List ℕ × RouteOf Route → List ℕ × List ℕ × ℕ × RouteMethods
 said_of row = (row.0, row.1.pattern, length row.1.names, shown row.1.value)
 
-abbrev pub said_by : List ℕ × spec.Route → List ℕ × List ℕ × ℕ × Served
+abbrev pub said_by : List ℕ × spec.Route → List ℕ × List ℕ × ℕ × RouteMethods
 said_by row = (tokens row.1, tokens row.1, count row.1.parts, served row.1)
 
 -- the router of the routes is the office's, where its rows say what the routes do

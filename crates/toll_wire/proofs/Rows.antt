@@ -4,7 +4,7 @@ use Rattle.toll_wire.proofs.Common.{AllByRecursion, Bytes, Verb, Get, Post}
 use Rattle.toll_wire.specs.Routing.{Fits, ask_of}
 use Rattle.toll_wire.specs.Places.{LeadsTo, parts_of}
 use Rattle.toll_wire.specs.Routes.{Route, routes}
-use Rattle.toll_wire.specs.declared.routes.ask.Ask.{Ask}
+use Rattle.toll_wire.specs.declared.routes.request_kind.RequestKind.{RequestKind}
 use Rattle.toll_wire.specs.declared.routes.parts.Parts.{Parts}
 use Rattle.toll_wire.specs.declared.routes.parts.Parts.TheVariants as part
 use Rattle.toll_wire.specs.declared.routes.values.Values.{Values}
@@ -28,7 +28,7 @@ holds_of part.NameAndNumber P (Name name) all e = absurd (cc e)
 holds_of part.NameAndNumber P (NameAndNumber name number) all e = all name number
 
 -- the values make what is asked for, if anything is
-abbrev FitsIf : Option Ask → Values → Type 0
+abbrev FitsIf : Option RequestKind → Values → Type 0
 FitsIf None v = Unit {0}
 FitsIf (Some kind) v = Fits kind v
 
@@ -80,5 +80,5 @@ fits_among (q ∷ rs) verb path r v all (inl (w, is, e)) =
     subst (λ x. FitsIf (ask_of verb x) v) (sym route) (subst (λ x. FitsIf (ask_of verb q) x) (sym values) here)
 fits_among (q ∷ rs) verb path r v all (inr (none, leads)) = fits_among rs verb path r v all.1 leads
 
-pub fits : (verb : Verb) (path : Bytes) (r : Route) (v : Values) (kind : Ask) → LeadsTo routes path (Some (r, v)) → ask_of verb r ≡ Some kind → Fits kind v
+pub fits : (verb : Verb) (path : Bytes) (r : Route) (v : Values) (kind : RequestKind) → LeadsTo routes path (Some (r, v)) → ask_of verb r ≡ Some kind → Fits kind v
 fits verb path r v kind leads e = subst (λ o. FitsIf o v) e (fits_among routes verb path r v every_route leads)

@@ -13,7 +13,7 @@ use Rattle.toll_wire.specs.declared.outgoing.Out.{Out}
 use Rattle.toll_wire.specs.declared.outgoing.Out.TheVariants.{Text, Unavailable}
 use Rattle.toll_wire.specs.OutTexts.{IsText, text_if}
 use Rattle.toll_wire.specs.ReplyTexts.{text_of_failure, text_of_told, text_if_told}
-use Rattle.toll_wire.specs.Runs.{Asking, Asks, Fails, Saying, By, Nobody, IsTold, MayBeTold, after_saying}
+use Rattle.toll_wire.specs.Runs.{ClaimedRequest, Asks, Fails, Saying, By, Nobody, IsTold, MayBeTold, after_saying}
 use Rattle.toll_wire.specs.Steps.{http, outcome_of, IfSaidAgain, IsReplyWhere, IsGranted, IsServed, IsServing, OutGoes}
 
 -- ---- texts
@@ -100,7 +100,7 @@ module _ {K : Type 0} (meaning : Meaning K) where
     served = λ now c H held stands lawful. none_to_do (meaning.holds k) (meaning.is_live k) (meaning.leaves k) c held H (outcome_of out) (IsTold http H (Nobody text)) stands (λ live. settled c now live held) (so_of_text out text (IsTold http H (Nobody text)) is refl);
   }
 
-  pub keyless : (k : K) (settled : (c : Content) → meaning.is_honest k → meaning.is_live k → meaning.holds k c → meaning.leaves k (c ∷ [])) (o : Bytes) (asking : Asking) (out : Out) → IsText out (Some (text_of_failure Forbidden)) → Serves k k (By o None asking) out
+  pub keyless : (k : K) (settled : (c : Content) → meaning.is_honest k → meaning.is_live k → meaning.holds k c → meaning.leaves k (c ∷ [])) (o : Bytes) (asking : ClaimedRequest) (out : Out) → IsText out (Some (text_of_failure Forbidden)) → Serves k k (By o None asking) out
   keyless k settled o asking out is = record {
     tells = so_of_reply out (text_of_failure Forbidden) (MayBeTold http (By o None asking)) is refl;
     goes = refl;
@@ -149,7 +149,7 @@ module _ {K : Type 0} (meaning : Meaning K) where
     }
 
     -- no reply, after calls that answered or after a fault of one
-    pub untold : {X : Type 0} → Rests meaning → (asking : Asking) (r : Result X KeepFault) → ReadsTo old new r → Serves old new (By o (Some key) asking) Unavailable
+    pub untold : {X : Type 0} → Rests meaning → (asking : ClaimedRequest) (r : Result X KeepFault) → ReadsTo old new r → Serves old new (By o (Some key) asking) Unavailable
     untold settled asking r reads = record {
       tells = tt;
       goes = goes_untold settled r reads;

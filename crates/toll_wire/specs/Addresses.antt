@@ -8,8 +8,8 @@ use Rattle.toll_protocol.specs.declared.http_messages.verb.Verb.{Verb}
 use Rattle.toll_protocol.specs.declared.http_messages.verb.Verb.TheVariants.{Get, Post}
 use Rattle.toll_wire.specs.Bodies.{AsksFor}
 use Rattle.toll_wire.specs.Routing.{IsAsking}
-use Rattle.toll_wire.specs.declared.routes.asks.Asks.{Asks}
-use Rattle.toll_wire.specs.declared.routes.asks.Asks.TheVariants.{For}
+use Rattle.toll_wire.specs.declared.routes.routed_request.RoutedRequest.{RoutedRequest}
+use Rattle.toll_wire.specs.declared.routes.routed_request.RoutedRequest.TheVariants.{For}
 
 -- the method and the path of each request
 abbrev pub address_of : Request → Verb × Bytes
@@ -48,7 +48,7 @@ IsAskedBy _ body = Unit {0}
 
 -- a method, a target and a body ask for one thing
 abbrev pub AskForOneThing : Type 0
-AskForOneThing = (verb : Verb) (target body : Bytes) (a b : Asks) → IsAsking verb target body a → IsAsking verb target body b → a ≡ b
+AskForOneThing = (verb : Verb) (target body : Bytes) (a b : RoutedRequest) → IsAsking verb target body a → IsAsking verb target body b → a ≡ b
 
 -- nothing, or a question mark with anything behind it
 abbrev pub IsQuery : Bytes → Type 0

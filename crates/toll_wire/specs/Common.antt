@@ -5,7 +5,7 @@ pub use Rattle.toll_answers.specs.Told.{AskBack, AskForward, Asked, TellBatch, T
 pub use Rattle.toll_base.specs.Bytes.{Bytes, same_bytes}
 pub use Rattle.toll_base.specs.Values.{house_name}
 pub use Rattle.toll_base.specs.declared.lot.LotId.{LotId}
-pub use Rattle.toll_desk.specs.Asking.{IsValidDeed, asked_by, asked_of, plant_told, told_of, writes}
+pub use Rattle.toll_desk.specs.Translations.{IsValidCommand, asked_by, asked_of, plant_told, told_of, writes}
 pub use Rattle.toll_desk.specs.Outcome.{HoldsFor, IsDone, LeavesOr}
 pub use Rattle.toll_history.specs.History.{History, part}
 pub use Rattle.toll_history.specs.Verdict.{Accepted, IsLawful}

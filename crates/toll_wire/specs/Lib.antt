@@ -8,7 +8,7 @@ pub mod Places
 pub mod Routers
 pub mod Routing
 pub mod Addresses
-pub mod Asking
+pub mod ParsedRequests
 pub mod Shown
 pub mod ReplyTexts
 pub mod OutTexts

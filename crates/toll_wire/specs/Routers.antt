@@ -9,25 +9,25 @@ use Rattle.toll_protocol.specs.declared.http_messages.verb.Verb.TheVariants.{Get
 use Rattle.toll_wire.specs.Places.{LeadsTo, count}
 use Rattle.toll_wire.specs.Routes as spec
 use Rattle.toll_wire.specs.Routes.{routes}
-use Rattle.toll_wire.specs.declared.routes.ask.Ask.{Ask}
+use Rattle.toll_wire.specs.declared.routes.request_kind.RequestKind.{RequestKind}
 use Rattle.toll_wire.specs.declared.routes.parts.Parts.{Parts}
 use Rattle.toll_wire.specs.declared.routes.parts.Parts.TheVariants as part
 use Rattle.toll_wire.specs.declared.routes.route.Route.{Route}
 use Rattle.toll_wire.specs.declared.routes.values.Values.{Values}
 
 -- what a route is but for its paths: which parts stand in them, and what each method asks for there
-abbrev pub Served : Type 0
-Served = Parts × Option Ask × Option Ask
+abbrev pub RouteMethods : Type 0
+RouteMethods = Parts × Option RequestKind × Option RequestKind
 
-abbrev pub served : spec.Route → Served
+abbrev pub served : spec.Route → RouteMethods
 served r = (r.parts, r.get, r.post)
 
 -- the same of a route of the code
-abbrev pub shown : Route → Served
+abbrev pub shown : Route → RouteMethods
 shown r = (r.parts, r.get, r.post)
 
 -- what a method asks for at a route of the code
-abbrev pub ask_of : Verb → Route → Option Ask
+abbrev pub ask_of : Verb → Route → Option RequestKind
 ask_of Get r = r.get
 ask_of Post r = r.post
 

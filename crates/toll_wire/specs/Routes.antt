@@ -1,8 +1,8 @@
 -- Every route of the office.
 use Rattle.std.specs.Prelude.{List, [], ◌∷◌, ◌++◌, codes, decimal, Option, Some, None}
 use Rattle.toll_base.specs.Bytes.{Bytes}
-use Rattle.toll_wire.specs.declared.routes.ask.Ask.{Ask}
-use Rattle.toll_wire.specs.declared.routes.ask.Ask.TheVariants as ask
+use Rattle.toll_wire.specs.declared.routes.request_kind.RequestKind.{RequestKind}
+use Rattle.toll_wire.specs.declared.routes.request_kind.RequestKind.TheVariants as ask
 use Rattle.toll_wire.specs.declared.routes.parts.Parts.{Parts}
 use Rattle.toll_wire.specs.declared.routes.parts.Parts.TheVariants as part
 use Rattle.toll_wire.specs.declared.routes.values.Values.{Values}
@@ -13,11 +13,11 @@ pub record Route : Type 0 where
   pub front : Bytes
   pub parts : Parts
   pub back : Bytes
-  pub get : Option Ask
-  pub post : Option Ask
+  pub get : Option RequestKind
+  pub post : Option RequestKind
 
 -- the route with this front, these parts and this back, where this is asked for
-abbrev route : Bytes → Parts → Bytes → Option Ask → Option Ask → Route
+abbrev route : Bytes → Parts → Bytes → Option RequestKind → Option RequestKind → Route
 route front parts back get post = record { front = front; parts = parts; back = back; get = get; post = post }
 
 -- the routes

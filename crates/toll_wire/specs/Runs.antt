@@ -1,17 +1,17 @@
 -- Runs of events with their answers, and what one owner's events give alone.
 use Rattle.std.specs.Prelude.{◌≡◌, Bool, false, true, ◌&&◌, if◌then◌else◌, Option, Some, None, List, [], ◌∷◌, ◌++◌}
-use Rattle.toll_wire.specs.Common.{Bytes, same_bytes, house_name, History, part, Accepted, Asked, Told, PlantAsked, Does, PlantTold, Judged, IsPlantAnswer, after_plant, IsValidDeed}
+use Rattle.toll_wire.specs.Common.{Bytes, same_bytes, house_name, History, part, Accepted, Asked, Told, PlantAsked, Does, PlantTold, Judged, IsPlantAnswer, after_plant, IsValidCommand}
 use Rattle.toll_base.specs.Words.{is_some_where}
 use Rattle.toll_answers.specs.Replies.{IsValidAsked, has_key, IsReply, after_reply}
 
 -- what is asked with a key: a request, or something that fails a check after the key's, with the text that it is told
-pub data Asking : Type 0 where
-  Asks : (q : Asked) → Asking
-  Fails : (text : Bytes) → Asking
+pub data ClaimedRequest : Type 0 where
+  Asks : (q : Asked) → ClaimedRequest
+  Fails : (text : Bytes) → ClaimedRequest
 
 -- what the bytes of a request say: whose it claims to be, with which key if with one, and for what it asks; or, where it claims to be nobody's, what is told by the bytes alone
 pub data Saying : Type 0 where
-  By : (owner : Bytes) (key : Option Bytes) (asking : Asking) → Saying
+  By : (owner : Bytes) (key : Option Bytes) (asking : ClaimedRequest) → Saying
   Nobody : (text : Bytes) → Saying
 
 -- an event: a request, as its bytes are read, or what the plant does
@@ -142,7 +142,7 @@ module _ (wire : Wire) where
 
   abbrev pub IsValidEvent : Happening → Type 0
   IsValidEvent (Request s) = IsValidSaying s
-  IsValidEvent (Plant asked) = IsValidDeed asked
+  IsValidEvent (Plant asked) = IsValidCommand asked
 
   abbrev pub AreValid : List Happening → Type 0
   AreValid [] = Unit {0}

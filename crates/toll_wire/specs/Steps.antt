@@ -2,16 +2,16 @@
 use Rattle.std.specs.Prelude.{◌≡◌, ◌≢◌, ◌⊎◌, Bool, false, Some, None, List, Result, Ok, Err, IsTrue, nat_eq, codes}
 use Rattle.std.specs.List.{starts_with}
 use Rattle.toll_wire.specs.Common.{Bytes, History, Meaning, Content, ContentKeepsRules, KeepFault, Memory, Damaged, asked_of, writes, IsDone, Forbidden}
-use Rattle.toll_wire.specs.declared.routes.asks.Asks.{Asks as AsksFor}
+use Rattle.toll_wire.specs.declared.routes.routed_request.RoutedRequest.{RoutedRequest as AsksFor}
 use Rattle.toll_keep.specs.Goes.{Goes, IsSpared, Settles}
 use Rattle.toll_desk.specs.Clauses.{IfPlacedAgain}
 use Rattle.toll_desk.specs.Reads.{Over}
-use Rattle.toll_wire.specs.declared.routes.asks.Asks.TheVariants.{Failing, For}
+use Rattle.toll_wire.specs.declared.routes.routed_request.RoutedRequest.TheVariants.{Failing, For}
 use Rattle.toll_wire.specs.declared.outgoing.Out.{Out}
 use Rattle.toll_wire.specs.declared.outgoing.Out.TheVariants.{Text, Unavailable}
-use Rattle.toll_wire.specs.Asking.{Asked, refused, claimed, Reads}
+use Rattle.toll_wire.specs.ParsedRequests.{ParsedRequest, refused, claimed, Reads}
 use Rattle.toll_wire.specs.ReplyTexts.{text_of_failure, text_of_told}
-use Rattle.toll_wire.specs.Runs.{Asking, Asks, Fails, Saying, By, Nobody, Wire, IsTold, MayBeTold, after_saying}
+use Rattle.toll_wire.specs.Runs.{ClaimedRequest, Asks, Fails, Saying, By, Nobody, Wire, IsTold, MayBeTold, after_saying}
 
 -- how the office writes its replies
 abbrev pub http : Wire
@@ -19,19 +19,19 @@ http = record { text = text_of_told; forbidden = text_of_failure Forbidden }
 
 -- ---- what is said
 
-abbrev pub asking_of : AsksFor → Asking
-asking_of (Failing failure) = Fails (text_of_failure failure)
-asking_of (For request) = Asks (asked_of request)
+abbrev pub claimed_request_of : AsksFor → ClaimedRequest
+claimed_request_of (Failing failure) = Fails (text_of_failure failure)
+claimed_request_of (For request) = Asks (asked_of request)
 
 -- bytes with one `toll-owner` field claim that owner, with a key or without; without one they are forbidden by themselves
-abbrev pub saying_of : Asked → Saying
+abbrev pub saying_of : ParsedRequest → Saying
 saying_of (refused failure) = Nobody (text_of_failure failure)
 saying_of (claimed None key asks) = Nobody (text_of_failure Forbidden)
-saying_of (claimed (Some owner) key asks) = By owner key (asking_of asks)
+saying_of (claimed (Some owner) key asks) = By owner key (claimed_request_of asks)
 
 -- the bytes of a request say this
 abbrev pub Says : Bytes → Saying → Type 0
-Says bytes saying = (asked : Asked) × Reads bytes asked × (saying ≡ saying_of asked)
+Says bytes saying = (asked : ParsedRequest) × Reads bytes asked × (saying ≡ saying_of asked)
 
 -- what is said asks for a change
 abbrev pub may_write : Saying → Bool

@@ -1,14 +1,14 @@
 //! Answering a request.
 ghost use Rattle.std.specs.Prelude.{Some};
 ghost use Rattle.toll_wire.specs.Runs.{By};
-ghost use Rattle.toll_wire.specs.Steps.{IsAnswered, IsServing, asking_of};
+ghost use Rattle.toll_wire.specs.Steps.{IsAnswered, IsServing, claimed_request_of};
 
-use crate::asked::{Asked, read};
 use crate::outgoing::Out;
+use crate::parsed_request::{ParsedRequest, read};
 use crate::reply::{fail, tell};
-use crate::routes::Asks;
+use crate::routes::RoutedRequest;
 use std::alloc::Global;
-use toll_desk::{Request, admit, carry, owner_plan};
+use toll_desk::{Request, admit, commit, owner_plan};
 use toll_keep::Keep;
 use toll_protocol::Failure;
 
@@ -22,11 +22,11 @@ pub fn answer<K: Keep>(alloc: Global, keep: &mut K, bytes: &[u8]) -> Out
 {
     match read(alloc, bytes) {
         Err(_) => Out::Unavailable,
-        Ok(Asked::Refused(failure)) => fail(alloc, failure),
-        Ok(Asked::Claimed { owner, key, asks }) => match (owner, key) {
+        Ok(ParsedRequest::Refused(failure)) => fail(alloc, failure),
+        Ok(ParsedRequest::Claimed { owner, key, asks }) => match (owner, key) {
             (Some(owner), Some(key)) => match &asks {
-                Asks::For(request) => serve(alloc, keep, owner, key, request),
-                Asks::Failing(failure) => refuse(alloc, keep, owner, key, *failure),
+                RoutedRequest::For(request) => serve(alloc, keep, owner, key, request),
+                RoutedRequest::Failing(failure) => refuse(alloc, keep, owner, key, *failure),
             },
             _ => fail(alloc, Failure::Forbidden),
         },
@@ -35,13 +35,13 @@ pub fn answer<K: Keep>(alloc: Global, keep: &mut K, bytes: &[u8]) -> Out
 
 // Makes the text of the reply, and then the changes.
 fn serve<K: Keep>(alloc: Global, keep: &mut K, owner: &[u8], key: &[u8], request: &Request) -> Out
-    ensures { IsServing K.meaning keep.old keep.new (By owner.now (Some key.now) (asking_of (Asks.For request.now))) result }
+    ensures { IsServing K.meaning keep.old keep.new (By owner.now (Some key.now) (claimed_request_of (RoutedRequest.For request.now))) result }
 {
     let planned = owner_plan(alloc, keep, owner, key, request);
     match tell(alloc, &planned.reply) {
         Out::Unavailable => Out::Unavailable,
         Out::Text(text) => {
-            let made = carry(alloc, keep, &planned.changes);
+            let made = commit(alloc, keep, &planned.changes);
             Out::text_if(text, made)
         }
     }
@@ -49,7 +49,7 @@ fn serve<K: Keep>(alloc: Global, keep: &mut K, owner: &[u8], key: &[u8], request
 
 // Tells an owner which check the request fails, and everybody else no more than that it is forbidden.
 fn refuse<K: Keep>(alloc: Global, keep: &mut K, owner: &[u8], key: &[u8], failure: Failure) -> Out
-    ensures { IsServing K.meaning keep.old keep.new (By owner.now (Some key.now) (asking_of (Asks.Failing failure))) result }
+    ensures { IsServing K.meaning keep.old keep.new (By owner.now (Some key.now) (claimed_request_of (RoutedRequest.Failing failure))) result }
 {
     match admit(alloc, keep, owner, key) {
         Ok(Some(_)) => fail(alloc, failure),

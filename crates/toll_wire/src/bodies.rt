@@ -4,12 +4,12 @@
 mod batches;
 mod body;
 mod failures;
+mod json_text;
+mod json_value;
 mod listed;
 mod lots;
 mod orders;
 mod rows;
-mod sent;
-mod told;
 mod values;
 
 pub use batches::batch_body;

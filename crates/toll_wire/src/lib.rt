@@ -3,11 +3,11 @@
 #![tactic(auto)]
 
 mod answering;
-mod asked;
 mod bodies;
 mod event;
 mod laws;
 mod outgoing;
+mod parsed_request;
 mod reply;
 mod routes;
 mod run;
@@ -26,6 +26,8 @@ pub use laws::{
     runs_with_the_same_part_give_the_same_replies, the_plants_traces_are_printed,
 };
 pub use outgoing::Out;
-pub use routes::{Asks, a_request_asks_for_one_thing, asks_of, each_request_has_its_route};
+pub use routes::{
+    RoutedRequest, a_request_asks_for_one_thing, each_request_has_its_route, route_request,
+};
 pub use run::run_events;
 pub use toll_protocol::{ReadFault, WriteFault, read_request, write_whole as write_reply};

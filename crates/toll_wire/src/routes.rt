@@ -1,12 +1,12 @@
 //! The routes of the office: what a target, a method and a body ask for.
 
-mod ask;
-mod asks;
 mod laws;
 mod parts;
 mod path;
+mod request_kind;
 mod route;
+mod routed_request;
 mod values;
 
-pub use asks::{Asks, asks_of};
 pub use laws::{a_request_asks_for_one_thing, each_request_has_its_route};
+pub use routed_request::{RoutedRequest, route_request};

@@ -4,25 +4,25 @@ ghost use Rattle.httparse.specs.Spans.{IsHeaderWithin, header_bytes};
 ghost use Rattle.toll_protocol.specs.Fields.{capped, is_named, is_present, length_claimed, length_of, named, only_one};
 ghost use Rattle.toll_protocol.specs.Found.{seen};
 
-use crate::http_messages::arrival::BODY_LIMIT;
+use crate::http_messages::http_request::BODY_LIMIT;
 use httparse::spans::HeaderSpan;
 
 /// What a search among the fields of a head found.
 #[derive(Clone, Copy)]
-pub enum Found<'b> {
+pub enum FieldMatch<'b> {
     Absent,
     Once(&'b [u8]),
     Several,
 }
 
-impl<'b> Found<'b> {
+impl<'b> FieldMatch<'b> {
     ghost use Rattle.toll_protocol.specs.Found.{seen};
 
     /// Whether there is such a field.
     pub fn is_present(self) -> bool
         ensures { result ≡ is_present (seen self.entry) }
     {
-        !matches!(self, Found::Absent)
+        !matches!(self, FieldMatch::Absent)
     }
 
     /// The value of the only such field.
@@ -30,7 +30,7 @@ impl<'b> Found<'b> {
         ensures { option_map (λ v. v.now) result ≡ only_one (seen self.entry) }
     {
         match self {
-            Found::Once(value) => Some(value),
+            FieldMatch::Once(value) => Some(value),
             _ => None,
         }
     }
@@ -42,24 +42,24 @@ impl<'b> Found<'b> {
         ensures { result ≡ capped (length_claimed (seen self.entry)) }
     {
         match self {
-            Found::Absent => Some(0),
-            Found::Once(digits) => length_of(digits),
-            Found::Several => None,
+            FieldMatch::Absent => Some(0),
+            FieldMatch::Once(digits) => length_of(digits),
+            FieldMatch::Several => None,
         }
     }
 }
 
 /// The value of the fields with this name, in whatever case, if there is just one.
-pub fn find_field<'b>(text: &'b [u8], fields: &[HeaderSpan], name: &[u8]) -> Found<'b>
+pub fn find_field<'b>(text: &'b [u8], fields: &[HeaderSpan], name: &[u8]) -> FieldMatch<'b>
     requires { All (IsHeaderWithin (length text.now)) fields.now }
     ensures { seen result ≡ named name.now (map (header_bytes text.now) fields.now) }
 {
-    let mut found = Found::Absent;
+    let mut found = FieldMatch::Absent;
     for field in fields {
         if has_name(text, field, name) {
             match found {
-                Found::Absent => found = Found::Once(field.value.of(text)),
-                _ => return Found::Several,
+                FieldMatch::Absent => found = FieldMatch::Once(field.value.of(text)),
+                _ => return FieldMatch::Several,
             }
         }
     }

@@ -6,7 +6,7 @@ ghost use Rattle.toll_protocol.specs.Fields.{named};
 ghost use Rattle.toll_protocol.specs.Found.{seen};
 ghost use Rattle.toll_protocol.specs.Head.{IsHeadLen, IsHeadOf, IsSearched, NoHead};
 
-use crate::http_messages::field::{Found, find_field};
+use crate::http_messages::field::{FieldMatch, find_field};
 use httparse::Status;
 use httparse::spans::{EMPTY_HEADER_SPAN, HeaderSpan, RequestSpans, parse_request};
 
@@ -25,7 +25,7 @@ pub struct Head {
 
 impl Head {
     /// The value of the fields with this name, in the text that the head was read from.
-    pub fn field<'b>(&self, text: &'b [u8], name: &[u8]) -> Found<'b>
+    pub fn field<'b>(&self, text: &'b [u8], name: &[u8]) -> FieldMatch<'b>
         requires { IsRequestWithin text.now self.now.fields self.now.line }
         ensures { seen result ≡ named name.now (map (header_bytes text.now) (take self.now.line.headers self.now.fields)) }
     {

@@ -1,11 +1,11 @@
 //! Laws of texts: what a text comes to, and how long it may be.
 ghost use Rattle.std.specs.Prelude.{◌≡◌, ℕ, List};
-ghost use Rattle.toll_protocol.specs.Arriving.{Arrives, Outcome};
+ghost use Rattle.toll_protocol.specs.Parsing.{IsParsedAs, ParseResult};
 ghost use Rattle.toll_protocol.specs.Limits.{head_limit, field_limit, body_limit, text_limit};
 
 /// A text comes to one thing.
 pub fn a_text_comes_to_one_thing()
-    ensures { (text : List ℕ) (one other : Outcome) → Arrives text one → Arrives text other → one ≡ other }
+    ensures { (text : List ℕ) (one other : ParseResult) → IsParsedAs text one → IsParsedAs text other → one ≡ other }
 {}
 
 /// The limits of a request are those that the pages tell: a head of 8,192 bytes and 32 fields, a body of

@@ -1,12 +1,12 @@
 //! Reading a request from a stream.
 ghost use Rattle.std.specs.Prelude.{◌≡◌, ◌≤◌, ◌↔◌, ℕ, List, length, IfOk, IfSome, OnOk, Err};
 ghost use Rattle.std.specs.Io.KnownBytes.{Consumes};
-ghost use Rattle.toll_protocol.specs.Arriving.{Arrives, IsSettled, Outcome};
+ghost use Rattle.toll_protocol.specs.Parsing.{IsParsedAs, IsSettled, ParseResult};
 ghost use Rattle.toll_protocol.specs.Streams.{HasFailed, NoneFailed, ReadsWhile};
 
-use crate::http_messages::incoming::Incoming;
+use crate::http_messages::request_reader::RequestReader;
 use crate::http_messages::settled::TEXT_LIMIT;
-use crate::streams::{Arriving, Source};
+use crate::streams::{ReadStatus, Source};
 use std::alloc::Global;
 use std::fmt;
 use thiserror::Error;
@@ -35,26 +35,26 @@ impl fmt::Display for ReadFault {
     }
 }
 
-/// The request at the front of a stream: all that was read of it, at most 12,288 bytes, which comes
-/// to what the whole stream comes to. It is read until its head and all of the body that its head
-/// claims have come, or 8,192 bytes without the end of a head, or the stream ends, and no further: a
-/// peer that waits for the reply need send nothing more, and a later failure doesn't matter.
+/// The request at the front of a stream: all that was read of it, at most 12,288 bytes, which comes to what
+/// the whole stream comes to. It is read until its head and all of the body that its head claims have come,
+/// or 8,192 bytes without the end of a head, or the stream ends, and no further: a client that waits for
+/// the reply need send nothing more, and a later failure doesn't matter.
 pub fn read_request<R: Source>(alloc: Global, reader: &mut R) -> Result<Vec<u8>, ReadFault>
     ensures given { IfOk result (λ text. Consumes (R.unread reader.old) (R.unread reader.new) text.items) }
     ensures bound { IfOk result (λ text. length text.items ≤ TEXT_LIMIT) }
     ensures same { IfOk result (λ text. IfSome (R.unread reader.old) (λ stream.
-        (outcome : Outcome) → Arrives text.items outcome ↔ Arrives stream outcome)) }
+        (outcome : ParseResult) → IsParsedAs text.items outcome ↔ IsParsedAs stream outcome)) }
     ensures no_further { ReadsWhile (λ given. ¬ (IsSettled given)) (R.reads reader.old) (R.reads reader.new) }
     ensures early { result ≡ Err ReadFault.Io → (given : List ℕ) × Consumes (R.unread reader.old) (R.unread reader.new) given × ¬ (IsSettled given) }
     ensures failed { result ≡ Err ReadFault.Io → HasFailed (R.has_failed reader.old) (R.has_failed reader.new) }
     ensures sound { OnOk result (NoneFailed (R.has_failed reader.old) (R.has_failed reader.new)) }
     ensures memory { result ≡ Err ReadFault.Memory → reader.new ≡ reader.old }
 {
-    let Ok(mut incoming) = Incoming::new(alloc) else {
+    let Ok(mut request) = RequestReader::new(alloc) else {
         return Err(ReadFault::Memory);
     };
-    match incoming.read_on(reader) {
-        Arriving::Complete => Ok(incoming.into_bytes()),
+    match request.read_on(reader) {
+        ReadStatus::Complete => Ok(request.into_bytes()),
         _ => Err(ReadFault::Io),
     }
 }

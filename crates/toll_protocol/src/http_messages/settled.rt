@@ -2,11 +2,11 @@
 ghost use Rattle.std.specs.Prelude.{◌↔◌, ◌+◌, ◌<◌, ◌≤◌, IfNone, IfSome, IsTrue, OnSome, length};
 ghost use Rattle.httparse.specs.Grammar.{RequestHead};
 ghost use Rattle.httparse.specs.Spans.{IsRequestAt, IsRequestWithin};
-ghost use Rattle.toll_protocol.specs.Arriving.{HasBody, IsSettled};
+ghost use Rattle.toll_protocol.specs.Parsing.{HasBody, IsSettled};
 ghost use Rattle.toll_protocol.specs.Head.{IsHeadLen, IsSearched};
 
-use crate::http_messages::arrival::BODY_LIMIT;
 use crate::http_messages::head::{HEAD_LIMIT, Head, head_at, head_len};
+use crate::http_messages::http_request::BODY_LIMIT;
 
 /// How many bytes of a request are read: a head and a body at their largest.
 pub const TEXT_LIMIT: usize = HEAD_LIMIT + BODY_LIMIT as usize;

@@ -2,7 +2,7 @@
 ghost use Rattle.std.specs.Prelude.{ℕ, Bool, List, Option, None};
 ghost use Rattle.std.specs.Io.{WritesAtMost};
 ghost use Rattle.std.specs.Io.KnownBytes.{WriteAppends};
-ghost use Rattle.toll_protocol.specs.Streams.{Notes, takes_nothing};
+ghost use Rattle.toll_protocol.specs.Streams.{RecordsFailure, takes_nothing};
 
 use std::io;
 use std::io::Write;
@@ -20,7 +20,7 @@ pub trait Sink {
     fn write_some(&mut self, bytes: &[u8]) -> io::Result<usize>
         ensures bound { WritesAtMost result bytes.now }
         ensures bytes { WriteAppends (held self.old) (held self.new) result bytes.now }
-        ensures failures { Notes (has_failed self.old) (has_failed self.new) (takes_nothing result) };
+        ensures failures { RecordsFailure (has_failed self.old) (has_failed self.new) (takes_nothing result) };
 }
 
 impl<W: Write> Sink for W {

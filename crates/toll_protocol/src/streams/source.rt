@@ -2,7 +2,7 @@
 ghost use Rattle.std.specs.Prelude.{◌≡◌, ◌+◌, ◌<◌, ◌≤◌, ℕ, Bool, List, Option, None, length, take, drop, is_err, IfOk, OnErr};
 ghost use Rattle.std.specs.Io.{ReadsAtMost};
 ghost use Rattle.std.specs.Io.KnownBytes.{Consumes, IsAtEnd, Keeps, ReadConsumes};
-ghost use Rattle.toll_protocol.specs.Streams.{Beside, Notes, OneMoreRead, bytes_read};
+ghost use Rattle.toll_protocol.specs.Streams.{OneMoreRead, RecordsFailure, WriteSide, bytes_read};
 
 use std::io;
 use std::io::Read;
@@ -20,16 +20,16 @@ pub trait Source {
     ghost reads: { Self → Option (List (List ℕ)) } = { λ _. None };
 
     // What no read changes, where it takes bytes too: those that it holds, and whether a write has failed.
-    ghost beside: { Self → Beside } = { λ _. (None, None) };
+    ghost write_side: { Self → WriteSide } = { λ _. (None, None) };
 
     /// Reads some bytes into the front of the buffer, and tells how many: none at the end alone,
     /// where there is room.
     fn read_some(&mut self, buffer: &mut [u8]) -> io::Result<usize>
         ensures bound { ReadsAtMost result buffer.new }
         ensures bytes { ReadConsumes (unread self.old) (unread self.new) result buffer.new }
-        ensures failures { Notes (has_failed self.old) (has_failed self.new) (is_err result) }
+        ensures failures { RecordsFailure (has_failed self.old) (has_failed self.new) (is_err result) }
         ensures one_read { OneMoreRead (reads self.old) (reads self.new) (bytes_read result buffer.new) }
-        ensures beside { beside self.new ≡ beside self.old };
+        ensures write_side { write_side self.new ≡ write_side self.old };
 }
 
 impl<R: Read> Source for R {
@@ -48,9 +48,9 @@ pub fn read_behind<R: Source>(reader: &mut R, buffer: &mut [u8], filled: usize) 
     ensures given { IfOk result (λ n. Consumes (R.unread reader.old) (R.unread reader.new) (take n (drop filled buffer.new))) }
     ensures end { IfOk result (λ n. n ≡ 0 → filled < length buffer.old → IsAtEnd (R.unread reader.new)) }
     ensures kept { OnErr result (Keeps (R.unread reader.old) (R.unread reader.new)) }
-    ensures failures { Notes (R.has_failed reader.old) (R.has_failed reader.new) (is_err result) }
+    ensures failures { RecordsFailure (R.has_failed reader.old) (R.has_failed reader.new) (is_err result) }
     ensures one_read { OneMoreRead (R.reads reader.old) (R.reads reader.new) (bytes_read result (drop filled buffer.new)) }
-    ensures beside { R.beside reader.new ≡ R.beside reader.old }
+    ensures write_side { R.write_side reader.new ≡ R.write_side reader.old }
 {
     reader.read_some(&mut buffer[filled..])
 }

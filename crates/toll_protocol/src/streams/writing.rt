@@ -3,9 +3,9 @@ ghost use Rattle.std.specs.Prelude.{◌<◌, length, take, IfErr, OnErr, OnOk};
 ghost use Rattle.std.specs.Io.KnownBytes.{Appends};
 ghost use Rattle.toll_protocol.specs.Streams.{HasFailed};
 
-use crate::streams::leaving::Leaving;
-use crate::streams::outgoing::send_on;
+use crate::streams::response_writer::send_on;
 use crate::streams::sink::Sink;
+use crate::streams::write_status::WriteStatus;
 use std::fmt;
 use thiserror::Error;
 
@@ -35,8 +35,8 @@ pub fn write_whole<W: Sink>(writer: &mut W, bytes: &[u8]) -> Result<(), WriteFau
     ensures failed { OnErr result (HasFailed (W.has_failed writer.old) (W.has_failed writer.new)) }
 {
     let sent = send_on(writer, bytes, 0);
-    match sent.leaving {
-        Leaving::Written => Ok(()),
+    match sent.status {
+        WriteStatus::Written => Ok(()),
         _ => Err(WriteFault {
             written: sent.written as u64,
         }),

@@ -1,69 +1,69 @@
-//! A keep that is asked at both doors, and peers that ask it side by side.
-mod desks;
+//! A keep that is asked at both doors, and clients that ask it side by side.
 mod given_up;
 mod imports;
 mod long;
+mod services;
 mod street;
 
 use crate::doors::served::street::{Log, Street};
 use crate::refusing::{Refused, Refusing};
 use std::alloc::{AllocError, Global};
 use toll_keep::{Keep, MemKeep};
-use toll_protocol::Told;
-use toll_server::{Door, Progress, Served};
-use toll_service::{KeptOffice, Reply, answer_at, serve_keep};
+use toll_protocol::Response;
+use toll_server::{Listener, Poll, ServingEnd};
+use toll_service::{KeepService, TurnResult, answer_at, serve_keep};
 
 /// Who comes to a door, what it asks, and what it is told.
 #[derive(Clone, Copy)]
 struct Visit<'a> {
-    door: Door,
+    listener: Listener,
     asked: &'a [u8],
     told: &'a [u8],
 }
 
 const ADD_OWNER: Visit<'static> = Visit {
-    door: Door::Plant,
+    listener: Listener::Plant,
     asked: b"\0\0\0\x1c\0\0\0\x18owner-add\0ACME\0ACMEKEY1\0",
     told: b"\0\0\0\x0e\0\0\0\0\x09accepted\n",
 };
 
 const ADD_RECIPE: Visit<'static> = Visit {
-    door: Door::Plant,
+    listener: Listener::Plant,
     asked: b"\0\0\0\x1a\0\0\0\x16recipe-add\0ACME\0R-1\02\0",
     told: b"\0\0\0\x0e\0\0\0\0\x09accepted\n",
 };
 
 const ADD_AGAIN: Visit<'static> = Visit {
-    door: Door::Plant,
+    listener: Listener::Plant,
     asked: b"\0\0\0\x1c\0\0\0\x18owner-add\0ACME\0ACMEKEY1\0",
     told: b"\0\0\0\x1b\x01\0\0\0\x16refused 4 OwnerExists\n",
 };
 
 const PLACE: Visit<'static> = Visit {
-    door: Door::Owners,
+    listener: Listener::Owners,
     asked: b"POST /orders HTTP/1.1\r\nhost: a\r\ntoll-owner: ACME\r\ntoll-key: ACMEKEY1\r\ncontent-length: 42\r\n\r\n{\"order\":\"O-1\",\"recipe\":\"R-1\",\"batches\":2}",
     told: b"HTTP/1.1 200 OK\r\ncontent-type: application/json\r\ncontent-length: 58\r\nconnection: close\r\n\r\n{\"batches\":2,\"order\":\"O-1\",\"recipe\":\"R-1\",\"status\":\"open\"}",
 };
 
 const IMPORT: Visit<'static> = Visit {
-    door: Door::Plant,
+    listener: Listener::Plant,
     asked: b"\0\0\0\x82\0\0\0\x07import\0\x01key,owner,order,batch,segment,use,material,lot_owner,lot,sublot,amount,day\nK2,NOBODY,O,1,1,consumed,M,ACME,A,S1,40,11\n",
     told: b"\0\0\0Q\x01\0\0\0L     1 refused 3 UnknownOwner\naccepted 0 repeated 0 refused 1 bad 0 fault 0\n",
 };
 
 const BAD_IMPORT: Visit<'static> = Visit {
-    door: Door::Plant,
+    listener: Listener::Plant,
     asked: b"\0\0\0\x1b\0\0\0\rimport\0a.csv\0\x01no header",
     told: b"\0\0\0\x10\x02\0\0\0\0bad header\n",
 };
 
 const LIST: Visit<'static> = Visit {
-    door: Door::Owners,
+    listener: Listener::Owners,
     asked: b"GET /orders HTTP/1.1\r\nhost: a\r\ntoll-owner: ACME\r\ntoll-key: ACMEKEY1\r\ncontent-length: 0\r\n\r\n",
     told: b"HTTP/1.1 200 OK\r\ncontent-type: application/json\r\ncontent-length: 71\r\nconnection: close\r\n\r\n{\"orders\":[{\"batches\":2,\"order\":\"O-1\",\"recipe\":\"R-1\",\"status\":\"open\"}]}",
 };
 
-/// Words that are no command, in a parcel, and a front of one that would be.
+/// Words that are no command, in a frame, and a front of one that would be.
 const NO_COMMAND: &[u8] = b"\0\0\0\x09\0\0\0\x05frob\0";
 
 const CUT: &[u8] = b"\0\0\0\x1c\0\0\0\x18owner-add\0BOLT\0BOLT";
@@ -79,13 +79,13 @@ const VISITS: &[Visit<'static>] = &[
 ];
 
 // What one more turn comes to, where an import is left.
-fn go_on<K: Keep>(alloc: Global, keep: &mut K, reply: Reply) -> Reply {
-    let Reply { progress, goes_on } = reply;
-    match progress {
-        Progress::Left(importing) => importing.go_on(alloc, keep),
-        Progress::Told(bytes) => Reply {
-            progress: Progress::Told(bytes),
-            goes_on,
+fn resume<K: Keep>(alloc: Global, keep: &mut K, reply: TurnResult) -> TurnResult {
+    let TurnResult { poll, keep_usable } = reply;
+    match poll {
+        Poll::Pending(importing) => importing.resume(alloc, keep),
+        Poll::Ready(bytes) => TurnResult {
+            poll: Poll::Ready(bytes),
+            keep_usable,
         },
     }
 }
@@ -94,45 +94,45 @@ fn go_on<K: Keep>(alloc: Global, keep: &mut K, reply: Reply) -> Reply {
 fn answer_whole<K: Keep>(
     alloc: Global,
     keep: &mut K,
-    door: Door,
+    listener: Listener,
     asked: &[u8],
-) -> Result<Reply, AllocError> {
-    let mut reply = answer_at(alloc, keep, door, asked)?;
+) -> Result<TurnResult, AllocError> {
+    let mut reply = answer_at(alloc, keep, listener, asked)?;
     for _ in 0..MOST_TURNS {
-        reply = go_on(alloc, keep, reply);
+        reply = resume(alloc, keep, reply);
     }
     Ok(reply)
 }
 
 // The exit status that is told.
-fn status_of(reply: &Reply) -> Option<u8> {
-    match &reply.progress {
-        Progress::Told(bytes) => Told::read(bytes).map(|told| told.status),
-        Progress::Left(_) => None,
+fn status_of(reply: &TurnResult) -> Option<u8> {
+    match &reply.poll {
+        Poll::Ready(bytes) => Response::read(bytes).map(|told| told.status),
+        Poll::Pending(_) => None,
     }
 }
 
 // Whether this is told, and the keep goes on or not.
-fn tells(reply: &Reply, told: &[u8], goes_on: bool) -> bool {
-    match &reply.progress {
-        Progress::Told(bytes) => bytes.as_slice() == told && reply.goes_on == goes_on,
-        Progress::Left(_) => false,
+fn tells(reply: &TurnResult, told: &[u8], keep_usable: bool) -> bool {
+    match &reply.poll {
+        Poll::Ready(bytes) => bytes.as_slice() == told && reply.keep_usable == keep_usable,
+        Poll::Pending(_) => false,
     }
 }
 
-// Whether a peer that comes so is told just this, and the keep goes on or not.
+// Whether a client that comes so is told just this, and the keep goes on or not.
 fn is_told<K: Keep>(
     alloc: Global,
     keep: &mut K,
     visit: &Visit<'_>,
-    goes_on: bool,
+    keep_usable: bool,
 ) -> Result<bool, AllocError> {
-    let reply = answer_whole(alloc, keep, visit.door, visit.asked)?;
-    Ok(tells(&reply, visit.told, goes_on))
+    let reply = answer_whole(alloc, keep, visit.listener, visit.asked)?;
+    Ok(tells(&reply, visit.told, keep_usable))
 }
 
 #[test]
-fn each_door_tells_what_the_program_would(rt: HostRuntime) -> Result<(), AllocError> {
+fn each_listener_tells_what_the_program_would(rt: HostRuntime) -> Result<(), AllocError> {
     let mut keep = MemKeep::new(rt.alloc());
     for visit in VISITS {
         let told = is_told(rt.alloc(), &mut keep, visit, true)?;
@@ -142,12 +142,12 @@ fn each_door_tells_what_the_program_would(rt: HostRuntime) -> Result<(), AllocEr
 }
 
 #[test]
-fn peers_side_by_side_are_told_what_each_asked(rt: HostRuntime) -> Result<(), AllocError> {
+fn clients_side_by_side_are_told_what_each_asked(rt: HostRuntime) -> Result<(), AllocError> {
     let keep = MemKeep::new(rt.alloc());
-    let mut office = KeptOffice { keep };
+    let mut office = KeepService { keep };
     let log = Log::new();
     let served = serve_keep(rt.alloc(), &mut Street::new(VISITS, &log), &mut office, 2);
-    assert_eq!(rt; served, Served::All);
+    assert_eq!(rt; served, ServingEnd::All);
     assert_eq!(rt; log.told.get(), VISITS.len());
     let placed = is_told(rt.alloc(), &mut office.keep, &LIST, true)?;
     assert!(rt; placed);
@@ -155,11 +155,11 @@ fn peers_side_by_side_are_told_what_each_asked(rt: HostRuntime) -> Result<(), Al
 }
 
 #[test]
-fn a_parcel_that_was_cut_does_nothing(rt: HostRuntime) -> Result<(), AllocError> {
+fn a_frame_that_was_cut_does_nothing(rt: HostRuntime) -> Result<(), AllocError> {
     let mut keep = MemKeep::new(rt.alloc());
-    let reply = answer_at(rt.alloc(), &mut keep, Door::Plant, CUT)?;
+    let reply = answer_at(rt.alloc(), &mut keep, Listener::Plant, CUT)?;
     assert!(rt; tells(&reply, b"", true));
-    let reply = answer_at(rt.alloc(), &mut keep, Door::Plant, NO_COMMAND)?;
+    let reply = answer_at(rt.alloc(), &mut keep, Listener::Plant, NO_COMMAND)?;
     assert_eq!(rt; status_of(&reply), Some(2));
     Ok(())
 }

@@ -3,8 +3,8 @@ use std::fs;
 use std::fs::File;
 use std::test::Fail;
 use toll_keep::MemKeep;
-use toll_programs::{Connector, Noted};
-use toll_service::{OfficeFault, Opener, Place, do_words, take_lock};
+use toll_programs::{Connector, TrackedStream};
+use toll_service::{KeepOpener, OfficeFault, OfficePath, do_words, take_lock};
 
 /// Opens an office without rows, and counts how many.
 #[derive(Drop)]
@@ -12,7 +12,7 @@ struct Counting {
     opened: u32,
 }
 
-impl Opener<MemKeep> for Counting {
+impl KeepOpener<MemKeep> for Counting {
     ghost use Rattle.std.specs.Prelude.{⊤};
 
     ghost is_opened = { λ _. ⊤ };
@@ -33,8 +33,8 @@ impl Opener<MemKeep> for Counting {
 #[derive(Drop)]
 struct NoServer;
 
-impl Connector<Noted<File>> for NoServer {
-    fn connect(&mut self, _rt: &HostRuntime, _path: &str) -> Option<Noted<File>> {
+impl Connector<TrackedStream<File>> for NoServer {
+    fn connect(&mut self, _rt: &HostRuntime, _path: &str) -> Option<TrackedStream<File>> {
         None
     }
 }
@@ -87,7 +87,7 @@ const LOCKED: End = End {
 
 // Whether these words come to such an end.
 fn come_to(rt: &HostRuntime, words: &[&str], end: &End) -> bool {
-    let mut place = Place {
+    let mut place = OfficePath {
         rt,
         path: "words.db",
         opener: Counting { opened: 0 },

@@ -8,7 +8,7 @@ use crate::stories::{Line, TableKeep, WITH_RECIPE, check, check_said_over, empty
 use sqlite::{Connection, MemStore};
 use std::alloc::Global;
 use std::test::Fail;
-use toll_keep::{Keep, KeepFault, Remembering};
+use toll_keep::{CachedKeep, Keep, KeepFault};
 use toll_sql::SqlKeep;
 
 // Statements that leave a row of a batch on the unit that is no batch: a state and a number that there are
@@ -68,7 +68,7 @@ fn a_batch_is_opened_on_no_unit_with_a_broken_row(rt: HostRuntime) -> Result<(),
     let found = adopted(alloc, without_state(alloc, keep)?)?;
     check_said_over::<Asked, TableKeep>(
         alloc,
-        &mut Remembering::new(alloc, found),
+        &mut CachedKeep::new(alloc, found),
         &[NEITHER_FREE_NOR_HELD],
     )
 }

@@ -5,7 +5,7 @@ use sqlite::MemStore;
 use std::alloc::Global;
 use std::test::Fail;
 use toll_base::{Change, Edge, LotId, Name, Role, Row, VoidRow};
-use toll_keep::{Keep, MemKeep, Remembering};
+use toll_keep::{CachedKeep, Keep, MemKeep};
 use toll_sql::SqlKeep;
 
 // What a batch uses: the key, the role, the lot and the segment.
@@ -86,5 +86,5 @@ fn tables_pair_lots_of_several_segments_once(rt: HostRuntime) -> Result<(), Fail
 #[test]
 fn remembered_edges_follow_the_changes(rt: HostRuntime) -> Result<(), Fail> {
     let keep: SqlKeep<MemStore> = SqlKeep::in_memory(rt.alloc())?;
-    check_segments(rt.alloc(), &mut Remembering::new(rt.alloc(), keep))
+    check_segments(rt.alloc(), &mut CachedKeep::new(rt.alloc(), keep))
 }

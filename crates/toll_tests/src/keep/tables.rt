@@ -5,7 +5,7 @@ use crate::stories::check;
 use sqlite::{Connection, MemStore};
 use std::alloc::Global;
 use std::test::Fail;
-use toll_keep::{Keep, KeepFault, Remembering};
+use toll_keep::{CachedKeep, Keep, KeepFault};
 use toll_sql::{OpenFault, SqlKeep};
 
 fn filled(alloc: Global) -> Result<SqlKeep<MemStore>, Fail> {
@@ -34,7 +34,7 @@ fn tables_are_told_as_lists_are(rt: HostRuntime) -> Result<(), Fail> {
 fn tables_are_told_by_a_keep_that_remembers(rt: HostRuntime) -> Result<(), Fail> {
     check_all(
         rt.alloc(),
-        &mut Remembering::new(rt.alloc(), filled(rt.alloc())?),
+        &mut CachedKeep::new(rt.alloc(), filled(rt.alloc())?),
     )
 }
 

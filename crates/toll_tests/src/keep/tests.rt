@@ -8,7 +8,7 @@ use crate::stories::check;
 use std::alloc::Global;
 use std::test::Fail;
 use toll_base::{Change, Disposition, LotRow, Name, Origin, Role, Row};
-use toll_keep::{Keep, KeepFault, MemKeep, Remembering};
+use toll_keep::{CachedKeep, Keep, KeepFault, MemKeep};
 
 fn filled(alloc: Global) -> Result<MemKeep, Fail> {
     let mut keep = MemKeep::new(alloc);
@@ -79,7 +79,7 @@ fn changes_that_do_not_fit_are_taken_back(rt: HostRuntime) -> Result<(), Fail> {
 #[test]
 fn remembered_rows_follow_the_changes(rt: HostRuntime) -> Result<(), Fail> {
     let alloc = rt.alloc();
-    let mut keep = Remembering::new(alloc, Counting::new(MemKeep::new(alloc)));
+    let mut keep = CachedKeep::new(alloc, Counting::new(MemKeep::new(alloc)));
     let acme = acme()?;
     keep.apply(alloc, &[Change::Owner(acme)])?;
     check_counts(alloc, &mut keep, &acme.owner, Some((0, 0)))?;
@@ -92,7 +92,7 @@ fn remembered_rows_follow_the_changes(rt: HostRuntime) -> Result<(), Fail> {
 fn a_refused_change_makes_it_forget(rt: HostRuntime) -> Result<(), Fail> {
     let alloc = rt.alloc();
     let refusing = Refusing::new(filled(alloc)?, Refused::Apply);
-    let mut keep = Remembering::new(alloc, Counting::new(refusing));
+    let mut keep = CachedKeep::new(alloc, Counting::new(refusing));
     let owner = acme()?.owner;
     check_counts(alloc, &mut keep, &owner, Some((1, 2)))?;
     let refused = keep.apply(alloc, &[Change::Put(owner, Row::Batch(batch()?))]);
@@ -104,7 +104,7 @@ fn a_refused_change_makes_it_forget(rt: HostRuntime) -> Result<(), Fail> {
 #[test]
 fn owners_and_units_are_read_again_once_one_is_added(rt: HostRuntime) -> Result<(), Fail> {
     let alloc = rt.alloc();
-    let mut keep = Remembering::new(alloc, Counting::new(filled(alloc)?));
+    let mut keep = CachedKeep::new(alloc, Counting::new(filled(alloc)?));
     check_owners(alloc, &mut keep)?;
     check_owners(alloc, &mut keep)?;
     let mut bolt = acme()?;
@@ -120,7 +120,7 @@ fn owners_and_units_are_read_again_once_one_is_added(rt: HostRuntime) -> Result<
 #[test]
 fn edges_come_from_a_remembered_slice(rt: HostRuntime) -> Result<(), Fail> {
     let alloc = rt.alloc();
-    let mut keep = Remembering::new(alloc, filled(alloc)?);
+    let mut keep = CachedKeep::new(alloc, filled(alloc)?);
     let owner = acme()?.owner;
     let told = keep.edges(alloc, &owner)?;
     check_counts(alloc, &mut keep, &owner, Some((1, 2)))?;

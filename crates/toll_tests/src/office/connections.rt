@@ -7,7 +7,7 @@ use std::fs::File;
 use std::io::{Read, Write};
 use std::net::{Ipv4Addr, Shutdown, SocketAddrV4, TcpListener, TcpStream};
 use std::test::Fail;
-use toll_office::{Served, place_of, serve_one};
+use toll_office::{Served, office_at, serve_one};
 use toll_plant::command_of;
 use toll_programs::ScriptEnd;
 use toll_service::{do_command, take_lock};
@@ -64,7 +64,7 @@ fn is_done(rt: &HostRuntime, path: &str, words: &[&str]) -> Result<bool, Fail> {
     let command = command_of(rt.alloc(), words)?;
     let mut output = page_of(rt, path, "out")?;
     let mut error = page_of(rt, path, "err")?;
-    let status = do_command(&mut place_of(rt, path), &command, &mut output, &mut error)?;
+    let status = do_command(&mut office_at(rt, path), &command, &mut output, &mut error)?;
     Ok(status == 0)
 }
 
@@ -109,7 +109,7 @@ fn is_scripted(rt: &HostRuntime, path: &str) -> Result<bool, OpenFault> {
 }
 
 #[test]
-fn a_peer_is_served_from_a_file(rt: HostRuntime) -> Result<(), Fail> {
+fn a_client_is_served_from_a_file(rt: HostRuntime) -> Result<(), Fail> {
     let path = "a_peer_is_served.db";
     remove(&rt, path)?;
     let is_told = is_scripted(&rt, path)? && is_told(&rt, path, ASKED, TOLD)?;
@@ -118,7 +118,7 @@ fn a_peer_is_served_from_a_file(rt: HostRuntime) -> Result<(), Fail> {
 }
 
 #[test]
-fn a_peer_is_served_what_commands_made(rt: HostRuntime) -> Result<(), Fail> {
+fn a_client_is_served_what_commands_made(rt: HostRuntime) -> Result<(), Fail> {
     check_told(&rt, "what_commands_made.db", ASKED, TOLD)
 }
 

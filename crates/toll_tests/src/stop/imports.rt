@@ -7,7 +7,7 @@ use crate::wire::setups::RELEASED_AND_PLACED;
 use sqlite::{Alter, Connection};
 use std::alloc::{AllocError, Global};
 use std::test::Fail;
-use toll_keep::{Keep, Remembering};
+use toll_keep::{CachedKeep, Keep};
 use toll_plant::GROUP_RECORDS;
 use toll_sql::SqlKeep;
 
@@ -94,7 +94,7 @@ impl Run for Importing {
     fn go<S: Alter + Drop>(&self, alloc: Global, conn: Connection<S>) -> (Connection<S>, Told) {
         match SqlKeep::adopt(alloc, conn) {
             Ok(keep) => {
-                let mut keep = Remembering::new(alloc, keep);
+                let mut keep = CachedKeep::new(alloc, keep);
                 let told = import(alloc, &mut keep).unwrap_or(Told::Other);
                 (keep.inside().into_connection(), told)
             }

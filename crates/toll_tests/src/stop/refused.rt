@@ -6,7 +6,7 @@ use crate::wire::lines::Asked;
 use sqlite::MemStore;
 use std::alloc::Global;
 use std::test::Fail;
-use toll_keep::{Keep, MemKeep, Remembering};
+use toll_keep::{CachedKeep, Keep, MemKeep};
 use toll_sql::SqlKeep;
 
 // More calls of a keep than a line makes.
@@ -50,7 +50,7 @@ fn is_refused_of_lists(alloc: Global, telling: &Telling, calls: u64) -> Result<b
 fn is_refused_of_tables(alloc: Global, telling: &Telling, calls: u64) -> Result<bool, Fail> {
     let mut keep = SqlKeep::in_memory(alloc)?;
     check_said_over::<Asked, SqlKeep<MemStore>>(alloc, &mut keep, telling.story)?;
-    let mut keep = Remembering::new(alloc, Refusing::new(keep, Refused::Behind(calls)));
+    let mut keep = CachedKeep::new(alloc, Refusing::new(keep, Refused::Behind(calls)));
     let is_refused = meets_refusal(alloc, &mut keep, telling)?;
     check_passed_on(is_refused, keep.inside().refused)
 }

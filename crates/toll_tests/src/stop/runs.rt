@@ -5,7 +5,7 @@ use crate::wire::lines::Asked;
 use sqlite::{Alter, Connection};
 use std::alloc::Global;
 use std::test::Fail;
-use toll_keep::{Keep, Remembering};
+use toll_keep::{CachedKeep, Keep};
 use toll_sql::{OpenFault, SqlKeep};
 
 /// What comes of a run.
@@ -196,7 +196,7 @@ impl Run for Telling {
     fn go<S: Alter + Drop>(&self, alloc: Global, conn: Connection<S>) -> (Connection<S>, Told) {
         match SqlKeep::adopt(alloc, conn) {
             Ok(keep) => {
-                let mut keep = Remembering::new(alloc, keep);
+                let mut keep = CachedKeep::new(alloc, keep);
                 let told = self.say(alloc, &mut keep);
                 (keep.inside().into_connection(), told)
             }

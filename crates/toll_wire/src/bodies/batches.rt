@@ -4,8 +4,8 @@ ghost use Rattle.serde_json.specs.Written.{compact_text};
 ghost use Rattle.toll_wire.specs.Exact.{batch_exact};
 ghost use Rattle.toll_wire.specs.ReplyBodies.{batch_data, requirement_data};
 
-use crate::bodies::sent::text_of;
-use crate::bodies::told::{Told, send_member};
+use crate::bodies::json_text::text_of;
+use crate::bodies::json_value::{JsonValue, send_member};
 use serde::Serializer;
 use std::alloc::{AllocError, Global};
 use toll_work::{BatchView, RequirementLine, StateWord};
@@ -17,7 +17,7 @@ pub fn batch_body(alloc: Global, view: &BatchView) -> Result<String, AllocError>
     text_of(alloc, view)
 }
 
-impl Told for BatchView {
+impl JsonValue for BatchView {
     ghost said = { λ view. batch_data view.row view.lines.items };
 
     ghost exact = { λ view. batch_exact view.row view.lines.items };
@@ -34,7 +34,7 @@ impl Told for BatchView {
     }
 }
 
-impl Told for RequirementLine {
+impl JsonValue for RequirementLine {
     ghost said = { requirement_data };
 
     ghost exact = { λ _. refl };

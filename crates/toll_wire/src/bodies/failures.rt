@@ -3,8 +3,8 @@ ghost use Rattle.std.specs.Prelude.{◌≡◌, IfOk, refl, string_bytes};
 ghost use Rattle.serde_json.specs.Written.{compact_text};
 ghost use Rattle.toll_wire.specs.ReplyBodies.{error_data, refusal_data};
 
-use crate::bodies::sent::text_of;
-use crate::bodies::told::{Told, send_member};
+use crate::bodies::json_text::text_of;
+use crate::bodies::json_value::{JsonValue, send_member};
 use serde::Serializer;
 use std::alloc::{AllocError, Global};
 use toll_base::Refusal;
@@ -23,7 +23,7 @@ pub fn error_body(alloc: Global, word: &str) -> Result<String, AllocError>
     text_of(alloc, &ErrorWord(word))
 }
 
-impl Told for Refusal {
+impl JsonValue for Refusal {
     ghost said = { refusal_data };
 
     ghost exact = { λ _. refl };
@@ -40,7 +40,7 @@ impl Told for Refusal {
 #[derive(Drop)]
 struct ErrorWord<'a>(&'a str);
 
-impl Told for ErrorWord<'_> {
+impl JsonValue for ErrorWord<'_> {
     ghost said = { λ told. error_data told.0.now };
 
     ghost exact = { λ _. refl };

@@ -11,8 +11,8 @@ ghost use Rattle.toll_wire.specs.ReplyBodies.{
   trace_data,
 };
 
-use crate::bodies::sent::text_of;
-use crate::bodies::told::{Told, send_member};
+use crate::bodies::json_text::text_of;
+use crate::bodies::json_value::{JsonValue, send_member};
 use serde::Serializer;
 use std::alloc::{AllocError, Global};
 use toll_answers::StockLine;
@@ -41,7 +41,7 @@ pub fn trace_body(alloc: Global, steps: &[Step]) -> Result<String, AllocError>
 }
 
 // The text of an object of one member: all these rows under this name.
-fn list_text<R: Told>(alloc: Global, name: &str, rows: &[R]) -> Result<String, AllocError>
+fn list_text<R: JsonValue>(alloc: Global, name: &str, rows: &[R]) -> Result<String, AllocError>
     ensures { IfOk result (λ text. string_bytes text ≡ compact_text (listed name.now R.said rows.now)) }
 {
     text_of(alloc, &Listed { name, rows })
@@ -54,7 +54,7 @@ struct Listed<'a, R> {
     rows: &'a [R],
 }
 
-impl<R: Told> Told for Listed<'_, R> {
+impl<R: JsonValue> JsonValue for Listed<'_, R> {
     ghost said = { λ told. listed told.name.now R.said told.rows.now };
 
     ghost exact = { λ told. listed_exact told.name.now R.said R.exact told.rows.now };
@@ -66,7 +66,7 @@ impl<R: Told> Told for Listed<'_, R> {
     }
 }
 
-impl Told for StockLine {
+impl JsonValue for StockLine {
     ghost said = { stock_line_data };
 
     ghost exact = { λ _. refl };
@@ -82,7 +82,7 @@ impl Told for StockLine {
     }
 }
 
-impl Told for Step {
+impl JsonValue for Step {
     ghost said = { step_data };
 
     ghost exact = { λ _. refl };

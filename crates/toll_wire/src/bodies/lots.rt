@@ -5,8 +5,8 @@ ghost use Rattle.toll_wire.specs.Exact.{lot_exact, result_exact};
 ghost use Rattle.toll_wire.specs.ReplyBodies as spec;
 ghost use Rattle.toll_wire.specs.ReplyBodies.{lot_data, lot_from, result_data, sublot_data};
 
-use crate::bodies::sent::text_of;
-use crate::bodies::told::{Told, send_member};
+use crate::bodies::json_text::text_of;
+use crate::bodies::json_value::{JsonValue, send_member};
 use crate::bodies::values::name_text;
 use serde::Serializer;
 use std::alloc::{AllocError, Global};
@@ -47,7 +47,7 @@ struct LotBody<'a> {
     origin: &'a str,
 }
 
-impl Told for LotBody<'_> {
+impl JsonValue for LotBody<'_> {
     ghost said = { λ told. lot_from told.origin.now told.view.now.row told.view.now.measure told.view.now.results.items told.view.now.sublots.items };
 
     ghost exact = { λ told. lot_exact told.origin.now told.view.now.row told.view.now.measure told.view.now.results.items told.view.now.sublots.items };
@@ -65,7 +65,7 @@ impl Told for LotBody<'_> {
     }
 }
 
-impl Told for ResultRow {
+impl JsonValue for ResultRow {
     ghost said = { result_data };
 
     ghost exact = { result_exact };
@@ -79,7 +79,7 @@ impl Told for ResultRow {
     }
 }
 
-impl Told for SublotRow {
+impl JsonValue for SublotRow {
     ghost said = { sublot_data };
 
     ghost exact = { λ _. refl };

@@ -3,8 +3,8 @@ ghost use Rattle.std.specs.Prelude.{◌≡◌, IfOk, refl, string_bytes};
 ghost use Rattle.serde_json.specs.Written.{compact_text};
 ghost use Rattle.toll_wire.specs.ReplyBodies.{order_data};
 
-use crate::bodies::sent::text_of;
-use crate::bodies::told::{Told, send_member};
+use crate::bodies::json_text::text_of;
+use crate::bodies::json_value::{JsonValue, send_member};
 use serde::Serializer;
 use std::alloc::{AllocError, Global};
 use toll_base::OrderRow;
@@ -16,7 +16,7 @@ pub fn order_body(alloc: Global, row: &OrderRow) -> Result<String, AllocError>
     text_of(alloc, row)
 }
 
-impl Told for OrderRow {
+impl JsonValue for OrderRow {
     ghost said = { order_data };
 
     ghost exact = { λ _. refl };

@@ -2,10 +2,10 @@
 ghost use Rattle.toll_wire.specs.Exact.{each_exact};
 ghost use Rattle.toll_wire.specs.ReplyBodies.{each};
 
-use crate::bodies::told::Told;
+use crate::bodies::json_value::JsonValue;
 use serde::Serializer;
 
-impl<R: Told> Told for &[R] {
+impl<R: JsonValue> JsonValue for &[R] {
     ghost said = { λ rows. each R.said rows.now };
 
     ghost exact = { λ rows. each_exact R.said R.exact rows.now };
@@ -19,7 +19,7 @@ impl<R: Told> Told for &[R] {
     }
 }
 
-impl<R: Told> Told for Vec<R> {
+impl<R: JsonValue> JsonValue for Vec<R> {
     ghost said = { λ rows. each R.said rows.items };
 
     ghost exact = { λ rows. each_exact R.said R.exact rows.items };

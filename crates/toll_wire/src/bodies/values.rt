@@ -6,13 +6,13 @@ ghost use Rattle.toll_base.specs.ValueWords.{disposition_word, use_word};
 ghost use Rattle.toll_wire.specs.Exact.{whole_exact};
 ghost use Rattle.toll_wire.specs.ReplyBodies.{count, whole};
 
-use crate::bodies::told::Told;
+use crate::bodies::json_value::JsonValue;
 use serde::Serializer;
 use std::str::from_utf8;
 use toll_base::{Bounded, Disposition, Measure, Name, Role, State, Value};
 use toll_work::StateWord;
 
-impl Told for &str {
+impl JsonValue for &str {
     ghost said = { λ text. string text.now };
 
     ghost exact = { λ _. refl };
@@ -22,7 +22,7 @@ impl Told for &str {
     }
 }
 
-impl Told for bool {
+impl JsonValue for bool {
     ghost said = { boolean };
 
     ghost exact = { λ _. refl };
@@ -32,7 +32,7 @@ impl Told for bool {
     }
 }
 
-impl Told for u64 {
+impl JsonValue for u64 {
     ghost said = { count };
 
     ghost exact = { λ _. refl };
@@ -42,7 +42,7 @@ impl Told for u64 {
     }
 }
 
-impl<const LEAST: u64, const MOST: u64> Told for Bounded<LEAST, MOST> {
+impl<const LEAST: u64, const MOST: u64> JsonValue for Bounded<LEAST, MOST> {
     ghost said = { count };
 
     ghost exact = { λ _. refl };
@@ -52,7 +52,7 @@ impl<const LEAST: u64, const MOST: u64> Told for Bounded<LEAST, MOST> {
     }
 }
 
-impl Told for Value {
+impl JsonValue for Value {
     ghost said = { whole };
 
     ghost exact = { whole_exact };
@@ -65,7 +65,7 @@ impl Told for Value {
     }
 }
 
-impl Told for Name {
+impl JsonValue for Name {
     ghost said = { string };
 
     ghost exact = { λ _. refl };
@@ -75,7 +75,7 @@ impl Told for Name {
     }
 }
 
-impl Told for Measure {
+impl JsonValue for Measure {
     ghost said = { string };
 
     ghost exact = { λ _. refl };
@@ -85,7 +85,7 @@ impl Told for Measure {
     }
 }
 
-impl Told for Disposition {
+impl JsonValue for Disposition {
     ghost said = { λ disposition. string (disposition_word disposition) };
 
     ghost exact = { λ _. refl };
@@ -95,7 +95,7 @@ impl Told for Disposition {
     }
 }
 
-impl Told for Role {
+impl JsonValue for Role {
     ghost said = { λ role. string (use_word role) };
 
     ghost exact = { λ _. refl };
@@ -105,7 +105,7 @@ impl Told for Role {
     }
 }
 
-impl Told for State {
+impl JsonValue for State {
     ghost said = { λ state. string (word_of_state state) };
 
     ghost exact = { λ _. refl };

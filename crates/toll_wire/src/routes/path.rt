@@ -26,7 +26,7 @@ fn query_start(target: &[u8]) -> Option<usize>
 
 /// The route of a path by the router of the office, with the values that the path has there; `None`
 /// where the path is of no route.
-pub fn place_of<'r>(router: &'r Router<Route>, path: &[u8]) -> Option<(&'r Route, Values)>
+pub fn route_of<'r>(router: &'r Router<Route>, path: &[u8]) -> Option<(&'r Route, Values)>
     requires { IsOffice router.now }
     ensures { LeadsBy path.now result }
 {

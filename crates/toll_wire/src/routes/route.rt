@@ -3,8 +3,8 @@ ghost use Rattle.std.specs.Prelude.{◌≡◌, IfOk};
 ghost use Rattle.toll_wire.specs.Routers.{IsOffice};
 ghost use Rattle.toll_wire.specs.Routers.{ask_of};
 
-use crate::routes::ask::Ask;
 use crate::routes::parts::Parts;
+use crate::routes::request_kind::RequestKind;
 use matchit::{InsertError, Router};
 use std::alloc::{AllocError, Global};
 use toll_protocol::Verb;
@@ -15,13 +15,13 @@ use toll_protocol::Verb;
 pub struct Route {
     pub pattern: &'static str,
     pub parts: Parts,
-    pub get: Option<Ask>,
-    pub post: Option<Ask>,
+    pub get: Option<RequestKind>,
+    pub post: Option<RequestKind>,
 }
 
 impl Route {
     /// What this method asks for at the route, where it is served.
-    pub fn ask(&self, verb: Verb) -> Option<Ask>
+    pub fn ask(&self, verb: Verb) -> Option<RequestKind>
         ensures { result ≡ ask_of verb self.now }
     {
         match verb {
@@ -50,67 +50,67 @@ static ROUTES: [Route; 11] = [
     Route {
         pattern: "/orders",
         parts: Parts::Nothing,
-        get: Some(Ask::Orders),
-        post: Some(Ask::Place),
+        get: Some(RequestKind::Orders),
+        post: Some(RequestKind::Place),
     },
     Route {
         pattern: "/orders/{order}",
         parts: Parts::Name,
-        get: Some(Ask::Order),
+        get: Some(RequestKind::Order),
         post: None,
     },
     Route {
         pattern: "/orders/{order}/cancel",
         parts: Parts::Name,
         get: None,
-        post: Some(Ask::Cancel),
+        post: Some(RequestKind::Cancel),
     },
     Route {
         pattern: "/batches/{order}/{n}",
         parts: Parts::NameAndNumber,
-        get: Some(Ask::Batch),
+        get: Some(RequestKind::Batch),
         post: None,
     },
     Route {
         pattern: "/stock",
         parts: Parts::Nothing,
-        get: Some(Ask::Stock),
+        get: Some(RequestKind::Stock),
         post: None,
     },
     Route {
         pattern: "/lots/{lot}",
         parts: Parts::Name,
-        get: Some(Ask::Lot),
+        get: Some(RequestKind::Lot),
         post: None,
     },
     Route {
         pattern: "/lots/{lot}/release",
         parts: Parts::Name,
         get: None,
-        post: Some(Ask::Release),
+        post: Some(RequestKind::Release),
     },
     Route {
         pattern: "/lots/{lot}/reject",
         parts: Parts::Name,
         get: None,
-        post: Some(Ask::Reject),
+        post: Some(RequestKind::Reject),
     },
     Route {
         pattern: "/trace/back/{lot}",
         parts: Parts::Name,
-        get: Some(Ask::Back),
+        get: Some(RequestKind::Back),
         post: None,
     },
     Route {
         pattern: "/trace/forward/{lot}",
         parts: Parts::Name,
-        get: Some(Ask::Forward),
+        get: Some(RequestKind::Forward),
         post: None,
     },
     Route {
         pattern: "/trace/house/{lot}",
         parts: Parts::Name,
-        get: Some(Ask::HouseForward),
+        get: Some(RequestKind::HouseForward),
         post: None,
     },
 ];

@@ -1,5 +1,5 @@
 use Rattle.std.proofs.Common.{Some, None, subst}
-use Rattle.toll_desk.specs.Asking.{asked_by}
+use Rattle.toll_desk.specs.Translations.{asked_by}
 use Rattle.toll_desk.specs.Reads.{AreBoth}
 use Rattle.toll_desk.specs.Subjects.{concerned}
 use Rattle.toll_desk.proofs.DeedPlans.{deed_so, shared_adds, decided_both, decided_unknown}

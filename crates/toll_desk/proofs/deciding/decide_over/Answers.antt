@@ -1,6 +1,6 @@
 use Rattle.std.proofs.Common.{sym, ap, ◌∙◌}
 use Rattle.toll_keep.specs.Content.{slice_of}
-use Rattle.toll_desk.specs.Asking.{asked_by}
+use Rattle.toll_desk.specs.Translations.{asked_by}
 use Rattle.toll_desk.specs.Subjects.{concerned}
 use Rattle.toll_desk.proofs.DeedPlans.{deed_so, own_adds, deed_decision, decided_own, decided_unknown}
 use Rattle.toll_desk.proofs.OwnerPlans.{slice_read, some_read, none_read}

@@ -1,6 +1,6 @@
 use Rattle.std.proofs.Common.{◌≡◌, true, false, sym, subst, ◌∙◌}
 use Rattle.toll_desk.proofs.Common.{IfOk-weaker, is_some, IfSome, same_bytes, order_at, house_name, owner_known, has_key}
-use Rattle.toll_desk.specs.Asking.{asked_of, told_of}
+use Rattle.toll_desk.specs.Translations.{asked_of, told_of}
 use Rattle.toll_desk.specs.Plans.{IsPlanFor}
 use Rattle.toll_desk.proofs.OwnerPlans.{right_key, wrong_key, key_known, not_house_by, plan_admitted, plan_forbidden}
 use Rattle.toll_desk.proofs.owner.owner_plan.Goals as goal

@@ -1,6 +1,6 @@
 use Rattle.std.proofs.Common.{IfOk, sym, ap, subst, ◌∙◌}
 use Rattle.std.proofs.lemmas.Result.{IfOk-weaker}
-use Rattle.toll_desk.specs.Asking.{asked_of, is_granted, told_of, writes}
+use Rattle.toll_desk.specs.Translations.{asked_of, is_granted, told_of, writes}
 use Rattle.toll_desk.specs.Plans.{IsPlanFor}
 use Rattle.toll_desk.proofs.OwnerForms.{plan_read, plan_trace, write_writes, both_false}
 use Rattle.toll_desk.proofs.owner.plan_for.Goals as goal

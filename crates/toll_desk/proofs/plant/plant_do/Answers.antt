@@ -1,7 +1,7 @@
 use Rattle.std.proofs.Common.{rules}
 use Rattle.toll_desk.proofs.Common.{IsPlantAnswer, after_plant}
 use Rattle.toll_desk.proofs.KeptRules.{standing_keeps_rules}
-use Rattle.toll_desk.specs.Asking.{asked_by, plant_told}
+use Rattle.toll_desk.specs.Translations.{asked_by, plant_told}
 use Rattle.toll_desk.proofs.PlantQuestions.{question_done}
 use Rattle.toll_desk.proofs.plant.plant_do.Goals as goal
 
@@ -13,7 +13,7 @@ returns-in_default g c = record {
   settles = search rules;
   spared = search rules;
   whole = search rules;
-  undamaged = λ honest content H held stands lawful. c.do_deed.ensures.whole honest content held (standing_keeps_rules H content lawful stands);
+  undamaged = λ honest content H held stands lawful. c.run_command.ensures.whole honest content held (standing_keeps_rules H content lawful stands);
   valid = search rules;
   quiet = search rules;
   done = search rules;

@@ -1,6 +1,6 @@
 use Rattle.std.proofs.Common.{IfErr, IfOk, sym, ap, ◌∙◌}
 use Rattle.toll_desk.proofs.Common.{Refused, IsPlantAnswer, Shows, Judged, slice_of}
-use Rattle.toll_desk.specs.Asking.{asked_by}
+use Rattle.toll_desk.specs.Translations.{asked_by}
 use Rattle.toll_desk.specs.Subjects.{concerned}
 use Rattle.toll_desk.proofs.OwnerPlans.{none_read}
 use Rattle.toll_desk.proofs.PlantShown.{asked_read, told_ok, told_err, rows_of_unknown}

@@ -1,7 +1,7 @@
 use Rattle.std.proofs.Common.{sym, ap, subst, ◌∙◌}
 use Rattle.toll_desk.proofs.Common.{false≢true, IfOk-weaker, IsAnswer, IsRowsOf}
 use Rattle.toll_desk.specs.Forms.{asked_to_read}
-use Rattle.toll_desk.specs.Asking.{told_of}
+use Rattle.toll_desk.specs.Translations.{told_of}
 use Rattle.toll_desk.proofs.OwnerPlans.{slice_read, none_read}
 use Rattle.toll_desk.proofs.reading.read_rows.Goals as goal
 

@@ -9,7 +9,7 @@ use Rattle.toll_desk.proofs.recalls.add_slice.Goals as goal
 
 pub returns-then-is_some-clause-over : goal.returns-then-is_some-clause-over
 returns-then-is_some-clause-over g c honest content H held stands lawful before are =
-    step_found H before c.args.step.now c.args.slices.now.items c.place_of.result are (c.place_of.ensures ∙ ap (position (is_of c.args.step.now.lot.owner)) c.deref.ensures.value) (sym c.is_some.ensures ∙ c.if-is_some.true)
+    step_found H before c.args.step.now c.args.slices.now.items c.index_of_owner.result are (c.index_of_owner.ensures ∙ ap (position (is_of c.args.step.now.lot.owner)) c.deref.ensures.value) (sym c.is_some.ensures ∙ c.if-is_some.true)
 
 pub returns-in-Ok-None-clause-over : goal.returns-in-Ok-None-clause-over
 returns-in-Ok-None-clause-over g c honest content H held stands lawful before are =

@@ -1,6 +1,6 @@
 use Rattle.std.proofs.Common.{ap, subst}
 use Rattle.toll_desk.proofs.Common.{IfOk-weaker, changes_of, PlaceOrder, verdict_of, AskPlace}
-use Rattle.toll_desk.specs.Asking.{told_of}
+use Rattle.toll_desk.specs.Translations.{told_of}
 use Rattle.toll_desk.specs.Plans.{IsPlanOver}
 use Rattle.toll_desk.proofs.DeedPlans.{own_decision}
 use Rattle.toll_desk.proofs.WriteOver.{place_accepted, place_repeated, place_refused}

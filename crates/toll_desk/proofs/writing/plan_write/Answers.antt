@@ -1,7 +1,7 @@
 use Rattle.std.proofs.Common.{◌≡◌, true, sym, ap, subst, ◌∙◌}
 use Rattle.toll_desk.proofs.Common.{false≢true, IfOk-weaker, order_at, owner_known, IsRowsOf, is_some}
 use Rattle.toll_desk.specs.Forms.{asked_to_write}
-use Rattle.toll_desk.specs.Asking.{told_of}
+use Rattle.toll_desk.specs.Translations.{told_of}
 use Rattle.toll_desk.proofs.OwnerPlans.{slice_read, none_read, plan_lift}
 use Rattle.toll_desk.proofs.writing.plan_write.Goals as goal
 

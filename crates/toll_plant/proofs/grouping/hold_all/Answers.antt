@@ -21,14 +21,14 @@ returns-in-Err-clause-held g c =
       ends = record { calm = told; calmly = so.calm; said = sym (append-nil told) };
       memory = tt;
       asked = tt;
-      failed = failed_next K.meaning c.args.keep.now l.keep c.act.new.keep l.overlay c.act.new.overlay c.in-Err.fault held.reading so.through;
-      kept = kept_next K.meaning c.args.keep.now l.keep c.act.new.keep l.overlay c.act.new.overlay (Err c.in-Err.fault) held.reading so.kept;
+      failed = failed_next K.meaning c.args.keep.now l.keep c.act.new.keep l.pending c.act.new.pending c.in-Err.fault held.reading so.through;
+      kept = kept_next K.meaning c.args.keep.now l.keep c.act.new.keep l.pending c.act.new.pending (Err c.in-Err.fault) held.reading so.kept;
       quiet = tt;
       over = λ honest content H there stands lawful.
-          let before = (kept_one K.meaning c.args.keep.now l.keep c.act.new.keep l.overlay c.act.new.overlay (Err c.in-Err.fault) held.reading honest).0 in
+          let before = (kept_one K.meaning c.args.keep.now l.keep c.act.new.keep l.pending c.act.new.pending (Err c.in-Err.fault) held.reading honest).0 in
           let here = item_there commands i command c.loop-command-test.true c.command-item.is in
-          let so_far = subst (λ left. SoFar content H commands left told l.overlay.changes.items) here (so.so_far before content H there stands lawful) in
-          refused_now content H commands (drop (i + 1) commands) command told l.overlay.changes.items so_far (list_any is_accepted told) refl c.in-Err.fault (some_comes so_far.now command c.in-Err.fault held.some);
+          let so_far = subst (λ left. SoFar content H commands left told l.pending.changes.items) here (so.so_far before content H there stands lawful) in
+          refused_now content H commands (drop (i + 1) commands) command told l.pending.changes.items so_far (list_any is_accepted told) refl c.in-Err.fault (some_comes so_far.now command c.in-Err.fault held.some);
     }
 
 pub returns-then-is_fault-clause-held : goal.returns-then-is_fault-clause-held
@@ -46,18 +46,18 @@ returns-then-is_fault-clause-held g c =
     record {
       ends = record { calm = told; calmly = so.calm; said = c.push_reserved.ensures.items ∙ ap (λ x. told ++ x ∷ []) (faulty_memory o faulty held.memory) };
       memory = refl;
-      asked = asked_next K.meaning c.args.keep.now l.keep c.act.new.keep l.overlay c.act.new.overlay o (Err Memory) faulty held.reading so.through;
+      asked = asked_next K.meaning c.args.keep.now l.keep c.act.new.keep l.pending c.act.new.pending o (Err Memory) faulty held.reading so.through;
       failed = tt;
-      kept = kept_next K.meaning c.args.keep.now l.keep c.act.new.keep l.overlay c.act.new.overlay (Ok o) held.reading so.kept;
-      quiet = λ none. quiet_next told o l.overlay.changes.items held.made c.into_changes.result.items (c.into_changes.ensures ∙ held.held) so.quiet held.quiet (ap (list_any is_accepted) (sym c.push_reserved.ensures.items) ∙ none);
+      kept = kept_next K.meaning c.args.keep.now l.keep c.act.new.keep l.pending c.act.new.pending (Ok o) held.reading so.kept;
+      quiet = λ none. quiet_next told o l.pending.changes.items held.made c.into_changes.result.items (c.into_changes.ensures ∙ held.held) so.quiet held.quiet (ap (list_any is_accepted) (sym c.push_reserved.ensures.items) ∙ none);
       over = λ honest content H there stands lawful.
-          let before = kept_one K.meaning c.args.keep.now l.keep c.act.new.keep l.overlay c.act.new.overlay (Ok o) held.reading honest in
+          let before = kept_one K.meaning c.args.keep.now l.keep c.act.new.keep l.pending c.act.new.pending (Ok o) held.reading honest in
           let earlier = so.kept before.0 in
           let here = item_there commands i command c.loop-command-test.true c.command-item.is in
-          let so_far = subst (λ left. SoFar content H commands left told l.overlay.changes.items) here (so.so_far before.0 content H there stands lawful) in
+          let so_far = subst (λ left. SoFar content H commands left told l.pending.changes.items) here (so.so_far before.0 content H there stands lawful) in
           let over = held.told honest content (earlier.1 content there) (so.over before.0 content there) so_far.now so_far.leads.stands so_far.lawful in
           subst (λ said. IsHeldFor content H commands said c.into_changes.result.items) (sym c.push_reserved.ensures.items)
-          (subst (IsHeldFor content H commands (told ++ o ∷ [])) (sym (c.into_changes.ensures ∙ held.held)) (held_to content H commands (drop (i + 1) commands) command told l.overlay.changes.items so_far o held.made over faulty));
+          (subst (IsHeldFor content H commands (told ++ o ∷ [])) (sym (c.into_changes.ensures ∙ held.held)) (held_to content H commands (drop (i + 1) commands) command told l.pending.changes.items so_far o held.made over faulty));
     }
 
 pub loop-command-preserved : goal.loop-command-preserved
@@ -76,19 +76,19 @@ loop-command-preserved g c =
       count = c.push_reserved.ensures.len ∙ ap (λ n. n + 1) so.count;
       capacity = c.push_reserved.ensures.capacity ∙ so.capacity;
       calm = ap (list_any is_fault) c.push_reserved.ensures.items ∙ calm_next told o so.calm calm;
-      through = through_next K.meaning c.args.keep.now l.keep c.act.new.keep l.overlay c.act.new.overlay o held.reading so.through;
-      kept = kept_next K.meaning c.args.keep.now l.keep c.act.new.keep l.overlay c.act.new.overlay (Ok o) held.reading so.kept;
-      quiet = λ none. quiet_next told o l.overlay.changes.items held.made c.act.new.overlay.changes.items held.held so.quiet held.quiet (ap (list_any is_accepted) (sym c.push_reserved.ensures.items) ∙ none);
+      through = through_next K.meaning c.args.keep.now l.keep c.act.new.keep l.pending c.act.new.pending o held.reading so.through;
+      kept = kept_next K.meaning c.args.keep.now l.keep c.act.new.keep l.pending c.act.new.pending (Ok o) held.reading so.kept;
+      quiet = λ none. quiet_next told o l.pending.changes.items held.made c.act.new.pending.changes.items held.held so.quiet held.quiet (ap (list_any is_accepted) (sym c.push_reserved.ensures.items) ∙ none);
       over = λ honest content there.
-          let before = kept_one K.meaning c.args.keep.now l.keep c.act.new.keep l.overlay c.act.new.overlay (Ok o) held.reading honest in
+          let before = kept_one K.meaning c.args.keep.now l.keep c.act.new.keep l.pending c.act.new.pending (Ok o) held.reading honest in
           held.over honest content ((so.kept before.0).1 content there) (so.over before.0 content there);
       so_far = λ honest content H there stands lawful.
-          let before = kept_one K.meaning c.args.keep.now l.keep c.act.new.keep l.overlay c.act.new.overlay (Ok o) held.reading honest in
+          let before = kept_one K.meaning c.args.keep.now l.keep c.act.new.keep l.pending c.act.new.pending (Ok o) held.reading honest in
           let here = item_there commands i command c.loop-command-test.true c.command-item.is in
-          let so_far = subst (λ left. SoFar content H commands left told l.overlay.changes.items) here (so.so_far before.0 content H there stands lawful) in
+          let so_far = subst (λ left. SoFar content H commands left told l.pending.changes.items) here (so.so_far before.0 content H there stands lawful) in
           let over = held.told honest content ((so.kept before.0).1 content there) (so.over before.0 content there) so_far.now so_far.leads.stands so_far.lawful in
-          subst (λ said. SoFar content H commands (drop (i + 1) commands) said c.act.new.overlay.changes.items) (sym c.push_reserved.ensures.items)
-          (subst (SoFar content H commands (drop (i + 1) commands) (told ++ o ∷ [])) (sym held.held) (so_far_more content H commands (drop (i + 1) commands) command told l.overlay.changes.items so_far o held.made over calm));
+          subst (λ said. SoFar content H commands (drop (i + 1) commands) said c.act.new.pending.changes.items) (sym c.push_reserved.ensures.items)
+          (subst (SoFar content H commands (drop (i + 1) commands) (told ++ o ∷ [])) (sym held.held) (so_far_more content H commands (drop (i + 1) commands) command told l.pending.changes.items so_far o held.made over calm));
     }
 
 pub returns-clause-held : goal.returns-clause-held
@@ -101,12 +101,12 @@ returns-clause-held g c =
     record {
       ends = record { calm = told; calmly = so.calm; said = sym (append-nil told) };
       memory = tt;
-      asked = asked_all K.meaning c.args.keep.now l.keep l.overlay so.through;
+      asked = asked_all K.meaning c.args.keep.now l.keep l.pending so.through;
       failed = tt;
       kept = so.kept;
       quiet = λ none. c.into_changes-2.ensures ∙ so.quiet none;
       over = λ honest content H there stands lawful.
           let none = drop_all l.command-index commands c.loop-command-test.false in
           subst (IsHeldFor content H commands told) (sym c.into_changes-2.ensures)
-          (held_all content H commands told l.overlay.changes.items (subst (λ left. SoFar content H commands left told l.overlay.changes.items) none (so.so_far honest content H there stands lawful)));
+          (held_all content H commands told l.pending.changes.items (subst (λ left. SoFar content H commands left told l.pending.changes.items) none (so.so_far honest content H there stands lawful)));
     }

@@ -12,9 +12,9 @@ invariant-loop-command g l =
       count : vec_len l.told ≡ l.command-index;
       capacity : vec_capacity l.told ≡ vec_capacity l.fn.told;
       calm : list_any is_fault l.told.items ≡ false;
-      through : IsReadThrough K.meaning l.fn.keep l.keep l.overlay;
+      through : IsReadThrough K.meaning l.fn.keep l.keep l.pending;
       kept : IsKept K.meaning l.fn.keep l.keep;
-      quiet : list_any is_accepted l.told.items ≡ false → l.overlay.changes.items ≡ [];
-      over : K.meaning.is_honest l.keep → (c : Content) → K.meaning.holds l.fn.keep c → IsOver c l.overlay;
-      so_far : K.meaning.is_honest l.keep → (c : Content) (H : History) → K.meaning.holds l.fn.keep c → StandsFor c H → IsLawful H → SoFar c H l.commands (drop l.command-index l.commands) l.told.items l.overlay.changes.items;
+      quiet : list_any is_accepted l.told.items ≡ false → l.pending.changes.items ≡ [];
+      over : K.meaning.is_honest l.keep → (c : Content) → K.meaning.holds l.fn.keep c → IsOver c l.pending;
+      so_far : K.meaning.is_honest l.keep → (c : Content) (H : History) → K.meaning.holds l.fn.keep c → StandsFor c H → IsLawful H → SoFar c H l.commands (drop l.command-index l.commands) l.told.items l.pending.changes.items;
     }

@@ -11,15 +11,15 @@ not_over over is not done = false≢true (sym not ∙ is done)
 
 pub loop-alloc-smaller : goal.loop-alloc-smaller
 loop-alloc-smaller g c =
-    fewer g.K.Keep.meaning c.loop-alloc.keep c.go_on.new.keep c.loop-alloc.import c.go_on.new.self (not_over c.is_over.result c.is_over.ensures.1 c.loop-alloc-test.true) c.go_on.ensures
+    fewer g.K.Keep.meaning c.loop-alloc.keep c.resume.new.keep c.loop-alloc.import c.resume.new.self (not_over c.is_over.result c.is_over.ensures.1 c.loop-alloc-test.true) c.resume.ensures
 
 pub loop-alloc-preserved : goal.loop-alloc-preserved
 loop-alloc-preserved g c =
     let (records, read, so) = c.loop-alloc.invariant in (
       records,
       read,
-      so_on g.K.Keep.meaning c.args.keep.now (commands_in records) c.loop-alloc.keep c.go_on.new.keep c.loop-alloc.import c.go_on.new.self
-          (not_over c.is_over.result c.is_over.ensures.1 c.loop-alloc-test.true) so c.go_on.ensures,
+      so_on g.K.Keep.meaning c.args.keep.now (commands_in records) c.loop-alloc.keep c.resume.new.keep c.loop-alloc.import c.resume.new.self
+          (not_over c.is_over.result c.is_over.ensures.1 c.loop-alloc-test.true) so c.resume.ensures,
     )
 
 -- all records of the file were served, or those up to a fault, and the report tells it

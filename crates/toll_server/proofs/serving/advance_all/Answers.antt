@@ -6,5 +6,5 @@ pub loop-preserved : goal.loop-preserved
 loop-preserved g c = record {
   run = run_more _ _ _ _ _ _ _ _ c.loop.invariant.run c.advance.ensures.run;
   tally = c.now.ensures ∙ (c.next_ready.ensures ∙ c.loop.invariant.tally);
-  to_come = c.advance.ensures.to_come ∙ c.loop.invariant.to_come;
+  owners_left = c.advance.ensures.owners_left ∙ c.loop.invariant.owners_left;
 }

@@ -3,4 +3,4 @@ use Rattle.toll_service.proofs.serving.serve_keep.Goals as goal
 
 pub returns-clause-served : goal.returns-clause-served
 returns-clause-served g c =
-    has_served g.K.Keep.meaning g.met.K.Keep.settled (λ office. office.keep) c.args.office.now c.serve.new.office _ c.serve.ensures.run
+    has_served g.K.Keep.meaning g.met.K.Keep.settled (λ service. service.keep) c.args.service.now c.serve.new.service _ c.serve.ensures.run

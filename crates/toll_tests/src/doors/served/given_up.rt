@@ -8,9 +8,9 @@ use std::fs::File;
 use std::test::Fail;
 use toll_keep::MemKeep;
 use toll_plant::GROUP_RECORDS;
-use toll_protocol::{PackFault, Told};
-use toll_server::{Door, Office, Progress};
-use toll_service::{Desk, OfficeFault, Opener, Place, take_lock};
+use toll_protocol::{EncodeFault, Response};
+use toll_server::{Listener, Poll, Service};
+use toll_service::{KeepOpener, OfficeFault, OfficePath, OfficeService, take_lock};
 
 /// Opens one office, which refuses one change, and then none.
 #[derive(Drop)]
@@ -18,7 +18,7 @@ struct Once {
     is_opened: bool,
 }
 
-impl Opener<Refusing<MemKeep>> for Once {
+impl KeepOpener<Refusing<MemKeep>> for Once {
     ghost use Rattle.std.specs.Prelude.{⊤};
 
     ghost is_opened = { λ _. ⊤ };
@@ -39,52 +39,52 @@ impl Opener<Refusing<MemKeep>> for Once {
 }
 
 // What the plant is told: what came of the first group, and why no more act.
-fn wanted(alloc: Global) -> Result<Vec<u8>, PackFault> {
+fn wanted(alloc: Global) -> Result<Vec<u8>, EncodeFault> {
     let mut text = String::new(alloc);
     push_lines(alloc, &mut text, 1, GROUP_RECORDS, "refused 3 UnknownOwner")?;
     text.push_str("accepted 0 repeated 0 refused 500 bad 0 fault 0\n")?;
-    let told = Told {
+    let told = Response {
         status: 3,
         output: text.as_bytes(),
         error: b"fault Disk\n",
     };
-    told.packed(alloc)
+    told.encode(alloc)
 }
 
 // What one more turn comes to, where something is left.
-fn go_on<O: Office>(
-    alloc: Global,
-    office: &mut O,
-    progress: Progress<O::Task>,
-) -> Progress<O::Task> {
-    match progress {
-        Progress::Left(task) => office.go_on(alloc, task),
-        Progress::Told(bytes) => Progress::Told(bytes),
+fn resume<O: Service>(alloc: Global, office: &mut O, poll: Poll<O::Task>) -> Poll<O::Task> {
+    match poll {
+        Poll::Pending(task) => office.resume(alloc, task),
+        Poll::Ready(bytes) => Poll::Ready(bytes),
     }
 }
 
-fn is_told<T: Drop>(progress: &Progress<T>, wanted: &[u8]) -> bool {
-    match progress {
-        Progress::Told(bytes) => bytes.as_slice() == wanted,
-        Progress::Left(_) => false,
+fn is_told<T: Drop>(poll: &Poll<T>, wanted: &[u8]) -> bool {
+    match poll {
+        Poll::Ready(bytes) => bytes.as_slice() == wanted,
+        Poll::Pending(_) => false,
     }
 }
 
 // Whether that is told of the import, behind whose first group somebody meets a fault.
-fn is_given_up<O: Office>(alloc: Global, office: &mut O, asked: &[u8], wanted: &[u8]) -> bool {
-    let progress = office.answer(alloc, Door::Plant, asked);
-    let progress = go_on(alloc, office, progress);
-    let Visit { door, asked, .. } = ADD_OWNER;
-    let between = office.answer(alloc, door, asked);
-    let progress = go_on(alloc, office, progress);
-    is_told(&between, NO_MEMORY) && is_told(&progress, wanted)
+fn is_given_up<O: Service>(alloc: Global, office: &mut O, asked: &[u8], wanted: &[u8]) -> bool {
+    let poll = office.answer(alloc, Listener::Plant, asked);
+    let poll = resume(alloc, office, poll);
+    let Visit {
+        listener,
+        asked,
+        ..
+    } = ADD_OWNER;
+    let between = office.answer(alloc, listener, asked);
+    let poll = resume(alloc, office, poll);
+    is_told(&between, NO_MEMORY) && is_told(&poll, wanted)
 }
 
 #[test]
 fn what_came_of_an_import_that_is_given_up_is_told(rt: HostRuntime) -> Result<(), Fail> {
     let asked = import_of_records(rt.alloc())?;
     let wanted = wanted(rt.alloc())?;
-    let mut desk = Desk::new(Place {
+    let mut desk = OfficeService::new(OfficePath {
         rt: &rt,
         path: "given_up.db",
         opener: Once { is_opened: false },

@@ -1,14 +1,14 @@
 //! Imports in turns, with others in between.
 use crate::doors::served::street::{Log, Street};
-use crate::doors::served::{ADD_OWNER, ADD_RECIPE, LIST, PLACE, Visit, go_on, is_told, tells};
+use crate::doors::served::{ADD_OWNER, ADD_RECIPE, LIST, PLACE, Visit, is_told, resume, tells};
 use crate::refusing::{Refused, Refusing};
 use std::alloc::{AllocError, Global};
 use std::test::Fail;
 use toll_keep::{Keep, MemKeep};
 use toll_plant::GROUP_RECORDS;
-use toll_protocol::{Asked, PackFault, Told};
-use toll_server::{Door, Served};
-use toll_service::{KeptOffice, answer_at, serve_keep};
+use toll_protocol::{Call, EncodeFault, Response};
+use toll_server::{Listener, ServingEnd};
+use toll_service::{KeepService, answer_at, serve_keep};
 
 const HEADER: &str = "key,owner,order,batch,segment,use,material,lot_owner,lot,sublot,amount,day\n";
 
@@ -21,12 +21,12 @@ const RECORDS: usize = 2 * GROUP_RECORDS + 1;
 const BETWEEN: [&[Visit<'static>]; 2] = [&[ADD_OWNER], &[ADD_RECIPE, PLACE]];
 
 /// What asks for the import of the records.
-pub fn import_of_records(alloc: Global) -> Result<Vec<u8>, PackFault> {
+pub fn import_of_records(alloc: Global) -> Result<Vec<u8>, EncodeFault> {
     let mut file = String::from_str(alloc, HEADER)?;
     for _ in 0..RECORDS {
         file.push_str(RECORD)?;
     }
-    Asked::packed(alloc, &["import"], Some(file.as_bytes()))
+    Call::encode(alloc, &["import"], Some(file.as_bytes()))
 }
 
 /// What is printed of this import, where so many records behind these come to that.
@@ -46,17 +46,17 @@ pub fn push_lines(
 }
 
 // What the plant is told where this was printed.
-fn told(alloc: Global, status: u8, text: &str) -> Result<Vec<u8>, PackFault> {
-    let told = Told {
+fn told(alloc: Global, status: u8, text: &str) -> Result<Vec<u8>, EncodeFault> {
+    let told = Response {
         status,
         output: text.as_bytes(),
         error: b"",
     };
-    told.packed(alloc)
+    told.encode(alloc)
 }
 
 // What the plant is told where others asked in between.
-fn told_with_others(alloc: Global) -> Result<Vec<u8>, PackFault> {
+fn told_with_others(alloc: Global) -> Result<Vec<u8>, EncodeFault> {
     let mut text = String::new(alloc);
     push_lines(alloc, &mut text, 1, GROUP_RECORDS, "refused 3 UnknownOwner")?;
     push_lines(
@@ -72,7 +72,7 @@ fn told_with_others(alloc: Global) -> Result<Vec<u8>, PackFault> {
 }
 
 // What it is told where the second group met a fault.
-fn told_with_a_fault(alloc: Global) -> Result<Vec<u8>, PackFault> {
+fn told_with_a_fault(alloc: Global) -> Result<Vec<u8>, EncodeFault> {
     let mut text = String::new(alloc);
     push_lines(alloc, &mut text, 1, GROUP_RECORDS, "refused 3 UnknownOwner")?;
     push_lines(alloc, &mut text, 501, 1, "fault Memory")?;
@@ -98,13 +98,13 @@ fn are_told<K: Keep>(
 fn each_group_finds_what_was_done_before_it(rt: HostRuntime) -> Result<(), Fail> {
     let mut keep = MemKeep::new(rt.alloc());
     let asked = import_of_records(rt.alloc())?;
-    let mut reply = answer_at(rt.alloc(), &mut keep, Door::Plant, &asked)?;
+    let mut reply = answer_at(rt.alloc(), &mut keep, Listener::Plant, &asked)?;
     for visits in BETWEEN {
-        reply = go_on(rt.alloc(), &mut keep, reply);
+        reply = resume(rt.alloc(), &mut keep, reply);
         let are_told = are_told(rt.alloc(), &mut keep, visits)?;
         assert!(rt; are_told);
     }
-    let reply = go_on(rt.alloc(), &mut keep, reply);
+    let reply = resume(rt.alloc(), &mut keep, reply);
     let wanted = told_with_others(rt.alloc())?;
     assert!(rt; tells(&reply, &wanted, true));
     Ok(())
@@ -114,17 +114,17 @@ fn each_group_finds_what_was_done_before_it(rt: HostRuntime) -> Result<(), Fail>
 fn behind_a_fault_no_group_acts(rt: HostRuntime) -> Result<(), Fail> {
     let mut keep = MemKeep::new(rt.alloc());
     let asked = import_of_records(rt.alloc())?;
-    let reply = answer_at(rt.alloc(), &mut keep, Door::Plant, &asked)?;
-    let reply = go_on(rt.alloc(), &mut keep, reply);
+    let reply = answer_at(rt.alloc(), &mut keep, Listener::Plant, &asked)?;
+    let reply = resume(rt.alloc(), &mut keep, reply);
     let mut keep = Refusing::new(keep, Refused::Behind(0));
-    let reply = go_on(rt.alloc(), &mut keep, reply);
+    let reply = resume(rt.alloc(), &mut keep, reply);
     let wanted = told_with_a_fault(rt.alloc())?;
     assert!(rt; tells(&reply, &wanted, false));
     Ok(())
 }
 
 // What is told where a batch's order is known, and the batch is not.
-fn told_of_a_batch(alloc: Global) -> Result<Vec<u8>, PackFault> {
+fn told_of_a_batch(alloc: Global) -> Result<Vec<u8>, EncodeFault> {
     let mut text = String::new(alloc);
     push_lines(alloc, &mut text, 1, RECORDS, "refused 22 UnknownBatch")?;
     text.push_str("accepted 0 repeated 0 refused 1001 bad 0 fault 0\n")?;
@@ -136,18 +136,18 @@ fn owners_are_answered_before_an_import_is_over(rt: HostRuntime) -> Result<(), F
     let asked = import_of_records(rt.alloc())?;
     let told = told_of_a_batch(rt.alloc())?;
     let import = Visit {
-        door: Door::Plant,
+        listener: Listener::Plant,
         asked: &asked,
         told: &told,
     };
     let visits = [ADD_OWNER, ADD_RECIPE, import, PLACE, LIST];
-    let mut office = KeptOffice {
+    let mut office = KeepService {
         keep: MemKeep::new(rt.alloc()),
     };
     let log = Log::new();
     let served = serve_keep(rt.alloc(), &mut Street::new(&visits, &log), &mut office, 2);
-    assert_eq!(rt; served, Served::All);
+    assert_eq!(rt; served, ServingEnd::All);
     assert_eq!(rt; log.told.get(), visits.len());
-    assert_eq!(rt; log.last.get(), Some(Door::Plant));
+    assert_eq!(rt; log.last.get(), Some(Listener::Plant));
     Ok(())
 }

@@ -6,9 +6,9 @@ use crate::stories::{told_stock, with_much_stock};
 use std::alloc::{AllocError, Global};
 use std::test::Fail;
 use toll_keep::MemKeep;
-use toll_protocol::{Asked, PackFault, Told};
-use toll_server::Door;
-use toll_service::{KeptOffice, Reply, answer_at, serve_keep};
+use toll_protocol::{Call, EncodeFault, Response};
+use toll_server::Listener;
+use toll_service::{KeepService, TurnResult, answer_at, serve_keep};
 
 /// How long a file of actuals may be.
 const FILE_BYTES: usize = 1_048_576;
@@ -17,7 +17,7 @@ const HEADER: &[u8] =
     b"key,owner,order,batch,segment,use,material,lot_owner,lot,sublot,amount,day\n";
 
 /// What is told of one record that is none.
-const ONE_BAD: Told<'static> = Told {
+const ONE_BAD: Response<'static> = Response {
     status: 1,
     output: b"     1 bad-record\naccepted 0 repeated 0 refused 0 bad 1 fault 0\n",
     error: b"",
@@ -27,21 +27,21 @@ const ONE_BAD: Told<'static> = Told {
 fn a_stock_of_a_megabyte_is_told(rt: HostRuntime) -> Result<(), Fail> {
     let mut keep = with_much_stock(rt.alloc())?;
     let stock = told_stock(rt.alloc())?;
-    let asked = Asked::packed(rt.alloc(), &["stock", "ACME"], None)?;
-    let reply = answer_at(rt.alloc(), &mut keep, Door::Plant, &asked)?;
+    let asked = Call::encode(rt.alloc(), &["stock", "ACME"], None)?;
+    let reply = answer_at(rt.alloc(), &mut keep, Listener::Plant, &asked)?;
     assert!(rt; stock.len() > FILE_BYTES);
     assert!(rt; is_whole(rt.alloc(), &reply, stock.as_bytes())?);
     Ok(())
 }
 
 // Whether all of this output is told, of something that is done.
-fn is_whole(alloc: Global, reply: &Reply, output: &[u8]) -> Result<bool, PackFault> {
-    let told = Told {
+fn is_whole(alloc: Global, reply: &TurnResult, output: &[u8]) -> Result<bool, EncodeFault> {
+    let told = Response {
         status: 0,
         output,
         error: b"",
     };
-    Ok(tells(reply, &told.packed(alloc)?, true))
+    Ok(tells(reply, &told.encode(alloc)?, true))
 }
 
 // A file that is as long as one may be, of one record that is none.
@@ -56,10 +56,10 @@ fn longest_file(alloc: Global) -> Result<Vec<u8>, AllocError> {
 #[test]
 fn the_longest_file_is_imported_whole(rt: HostRuntime) -> Result<(), Fail> {
     let file = longest_file(rt.alloc())?;
-    let asked = Asked::packed(rt.alloc(), &["import"], Some(&file))?;
-    let told = ONE_BAD.packed(rt.alloc())?;
+    let asked = Call::encode(rt.alloc(), &["import"], Some(&file))?;
+    let told = ONE_BAD.encode(rt.alloc())?;
     let visit = Visit {
-        door: Door::Plant,
+        listener: Listener::Plant,
         asked: &asked,
         told: &told,
     };
@@ -68,7 +68,7 @@ fn the_longest_file_is_imported_whole(rt: HostRuntime) -> Result<(), Fail> {
     let _ = serve_keep(
         rt.alloc(),
         &mut Street::new(&[visit], &log),
-        &mut KeptOffice { keep },
+        &mut KeepService { keep },
         1,
     );
     assert_eq!(rt; log.told.get(), 1);

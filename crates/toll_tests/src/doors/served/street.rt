@@ -3,14 +3,14 @@ use crate::doors::served::Visit;
 use std::cell::Cell;
 use std::io;
 use std::io::{ErrorKind, Read, Write};
-use toll_protocol::Socket;
-use toll_server::{Coming, Door, World, WorldFault};
+use toll_protocol::Stream;
+use toll_server::{Accepted, Listener, Network, NetworkFault};
 
-/// How many peers were told just what they are to be told, and by which door the last of them came.
+/// How many clients were told just what they are to be told, and by which door the last of them came.
 #[derive(Drop)]
 pub struct Log {
     pub told: Cell<usize>,
-    pub last: Cell<Option<Door>>,
+    pub last: Cell<Option<Listener>>,
 }
 
 impl Log {
@@ -44,14 +44,14 @@ impl<'l> Street<'l> {
     }
 }
 
-impl<'l> World for Street<'l> {
-    type Socket = Guest<'l>;
+impl<'l> Network for Street<'l> {
+    type Stream = Guest<'l>;
 
-    fn wait(&mut self, most: Option<u64>) -> Result<(), WorldFault> {
+    fn wait(&mut self, most: Option<u64>) -> Result<(), NetworkFault> {
         if self.ready == 0 || most == Some(0) {
             return Ok(());
         }
-        Err(WorldFault)
+        Err(NetworkFault)
     }
 
     fn next_ready(&mut self) -> Option<usize> {
@@ -63,13 +63,13 @@ impl<'l> World for Street<'l> {
         Some(key)
     }
 
-    fn take_next(&mut self, _key: usize) -> Result<Coming<Guest<'l>>, WorldFault> {
+    fn accept_next(&mut self, _key: usize) -> Result<Accepted<Guest<'l>>, NetworkFault> {
         match self.coming.get(self.came) {
             Some(visit) => {
                 self.came = self.came.saturating_add(1);
-                Ok(Coming::Came(visit.door, Guest::new(visit, self.log)))
+                Ok(Accepted::Connected(visit.listener, Guest::new(visit, self.log)))
             }
-            None => Ok(Coming::Nobody),
+            None => Ok(Accepted::NoneWaiting),
         }
     }
 
@@ -81,7 +81,7 @@ impl<'l> World for Street<'l> {
 /// One of them, with what it still asks, and what it is still to be told.
 #[derive(Drop)]
 pub struct Guest<'l> {
-    door: Door,
+    listener: Listener,
     asks: &'l [u8],
     wants: &'l [u8],
     log: &'l Log,
@@ -90,7 +90,7 @@ pub struct Guest<'l> {
 impl<'l> Guest<'l> {
     fn new(visit: &Visit<'l>, log: &'l Log) -> Self {
         Guest {
-            door: visit.door,
+            listener: visit.listener,
             asks: visit.asked,
             wants: visit.told,
             log,
@@ -119,7 +119,7 @@ impl Write for Guest<'_> {
         self.wants = rest;
         if rest.is_empty() {
             self.log.told.set(self.log.told.get().saturating_add(1));
-            self.log.last.set(Some(self.door));
+            self.log.last.set(Some(self.listener));
         }
         Ok(bytes.len())
     }
@@ -129,7 +129,7 @@ impl Write for Guest<'_> {
     }
 }
 
-impl Socket for Guest<'_> {
+impl Stream for Guest<'_> {
     ghost use Rattle.std.specs.Prelude.{refl};
 
     ghost apart = { λ _. refl };

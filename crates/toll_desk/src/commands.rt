@@ -1,0 +1,43 @@
+//! What the plant does.
+ghost use Rattle.std.specs.Prelude.{◌≡◌, ◌≢◌, [], false, Err, OnErr};
+ghost use Rattle.toll_history.specs.Verdict.{IsValid};
+ghost use Rattle.toll_keep.specs.Content.{ContentKeepsRules};
+ghost use Rattle.toll_keep.specs.Goes.{Goes, IsReading};
+ghost use Rattle.toll_keep.specs.Meaning.{OverHeld};
+ghost use Rattle.toll_desk.specs.Clauses.{IsPlantDone, IsPlantPlanned};
+ghost use Rattle.toll_desk.specs.Translations.{asked_by, is_accepted, plant_told};
+ghost use Rattle.toll_desk.specs.Reads.{Over};
+ghost use Rattle.toll_desk.specs.Subjects.{IsCommandSuchThat};
+
+use crate::committing::commit;
+use crate::deciding::decide;
+use crate::plant_cmd::{PlantCmd, PlantPlan, PlantReply};
+use std::alloc::Global;
+use toll_keep::{Keep, KeepFault};
+
+/// Does what a command of the plant says, where it is accepted.
+pub fn run_command<K: Keep>(alloc: Global, keep: &mut K, command: &PlantCmd) -> PlantReply
+    requires { IsCommandSuchThat IsValid (asked_by command.now) }
+    ensures goes { Goes K.meaning keep.old keep.new (plant_told result) }
+    ensures whole { OverHeld K.meaning keep.old keep.new (λ c. ContentKeepsRules c → plant_told result ≢ Err KeepFault.Damaged) }
+    ensures quiet { OverHeld K.meaning keep.old keep.new (λ c. is_accepted (plant_told result) ≡ false → K.meaning.holds keep.new c) }
+    ensures done { IsPlantDone K.meaning keep.old keep.new (asked_by command.now) (plant_told result) }
+{
+    let planned = plan(alloc, keep, command);
+    let made = commit(alloc, keep, &planned.changes);
+    planned.finished(made)
+}
+
+// The reply as it will stand, and what must be applied for it. Nothing is changed.
+fn plan<K: Keep>(alloc: Global, keep: &mut K, command: &PlantCmd) -> PlantPlan
+    requires { IsCommandSuchThat IsValid (asked_by command.now) }
+    ensures reads { IsReading K.meaning keep.old keep.new (plant_told result.reply) }
+    ensures none { OnErr (plant_told result.reply) (result.changes.items ≡ []) }
+    ensures quiet { is_accepted (plant_told result.reply) ≡ false → result.changes.items ≡ [] }
+    ensures plan { Over K.meaning keep.old keep.new (λ c H. IsPlantPlanned c H (asked_by command.now) result) }
+{
+    match decide(alloc, keep, command) {
+        Ok(decision) => PlantPlan::of(alloc, decision),
+        Err(fault) => PlantPlan::unchanged(alloc, PlantReply::Fault(fault)),
+    }
+}

@@ -1,0 +1,87 @@
+//! Commands of the plant whose changes are pending.
+ghost use Rattle.std.specs.Prelude.{◌≡◌, [], false, true};
+ghost use Rattle.toll_history.specs.Verdict.{IsValid};
+ghost use Rattle.toll_keep.specs.Content.{Content};
+ghost use Rattle.toll_keep.specs.PendingChanges.{IsOver};
+ghost use Rattle.toll_desk.specs.Translations.{IsValidCommand, asked_by, is_accepted, plant_told};
+ghost use Rattle.toll_desk.specs.PlantStaged.{IsPlannedOn, IsPlantStaged, IsStagedAs, IsVerdictOrMemory, looks_at_two};
+ghost use Rattle.toll_desk.specs.Subjects.{IsCommandSuchThat, is_shared};
+
+use crate::deciding::{Both, both_over};
+use crate::decisions::decide_shared;
+use crate::plant_cmd::{PlantCmd, PlantPlan, PlantReply};
+use std::alloc::Global;
+use toll_base::Refusal;
+use toll_keep::{Keep, KeepFault, PendingChanges};
+
+/// Does a command that is decided over its owner's rows and HOUSE's: a requirement, an actual or a void; or
+/// refuses one that couldn't be read. The rows are those of the keep with the pending changes put. What the
+/// command changes is pending with them, and the keep does not have it yet.
+///
+/// An `Err` means that the rows couldn't be read. Where there is no memory to decide, or to hold the changes
+/// back, the reply is [`KeepFault::Memory`], and nothing more is held.
+pub fn plant_stage<K: Keep>(
+    alloc: Global,
+    keep: &mut K,
+    pending: &mut PendingChanges,
+    command: &PlantCmd,
+) -> Result<PlantReply, KeepFault>
+    requires { looks_at_two (asked_by command.now) ≡ true }
+    ensures held { IsPlantStaged K.meaning keep.old keep.new pending.old pending.new (asked_by command.now) result }
+    ensures valid { IsValidCommand (asked_by command.now) }
+{
+    // Its types say so, and the proof has to be told.
+    command.keeps_bounds();
+    match command {
+        PlantCmd::Unread(why) => Ok(PlantReply::Refused(*why)),
+        _ => stage_shared(alloc, keep, pending, command),
+    }
+}
+
+fn stage_shared<K: Keep>(
+    alloc: Global,
+    keep: &mut K,
+    pending: &mut PendingChanges,
+    command: &PlantCmd,
+) -> Result<PlantReply, KeepFault>
+    requires shared { IsCommandSuchThat (λ a. is_shared a ≡ true) (asked_by command.now) }
+    requires valid { IsCommandSuchThat IsValid (asked_by command.now) }
+    ensures { IsPlantStaged K.meaning keep.old keep.new pending.old pending.new (asked_by command.now) result }
+{
+    match both_over(alloc, keep, pending, &command.owner()) {
+        Ok(both) => {
+            let planned = plan_on(alloc, both, command);
+            Ok(stage_changes(alloc, pending, planned))
+        }
+        Err(fault) => Err(fault),
+    }
+}
+
+// The reply as it will stand, and what must be applied for it, over these rows of its owner and of HOUSE.
+fn plan_on(alloc: Global, both: Option<Both>, command: &PlantCmd) -> PlantPlan
+    requires shared { IsCommandSuchThat (λ a. is_shared a ≡ true) (asked_by command.now) }
+    requires valid { IsCommandSuchThat IsValid (asked_by command.now) }
+    ensures quiet { is_accepted (plant_told result.reply) ≡ false → result.changes.items ≡ [] }
+    ensures judged { IsVerdictOrMemory (plant_told result.reply) }
+    ensures plan { IsPlannedOn both (asked_by command.now) result }
+{
+    match both {
+        Some(both) => match decide_shared(alloc, &both.own, &both.house, command) {
+            Ok(decision) => PlantPlan::of(alloc, decision),
+            Err(_) => PlantPlan::unchanged(alloc, PlantReply::Fault(KeepFault::Memory)),
+        },
+        None => PlantPlan::unchanged(alloc, PlantReply::Refused(Refusal::UnknownOwner)),
+    }
+}
+
+// Holds the changes of a plan back, and gives its reply.
+fn stage_changes(alloc: Global, pending: &mut PendingChanges, planned: PlantPlan) -> PlantReply
+    ensures held { IsStagedAs pending.old pending.new planned result }
+    ensures over { (c : Content) → IsOver c pending.old → IsOver c pending.new }
+{
+    let made = match pending.hold(alloc, &planned.changes) {
+        Ok(()) => Ok(()),
+        Err(_) => Err(KeepFault::Memory),
+    };
+    planned.finished(made)
+}

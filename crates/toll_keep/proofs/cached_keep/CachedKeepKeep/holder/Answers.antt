@@ -1,0 +1,21 @@
+use Rattle.std.proofs.Common.{sym, subst}
+use Rattle.std.specs.Prelude.{IfOk}
+use Rattle.toll_keep.specs.Holding.{IsHolder}
+use Rattle.toll_keep.proofs.Around.{tells_around, telling_stands}
+use Rattle.toll_keep.proofs.cached_keep.CachedKeepKeep.holder.Goals as goal
+
+pub invariant_of-self : goal.invariant_of-self
+invariant_of-self g c =
+    let met = g.met.K.Keep in
+    telling_stands g.K.Keep met.settled met.lives_once c.args.self.now _ c.holder-told.result _ c.or_forget.ensures.forgotten (λ rested. c.holder-told.ensures.reading)
+
+pub returns-clause-reading : goal.returns-clause-reading
+returns-clause-reading g c =
+    let met = g.met.K.Keep in let told = c.holder-told.ensures in let after = c.or_forget.ensures in
+    tells_around g.K.Keep met.settled met.lives_once c.args.self.now _ _ c.holder-told.result _ after.same after.kept after.forgotten
+    (λ honest content held of. of)
+    (λ rested. c.holder-told.ensures.reading)
+
+pub returns-clause-reads : goal.returns-clause-reads
+returns-clause-reads g c = λ honest content held.
+    subst (λ told. IfOk told (IsHolder content c.args.unit.now)) (sym c.or_forget.ensures.same) (c.holder-told.ensures.reads honest content held.0)

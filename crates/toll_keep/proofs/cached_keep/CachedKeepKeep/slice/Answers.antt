@@ -1,0 +1,21 @@
+use Rattle.std.proofs.Common.{◌≡◌, refl, sym, subst}
+use Rattle.std.specs.Prelude.{IfOk}
+use Rattle.toll_keep.specs.Content.{slice_of}
+use Rattle.toll_keep.proofs.Around.{tells_around, telling_stands}
+use Rattle.toll_keep.proofs.cached_keep.CachedKeepKeep.slice.Goals as goal
+
+pub invariant_of-self : goal.invariant_of-self
+invariant_of-self g c =
+    let met = g.met.K.Keep in
+    telling_stands g.K.Keep met.settled met.lives_once c.args.self.now _ c.tell_slice-told.result _ c.or_forget.ensures.forgotten (λ rested. c.tell_slice-told.ensures.reading (λ some. rested (λ none. some none.slices)))
+
+pub returns-clause-reading : goal.returns-clause-reading
+returns-clause-reading g c =
+    let met = g.met.K.Keep in let told = c.tell_slice-told.ensures in let after = c.or_forget.ensures in
+    tells_around g.K.Keep met.settled met.lives_once c.args.self.now _ _ c.tell_slice-told.result _ after.same after.kept after.forgotten
+    (λ honest content held of. record { slices = told.own honest content held refl of.slices; owners = of.owners; units = of.units })
+    (λ rested. c.tell_slice-told.ensures.reading (λ some. rested (λ none. some none.slices)))
+
+pub returns-clause-reads : goal.returns-clause-reads
+returns-clause-reads g c = λ honest content held.
+    subst (λ told. IfOk told (λ slice. slice ≡ slice_of content c.args.owner.now)) (sym c.or_forget.ensures.same) (c.tell_slice-told.ensures.reads honest content held.0 refl held.1.slices)

@@ -1,0 +1,142 @@
+//! A keep that remembers what it read.
+ghost use Rattle.std.specs.Prelude.{◌≡◌, ◌↔◌, OnErr, OnOk, false};
+ghost use Rattle.toll_keep.specs.Content.{Content};
+ghost use Rattle.toll_keep.specs.Remembered.{IsNothing, IsOf, OnlyKnownHaveRows};
+
+use crate::cache::Cache;
+use crate::fault::KeepFault;
+use crate::gathering::read_all_edges;
+use crate::holder::Holder;
+use crate::keep::Keep;
+use crate::telling::{tell_edges, tell_rows, tell_slice};
+use std::alloc::Global;
+use std::mem;
+use toll_base::{Change, Edge, Name, OwnerRow, Row, Slice, UnitRow};
+
+/// A keep around another one, that remembers the slices, the owners and the units that it read. What is
+/// changed is changed in the slices too, in place where no copy that was handed out is left; the owners
+/// and the units are forgotten where one is added. At any fault all is forgotten.
+pub struct CachedKeep<K: Keep> {
+    keep: K,
+    recollection: Cache,
+    ghost unclosed: { ¬ (IsNothing recollection) → K.meaning.is_closed keep ≡ false },
+    ghost live: { ¬ (IsNothing recollection) → K.meaning.is_honest keep → ∥ K.meaning.is_live keep ∥₁ },
+}
+
+/// By hand, since what is derived is written out at every exit of every function that owns a keep.
+impl<K: Keep + Drop> Drop for CachedKeep<K> {
+    fn drop(self) {
+        let CachedKeep {
+            keep: _,
+            recollection: _,
+        } = self;
+    }
+}
+
+impl<K: Keep> CachedKeep<K> {
+    /// Around this keep, holding what that holds, where only known owners have rows. It remembers nothing yet, and takes no memory.
+    pub fn new(alloc: Global, keep: K) -> Self
+        ensures keep { result.keep ≡ keep }
+        ensures nothing { IsNothing result.recollection }
+        ensures holds { (c : Content) → ⟦<CachedKeep<K> as Keep>⟧.meaning.holds result c ↔ (K.meaning.holds keep c × OnlyKnownHaveRows c) }
+    {
+        CachedKeep {
+            keep,
+            recollection: Cache::nothing(alloc),
+        }
+    }
+
+    /// The keep that it is around, open or closed as it was.
+    pub fn inside(self) -> K
+        ensures { result ≡ self.keep }
+    {
+        let CachedKeep {
+            keep,
+            recollection: _,
+        } = self;
+        keep
+    }
+}
+
+// What was told; where that is a fault all is forgotten.
+fn or_forget<T>(
+    alloc: Global,
+    recollection: &mut Cache,
+    told: Result<T, KeepFault>,
+) -> Result<T, KeepFault>
+    ensures same { result ≡ told }
+    ensures kept { OnOk told (recollection.new ≡ recollection.old) }
+    ensures forgotten { OnErr told (IsNothing recollection.new) }
+{
+    if told.is_err() {
+        *recollection = Cache::nothing(alloc);
+    }
+    told
+}
+
+impl<K: Keep> Keep for CachedKeep<K> {
+    ghost meaning = { record {
+      holds = λ r c. K.meaning.holds r.keep c × IsOf c r.recollection × OnlyKnownHaveRows c;
+      is_honest = λ r. K.meaning.is_honest r.keep;
+      is_closed = λ r. K.meaning.is_closed r.keep;
+      is_live = λ r. K.meaning.is_live r.keep;
+      is_unsure = λ r. K.meaning.is_unsure r.keep;
+      has_cause = λ r s. K.meaning.has_cause r.keep s.keep;
+      leaves = λ r cs. K.meaning.leaves r.keep cs;
+    } };
+
+    fn slice(&mut self, alloc: Global, owner: &Name) -> Result<Option<Slice>, KeepFault> {
+        let CachedKeep { keep, recollection } = self;
+        let told = tell_slice(alloc, keep, &mut recollection.slices, &[], owner);
+        or_forget(alloc, recollection, told)
+    }
+
+    fn owners(&mut self, alloc: Global) -> Result<Vec<OwnerRow>, KeepFault> {
+        let CachedKeep { keep, recollection } = self;
+        let told = tell_rows(alloc, keep, &mut recollection.owners);
+        or_forget(alloc, recollection, told)
+    }
+
+    fn units(&mut self, alloc: Global) -> Result<Vec<UnitRow>, KeepFault> {
+        let CachedKeep { keep, recollection } = self;
+        let told = tell_rows(alloc, keep, &mut recollection.units);
+        or_forget(alloc, recollection, told)
+    }
+
+    fn holder(&mut self, alloc: Global, unit: &Name) -> Result<Option<Holder>, KeepFault> {
+        let CachedKeep { keep, recollection } = self;
+        let told = keep.holder(alloc, unit);
+        or_forget(alloc, recollection, told)
+    }
+
+    fn edges(&mut self, alloc: Global, owner: &Name) -> Result<Vec<Edge>, KeepFault> {
+        let CachedKeep { keep, recollection } = self;
+        let told = tell_edges(alloc, keep, &mut recollection.slices, owner);
+        or_forget(alloc, recollection, told)
+    }
+
+    fn all_edges(&mut self, alloc: Global) -> Result<Vec<Edge>, KeepFault> {
+        let CachedKeep { keep, recollection } = self;
+        let told = read_all_edges(alloc, keep, recollection);
+        or_forget(alloc, recollection, told)
+    }
+
+    // The keep inside makes the changes first: it alone can refuse them. What is remembered is taken out
+    // before, and put back where all went well.
+    fn apply(&mut self, alloc: Global, changes: &[Change]) -> Result<(), KeepFault> {
+        // Named for the proof: a change may have a row.
+        let _row: Option<Row> = None;
+        let mut recollection = mem::replace(&mut self.recollection, Cache::nothing(alloc));
+        self.keep.apply(alloc, changes)?;
+        if recollection.follow(alloc, changes).is_ok() {
+            self.recollection = recollection;
+        }
+        Ok(())
+    }
+
+    ghost settled = { λ r c honest live held. K.settled r.keep c honest live held.0 };
+
+    ghost lives_once = { λ r. K.lives_once r.keep };
+
+    ghost widened = { λ r cs more left. K.widened r.keep cs more left };
+}

@@ -1,0 +1,99 @@
+//! A slice that is remembered, with its edges.
+ghost use Rattle.std.specs.Prelude.{◌≡◌, IfOk, OnOk};
+ghost use Rattle.toll_keep.specs.Common.{with_row, AreEdges, IsEdge};
+
+use std::alloc::{AllocError, Global};
+use std::marker::Model;
+use toll_base::{Edge, Name, Row, Slice};
+use toll_trace::edges_of;
+
+/// A slice with rows that its copies share. Once its edges were asked for they are kept beside it, until
+/// a row is put.
+pub struct CachedSlice {
+    slice: Slice,
+    edges: Option<Vec<Edge>>,
+}
+
+impl Model for CachedSlice {
+    ghost use Rattle.std.specs.Prelude.{IfSome};
+    ghost use Rattle.toll_base.specs.Slice as shown;
+    ghost use Rattle.toll_trace.specs.Edges.{AreEdges, IsEdge};
+
+    ghost Value = { shown.Slice };
+
+    ghost view = { λ k. k.slice };
+
+    ghost invariant = { λ k. IfSome k.edges (λ edges. AreEdges (IsEdge k.slice) edges.items) };
+}
+
+/// By hand, since what is derived is written out at every exit of every function that owns one.
+impl Drop for CachedSlice {
+    fn drop(self) {
+        let CachedSlice { slice: _, edges: _ } = self;
+    }
+}
+
+impl CachedSlice {
+    /// The slice, of which no edges were asked for yet.
+    pub fn of(slice: Slice) -> Self
+        ensures { result ≡ slice }
+    {
+        CachedSlice { slice, edges: None }
+    }
+
+    /// The slice again.
+    pub fn into_slice(self) -> Slice
+        ensures { result ≡ self }
+    {
+        let CachedSlice { slice, edges: _ } = self;
+        slice
+    }
+
+    /// The owner.
+    pub fn owner(&self) -> &Name
+        ensures { result.now ≡ self.now.owner }
+    {
+        self.slice.owner()
+    }
+
+    /// A copy of the slice.
+    pub fn copy(&self, alloc: Global) -> Result<Slice, AllocError>
+        ensures { IfOk result (λ copied. copied ≡ self.now) }
+    {
+        self.slice.copy(alloc)
+    }
+
+    /// The edges of the slice.
+    pub fn edges(&mut self, alloc: Global) -> Result<Vec<Edge>, AllocError>
+        ensures edges { IfOk result (λ edges. AreEdges (IsEdge self.old) edges.items) }
+        ensures same { self.new ≡ self.old }
+    {
+        if let Some(edges) = &self.edges {
+            return edges.to_vec(alloc);
+        }
+        let edges = edges_of(alloc, &self.slice)?;
+        self.edges = Some(edges.to_vec(alloc)?);
+        Ok(edges)
+    }
+
+    /// Puts the row, in place where no other copy has the rows. Where there is no memory, or the row does
+    /// not fit, the slice is of no more use.
+    pub fn put(&mut self, alloc: Global, row: &Row) -> Result<(), AllocError>
+        ensures { OnOk result (self.new ≡ with_row self.old row.now) }
+    {
+        self.edges = None;
+        put_in_place(alloc, &mut self.slice, row)
+    }
+}
+
+fn put_in_place(alloc: Global, slice: &mut Slice, row: &Row) -> Result<(), AllocError>
+    ensures { OnOk result (slice.new ≡ with_row slice.old row.now) }
+{
+    let mut rows = slice.take(alloc)?;
+    if !rows.fits(row) {
+        return Err(AllocError);
+    }
+    rows.put(*row)?;
+    *slice = Slice::of(alloc, rows);
+    slice.share(alloc)
+}

@@ -1,0 +1,33 @@
+//! Asking the server of an office.
+ghost use Rattle.std.specs.Prelude.{◌≡◌, IfSome, IsNone};
+ghost use Rattle.toll_programs.specs.StreamOutput.{streams_of};
+ghost use Rattle.toll_programs.specs.ServerCalls.{IsServerTold};
+
+use crate::calling::run_on_server;
+use crate::tracked_stream::TracksReads;
+use toll_protocol::Sink;
+
+/// Who connects to the server of the office in a file.
+pub trait Connector<S> {
+    /// A connection to the server, if the office has one.
+    fn connect(&mut self, rt: &HostRuntime, path: &str) -> Option<S>;
+}
+
+/// Asks the server of an office, for whose answer it waits as long as it takes, writes what it told, and
+/// gives the exit status, as [`run_on_server`] does. `None` where no server of this build took what was
+/// asked: nothing was done or written.
+pub fn try_server<S: TracksReads + Drop, C: Connector<S>, W: Sink, E: Sink>(
+    rt: &HostRuntime,
+    path: &str,
+    connector: &mut C,
+    words: &[&str],
+    file: Option<&[u8]>,
+    output: &mut W,
+    error: &mut E,
+) -> Option<u64>
+    ensures told { IfSome result (IsServerTold (streams_of W.Sink E.Sink output.old output.new error.old error.new)) }
+    ensures untold { IsNone result → (output.new ≡ output.old) × (error.new ≡ error.old) }
+{
+    let mut stream = connector.connect(rt, path)?;
+    run_on_server(rt.alloc(), &mut stream, words, file, output, error)
+}

@@ -1,0 +1,7 @@
+-- None stands before.
+use Rattle.std.proofs.Common.{take}
+use Rattle.toll_protocol.specs.Words.{HasNoZero}
+use Rattle.toll_protocol.proofs.frames.words.first_zero.Given as goal
+
+abbrev pub invariant-loop-n : goal.invariant-loop-n
+invariant-loop-n l = HasNoZero (take l.n l.text)

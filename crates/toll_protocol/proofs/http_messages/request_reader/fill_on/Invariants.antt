@@ -1,0 +1,23 @@
+-- What was filled behind the first bytes is what the reader gave, each time before it was settled; no read
+-- failed, and no front of it that was searched ends the head.
+use Rattle.std.proofs.Common.{◌≡◌, ◌≤◌, ◌-◌, ◌++◌, false, length, take, drop}
+use Rattle.std.specs.Io.KnownBytes.{Consumes}
+use Rattle.toll_protocol.specs.Parsing.{IsSettled}
+use Rattle.toll_protocol.specs.Filled.{IsFilled}
+use Rattle.toll_protocol.specs.Streams.{RecordsFailure}
+use Rattle.toll_protocol.proofs.ReadLemmas.{GaveWhile}
+use Rattle.toll_protocol.proofs.http_messages.request_reader.fill_on.Given as goal
+
+abbrev pub invariant-loop-next : goal.invariant-loop-next
+invariant-loop-next g l = record {
+  filled : IsFilled l.text l.filled l.searched;
+  begun : l.begun ≤ l.filled;
+  front : take l.begun l.text ≡ take l.begun l.initial.text;
+  given : Consumes (g.R.Source.unread l.initial.reader) (g.R.Source.unread l.reader) (drop l.begun (take l.filled l.text));
+  only : GaveWhile (λ given. ¬ (IsSettled (take l.begun l.initial.text ++ given))) (g.R.Source.reads l.initial.reader) (g.R.Source.reads l.reader) (drop l.begun (take l.filled l.text));
+  sound : RecordsFailure (g.R.Source.has_failed l.initial.reader) (g.R.Source.has_failed l.reader) false;
+  write_side : g.R.Source.write_side l.reader ≡ g.R.Source.write_side l.initial.reader;
+}
+
+abbrev pub decreases-loop-next : goal.decreases-loop-next
+decreases-loop-next g l = length l.text - l.filled

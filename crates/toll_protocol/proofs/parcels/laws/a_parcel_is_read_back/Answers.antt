@@ -1,5 +1,0 @@
-use Rattle.toll_protocol.proofs.ParcelLemmas.{one_held}
-use Rattle.toll_protocol.proofs.parcels.laws.a_parcel_is_read_back.Goals as goal
-
-pub returns-clause-only : goal.returns-clause-only
-returns-clause-only c = λ most text content rest short p other behind q. one_held most text content other rest behind short p q

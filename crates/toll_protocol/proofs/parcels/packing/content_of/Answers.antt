@@ -1,6 +1,0 @@
-use Rattle.std.proofs.Common.{◌∙◌, [], sym, append-nil}
-use Rattle.toll_protocol.specs.Parcels.{parcel}
-use Rattle.toll_protocol.proofs.parcels.packing.content_of.Goals as goal
-
-pub returns-in_default-clause-none : goal.returns-in_default-clause-none
-returns-in_default-clause-none c = λ content is. c.in_default.ensures.none content [] (is.0 ∙ sym (append-nil (parcel content)), is.1)

@@ -1,8 +1,0 @@
--- All are words where those that are left are.
-use Rattle.std.proofs.Common.{drop, map}
-use Rattle.std.specs.Prelude.{◌↔◌}
-use Rattle.toll_protocol.specs.Words.{AreWords}
-use Rattle.toll_protocol.proofs.parcels.words.are_words.Given as goal
-
-abbrev pub invariant-loop-word : goal.invariant-loop-word
-invariant-loop-word l = AreWords (map (λ word. word.now) (drop l.word-index l.words)) ↔ AreWords (map (λ word. word.now) l.words)

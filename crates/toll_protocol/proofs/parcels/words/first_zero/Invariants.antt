@@ -1,7 +1,0 @@
--- None stands before.
-use Rattle.std.proofs.Common.{take}
-use Rattle.toll_protocol.specs.Words.{HasNoZero}
-use Rattle.toll_protocol.proofs.parcels.words.first_zero.Given as goal
-
-abbrev pub invariant-loop-n : goal.invariant-loop-n
-invariant-loop-n l = HasNoZero (take l.n l.text)

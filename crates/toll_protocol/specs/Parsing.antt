@@ -1,0 +1,57 @@
+-- The checks of a request that look at its bytes alone, in their order, on the whole text.
+use Rattle.std.specs.Prelude.{◌≡◌, ℕ, ◌==◌, ◌≤◌, ◌⊎◌, List, length, take, drop, map, codes, nat_lt, Bool, true, false, Option, Some, None, if◌then◌else◌}
+use Rattle.httparse.specs.Grammar.{RequestHead}
+use Rattle.httparse.specs.Spans.{name_and_value}
+use Rattle.toll_protocol.specs.Limits.{head_limit, body_limit}
+use Rattle.toll_protocol.specs.Head.{IsHeadOf, IsHeadLen, NoHead}
+use Rattle.toll_protocol.specs.Fields.{Pair, Seen, absent, once, several, named, is_present, only_one, length_claimed}
+use Rattle.toll_protocol.specs.Verbs.{verb_of}
+use Rattle.toll_protocol.specs.declared.http_messages.verb.Verb.{Verb}
+use Rattle.toll_protocol.specs.declared.http_messages.failure.Failure.{Failure}
+use Rattle.toll_protocol.specs.declared.http_messages.failure.Failure.TheVariants.{BadRequest, TooLarge, NotImplemented}
+
+-- refused by a check, or a request: its verb, its target, the owner and the key that it claims, its body
+pub data ParseResult : Type 0 where
+  refused : Failure → ParseResult
+  request : Verb → List ℕ → Option (List ℕ) → Option (List ℕ) → List ℕ → ParseResult
+
+-- more than one host, or none in HTTP/1.1
+abbrev pub host_fails : ℕ → Seen → Bool
+host_fails minor absent = minor == 1
+host_fails minor (once v) = false
+host_fails minor several = true
+
+abbrev pub by_verb : Option Verb → List ℕ → List Pair → List ℕ → ParseResult
+by_verb None target fields body = refused NotImplemented
+by_verb (Some verb) target fields body =
+    request verb target (only_one (named (codes "toll-owner") fields)) (only_one (named (codes "toll-key") fields)) body
+
+abbrev pub by_length : Option ℕ → RequestHead → List Pair → List ℕ → ParseResult
+by_length None h fields rest = refused BadRequest
+by_length (Some n) h fields rest =
+    if nat_lt body_limit n then refused TooLarge
+    else (if nat_lt (length rest) n then refused BadRequest else by_verb (verb_of h.method) h.target fields (take n rest))
+
+-- what a head with these fields and the bytes after it come to
+abbrev pub checked : RequestHead → List Pair → List ℕ → ParseResult
+checked h fields rest =
+    if host_fails h.minor (named (codes "host") fields) then refused BadRequest
+    else (if is_present (named (codes "transfer-encoding") fields) then refused NotImplemented
+    else by_length (length_claimed (named (codes "content-length") fields)) h fields rest)
+
+-- what the text comes to
+abbrev pub IsParsedAs : List ℕ → ParseResult → Type 0
+IsParsedAs text outcome =
+    ((n : ℕ) × (h : RequestHead) × IsHeadOf text n h × (outcome ≡ checked h (map name_and_value h.fields) (drop n text)))
+    ⊎ (((n : ℕ) (h : RequestHead) → IsHeadOf text n h → ⊥) × (outcome ≡ refused BadRequest))
+
+-- the body that the head claims is there, or is too large to be read
+abbrev pub HasBody : RequestHead → List ℕ → Type 0
+HasBody h rest = (len : ℕ) → length_claimed (named (codes "content-length") (map name_and_value h.fields)) ≡ Some len
+    → len ≤ body_limit → len ≤ length rest
+
+-- what comes after the text changes nothing
+abbrev pub IsSettled : List ℕ → Type 0
+IsSettled text =
+    (NoHead text × (head_limit ≤ length text))
+    ⊎ ((n : ℕ) × IsHeadLen text n × (n ≤ head_limit) × ((h : RequestHead) → IsHeadOf text n h → HasBody h (drop n text)))

@@ -1,0 +1,19 @@
+//! Parcels: bytes with their length before them, so that whoever reads them knows when all have come; and
+//! what the plant and the server of a file say to one another in them.
+
+mod call;
+mod encoding;
+mod fault;
+mod frame;
+mod handshakes;
+mod laws;
+mod response;
+mod words;
+
+pub use call::{Call, MOST_CALL_BYTES};
+pub use encoding::{content_of, encode, is_enough};
+pub use fault::EncodeFault;
+pub use frame::Frame;
+pub use handshakes::{MOST_HANDSHAKE_BYTES, handshake, is_handshake};
+pub use laws::{a_call_is_read_back, a_frame_is_read_back, a_response_is_read_back};
+pub use response::{MOST_RESPONSE_BYTES, Response};

@@ -1,0 +1,66 @@
+//! What the plant is told by the server of a file.
+ghost use Rattle.std.specs.Prelude.{◌≡◌, ◌<◌, ◌≤◌, ◌∷◌, ◌++◌, ℕ, IfNone, IfOk, IfSome, Err, length};
+ghost use Rattle.toll_base.specs.Bytes.{Bytes};
+ghost use Rattle.toll_protocol.specs.PlantMessages.{IsResponse, response_text};
+ghost use Rattle.toll_protocol.specs.Frames.{frame};
+ghost use Rattle.toll_protocol.specs.declared.frames.fault.EncodeFault.{EncodeFault};
+
+use crate::frames::encoding::{content_of, encode, front_of};
+use crate::frames::fault::EncodeFault;
+use std::alloc::{AllocError, Global};
+
+/// How many bytes a message to the plant may have: as many as a frame can.
+pub const MOST_RESPONSE_BYTES: u32 = u32::MAX;
+
+/// An exit status, and what goes to standard output and to standard error.
+#[derive(Clone, Copy, Debug, PartialEq, Eq)]
+pub struct Response<'a> {
+    pub status: u8,
+    pub output: &'a [u8],
+    pub error: &'a [u8],
+}
+
+impl<'a> Response<'a> {
+    /// What is told, as a frame. It is unfit where it is longer than a frame can be.
+    pub fn encode(&self, alloc: Global) -> Result<Vec<u8>, EncodeFault>
+        ensures whole { IfOk result (λ bytes. bytes.items ≡ frame (response_text self.now.status self.now.output.now self.now.error.now)) }
+        ensures fit { IfOk result (λ _. length (response_text self.now.status self.now.output.now self.now.error.now) ≤ MOST_RESPONSE_BYTES) }
+        ensures unfit { result ≡ Err EncodeFault.Unfit → MOST_RESPONSE_BYTES < length (response_text self.now.status self.now.output.now self.now.error.now) }
+    {
+        let output = encode(alloc, self.output, MOST_RESPONSE_BYTES)?;
+        let content = self.content(alloc, &output)?;
+        encode(alloc, &content, MOST_RESPONSE_BYTES)
+    }
+
+    // The status, the output as it was encoded, and the error.
+    fn content(&self, alloc: Global, output: &[u8]) -> Result<Vec<u8>, AllocError>
+        ensures { IfOk result (λ bytes. bytes.items ≡ self.now.status ∷ output.now ++ self.now.error.now) }
+    {
+        let mut content = Vec::new(alloc);
+        content.push(self.status)?;
+        content.extend_from_slice(output)?;
+        content.extend_from_slice(self.error)?;
+        Ok(content)
+    }
+
+    /// What a frame tells; `None` where it is damaged or cut.
+    pub fn read(text: &'a [u8]) -> Option<Response<'a>>
+        ensures found { IfSome result (λ response. IsResponse text.now response.status response.output.now response.error.now) }
+        ensures none { IfNone result ((status : ℕ) (output error : Bytes) → ¬ (IsResponse text.now status output error)) }
+    {
+        let Some(content) = content_of(text, MOST_RESPONSE_BYTES) else {
+            return None;
+        };
+        let Some((status, texts)) = content.split_first() else {
+            return None;
+        };
+        let Some((output, error)) = front_of(texts, MOST_RESPONSE_BYTES) else {
+            return None;
+        };
+        Some(Response {
+            status: *status,
+            output,
+            error,
+        })
+    }
+}

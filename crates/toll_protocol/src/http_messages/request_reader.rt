@@ -1,0 +1,125 @@
+//! Reading a request bit by bit, as it comes.
+ghost use Rattle.std.specs.Prelude.{◌≡◌, ◌≢◌, ◌≤◌, ◌⊎◌, ℕ, List, [], ◌++◌, length, take, drop, IfOk};
+ghost use Rattle.std.specs.Io.KnownBytes.{Consumes, IsAtEnd};
+ghost use Rattle.toll_protocol.specs.Parsing.{IsSettled};
+ghost use Rattle.toll_protocol.specs.Filled.{IsFilled};
+ghost use Rattle.toll_protocol.specs.Streams.{AppendsRead, HasFailed, NoneFailed, ReadsWhile};
+
+use crate::http_messages::settled::{TEXT_LIMIT, unsettled};
+use crate::streams::{ReadStatus, Source, read_behind};
+use std::alloc::{AllocError, Global};
+use std::marker::Model;
+
+/// What was received of a request.
+#[derive(Drop)]
+pub struct RequestReader {
+    text: Vec<u8>,
+    filled: usize,
+    searched: usize,
+}
+
+/// Its bytes.
+impl Model for RequestReader {
+    ghost use Rattle.std.specs.Prelude.{ℕ, List, take};
+    ghost use Rattle.toll_protocol.specs.Filled.{IsFilled};
+
+    ghost Value = { List ℕ };
+
+    ghost view = { λ r. take r.filled r.text.items };
+
+    ghost invariant = { λ r. IsFilled r.text.items r.filled r.searched };
+}
+
+impl RequestReader {
+    /// Nothing was received yet.
+    pub fn new(alloc: Global) -> Result<Self, AllocError>
+        ensures { IfOk result (λ request. request ≡ []) }
+    {
+        Ok(RequestReader {
+            text: vec![in alloc; 0u8; TEXT_LIMIT]?,
+            filled: 0,
+            searched: 0,
+        })
+    }
+
+    /// What has come.
+    pub fn bytes(&self) -> &[u8]
+        ensures value { result.now ≡ self.now }
+        ensures bound { length self.now ≤ TEXT_LIMIT }
+    {
+        &self.text[..self.filled]
+    }
+
+    /// What has come, and nothing more will.
+    pub fn into_bytes(mut self) -> Vec<u8>
+        ensures value { result.items ≡ self }
+        ensures bound { length self ≤ TEXT_LIMIT }
+    {
+        self.text.truncate(self.filled);
+        self.text
+    }
+
+    /// Reads on until its head and all of the body that its head claims have come, or 8,192 bytes without
+    /// the end of a head, or the stream ends, and no further; or until a read fails, as one does that would
+    /// wait.
+    pub fn read_on<R: Source>(&mut self, reader: &mut R) -> ReadStatus
+        ensures given { AppendsRead (R.unread reader.old) (R.unread reader.new) self.old self.new }
+        ensures complete { result ≡ ReadStatus.Complete → IsSettled self.new ⊎ IsAtEnd (R.unread reader.new) }
+        ensures early { result ≢ ReadStatus.Complete → ¬ (IsSettled self.new) }
+        ensures failed { result ≢ ReadStatus.Complete → HasFailed (R.has_failed reader.old) (R.has_failed reader.new) }
+        ensures sound { result ≡ ReadStatus.Complete → NoneFailed (R.has_failed reader.old) (R.has_failed reader.new) }
+        ensures no_further { ReadsWhile (λ given. ¬ (IsSettled (self.old ++ given))) (R.reads reader.old) (R.reads reader.new) }
+        ensures write_side { R.write_side reader.new ≡ R.write_side reader.old }
+    {
+        let filled = fill_on(reader, self.text.as_mut_slice(), self.filled, self.searched);
+        self.filled = filled.filled;
+        self.searched = filled.searched;
+        filled.status
+    }
+}
+
+// How many bytes were filled, and before which place no head ends.
+#[derive(Clone, Copy)]
+struct Filled {
+    status: ReadStatus,
+    filled: usize,
+    searched: usize,
+}
+
+// Reads on behind the first bytes, which had come before, until the text is settled, the stream ends, or a
+// read fails.
+fn fill_on<R: Source>(reader: &mut R, text: &mut [u8], begun: usize, looked: usize) -> Filled
+    requires { IsFilled text.old begun looked }
+    ensures filled { IsFilled text.new result.filled result.searched }
+    ensures more { begun ≤ result.filled }
+    ensures front { take begun text.new ≡ take begun text.old }
+    ensures given { Consumes (R.unread reader.old) (R.unread reader.new) (drop begun (take result.filled text.new)) }
+    ensures complete { result.status ≡ ReadStatus.Complete → IsSettled (take result.filled text.new) ⊎ IsAtEnd (R.unread reader.new) }
+    ensures early { result.status ≢ ReadStatus.Complete → ¬ (IsSettled (take result.filled text.new)) }
+    ensures failed { result.status ≢ ReadStatus.Complete → HasFailed (R.has_failed reader.old) (R.has_failed reader.new) }
+    ensures sound { result.status ≡ ReadStatus.Complete → NoneFailed (R.has_failed reader.old) (R.has_failed reader.new) }
+    ensures no_further { ReadsWhile (λ given. ¬ (IsSettled (take begun text.old ++ given))) (R.reads reader.old) (R.reads reader.new) }
+    ensures write_side { R.write_side reader.new ≡ R.write_side reader.old }
+{
+    let mut filled = begun;
+    let mut searched = looked;
+    while let Some(next) = unsettled(&text[..filled], searched) {
+        searched = next;
+        match read_behind(reader, text, filled) {
+            Ok(0) => break,
+            Ok(n) => filled += n,
+            Err(fault) => {
+                return Filled {
+                    status: ReadStatus::after(fault.kind()),
+                    filled,
+                    searched,
+                };
+            }
+        }
+    }
+    Filled {
+        status: ReadStatus::Complete,
+        filled,
+        searched,
+    }
+}

@@ -1,0 +1,230 @@
+//! The open connections.
+ghost use Rattle.std.specs.Prelude.{◌≡◌, ◌↔◌, ◌≤◌, ◌<◌, ◌+◌, ◌⊎◌, ℕ, None, IfSome, IsTrue};
+ghost use Rattle.slab.specs.Slab.{HasRoomFor, Updates, get, slab_len};
+ghost use Rattle.toll_server.specs.Connections.{ClosesExpired, IfStays, IsBlocked, IsDueAt, IsDueTo, IsInTime, IsOldOrNew, KeepsSubmitted, KeepsTasks, KeepsTime, OnlyAt, ResumesFirst, stays_after, tasks_in};
+ghost use Rattle.toll_server.specs.Runs.{IsRun};
+ghost use Rattle.toll_server.specs.Networks.{Accepts, IsPaused, IsPausedAt, Tallies, owners_at};
+ghost use Rattle.toll_server.specs.declared.listener.Listener.{Listener};
+
+use crate::connection::Connection;
+use crate::expiry::{close_expired, earliest_of, evict_oldest};
+use crate::filter::Filter;
+use crate::listener::Listener;
+use crate::network::{Accepted, Network, NetworkFault};
+use crate::service::Service;
+use crate::step_result::StepResult;
+use slab::Slab;
+use std::alloc::Global;
+use toll_protocol::Stream;
+
+/// How many connections are open at once.
+pub const MOST_CONNECTIONS: usize = 900;
+
+/// How many are accepted between two waits, so that those that are open are served.
+const MOST_ACCEPTS: usize = 64;
+
+/// For how many milliseconds none is accepted where there were no resources, unless a connection closes
+/// before.
+const PAUSE_MILLISECONDS: u64 = 1000;
+
+/// Whether connections are accepted.
+#[derive(Clone, Copy, Debug, PartialEq, Eq)]
+pub enum AcceptState {
+    Open,
+    /// Others may wait, which are accepted once those that are open were served.
+    Backlogged,
+    /// There were no resources. It is tried again when a connection has closed, or at this millisecond.
+    Paused(u64),
+}
+
+/// The open connections, and how many owners are still to be accepted.
+#[derive(Drop)]
+pub struct Connections<S, T> {
+    pub slots: Slab<Connection<S, T>>,
+    pub owners_left: u64,
+    pub accept_state: AcceptState,
+}
+
+impl<S: Stream, T: Drop> Connections<S, T> {
+    /// No connection is open yet, and so many owners are to be accepted.
+    pub fn new(alloc: Global, owners_left: u64) -> Self
+        ensures empty { slab_len result.slots ≡ 0 }
+        ensures owners_left { result.owners_left ≡ owners_left }
+    {
+        Connections {
+            slots: Slab::new(alloc),
+            owners_left,
+            accept_state: AcceptState::Open,
+        }
+    }
+
+    /// Whether all were accepted, and all connections are closed.
+    pub fn is_over(&self) -> bool
+        ensures { IsTrue result ↔ ((self.now.owners_left ≡ 0) × (slab_len self.now.slots ≡ 0)) }
+    {
+        self.owners_left == 0 && self.slots.is_empty()
+    }
+
+    /// How many milliseconds to wait at most, so that nobody stays longer than its time: none while somebody
+    /// has a task.
+    pub fn wait_limit(&self, now: u64) -> Option<u64>
+        ensures in_time { IsInTime result now self.now.slots }
+        ensures cause { IfSome result (λ most. IsDueAt self.now.accept_state now most ⊎ IsDueTo self.now.slots now most) }
+    {
+        if earliest_of(&self.slots, Filter::Working).is_some() {
+            return Some(0);
+        }
+        match (self.accept_state, earliest_of(&self.slots, Filter::Timed)) {
+            (AcceptState::Backlogged, _) => Some(0),
+            (AcceptState::Open, None) => None,
+            (AcceptState::Open, Some(first)) => Some(first.deadline.saturating_sub(now)),
+            (AcceptState::Paused(deadline), None) => Some(deadline.saturating_sub(now)),
+            (AcceptState::Paused(deadline), Some(first)) => Some(
+                first.deadline.min(deadline).saturating_sub(now),
+            ),
+        }
+    }
+
+    /// Accepts those that wait at a listener, while owners are still to be accepted. Where too many are
+    /// open then, the one is closed that has been reading longest. Where the network has no resources, none
+    /// is accepted for a while.
+    pub fn accept<W: Network<Stream = S>>(
+        &mut self,
+        alloc: Global,
+        network: &mut W,
+    ) -> Result<(), NetworkFault>
+        ensures tally { Tallies (Accepts result self.old.accept_state self.old.owners_left self.new.owners_left) (W.tally network.old) (W.tally network.new) }
+        ensures submitted { KeepsSubmitted self.old.slots self.new.slots }
+        ensures tasks { KeepsTasks self.old.slots self.new.slots }
+        ensures full { slab_len self.old.slots ≤ MOST_CONNECTIONS → slab_len self.new.slots ≤ MOST_CONNECTIONS }
+    {
+        let now = network.now();
+        if self.is_paused(now) {
+            return Ok(());
+        }
+        self.accept_state = AcceptState::Open;
+        for _ in 0..MOST_ACCEPTS {
+            if self.owners_left == 0 {
+                return Ok(());
+            }
+            match network.accept_next(self.slots.vacant_key()) {
+                Ok(Accepted::Connected(listener, stream)) => self.add_connection(
+                    alloc, listener, stream, now,
+                ),
+                Ok(Accepted::NoneWaiting) => return Ok(()),
+                Ok(Accepted::NoResources) => {
+                    self.accept_state = AcceptState::Paused(now.saturating_add(PAUSE_MILLISECONDS));
+                    return Ok(());
+                }
+                Err(fault) => return Err(fault),
+            }
+        }
+        self.accept_state = AcceptState::Backlogged;
+        Ok(())
+    }
+
+    fn is_paused(&self, now: u64) -> bool
+        ensures deadline { IsTrue result ↔ IsPausedAt now self.now.accept_state }
+        ensures paused { IsTrue result → IsPaused self.now.accept_state }
+    {
+        match self.accept_state {
+            AcceptState::Paused(deadline) => now < deadline,
+            AcceptState::Open | AcceptState::Backlogged => false,
+        }
+    }
+
+    // Adds a connection, if there is memory for it. Where that is one too many, the one is closed that has
+    // been reading longest.
+    fn add_connection(&mut self, alloc: Global, listener: Listener, stream: S, now: u64)
+        requires { 0 < self.old.owners_left }
+        ensures owners_left { self.new.owners_left + owners_at listener ≡ self.old.owners_left }
+        ensures kept { slab_len self.old.slots < MOST_CONNECTIONS → OnlyAt self.old.slots.vacant_key self.old.slots self.new.slots }
+        ensures received { let key = self.old.slots.vacant_key in IsOldOrNew listener stream now (get self.old.slots key) (get self.new.slots key) }
+        ensures submitted { KeepsSubmitted self.old.slots self.new.slots }
+        ensures tasks { KeepsTasks self.old.slots self.new.slots }
+        ensures full { slab_len self.old.slots ≤ MOST_CONNECTIONS → slab_len self.new.slots ≤ MOST_CONNECTIONS }
+    {
+        if listener == Listener::Owners {
+            self.owners_left -= 1;
+        }
+        let Ok(connection) = Connection::new(alloc, listener, stream, now) else {
+            return;
+        };
+        if self.slots.insert(connection).is_err() {
+            return;
+        }
+        if self.slots.len() > MOST_CONNECTIONS {
+            evict_oldest(&mut self.slots);
+        }
+    }
+
+    /// Takes the connection with this key as far as its stream goes. It is closed once it has its reply, or
+    /// where a read or a write failed; where one would wait, or the service has something left to do for
+    /// it, it stays.
+    pub fn advance<O: Service<Task = T>>(
+        &mut self,
+        alloc: Global,
+        key: usize,
+        service: &mut O,
+        now: u64,
+    )
+        ensures run { IsRun O.answers O.resumes service.old service.new (tasks_in self.old.slots) (tasks_in self.new.slots) }
+        ensures others { OnlyAt key self.old.slots self.new.slots }
+        ensures blocked { IfStays key self.old.slots self.new.slots (IsBlocked S.Source.has_failed S.Sink.has_failed) }
+        ensures deadline { IfStays key self.old.slots self.new.slots (KeepsTime now) }
+        ensures fewer { slab_len self.new.slots ≤ slab_len self.old.slots }
+        ensures owners_left { self.new.owners_left ≡ self.old.owners_left }
+    {
+        let Some(mut connection) = self.slots.try_remove(key) else {
+            return;
+        };
+        let step = connection.advance(alloc, service, now);
+        self.keep(connection, step);
+    }
+
+    /// Has the service resume the task of the connection whose time is over first of those that have one,
+    /// if there is one. It is closed once it has its reply, or where a write of that failed.
+    pub fn resume<O: Service<Task = T>>(&mut self, alloc: Global, service: &mut O, now: u64)
+        ensures run { IsRun O.answers O.resumes service.old service.new (tasks_in self.old.slots) (tasks_in self.new.slots) }
+        ensures first { ResumesFirst O.resumes self.old.slots self.new.slots service.old service.new }
+        ensures deadline { (key : ℕ) → IfStays key self.old.slots self.new.slots (KeepsTime now) }
+        ensures fewer { slab_len self.new.slots ≤ slab_len self.old.slots }
+        ensures owners_left { self.new.owners_left ≡ self.old.owners_left }
+    {
+        let Some(first) = earliest_of(&self.slots, Filter::Working) else {
+            return;
+        };
+        let Some(mut connection) = self.slots.try_remove(first.key) else {
+            return;
+        };
+        let step = connection.resume(alloc, service, now);
+        self.keep(connection, step);
+    }
+
+    // The connection, which was taken out, stays where it waits, and is closed else.
+    fn keep(&mut self, connection: Connection<S, T>, step: StepResult)
+        requires room { HasRoomFor self.old.slots 1 }
+        requires out { get self.old.slots self.old.slots.vacant_key ≡ None }
+        ensures kept { Updates self.old.slots self.new.slots self.old.slots.vacant_key (stays_after step connection) }
+        ensures more { slab_len self.new.slots ≤ slab_len self.old.slots + 1 }
+        ensures owners_left { self.new.owners_left ≡ self.old.owners_left }
+    {
+        if step == StepResult::Waits {
+            let _ = self.slots.insert_reserved(connection);
+            return;
+        }
+        self.accept_state = AcceptState::Open;
+    }
+
+    /// Closes those whose time is over, and no others.
+    pub fn close_expired(&mut self, now: u64)
+        ensures gone { ClosesExpired now self.old.slots self.new.slots }
+        ensures owners_left { self.new.owners_left ≡ self.old.owners_left }
+    {
+        let before = self.slots.len();
+        close_expired(&mut self.slots, now);
+        if self.slots.len() < before {
+            self.accept_state = AcceptState::Open;
+        }
+    }
+}

@@ -1,0 +1,30 @@
+//! Some of the open connections.
+ghost use Rattle.std.specs.Prelude.{◌↔◌, IsTrue};
+ghost use Rattle.toll_server.specs.Connections.{IsIncluded};
+
+use crate::connection::Connection;
+use crate::connection_state::ConnectionState;
+
+/// Which of the open connections.
+#[derive(Clone, Copy, Debug, PartialEq, Eq)]
+pub enum Filter {
+    /// Those whose requests are not whole.
+    Reading,
+    /// Those for whom the service has something left to do.
+    Working,
+    /// Those whose time may be over: all others.
+    Timed,
+}
+
+impl Filter {
+    /// Whether this connection is one of them.
+    pub fn includes<S, T>(self, connection: &Connection<S, T>) -> bool
+        ensures { IsTrue result ↔ IsIncluded self connection.now }
+    {
+        match self {
+            Filter::Reading => matches!(connection.state, ConnectionState::Reading),
+            Filter::Working => matches!(connection.state, ConnectionState::Working(_)),
+            Filter::Timed => !matches!(connection.state, ConnectionState::Working(_)),
+        }
+    }
+}

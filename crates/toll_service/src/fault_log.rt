@@ -1,0 +1,54 @@
+//! What an operator sees of a server's faults.
+ghost use Rattle.std.specs.Prelude.{◌≡◌, None};
+
+use crate::office_fault::OfficeFault;
+use thiserror::Error;
+
+/// A fault that a server meets.
+#[derive(Clone, Copy, Debug, PartialEq, Eq, Drop, Error)]
+pub enum ServingFault {
+    /// The office was not opened.
+    #[error("{0}")]
+    Office(OfficeFault),
+    /// What was asked met a fault.
+    #[error("Unavailable")]
+    Unavailable,
+    /// The socket file of the plant could not be made.
+    #[error("Door")]
+    Door,
+    /// There was no descriptor, or no memory, to take a connection.
+    #[error("Room")]
+    Room,
+}
+
+/// The fault that a server meets now, if it meets one.
+#[derive(Clone, Copy, Debug, PartialEq, Eq)]
+pub struct FaultLog {
+    pub fault: Option<ServingFault>,
+}
+
+impl FaultLog {
+    /// All is well.
+    pub fn new() -> Self
+        ensures { result.fault ≡ None }
+    {
+        FaultLog { fault: None }
+    }
+
+    /// Notes the fault that is met now, or that all is well, and writes a line on standard error where that
+    /// is new: that the fault before it ended, and that this one began.
+    pub fn update(&mut self, rt: &impl Eprint, found: Option<ServingFault>)
+        ensures { self.new.fault ≡ found }
+    {
+        if self.fault == found {
+            return;
+        }
+        if let Some(ended) = self.fault {
+            let _ = rt.eprintln(format_args!("fault {ended} ended"));
+        }
+        if let Some(began) = found {
+            let _ = rt.eprintln(format_args!("fault {began} began"));
+        }
+        self.fault = found;
+    }
+}

@@ -1,0 +1,34 @@
+//! An office over a keep.
+ghost use Rattle.toll_service.specs.Serving.{AnswersOver, ResumesOver};
+
+use crate::answering::answer_at;
+use crate::pending_import::PendingImport;
+use std::alloc::{AllocError, Global};
+use toll_keep::Keep;
+use toll_server::{Listener, Poll, Service};
+
+/// A keep, which clients ask at both listeners.
+#[derive(Drop)]
+pub struct KeepService<K> {
+    pub keep: K,
+}
+
+impl<K: Keep> Service for KeepService<K> {
+    type Task = PendingImport;
+
+    ghost answers = { AnswersOver K.meaning (λ service. service.keep) };
+
+    ghost resumes = { ResumesOver K.meaning (λ service. service.keep) };
+
+    /// The reply, or the import that is left; no bytes where there was no memory, and nothing was done.
+    fn answer(&mut self, alloc: Global, listener: Listener, asked: &[u8]) -> Poll<PendingImport> {
+        match answer_at(alloc, &mut self.keep, listener, asked) {
+            Ok(reply) => reply.poll,
+            Err(AllocError) => Poll::Ready(Vec::new(alloc)),
+        }
+    }
+
+    fn resume(&mut self, alloc: Global, task: PendingImport) -> Poll<PendingImport> {
+        task.resume(alloc, &mut self.keep).poll
+    }
+}

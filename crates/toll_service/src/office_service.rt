@@ -1,0 +1,135 @@
+//! The office in a file, as the clients of a server ask it.
+ghost use Rattle.std.specs.Prelude.{◌≡◌};
+ghost use Rattle.toll_service.specs.Sessions.{AnswersBy, IsTurnedAway, IsUnopened, ResumesBy, state_of_session};
+
+use crate::fault_log::{FaultLog, ServingFault};
+use crate::office_fault::OfficeFault;
+use crate::office_path::{KeepOpener, OfficePath};
+use crate::office_session::OfficeSession;
+use crate::pending_import::PendingImport;
+use crate::turn_result::TurnResult;
+use std::alloc::Global;
+use toll_keep::Keep;
+use toll_programs::Status;
+use toll_protocol::Response;
+use toll_server::{Listener, Poll, Service};
+use toll_wire::Out;
+
+/// The office in a file as a service. What it is asked it answers by its session, and a fault that it meets
+/// it tells the operator.
+pub struct OfficeService<'a, K, O> {
+    office_path: OfficePath<'a, O>,
+    session: OfficeSession<K>,
+    faults: FaultLog,
+}
+
+/// By hand, as a session's.
+impl<K: Drop, O: Drop> Drop for OfficeService<'_, K, O> {
+    fn drop(self) {
+        let OfficeService {
+            office_path: _,
+            session: _,
+            faults: _,
+        } = self;
+    }
+}
+
+impl<'a, K: Keep + Drop, O: KeepOpener<K>> OfficeService<'a, K, O> {
+    /// Of the office at this path, which is opened for the first request.
+    pub fn new(office_path: OfficePath<'a, O>) -> Self
+        ensures { IsUnopened (state_of_session result.session) }
+    {
+        OfficeService {
+            office_path,
+            session: OfficeSession::new(),
+            faults: FaultLog::new(),
+        }
+    }
+
+    /// Closes the file, if it is open.
+    pub fn close(self) {
+        let OfficeService {
+            mut office_path,
+            session,
+            faults: _,
+        } = self;
+        session.close(&mut office_path);
+    }
+}
+
+impl<K: Drop, O: Drop> OfficeService<'_, K, O> {
+    // What a turn of the session came to, of which the operator is told a fault.
+    fn logged(&mut self, reply: TurnResult) -> Poll<PendingImport>
+        ensures poll { result ≡ reply.poll }
+        ensures session { self.new.session ≡ self.old.session }
+        ensures office_path { self.new.office_path ≡ self.old.office_path }
+    {
+        let fault = (!reply.keep_usable).then_some(ServingFault::Unavailable);
+        self.faults.update(self.office_path.rt, fault);
+        reply.poll
+    }
+
+    // The operator is told of an office that can't be opened.
+    fn log_closed(&mut self, fault: OfficeFault)
+        ensures session { self.new.session ≡ self.old.session }
+        ensures office_path { self.new.office_path ≡ self.old.office_path }
+    {
+        self.faults
+            .update(self.office_path.rt, Some(ServingFault::Office(fault)));
+    }
+}
+
+impl<K: Keep + Drop, O: KeepOpener<K>> Service for OfficeService<'_, K, O> {
+    type Task = PendingImport;
+
+    ghost answers = { AnswersBy K.meaning O.is_opened (λ service. state_of_session service.session) (λ service. O.openings service.office_path.opener) };
+
+    ghost resumes = { ResumesBy K.meaning O.is_opened (λ service. state_of_session service.session) (λ service. O.openings service.office_path.opener) };
+
+    // Who came in at the plant's listener and asked nothing only looked whether somebody is there.
+    fn answer(&mut self, alloc: Global, listener: Listener, asked: &[u8]) -> Poll<PendingImport> {
+        if listener == Listener::Plant && asked.is_empty() {
+            return Poll::Ready(Vec::new(alloc));
+        }
+        match self.session.answer(&mut self.office_path, listener, asked) {
+            Ok(reply) => self.logged(reply),
+            Err(fault) => {
+                self.log_closed(fault);
+                Poll::Ready(refusal(alloc, listener, fault))
+            }
+        }
+    }
+
+    fn resume(&mut self, alloc: Global, task: PendingImport) -> Poll<PendingImport> {
+        match self.session.resume(&mut self.office_path, task) {
+            Ok(reply) => self.logged(reply),
+            Err(stopped) => {
+                self.log_closed(stopped.fault);
+                stopped.give_up(alloc)
+            }
+        }
+    }
+}
+
+// What is told at a listener where no office could be asked; nothing, where there is no memory for it.
+fn refusal(alloc: Global, listener: Listener, fault: OfficeFault) -> Vec<u8>
+    ensures { IsTurnedAway listener result.items }
+{
+    match listener {
+        Listener::Owners => match Vec::from_slice(alloc, Out::Unavailable.bytes()) {
+            Ok(bytes) => bytes,
+            Err(_) => Vec::new(alloc),
+        },
+        Listener::Plant => {
+            let told = Response {
+                status: Status::Failed.code(),
+                output: b"",
+                error: fault.line(),
+            };
+            match told.encode(alloc) {
+                Ok(bytes) => bytes,
+                Err(_) => Vec::new(alloc),
+            }
+        }
+    }
+}

@@ -1,0 +1,85 @@
+//! An office that was opened.
+ghost use Rattle.std.specs.Prelude.{◌≡◌, IfOk, IfSome, OnErr};
+ghost use Rattle.toll_service.specs.Openings.{IsOneRefused};
+
+use crate::office_fault::OfficeFault;
+use crate::office_path::{KeepOpener, OfficePath};
+use crate::shared_file::SharedFile;
+use std::io;
+
+/// An open office, and its files where they can be released.
+pub struct OpenOffice<K> {
+    pub keep: K,
+    files: Option<Files>,
+}
+
+/// By hand, as a session's.
+impl<K: Drop> Drop for OpenOffice<K> {
+    fn drop(self) {
+        let OpenOffice { keep: _, files: _ } = self;
+    }
+}
+
+#[derive(Drop)]
+struct Files {
+    database: SharedFile,
+    log: SharedFile,
+}
+
+impl<K: Drop> OpenOffice<K> {
+    /// The office at this place.
+    pub fn at<O: KeepOpener<K>>(office_path: &mut OfficePath<'_, O>) -> Result<Self, OfficeFault>
+        ensures opened { IfOk result (λ opened. O.is_opened opened.keep) }
+        ensures refused { OnErr result (IsOneRefused (O.openings office_path.old.opener) (O.openings office_path.new.opener)) }
+    {
+        let keep = office_path.opener.open(office_path.rt, office_path.path)?;
+        Ok(OpenOffice {
+            keep,
+            files: Files::of(office_path.rt, office_path.path).ok(),
+        })
+    }
+
+    /// Releases the files to others: none is left open where they can't be released.
+    pub fn release<O: KeepOpener<K>>(mut self, office_path: &mut OfficePath<'_, O>) -> Option<Self>
+        ensures { IfSome result (λ released. released.keep ≡ self.keep) }
+    {
+        let is_released = match &mut self.files {
+            Some(Files { database, log }) => {
+                database.release(office_path.rt).is_ok() && log.release(office_path.rt).is_ok()
+            }
+            None => false,
+        };
+        if is_released {
+            return Some(self);
+        }
+        self.close(&mut office_path.opener);
+        None
+    }
+
+    /// Locks the files again, and tells whether nobody has changed them.
+    pub fn reacquire(&self, rt: &HostRuntime) -> bool {
+        match &self.files {
+            Some(Files { database, log }) => {
+                database.reacquire(rt).unwrap_or(false) && log.reacquire(rt).unwrap_or(false)
+            }
+            None => false,
+        }
+    }
+
+    /// Closes them.
+    pub fn close<O: KeepOpener<K>>(self, opener: &mut O) {
+        let OpenOffice { keep, files: _ } = self;
+        opener.close(keep);
+    }
+}
+
+impl Files {
+    fn of(rt: &HostRuntime, path: &str) -> io::Result<Self> {
+        let database = format!(in rt.alloc(); "{path}")?;
+        let log = format!(in rt.alloc(); "{path}-wal")?;
+        Ok(Files {
+            database: SharedFile::of(rt, database)?,
+            log: SharedFile::of(rt, log)?,
+        })
+    }
+}

@@ -1,0 +1,24 @@
+//! An import that can't go on.
+ghost use Rattle.toll_service.specs.Listeners.{IsReadyWith};
+ghost use Rattle.toll_service.specs.Sessions.{IsGivenUp};
+
+use crate::office_fault::OfficeFault;
+use crate::pending_import::PendingImport;
+use std::alloc::Global;
+use toll_server::Poll;
+
+/// An import that can't go on, since the office was closed and can't be opened.
+#[derive(Drop)]
+pub struct StoppedImport {
+    pub fault: OfficeFault,
+    pub import: PendingImport,
+}
+
+impl StoppedImport {
+    /// What the plant is told of it: what came of the records so far, and the line of the fault.
+    pub fn give_up(self, alloc: Global) -> Poll<PendingImport>
+        ensures { IsReadyWith result (IsGivenUp self.import) }
+    {
+        self.import.abort(alloc, self.fault.line()).poll
+    }
+}

@@ -1,0 +1,320 @@
+//! Peers of a world of memory, in which a wait gives the next of some events, or else is over at once.
+mod script;
+mod wire;
+
+use crate::doors::connections::script::{Scribe, Script};
+use crate::doors::connections::wire::{Ends, Log, Pace, Plan, Takes};
+use std::alloc::Global;
+use toll_server::{Listener, ServingEnd, serve};
+
+/// A request of the plant, in three pieces: the content `0`.
+const PLANT: Plan = Plan {
+    listener: Listener::Plant,
+    pieces: &[b"\0\0", b"\0\x01", b"0"],
+    ends: Ends::Silent,
+    takes: Takes::All,
+    mark: b'0',
+};
+
+const FIRST_OWNER: Plan = Plan {
+    listener: Listener::Owners,
+    pieces: &[b"GET /1 HT", b"TP/1.1\r\nhost: a\r\n", b"\r\n"],
+    ends: Ends::Silent,
+    takes: Takes::All,
+    mark: b'1',
+};
+
+const SECOND_OWNER: Plan = Plan {
+    listener: Listener::Owners,
+    pieces: &[
+        b"POST /2 HTTP/1.1\r\nhost: a\r\ncontent-length: 2\r",
+        b"\n\r\n{",
+        b"}",
+    ],
+    ends: Ends::Silent,
+    takes: Takes::All,
+    mark: b'2',
+};
+
+/// Two requests of the plant, each at once.
+const SEVENTH: Plan = Plan {
+    listener: Listener::Plant,
+    pieces: &[b"\0\0\0\x017"],
+    ends: Ends::Silent,
+    takes: Takes::All,
+    mark: b'7',
+};
+
+const EIGHTH: Plan = Plan {
+    listener: Listener::Plant,
+    pieces: &[b"\0\0\0\x018"],
+    ends: Ends::Silent,
+    takes: Takes::All,
+    mark: b'8',
+};
+
+/// All of a request at once.
+const WHOLE: Plan = Plan {
+    listener: Listener::Owners,
+    pieces: &[b"GET /1 HTTP/1.1\r\nhost: a\r\n\r\n"],
+    ends: Ends::Silent,
+    takes: Takes::All,
+    mark: b'1',
+};
+
+const HALF: Plan = Plan {
+    listener: Listener::Owners,
+    pieces: &[b"GET /1 HTTP/1.1\r\nho"],
+    ends: Ends::Silent,
+    takes: Takes::All,
+    mark: b'1',
+};
+
+const SILENT: Plan = Plan {
+    listener: Listener::Owners,
+    pieces: &[],
+    ends: Ends::Silent,
+    takes: Takes::All,
+    mark: b'1',
+};
+
+/// What came of serving.
+#[derive(Clone, Copy, Debug, PartialEq, Eq)]
+struct Outcome {
+    served: ServingEnd,
+    /// How many requests were answered, and how many bytes of their replies were written.
+    answered: u64,
+    told: u64,
+    late: u64,
+}
+
+// What comes of serving so many owners, where these come (or nobody can be taken), and these go on one after
+// another.
+fn outcome_of(
+    alloc: Global,
+    count: u64,
+    coming: &[Option<Plan>],
+    order: &[usize],
+    log: &Log,
+) -> Outcome {
+    let mut network = Script::new(coming, order, log);
+    let mut office = Scribe::new(log);
+    let served = serve(alloc, &mut network, &mut office, count);
+    Outcome {
+        served,
+        answered: office.answered,
+        told: log.told.get(),
+        late: log.clock.get(),
+    }
+}
+
+// What comes of serving one owner, who goes on so often.
+fn outcome_of_one(alloc: Global, plan: Plan, order: &[usize]) -> Outcome {
+    outcome_of(alloc, 1, &[Some(plan)], order, &Log::new())
+}
+
+fn all_with(answered: u64, told: u64, late: u64) -> Outcome {
+    Outcome {
+        served: ServingEnd::All,
+        answered,
+        told,
+        late,
+    }
+}
+
+// The order of nine events that a number below 3^9 stands for, if each of three clients has three.
+fn order_of(code: usize) -> Option<[usize; 9]> {
+    let mut order = [0; 9];
+    let mut counts = [0u8; 3];
+    let mut rest = code;
+    for place in &mut order {
+        *place = rest % 3;
+        counts[rest % 3] = counts[rest % 3].saturating_add(1);
+        rest /= 3;
+    }
+    if counts == [3, 3, 3] {
+        Some(order)
+    } else {
+        None
+    }
+}
+
+#[test]
+fn three_clients_are_answered_whatever_order_their_bytes_come_in(rt: HostRuntime) {
+    let coming = [Some(PLANT), Some(FIRST_OWNER), Some(SECOND_OWNER)];
+    let mut orders = 0u64;
+    for code in 0..19_683 {
+        let Some(order) = order_of(code) else {
+            continue;
+        };
+        let log = Log::new();
+        let outcome = outcome_of(rt.alloc(), 2, &coming, &order, &log);
+        assert_eq!(rt; outcome, all_with(3, 9, 0));
+        assert!(rt; !log.wrong.get());
+        orders = orders.saturating_add(1);
+    }
+    assert_eq!(rt; orders, 1680);
+}
+
+#[test]
+fn a_reply_may_be_taken_a_byte_at_a_time(rt: HostRuntime) {
+    let slow = Plan {
+        takes: Takes::One,
+        ..WHOLE
+    };
+    assert_eq!(rt;
+        outcome_of_one(rt.alloc(), slow, &[0, 0, 0]),
+        all_with(1, 3, 0)
+    );
+    assert_eq!(rt;
+        outcome_of_one(rt.alloc(), slow, &[0, 0]),
+        all_with(1, 2, 10_000)
+    );
+}
+
+#[test]
+fn a_client_that_goes_is_not_answered_twice(rt: HostRuntime) {
+    let resets = Plan {
+        ends: Ends::Reset,
+        ..HALF
+    };
+    let closes = Plan {
+        ends: Ends::Closed,
+        ..HALF
+    };
+    let takes_none = Plan {
+        takes: Takes::Broken,
+        ..WHOLE
+    };
+    assert_eq!(rt;
+        outcome_of_one(rt.alloc(), resets, &[0, 0]),
+        all_with(0, 0, 0)
+    );
+    assert_eq!(rt;
+        outcome_of_one(rt.alloc(), closes, &[0, 0]),
+        all_with(1, 3, 0)
+    );
+    assert_eq!(rt;
+        outcome_of_one(rt.alloc(), takes_none, &[0]),
+        all_with(1, 0, 0)
+    );
+}
+
+#[test]
+fn time_is_over_in_each_state(rt: HostRuntime) {
+    let takes_nothing = Plan {
+        takes: Takes::Nothing,
+        ..WHOLE
+    };
+    assert_eq!(rt;
+        outcome_of_one(rt.alloc(), SILENT, &[]),
+        all_with(0, 0, 10_000)
+    );
+    assert_eq!(rt;
+        outcome_of_one(rt.alloc(), HALF, &[0]),
+        all_with(0, 0, 10_000)
+    );
+    assert_eq!(rt;
+        outcome_of_one(rt.alloc(), takes_nothing, &[0]),
+        all_with(1, 0, 10_000)
+    );
+}
+
+#[test]
+fn a_silent_client_holds_nobody_up(rt: HostRuntime) {
+    let coming = [Some(WHOLE), Some(SILENT), Some(WHOLE)];
+    let outcome = outcome_of(rt.alloc(), 3, &coming, &[2, 0], &Log::new());
+    assert_eq!(rt; outcome, all_with(2, 6, 10_000));
+}
+
+#[test]
+fn the_oldest_is_evicted_from_a_full_server(rt: HostRuntime) {
+    let coming = [Some(WHOLE); 901];
+    let outcome = outcome_of(rt.alloc(), 901, &coming, &[0, 1, 900], &Log::new());
+    assert_eq!(rt; outcome, all_with(2, 6, 10_000));
+}
+
+#[test]
+fn none_is_accepted_without_resources_until_one_has_left(rt: HostRuntime) {
+    let coming = [Some(WHOLE), None, Some(WHOLE)];
+    let outcome = outcome_of(rt.alloc(), 2, &coming, &[0, 0], &Log::new());
+    assert_eq!(rt; outcome, all_with(2, 6, 0));
+    let alone = outcome_of(rt.alloc(), 1, &[None, Some(SILENT)], &[], &Log::new());
+    assert_eq!(rt; alone, all_with(0, 0, 11_000));
+}
+
+#[test]
+fn a_network_that_fails_ends_serving(rt: HostRuntime) {
+    let outcome = outcome_of(rt.alloc(), 1, &[], &[], &Log::new());
+    assert_eq!(rt; outcome.served, ServingEnd::Fault);
+}
+
+#[test]
+fn others_are_answered_between_the_turns_of_one(rt: HostRuntime) {
+    let log = Log::at(Pace {
+        turns: 4,
+        milliseconds: 0,
+    });
+    let coming = [Some(SEVENTH), Some(FIRST_OWNER), Some(SECOND_OWNER)];
+    let order = [1, 1, 2, 2, 0, 1, 2];
+    let outcome = outcome_of(rt.alloc(), 2, &coming, &order, &log);
+    assert_eq!(rt; outcome, all_with(3, 9, 0));
+    assert_eq!(rt; log.turns.get(), 771_727);
+    assert!(rt; !log.wrong.get());
+}
+
+#[test]
+fn two_tasks_are_done_side_by_side(rt: HostRuntime) {
+    let log = Log::at(Pace {
+        turns: 3,
+        milliseconds: 0,
+    });
+    let coming = [Some(SEVENTH), Some(EIGHTH), Some(WHOLE)];
+    let outcome = outcome_of(rt.alloc(), 1, &coming, &[1, 0, 2], &log);
+    assert_eq!(rt; outcome, all_with(3, 9, 0));
+    assert_eq!(rt; log.turns.get(), 8_877_178);
+    assert!(rt; !log.wrong.get());
+}
+
+#[test]
+fn a_task_is_done_though_its_socket_has_failed(rt: HostRuntime) {
+    let log = Log::at(Pace {
+        turns: 3,
+        milliseconds: 0,
+    });
+    let breaks = Plan {
+        ends: Ends::Reset,
+        takes: Takes::Broken,
+        ..SEVENTH
+    };
+    let coming = [Some(breaks), Some(WHOLE)];
+    let outcome = outcome_of(rt.alloc(), 1, &coming, &[0, 0, 1], &log);
+    assert_eq!(rt; outcome, all_with(2, 3, 0));
+    assert_eq!(rt; log.turns.get(), 7771);
+}
+
+#[test]
+fn time_is_over_for_nobody_who_has_a_task(rt: HostRuntime) {
+    let log = Log::at(Pace {
+        turns: 3,
+        milliseconds: 20_000,
+    });
+    let coming = [Some(SEVENTH), Some(HALF)];
+    let outcome = outcome_of(rt.alloc(), 1, &coming, &[0, 1], &log);
+    assert_eq!(rt; outcome, all_with(1, 3, 40_000));
+}
+
+// Nobody is let in for the first second, in which the one is heard that has a task then; the others come in
+// fifteen rounds.
+#[test]
+fn nobody_who_has_a_task_is_evicted_from_a_full_server(rt: HostRuntime) {
+    let log = Log::at(Pace {
+        turns: 40,
+        milliseconds: 100,
+    });
+    let mut coming = [Some(SILENT); 902];
+    coming[0] = Some(SEVENTH);
+    coming[1] = None;
+    let outcome = outcome_of(rt.alloc(), 900, &coming, &[0], &log);
+    assert_eq!(rt; outcome, all_with(1, 3, 12_400));
+}

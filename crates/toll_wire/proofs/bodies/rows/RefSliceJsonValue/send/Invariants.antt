@@ -1,0 +1,11 @@
+-- Whatever ends the rows that are left ends all of them.
+use Rattle.std.proofs.Common.{drop, map}
+use Rattle.serde.specs.Event.{Log}
+use Rattle.serde_json.specs.Events.{SendsItems}
+use Rattle.serde_json.specs.View.{items_of}
+use Rattle.toll_wire.proofs.bodies.rows.RefSliceJsonValue.send.Given as goal
+
+abbrev pub invariant-loop-row : goal.invariant-loop-row
+invariant-loop-row g l =
+    (end : Log) → SendsItems (items_of (map g.R.JsonValue.said (drop l.row-index l.row-items))) (g.S.Serializer.written l.out) end
+    → SendsItems (items_of (map g.R.JsonValue.said l.row-items)) (g.S.Serializer.written l.initial.out) end

@@ -1,8 +1,0 @@
-use Rattle.std.proofs.Common.{string_bytes}
-use Rattle.serde_json.proofs.FreeTexts.{text_of_value}
-use Rattle.toll_wire.proofs.bodies.sent.text_of.Goals as goal
-
-pub returns-in-Ok : goal.returns-in-Ok
-returns-in-Ok g c =
-    let sent = c.in-Ok.ensures.events in
-    text_of_value (g.T.Told.said c.args.told.now) sent.0 (string_bytes c.in-Ok.text) sent.1 sent.2 (g.met.T.Told.exact c.args.told.now)

@@ -1,0 +1,32 @@
+//! From what is told to its text.
+ghost use Rattle.std.specs.Prelude.{◌≡◌, IfOk, string_bytes};
+ghost use Rattle.serde_json.specs.Events.{SendsValue};
+ghost use Rattle.serde_json.specs.Written.{compact_text};
+
+use crate::bodies::json_value::JsonValue;
+use serde::{Described, Serialize, Serializer};
+use std::alloc::{AllocError, Global};
+
+/// What is told, as a value of serde's.
+#[derive(Drop)]
+struct JsonText<'a, T>(&'a T);
+
+impl<T: JsonValue> Described for JsonText<'_, T> {
+    ghost writes = { λ sent. SendsValue (T.said sent.0.now) };
+}
+
+impl<T: JsonValue> Serialize for JsonText<'_, T> {
+    fn serialize<S: Serializer>(&self, out: &mut S) -> Result<(), S::Error> {
+        self.0.send(out)
+    }
+}
+
+/// The text of what is told, with no space.
+pub(crate) fn text_of<T: JsonValue>(alloc: Global, told: &T) -> Result<String, AllocError>
+    ensures { IfOk result (λ text. string_bytes text ≡ compact_text (T.said told.now)) }
+{
+    match serde_json::to_string(alloc, &JsonText(told)) {
+        Ok(text) => Ok(text),
+        Err(_) => Err(AllocError),
+    }
+}

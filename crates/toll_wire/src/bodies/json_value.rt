@@ -1,0 +1,31 @@
+//! What a body tells.
+ghost use Rattle.std.specs.Prelude.{◌≡◌, false, OnOk};
+ghost use Rattle.serde_json.specs.Data.{Data};
+ghost use Rattle.serde_json.specs.Events.{SendsValue};
+ghost use Rattle.serde_json.specs.Written.{has_float};
+ghost use Rattle.toll_wire.specs.Sending.{SendsMember};
+
+use serde::Serializer;
+
+/// What a body tells as one JSON value, which holds no fraction.
+pub(crate) trait JsonValue {
+    ghost said: { Self → Data };
+
+    /// Sends the value.
+    fn send<S: Serializer>(&self, out: &mut S) -> Result<(), S::Error>
+        ensures { OnOk result (SendsValue (said self.now) (S.written out.old) (S.written out.new)) };
+
+    ghost exact: { (told : Self) → has_float (said told) ≡ false };
+}
+
+/// Sends a member of an object that is open: its name and its value.
+pub(crate) fn send_member<T: JsonValue, S: Serializer>(
+    name: &str,
+    told: &T,
+    out: &mut S,
+) -> Result<(), S::Error>
+    ensures { OnOk result (SendsMember name.now (T.said told.now) (S.written out.old) (S.written out.new)) }
+{
+    out.key(name)?;
+    told.send(out)
+}
