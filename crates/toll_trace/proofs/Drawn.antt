@@ -68,14 +68,14 @@ use_stands role s row u h = go (is_some (void_at s row.key)) refl h
     go true e h = absurd (cc)
 
 -- a use in the list is what a standing actual records
-use_recorded : (role : Role) (s : Slice) (u : Batch × Use) → IsInKeyOrder bytes_cmp (λ row. row.key) s.moves → Contains (uses role s) u → (row : MoveRow) × Stands s row × IsActual u.0.0 u.0.1 u.1.segment role u.1.lot row
+pub use_recorded : (role : Role) (s : Slice) (u : Batch × Use) → IsInKeyOrder bytes_cmp (λ row. row.key) s.moves → Contains (uses role s) u → (row : MoveRow) × Stands s row × IsActual u.0.0 u.0.1 u.1.segment role u.1.lot row
 use_recorded role s u order i =
     let row = Contains-from_filter_map (standing_use role s) s.moves u i in
     let stands = use_stands role s row.0 u row.2 in
     (row.0, record { recorded = row_of_member bytes_cmp (λ row. row.key) (tied_itself nat_list_cmp_total) (λ a b lt. nat_list_cmp_total.antisymm b a ∙ ap ordering_reverse lt) s.moves row.0 order row.1; not_voided = stands.0 }, used_is role row.0 row.0.what u refl stands.1)
 
 -- what a standing actual records is a use in the list
-use_listed : (role : Role) (s : Slice) (row : MoveRow) (order : Bytes) (number segment : ℕ) (lot : LotId) → Stands s row → IsActual order number segment role lot row → Contains (uses role s) ((order, number), record { segment = segment; lot = lot })
+pub use_listed : (role : Role) (s : Slice) (row : MoveRow) (order : Bytes) (number segment : ℕ) (lot : LotId) → Stands s row → IsActual order number segment role lot row → Contains (uses role s) ((order, number), record { segment = segment; lot = lot })
 use_listed role s row order number segment lot stands actual =
     Contains-filter_map (standing_use role s) s.moves row _ (member_of_row bytes_cmp (λ row. row.key) s.moves row.key row stands.recorded)
     (ap (λ voided. if voided then None else use_as role row.what) stands.not_voided ∙ ap (use_as role) actual.is ∙ ap (λ b. if b then Some ((order, number), record { segment = segment; lot = lot }) else None) (same_role-refl role))

@@ -86,7 +86,7 @@ exact_use u v h =
     let name : u.1.lot.lot ≡ v.1.lot.lot = exact_same_bytes u.1.lot.lot v.1.lot.lot lot.1 in
     (ap₂ {C = Batch} (λ a b. (a, b)) order number, ap₂ {C = LotId} (λ a b. record { owner = a; lot = b }) owner name)
 
-not_below : (a b : ℕ) (r : Ordering) → MatchOrdering r (a < b) (a ≡ b) (b < a) → is_lt r ≡ false → b ≤ a
+pub not_below : (a b : ℕ) (r : Ordering) → MatchOrdering r (a < b) (a ≡ b) (b < a) → is_lt r ≡ false → b ≤ a
 not_below a b Less m h = absurd (false≢true (sym h))
 not_below a b Equal m h = omega arith
 not_below a b Greater m h = omega arith

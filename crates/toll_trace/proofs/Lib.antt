@@ -11,3 +11,5 @@ pub mod Unique
 pub mod DrawnRows
 pub mod Walks
 pub mod EdgeJoints
+pub mod Ahead
+pub mod Recording

@@ -6,6 +6,8 @@ pub mod Trace
 pub mod Search
 pub mod Edges
 pub mod Uses
+pub mod Places
+pub mod Recorded
 pub mod Joints
 pub mod Walk
 pub mod Graph

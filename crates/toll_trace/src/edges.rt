@@ -12,14 +12,14 @@ use std::alloc::{AllocError, Global};
 use toll_base::{BatchNo, Edge, LotId, Move, MoveRow, Name, Role, Segment, Slice};
 
 /// A batch within its owner: an order, and the batch's number.
-type Batch = (Name, BatchNo);
+pub(crate) type Batch = (Name, BatchNo);
 
 /// A segment of a batch uses a lot, to consume it or to produce it. Uses are ordered by their lot, then
 /// by their segment.
 #[derive(Clone, Copy, PartialEq, Eq, PartialOrd, Ord)]
-struct Use {
-    lot: LotId,
-    segment: Segment,
+pub(crate) struct Use {
+    pub(crate) lot: LotId,
+    pub(crate) segment: Segment,
 }
 
 /// The pairs of lots such that two standing actuals of one batch of the slice's owner consume the
@@ -79,7 +79,11 @@ fn edges_among(
 }
 
 /// What the standing actuals of this role use, by their batches.
-fn uses(alloc: Global, slice: &Slice, role: Role) -> Result<Vec<(Batch, Use)>, AllocError>
+pub(crate) fn uses(
+    alloc: Global,
+    slice: &Slice,
+    role: Role,
+) -> Result<Vec<(Batch, Use)>, AllocError>
     ensures found { IfOk result (λ found. found.items ≡ uses role slice.now) }
     ensures key_order { IsInKeyOrder bytes_cmp (λ row. row.key) slice.now.moves }
 {

@@ -4,11 +4,12 @@ ghost use Rattle.toll_trace.specs.Chain.{IsJoined};
 ghost use Rattle.toll_trace.specs.Trace.{IsTrace};
 
 use crate::joints::Joints;
+use crate::recorded::Recorded;
 use crate::search::search;
 use crate::step::Step;
 use crate::way::Way;
 use std::alloc::{AllocError, Global};
-use toll_base::{Edge, LotId};
+use toll_base::{Edge, LotId, Slice};
 
 /// Joints for both ways along edges: for traces where there are many edges.
 #[derive(Drop)]
@@ -20,7 +21,9 @@ pub struct Graph {
 impl Graph {
     ghost use Rattle.std.specs.Prelude.{List};
     ghost use Rattle.toll_base.specs.declared.lot.Edge.{Edge};
-    ghost use Rattle.toll_trace.specs.Graph.{IsGraphOf, Leads, joints_of};
+    ghost use Rattle.toll_trace.specs.Graph.{IsGraph, IsGraphOf, Leads, joints_of};
+    ghost use Rattle.toll_trace.specs.Edges.{IsEdge};
+    ghost use Rattle.toll_trace.specs.Recorded.{Draws};
 
     /// A graph of these edges. The list may have repeats, loops and cycles.
     pub fn build(alloc: Global, edges: &[Edge]) -> Result<Self, AllocError>
@@ -28,6 +31,26 @@ impl Graph {
     {
         let forward = Joints::of_edges(alloc, edges, Way::Forward)?;
         let back = Joints::of_edges(alloc, edges, Way::Back)?;
+        Ok(Graph { forward, back })
+    }
+
+    /// A graph of the edges that standing actuals of the slice draw.
+    pub fn of_slice(alloc: Global, slice: &Slice) -> Result<Self, AllocError>
+        ensures { IfOk result (IsGraph (IsEdge slice.now)) }
+    {
+        Graph::of_recorded(alloc, Recorded::new(alloc).with(alloc, slice)?)
+    }
+
+    /// A graph of the edges that what is recorded draws.
+    pub fn of_recorded(alloc: Global, recorded: Recorded) -> Result<Self, AllocError>
+        ensures { IfOk result (IsGraph (Draws recorded)) }
+    {
+        let Recorded {
+            mut consumptions,
+            mut productions,
+        } = recorded;
+        let forward = Joints::of_uses(alloc, &consumptions, &mut productions, Way::Forward)?;
+        let back = Joints::of_uses(alloc, &productions, &mut consumptions, Way::Back)?;
         Ok(Graph { forward, back })
     }
 

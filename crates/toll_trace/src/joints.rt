@@ -1,8 +1,12 @@
 //! Joints, through which lots lead to one another.
-ghost use Rattle.std.specs.Prelude.{length};
+ghost use Rattle.std.specs.Prelude.{◌≡◌, length, map, IfOk};
+ghost use Rattle.std.specs.List.Sorted.{IsSortedBy};
+ghost use Rattle.std.specs.Ordering.{is_lt};
 ghost use Rattle.toll_trace.specs.Joints.{AreWithin};
+ghost use Rattle.toll_trace.specs.Places.{along, place_cmp, AreAhead};
 
 use crate::index::Index;
+use crate::places::{Place, ahead_of, put_in_order_along};
 use crate::way::Way;
 use std::alloc::{AllocError, Global};
 use toll_base::{Edge, LotId};
@@ -24,10 +28,12 @@ pub(crate) struct Joints {
 }
 
 impl Joints {
-    ghost use Rattle.std.specs.Prelude.{IfOk, Contains, ◌↔◌};
+    ghost use Rattle.std.specs.Prelude.{◌↔◌};
     ghost use Rattle.toll_base.specs.declared.lot.LotId.{LotId};
     ghost use Rattle.toll_trace.specs.Chain.{IsJoined};
     ghost use Rattle.toll_trace.specs.Joints.{LeadsThrough};
+    ghost use Rattle.std.specs.List.Sorted.{IsPermutation};
+    ghost use Rattle.toll_trace.specs.Places.{Passes};
 
     /// A joint for each edge: the lot that a step that way along it leaves enters there, and the one
     /// that it comes to leaves.
@@ -52,4 +58,52 @@ impl Joints {
             exits,
         })
     }
+
+    /// A joint for each use at which a lot leaves: who enters a chain at a place leads to all that
+    /// leave it ahead. Puts what leaves in the order of that way.
+    pub(crate) fn of_uses(
+        alloc: Global,
+        entering: &[(Place, LotId)],
+        leaving: &mut [(Place, LotId)],
+        way: Way,
+    ) -> Result<Self, AllocError>
+        ensures moved { IsPermutation leaving.old leaving.new }
+        ensures joined { IfOk result (λ joints. (a b : LotId) → LeadsThrough joints.entries joints.exits.items a b ↔ Passes way entering.now leaving.old a b) }
+    {
+        put_in_order_along(leaving, way);
+        let exits = lots_used(alloc, leaving)?;
+        let entries = entries_ahead(alloc, entering, leaving, way)?;
+        Ok(Joints {
+            entries: Index::new(entries),
+            exits,
+        })
+    }
+}
+
+/// For each use at which a lot enters, the lot with the span of the uses ahead of it.
+fn entries_ahead(
+    alloc: Global,
+    entering: &[(Place, LotId)],
+    leaving: &[(Place, LotId)],
+    way: Way,
+) -> Result<Vec<(LotId, Span)>, AllocError>
+    requires { IsSortedBy (λ u v. is_lt (along way place_cmp u.0 v.0)) leaving.now }
+    ensures { IfOk result (λ entries. AreAhead way entering.now leaving.now entries.items) }
+{
+    let mut entries = Vec::new(alloc);
+    for (place, lot) in entering {
+        entries.push((*lot, ahead_of(leaving, way, place)))?;
+    }
+    Ok(entries)
+}
+
+/// The lots of these uses.
+fn lots_used(alloc: Global, uses: &[(Place, LotId)]) -> Result<Vec<LotId>, AllocError>
+    ensures { IfOk result (λ lots. lots.items ≡ map (λ used. used.1) uses.now) }
+{
+    let mut lots = Vec::new(alloc);
+    for (_, lot) in uses {
+        lots.push(*lot)?;
+    }
+    Ok(lots)
 }

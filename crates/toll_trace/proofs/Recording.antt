@@ -1,0 +1,150 @@
+-- What is recorded of several slices draws the edges of each.
+use Rattle.std.proofs.Common.{◌≡◌, ◌↔◌, ◌⊎◌, ℕ, ◌+◌, ◌<◌, List, [], ◌++◌, map, length, refl, sym, ap, ◌∙◌, subst, inl, inr, arith}
+use Rattle.std.specs.Prelude.{Contains}
+use Rattle.toll_trace.proofs.Common.{length-append, length-map, Contains-append_left, Contains-append_right, Contains-append_cases, IsPermutation, Contains-permutation, IsPermutation-sym, bytes_cmp, LotId, Edge, Consumed, Produced}
+use Rattle.toll_base.specs.Slice.{Slice}
+use Rattle.toll_base.specs.Table.{IsInKeyOrder}
+use Rattle.toll_trace.specs.declared.edges.Use.{Use}
+use Rattle.toll_trace.specs.declared.graph.Graph.{Graph}
+use Rattle.toll_trace.specs.declared.way.Way.{Way}
+use Rattle.toll_trace.specs.declared.way.Way.TheVariants.{Back, Forward}
+use Rattle.toll_trace.specs.Chain.{edge_of}
+use Rattle.toll_trace.specs.Edges.{IsActual, IsEdge}
+use Rattle.toll_trace.specs.Graph.{IsGraph, Leads}
+use Rattle.toll_trace.specs.Places.{Chain, Place, placed, Passes, AreNumbered}
+use Rattle.toll_trace.specs.Uses.{Batch, uses}
+use Rattle.toll_trace.proofs.Drawn.{use_recorded, use_listed}
+use Rattle.toll_trace.proofs.Members.{Contains-none, Contains-map, Contains-from_map}
+
+-- what consumptions and productions draw
+abbrev pub AreDrawn : List (Place × LotId) → List (Place × LotId) → Edge → Type 0
+AreDrawn consumptions productions e = Passes Forward consumptions productions e.from e.to
+
+pub nothing_drawn : (productions : List (Place × LotId)) (e : Edge) → AreDrawn [] productions e → ⊥
+nothing_drawn productions e (u, v, i, j, left, right, same, above) = Contains-none u i
+
+-- ==== the uses of one slice
+
+pub slice_drawn : (s : Slice) (number : ℕ) → IsInKeyOrder bytes_cmp (λ row. row.key) s.moves → (e : Edge) → AreDrawn (map (placed number) (uses Consumed s)) (map (placed number) (uses Produced s)) e → IsEdge s e
+slice_drawn s number order e (u, v, i, j, left, right, same, above) =
+    let c = Contains-from_map (placed number) (uses Consumed s) u i in
+    let p = Contains-from_map (placed number) (uses Produced s) v j in
+    let consumption = use_recorded Consumed s c.0 order c.1 in
+    let production = use_recorded Produced s p.0 order p.1 in
+    let from : c.0.1.lot ≡ e.from = ap (λ (w : Place × LotId). w.1) c.2 ∙ left in
+    let to : p.0.1.lot ≡ e.to = ap (λ (w : Place × LotId). w.1) p.2 ∙ right in
+    let batch : p.0.0 ≡ c.0.0 = ap (λ (w : Place × LotId). w.0.0.1) p.2 ∙ sym (ap (λ (ch : Chain). ch.1) same) ∙ sym (ap (λ (w : Place × LotId). w.0.0.1) c.2) in
+    let in_c : c.0.1.segment ≡ u.0.1 = ap (λ (w : Place × LotId). w.0.1) c.2 in
+    let in_p : p.0.1.segment ≡ v.0.1 = ap (λ (w : Place × LotId). w.0.1) p.2 in
+    record {
+      order = c.0.0.0;
+      number = c.0.0.1;
+      consumption = consumption.0;
+      production = production.0;
+      consumed_in = c.0.1.segment;
+      produced_in = p.0.1.segment;
+      consumption_stands = consumption.1;
+      production_stands = production.1;
+      consumes = subst (λ l. IsActual c.0.0.0 c.0.0.1 c.0.1.segment Consumed l consumption.0) from consumption.2;
+      produces = subst (λ l. IsActual c.0.0.0 c.0.0.1 p.0.1.segment Produced l production.0) to (subst (λ (b : Batch). IsActual b.0 b.1 p.0.1.segment Produced p.0.1.lot production.0) batch production.2);
+      not_above = omega arith;
+    }
+
+pub drawn_of_slice : (s : Slice) (number : ℕ) (e : Edge) → IsEdge s e → AreDrawn (map (placed number) (uses Consumed s)) (map (placed number) (uses Produced s)) e
+drawn_of_slice s number e drawn =
+    let c : Batch × Use = ((drawn.order, drawn.number), record { segment = drawn.consumed_in; lot = e.from }) in
+    let p : Batch × Use = ((drawn.order, drawn.number), record { segment = drawn.produced_in; lot = e.to }) in (
+      placed number c,
+      placed number p,
+      Contains-map (placed number) (uses Consumed s) c (use_listed Consumed s drawn.consumption drawn.order drawn.number drawn.consumed_in e.from drawn.consumption_stands drawn.consumes),
+      Contains-map (placed number) (uses Produced s) p (use_listed Produced s drawn.production drawn.order drawn.number drawn.produced_in e.to drawn.production_stands drawn.produces),
+      refl,
+      refl,
+      refl,
+      drawn.not_above,
+    )
+
+-- ==== a slice more
+
+module _ (consumptions productions : List (Place × LotId)) (consumed produced : List (Batch × Use)) (n : ℕ) (is_n : n ≡ length consumptions + length productions) (numbered : AreNumbered consumptions productions) where
+  its_number : (list : List (Batch × Use)) (u : Place × LotId) → Contains (map (placed n) list) u → (u.0.0.0 ≡ n) × (0 < length list)
+  its_number list u (k, lt, at) =
+      let r = Contains-from_map (placed n) list u (k, lt, at) in
+      let m = length-map list (placed n) in
+      (sym (ap (λ (w : Place × LotId). w.0.0.0) r.2), omega arith)
+
+  pub all_numbered : AreNumbered (consumptions ++ map (placed n) consumed) (productions ++ map (placed n) produced)
+  all_numbered u i =
+      let lc = length-append consumptions (map (placed n) consumed) in
+      let lp = length-append productions (map (placed n) produced) in
+      let mc = length-map consumed (placed n) in
+      let mp = length-map produced (placed n) in
+      elim i [
+        | inl i ↦ elim (Contains-append_cases consumptions (map (placed n) consumed) u i) [
+          | inl old ↦ let lt = numbered u (inl old) in omega arith
+          | inr new ↦ let r = its_number consumed u new in omega arith
+        ]
+        | inr i ↦ elim (Contains-append_cases productions (map (placed n) produced) u i) [
+          | inl old ↦ let lt = numbered u (inr old) in omega arith
+          | inr new ↦ let r = its_number produced u new in omega arith
+        ]
+      ]
+
+  pub drawn_more : (e : Edge) → AreDrawn (consumptions ++ map (placed n) consumed) (productions ++ map (placed n) produced) e → AreDrawn consumptions productions e ⊎ AreDrawn (map (placed n) consumed) (map (placed n) produced) e
+  drawn_more e (u, v, i, j, left, right, same, above) = elim (Contains-append_cases consumptions (map (placed n) consumed) u i) [
+    | inl old_u ↦ elim (Contains-append_cases productions (map (placed n) produced) v j) [
+      | inl old_v ↦ inl (u, v, old_u, old_v, left, right, same, above)
+      | inr new_v ↦ absurd (let lt = numbered u (inl old_u) in let r = its_number produced v new_v in let one = ap (λ (ch : Chain). ch.0) same in omega arith)
+    ]
+    | inr new_u ↦ elim (Contains-append_cases productions (map (placed n) produced) v j) [
+      | inl old_v ↦ absurd (let lt = numbered v (inr old_v) in let r = its_number consumed u new_u in let one = ap (λ (ch : Chain). ch.0) same in omega arith)
+      | inr new_v ↦ inr (u, v, new_u, new_v, left, right, same, above)
+    ]
+  ]
+
+  pub drawn_either : (e : Edge) → AreDrawn consumptions productions e ⊎ AreDrawn (map (placed n) consumed) (map (placed n) produced) e → AreDrawn (consumptions ++ map (placed n) consumed) (productions ++ map (placed n) produced) e
+  drawn_either e (inl d) = (d.0, d.1, Contains-append_left consumptions (map (placed n) consumed) d.0 d.2, Contains-append_left productions (map (placed n) produced) d.1 d.3, d.4, d.5, d.6, d.7)
+  drawn_either e (inr d) = (d.0, d.1, Contains-append_right consumptions (map (placed n) consumed) d.0 d.2, Contains-append_right productions (map (placed n) produced) d.1 d.3, d.4, d.5, d.6, d.7)
+
+-- with the slice's uses, what is recorded draws the slice's edges too
+pub recorded_more : (consumptions productions : List (Place × LotId)) (n : ℕ) (s : Slice) → n ≡ length consumptions + length productions → AreNumbered consumptions productions → IsInKeyOrder bytes_cmp (λ row. row.key) s.moves → (e : Edge) → AreDrawn (consumptions ++ map (placed n) (uses Consumed s)) (productions ++ map (placed n) (uses Produced s)) e ↔ (AreDrawn consumptions productions e ⊎ IsEdge s e)
+recorded_more consumptions productions n s is_n numbered order e = (to, from)
+  where
+    to : AreDrawn (consumptions ++ map (placed n) (uses Consumed s)) (productions ++ map (placed n) (uses Produced s)) e → AreDrawn consumptions productions e ⊎ IsEdge s e
+    to drawn = elim (drawn_more consumptions productions (uses Consumed s) (uses Produced s) n is_n numbered e drawn) [ inl d ↦ inl d | inr d ↦ inr (slice_drawn s n order e d) ]
+
+    from : AreDrawn consumptions productions e ⊎ IsEdge s e → AreDrawn (consumptions ++ map (placed n) (uses Consumed s)) (productions ++ map (placed n) (uses Produced s)) e
+    from (inl d) = drawn_either consumptions productions (uses Consumed s) (uses Produced s) n is_n numbered e (inl d)
+    from (inr d) = drawn_either consumptions productions (uses Consumed s) (uses Produced s) n is_n numbered e (inr (drawn_of_slice s n e d))
+
+-- ==== the graph of what is recorded
+
+passes_back : (consumptions productions : List (Place × LotId)) (a b : LotId) → Passes Back productions consumptions a b → Passes Forward consumptions productions b a
+passes_back consumptions productions a b (u, v, i, j, left, right, same, above) = (v, u, j, i, right, left, sym same, above)
+
+passes_forward : (consumptions productions : List (Place × LotId)) (a b : LotId) → Passes Forward consumptions productions b a → Passes Back productions consumptions a b
+passes_forward consumptions productions a b (u, v, i, j, left, right, same, above) = (v, u, j, i, right, left, sym same, above)
+
+passes_moved : (way : Way) (entering moved leaving : List (Place × LotId)) → IsPermutation entering moved → (a b : LotId) → Passes way moved leaving a b ↔ Passes way entering leaving a b
+passes_moved way entering moved leaving p a b = (to, from)
+  where
+    to : Passes way moved leaving a b → Passes way entering leaving a b
+    to d = (d.0, d.1, Contains-permutation moved entering d.0 (IsPermutation-sym entering moved p) d.2, d.3, d.4, d.5, d.6, d.7)
+
+    from : Passes way entering leaving a b → Passes way moved leaving a b
+    from d = (d.0, d.1, Contains-permutation entering moved d.0 p d.2, d.3, d.4, d.5, d.6, d.7)
+
+pub graph_drawn : (consumptions productions moved : List (Place × LotId)) (graph : Graph) → IsPermutation productions moved → ((a b : LotId) → Leads graph Forward a b ↔ Passes Forward consumptions productions a b) → ((a b : LotId) → Leads graph Back a b ↔ Passes Back moved consumptions a b) → IsGraph (AreDrawn consumptions productions) graph
+graph_drawn consumptions productions moved graph p forward back = record { only = only; every = every }
+  where
+    only : (way : Way) (a b : LotId) → Leads graph way a b → AreDrawn consumptions productions (edge_of way a b)
+    only Back a b l = passes_back consumptions productions a b ((passes_moved Back productions moved consumptions p a b).0 ((back a b).0 l))
+    only Forward a b l = (forward a b).0 l
+
+    every : (way : Way) (a b : LotId) → AreDrawn consumptions productions (edge_of way a b) → Leads graph way a b
+    every Back a b d = (back a b).1 ((passes_moved Back productions moved consumptions p a b).1 (passes_forward consumptions productions a b d))
+    every Forward a b d = (forward a b).1 d
+
+-- a graph of these edges is one of those that are the same
+pub graph_same : (P Q : Edge → Type 0) → ((e : Edge) → P e → Q e) → ((e : Edge) → Q e → P e) → (graph : Graph) → IsGraph P graph → IsGraph Q graph
+graph_same P Q to from graph is = record { only = λ way a b l. to (edge_of way a b) (is.only way a b l); every = λ way a b q. is.every way a b (from (edge_of way a b) q) }
