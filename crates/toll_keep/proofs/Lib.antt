@@ -9,4 +9,4 @@ pub mod RememberedLemmas
 pub mod Around
 mod FromOwners
 pub mod Calls
-pub mod PendingChanges
+pub mod PendingLemmas

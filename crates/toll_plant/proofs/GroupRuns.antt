@@ -4,7 +4,7 @@ use Rattle.std.specs.Prelude.{take}
 use mathlib.Core.Bool.{or-false}
 use Rattle.toll_plant.proofs.Common.{MatchBool, list_any, append-nil, list_any-append, Change, History, Verdict, Accepted, Repeated, Refused, IsLawful, grown, verdict, Content, after, KeepFault, StandsFor, CannotRead, Does, AsksOrders, AsksStock, AsksBatch, AsksTrace, AsksRecall, IsPlantAnswer, Judged, PlantAsked, after_plant, asked_by, LeadsTo, PlantCmd}
 use Rattle.toll_desk.proofs.Unknown.{neither}
-use Rattle.toll_keep.proofs.PendingChanges.{after_behind, fits_behind}
+use Rattle.toll_keep.proofs.PendingLemmas.{after_behind, fits_behind}
 use Rattle.toll_plant.specs.HeldRecords.{IsHeldFor, IsRecordOver}
 use Rattle.toll_plant.specs.Imports.{Comes, IsImport, after_record, after_records, before_accepted, last_outcome, refused_at}
 use Rattle.toll_plant.specs.Outcomes.{is_accepted, is_fault, judged}

@@ -1,6 +1,6 @@
 use Rattle.std.proofs.Common.{IfOk, subst}
 use Rattle.toll_keep.specs.Content.{after}
-use Rattle.toll_keep.proofs.PendingChanges.{reads_alone}
+use Rattle.toll_keep.proofs.PendingLemmas.{reads_alone}
 use Rattle.toll_desk.specs.Reads.{AreBoth}
 use Rattle.toll_desk.proofs.deciding.both_of.Goals as goal
 

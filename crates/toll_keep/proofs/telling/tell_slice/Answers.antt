@@ -1,7 +1,7 @@
 use Rattle.std.proofs.Common.{Some, sym, ap, subst, ◌∙◌}
 use Rattle.toll_keep.specs.Content.{after}
 use Rattle.toll_keep.specs.Remembered.{AreOf}
-use Rattle.toll_keep.proofs.PendingChanges.{none_after, some_after}
+use Rattle.toll_keep.proofs.PendingLemmas.{none_after, some_after}
 use Rattle.toll_keep.proofs.telling.tell_slice.Goals as goal
 
 pub returns-in-Some-clause-reads : goal.returns-in-Some-clause-reads

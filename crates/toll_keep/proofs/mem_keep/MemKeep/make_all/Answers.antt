@@ -3,7 +3,7 @@ use Rattle.std.proofs.lemmas.List.{at_drop_all}
 use Rattle.toll_keep.specs.Content.{after}
 use Rattle.toll_keep.specs.Slices.{content_of}
 use Rattle.toll_keep.proofs.Changed.{next_left}
-use Rattle.toll_keep.proofs.PendingChanges.{after_behind}
+use Rattle.toll_keep.proofs.PendingLemmas.{after_behind}
 use Rattle.toll_keep.proofs.mem_keep.MemKeep.make_all.Goals as goal
 
 pub loop-change-preserved : goal.loop-change-preserved

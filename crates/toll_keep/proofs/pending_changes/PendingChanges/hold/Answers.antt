@@ -4,7 +4,7 @@ use Rattle.toll_keep.proofs.Common.{list_any, after_changes}
 use Rattle.toll_keep.specs.Content.{after}
 use Rattle.toll_keep.specs.Remembered.{AreOf, is_addition}
 use Rattle.toll_keep.proofs.Outcomes.{of_ok}
-use Rattle.toll_keep.proofs.PendingChanges.{none_added, slices_behind}
+use Rattle.toll_keep.proofs.PendingLemmas.{none_added, slices_behind}
 use Rattle.toll_keep.proofs.pending_changes.PendingChanges.hold.Goals as goal
 
 pub returns-then-is_ok-clause-over : goal.returns-then-is_ok-clause-over

@@ -1,4 +1,4 @@
-use Rattle.toll_keep.proofs.PendingChanges.{reads_through}
+use Rattle.toll_keep.proofs.PendingLemmas.{reads_through}
 use Rattle.toll_keep.proofs.pending_changes.PendingChanges.slice.Goals as goal
 
 pub returns-clause-reading : goal.returns-clause-reading
