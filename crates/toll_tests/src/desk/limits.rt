@@ -1,12 +1,12 @@
 //! Stories of how many rows there may be.
 use crate::desk::lines::Asked;
 use crate::desk::setups::WITH_BATCH;
-use crate::stories::{Line, Teller, WITH_RECIPE, check, check_said_over, plant_said};
+use crate::stories::{Line, Teller, WITH_RECIPE, check, check_said_over, empty_tables, plant_said};
 use std::alloc::{AllocError, Global};
 use std::test::Fail;
 use toll_base::{Amount, Day, Name};
 use toll_desk::{PlantCmd, plant_do};
-use toll_keep::MemKeep;
+use toll_keep::{Keep, MemKeep};
 
 // The pieces, with the number between them.
 fn line_of(alloc: Global, pieces: &[&str], number: u64) -> Result<String, AllocError> {
@@ -91,9 +91,9 @@ fn lot_of(alloc: Global, number: u64) -> Result<Name, Fail> {
 }
 
 // What is said to as many receipts, each into a lot of its own where they are spread: to the last one.
-fn receive_all(
+fn receive_all<K: Keep>(
     alloc: Global,
-    keep: &mut MemKeep,
+    keep: &mut K,
     most: u64,
     are_spread: bool,
 ) -> Result<String, Fail> {
@@ -113,7 +113,7 @@ const ONE_LOT_MORE: &[Line] = &[
 
 #[test]
 fn an_owner_has_5000_lots(rt: HostRuntime) -> Result<(), Fail> {
-    let mut keep = MemKeep::new(rt.alloc());
+    let mut keep = empty_tables(rt.alloc())?;
     check_said_over::<Asked, _>(rt.alloc(), &mut keep, &[WITH_RECIPE])?;
     let last = receive_all(rt.alloc(), &mut keep, 5_000, true)?;
     assert!(rt; last.as_str() == "accepted", "{last}");
@@ -127,7 +127,7 @@ const ONE_MOVEMENT_MORE: &[Line] = &[
 
 #[test]
 fn an_owner_has_20000_movements(rt: HostRuntime) -> Result<(), Fail> {
-    let mut keep = MemKeep::new(rt.alloc());
+    let mut keep = empty_tables(rt.alloc())?;
     check_said_over::<Asked, _>(rt.alloc(), &mut keep, &[WITH_RECIPE])?;
     let last = receive_all(rt.alloc(), &mut keep, 20_000, false)?;
     assert!(rt; last.as_str() == "accepted", "{last}");
