@@ -1,10 +1,10 @@
 //! An office with much in stock.
-use crate::stories::plant_cmd;
+use crate::stories::{TableKeep, empty_tables, plant_cmd};
 use std::alloc::{AllocError, Global};
 use std::test::Fail;
 use toll_base::{Amount, Day, Name};
 use toll_desk::{PlantCmd, PlantReply, plant_do};
-use toll_keep::MemKeep;
+use toll_keep::Keep;
 
 /// The numbers of its sublots, each of five digits.
 const FIRST: u64 = 10_000;
@@ -17,7 +17,7 @@ const WITH_MATERIAL: [&[&str]; 2] = [
 ];
 
 // Fails where this command is not accepted.
-fn accept(alloc: Global, keep: &mut MemKeep, command: &PlantCmd) -> Result<(), Fail> {
+fn accept<K: Keep>(alloc: Global, keep: &mut K, command: &PlantCmd) -> Result<(), Fail> {
     match plant_do(alloc, keep, command) {
         PlantReply::Accepted => Ok(()),
         _ => Err("not accepted".into()),
@@ -40,8 +40,8 @@ fn receipt(alloc: Global, number: u64) -> Result<PlantCmd, Fail> {
 }
 
 /// An office whose stock is told in more than 1,048,576 bytes.
-pub fn with_much_stock(alloc: Global) -> Result<MemKeep, Fail> {
-    let mut keep = MemKeep::new(alloc);
+pub fn with_much_stock(alloc: Global) -> Result<TableKeep, Fail> {
+    let mut keep = empty_tables(alloc)?;
     for words in WITH_MATERIAL {
         if let Some(command) = plant_cmd(alloc, words)? {
             accept(alloc, &mut keep, &command)?;
