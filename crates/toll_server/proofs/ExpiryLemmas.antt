@@ -1,15 +1,21 @@
 -- Looking through the connections by their keys.
-use Rattle.std.proofs.Common.{◌≡◌, ◌<◌, ◌≤◌, ℕ, ◌+◌, Option, None, Some, length, refl, sym, subst, arith, below_more, inl, inr}
+use Rattle.std.proofs.Common.{◌≡◌, ◌<◌, ◌≤◌, ℕ, ◌+◌, ◌∙◌, Option, None, Some, ap, length, refl, sym, subst, arith, below_more, inl, inr}
 use Rattle.std.specs.Prelude.{IfSome}
 use Rattle.std.proofs.lemmas.Bool.{cases_lt}
 use Rattle.std.proofs.lemmas.List.{get_or_past}
-use Rattle.slab.specs.Slab.{Slab, get}
-use Rattle.toll_server.specs.Connections.{IsBefore, IsEarliest, IsIncluded, NoneIncluded, unless_expired}
+use Rattle.std.proofs.lemmas.Option.{same_Some}
+use Rattle.slab.specs.Slab.{Slab, get, slab_len}
+use Rattle.std.specs.Prelude.{◌⊎◌, Bool, option_and_then, option_map}
+use Rattle.toll_server.specs.Connections.{IsBefore, IsEarliest, IsIncluded, IsLonger, NobodyWaits, NoneIncluded, OnlyAt, peer_behind, queue_in, unless_expired, wait_in}
+use Rattle.toll_server.specs.Queues.{HasWaitedLonger, IsNext, Waiting}
+use Rattle.toll_server.specs.Steps.{waiting_of}
 use Rattle.toll_server.specs.declared.filter.Filter.{Filter}
 use Rattle.toll_server.specs.declared.connection.Connection.{Connection}
 use Rattle.toll_server.specs.declared.expiry.Earliest.{Earliest}
+use Rattle.toll_server.specs.declared.expiry.Next.{Next}
+use Rattle.toll_server.specs.declared.expiry.Wait.{Wait}
 
-module _ {S T : Type 0} (filter : Filter) (connections : Slab (Connection S T)) where
+module _ {S T P : Type 0} (filter : Filter) (connections : Slab (Connection S T P)) where
   -- each of these connections with a key below the limit has time until then at least
   abbrev pub HaveTimeBelow : ℕ → ℕ → Type 0
   HaveTimeBelow limit deadline = (key : ℕ) → key < limit → IfSome (get connections key) (λ connection. IsIncluded filter connection → deadline ≤ connection.deadline)
@@ -18,7 +24,7 @@ module _ {S T : Type 0} (filter : Filter) (connections : Slab (Connection S T)) 
   NoneBelow limit = (key : ℕ) → key < limit → IfSome (get connections key) (λ connection. ¬ (IsIncluded filter connection))
 
   pub record IsFirstBelow (limit key deadline : ℕ) : Type 0 where
-    pub connection : Connection S T
+    pub connection : Connection S T P
     pub there : get connections key ≡ Some connection
     pub among_them : IsIncluded filter connection
     pub its : connection.deadline ≡ deadline
@@ -31,40 +37,40 @@ module _ {S T : Type 0} (filter : Filter) (connections : Slab (Connection S T)) 
   -- nobody has this key
   pub passed : (limit : ℕ) (first : Option Earliest) → get connections limit ≡ None → Found limit first → Found (limit + 1) first
   passed limit None is p = below_more (λ k. IfSome (get connections k) (λ connection. ¬ (IsIncluded filter connection))) limit p
-      (subst (λ (o : Option (Connection S T)). IfSome o (λ connection. ¬ (IsIncluded filter connection))) (sym is) tt)
+      (subst (λ (o : Option (Connection S T P)). IfSome o (λ connection. ¬ (IsIncluded filter connection))) (sym is) tt)
   passed limit (Some f) is p = record {
     connection = p.connection;
     there = p.there;
     among_them = p.among_them;
     its = p.its;
     first = below_more (λ k. IfSome (get connections k) (λ connection. IsIncluded filter connection → f.deadline ≤ connection.deadline)) limit p.first
-        (subst (λ (o : Option (Connection S T)). IfSome o (λ connection. IsIncluded filter connection → f.deadline ≤ connection.deadline)) (sym is) tt);
+        (subst (λ (o : Option (Connection S T P)). IfSome o (λ connection. IsIncluded filter connection → f.deadline ≤ connection.deadline)) (sym is) tt);
   }
 
   -- who has this key isn't one of them, or has more time
-  pub left_out : (limit : ℕ) (connection : Connection S T) (first : Option Earliest) → get connections limit ≡ Some connection → ¬ (IsIncluded filter connection × IsBefore connection.deadline first)
+  pub left_out : (limit : ℕ) (connection : Connection S T P) (first : Option Earliest) → get connections limit ≡ Some connection → ¬ (IsIncluded filter connection × IsBefore connection.deadline first)
       → Found limit first → Found (limit + 1) first
   left_out limit connection None is not p = below_more (λ k. IfSome (get connections k) (λ connection. ¬ (IsIncluded filter connection))) limit p
-      (subst (λ (o : Option (Connection S T)). IfSome o (λ connection. ¬ (IsIncluded filter connection))) (sym is) (λ a. not (a, tt)))
+      (subst (λ (o : Option (Connection S T P)). IfSome o (λ connection. ¬ (IsIncluded filter connection))) (sym is) (λ a. not (a, tt)))
   left_out limit connection (Some f) is not p = record {
     connection = p.connection;
     there = p.there;
     among_them = p.among_them;
     its = p.its;
     first = below_more (λ k. IfSome (get connections k) (λ connection. IsIncluded filter connection → f.deadline ≤ connection.deadline)) limit p.first
-        (subst (λ (o : Option (Connection S T)). IfSome o (λ connection. IsIncluded filter connection → f.deadline ≤ connection.deadline)) (sym is)
+        (subst (λ (o : Option (Connection S T P)). IfSome o (λ connection. IsIncluded filter connection → f.deadline ≤ connection.deadline)) (sym is)
         (λ a. elim (cases_lt connection.deadline f.deadline) [ inl lt ↦ absurd (not (a, lt)) | inr le ↦ le ]));
   }
 
   more_time : (limit deadline now : ℕ) → deadline ≤ now → HaveTimeBelow limit now → HaveTimeBelow limit deadline
   more_time limit deadline now le p key lt = weaker (get connections key) (p key lt) where
-    weaker : (o : Option (Connection S T)) → IfSome o (λ connection. IsIncluded filter connection → now ≤ connection.deadline) → IfSome o (λ connection. IsIncluded filter connection → deadline ≤ connection.deadline)
+    weaker : (o : Option (Connection S T P)) → IfSome o (λ connection. IsIncluded filter connection → now ≤ connection.deadline) → IfSome o (λ connection. IsIncluded filter connection → deadline ≤ connection.deadline)
     weaker None q = tt
     weaker (Some connection) q = λ a. omega (arith, q a)
 
   none_time : (limit deadline : ℕ) → NoneBelow limit → HaveTimeBelow limit deadline
   none_time limit deadline p key lt = weaker (get connections key) (p key lt) where
-    weaker : (o : Option (Connection S T)) → IfSome o (λ connection. ¬ (IsIncluded filter connection)) → IfSome o (λ connection. IsIncluded filter connection → deadline ≤ connection.deadline)
+    weaker : (o : Option (Connection S T P)) → IfSome o (λ connection. ¬ (IsIncluded filter connection)) → IfSome o (λ connection. IsIncluded filter connection → deadline ≤ connection.deadline)
     weaker None q = tt
     weaker (Some connection) q = λ a. absurd (q a)
 
@@ -73,7 +79,7 @@ module _ {S T : Type 0} (filter : Filter) (connections : Slab (Connection S T)) 
   time_before limit deadline (Some f) before p = more_time limit deadline f.deadline (omega arith) p.first
 
   -- who has this key has the least time so far
-  pub taken : (limit : ℕ) (connection : Connection S T) (first : Option Earliest) → get connections limit ≡ Some connection → IsIncluded filter connection → IsBefore connection.deadline first
+  pub taken : (limit : ℕ) (connection : Connection S T P) (first : Option Earliest) → get connections limit ≡ Some connection → IsIncluded filter connection → IsBefore connection.deadline first
       → Found limit first → IsFirstBelow (limit + 1) limit connection.deadline
   taken limit connection first is a before p = record {
     connection = connection;
@@ -81,7 +87,7 @@ module _ {S T : Type 0} (filter : Filter) (connections : Slab (Connection S T)) 
     among_them = a;
     its = refl;
     first = below_more (λ k. IfSome (get connections k) (λ other. IsIncluded filter other → connection.deadline ≤ other.deadline)) limit (time_before limit connection.deadline first before p)
-        (subst (λ (o : Option (Connection S T)). IfSome o (λ other. IsIncluded filter other → connection.deadline ≤ other.deadline)) (sym is) (λ _. omega arith));
+        (subst (λ (o : Option (Connection S T P)). IfSome o (λ other. IsIncluded filter other → connection.deadline ≤ other.deadline)) (sym is) (λ _. omega arith));
   }
 
   none_past : (limit key : ℕ) → length connections.slots ≤ limit → limit ≤ key → get connections key ≡ None
@@ -95,18 +101,148 @@ module _ {S T : Type 0} (filter : Filter) (connections : Slab (Connection S T)) 
     its = p.its;
     first = λ other. elim (cases_lt other limit) [
       | inl lt ↦ p.first other lt
-      | inr past ↦ subst (λ (o : Option (Connection S T)). IfSome o (λ connection. IsIncluded filter connection → deadline ≤ connection.deadline)) (sym (none_past limit other le past)) tt
+      | inr past ↦ subst (λ (o : Option (Connection S T P)). IfSome o (λ connection. IsIncluded filter connection → deadline ≤ connection.deadline)) (sym (none_past limit other le past)) tt
     ];
   }
 
   pub none_all : (limit : ℕ) → length connections.slots ≤ limit → NoneBelow limit → NoneIncluded filter connections
   none_all limit le p key = elim (cases_lt key limit) [
     | inl lt ↦ p key lt
-    | inr past ↦ subst (λ (o : Option (Connection S T)). IfSome o (λ connection. ¬ (IsIncluded filter connection))) (sym (none_past limit key le past)) tt
+    | inr past ↦ subst (λ (o : Option (Connection S T P)). IfSome o (λ connection. ¬ (IsIncluded filter connection))) (sym (none_past limit key le past)) tt
   ]
 
-module _ {S T : Type 0} (now : ℕ) (old : Slab (Connection S T)) where
+module _ {S T P : Type 0} (now : ℕ) (old : Slab (Connection S T P)) where
   -- those with a key below the limit have been looked at
-  pub record ClosedBelow (limit : ℕ) (new : Slab (Connection S T)) : Type 0 where
+  pub record ClosedBelow (limit : ℕ) (new : Slab (Connection S T P)) : Type 0 where
     pub done : (key : ℕ) → key < limit → get new key ≡ unless_expired now (get old key)
     pub rest : (key : ℕ) → limit ≤ key → get new key ≡ get old key
+
+module _ {S T P : Type 0} (same : P → P → Bool) (party : P) (moment : ℕ) (old : Slab (Connection S T P)) where
+  -- those with a key below the limit have been put behind
+  pub record PutBehind (limit : ℕ) (new : Slab (Connection S T P)) : Type 0 where
+    pub done : (key : ℕ) → key < limit → get new key ≡ option_map (peer_behind same party moment) (get old key)
+    pub rest : (key : ℕ) → limit ≤ key → get new key ≡ get old key
+    pub vacant : new.vacant_key ≡ old.vacant_key
+    pub capacity : new.capacity ≡ old.capacity
+    pub len : slab_len new ≡ slab_len old
+
+  pub put_more : (limit : ℕ) (middle new : Slab (Connection S T P)) → PutBehind limit middle → get new limit ≡ option_map (peer_behind same party moment) (get middle limit)
+      → OnlyAt limit middle new → new.vacant_key ≡ middle.vacant_key → new.capacity ≡ middle.capacity → slab_len new ≡ slab_len middle → PutBehind (limit + 1) new
+  put_more limit middle new p at only vacant capacity len = record {
+    done = below_more (λ k. get new k ≡ option_map (peer_behind same party moment) (get old k)) limit
+        (λ k lt. only k (λ is. omega (arith, lt, is)) ∙ p.done k lt) (at ∙ ap (option_map (peer_behind same party moment)) (p.rest limit (omega arith)));
+    rest = λ k le. only k (λ is. omega (arith, le, is)) ∙ p.rest k (omega (arith, le));
+    vacant = vacant ∙ p.vacant;
+    capacity = capacity ∙ p.capacity;
+    len = len ∙ p.len;
+  }
+
+module _ {P : Type 0} where
+  -- who waits no longer than the one, waits no longer than the other, who waits longer
+  longest_still : (w v : Waiting P) (next : Next) → wait_in v ≡ next.wait → IsLonger (wait_in w) (Some next) → (u : Waiting P) → ¬ (HasWaitedLonger u v)
+      → ¬ (HasWaitedLonger u w)
+  longest_still w v next is before u not longer =
+      let s : v.since ≡ next.wait.since = ap (λ x. x.since) is in
+      let q : v.queued ≡ next.wait.queued = ap (λ x. x.queued) is in
+      elim before [
+        | inl lt ↦ elim longer [ inl more ↦ not (inl (omega (arith, lt, more, s))) | inr both ↦ not (inl (omega (arith, lt, both.0, s))) ]
+        | inr tied ↦ elim longer [
+          | inl more ↦ not (inl (omega (arith, tied.0, more, s)))
+          | inr both ↦ not (inr (both.0 ∙ (tied.0 ∙ sym s), omega (arith, both.1, tied.1, q)))
+        ]
+      ]
+
+  not_longer : (w : Waiting P) → ¬ (HasWaitedLonger w w)
+  not_longer w longer = elim longer [ inl lt ↦ omega (arith, lt) | inr both ↦ omega (arith, both.1) ]
+
+  as_next : (w v : Waiting P) (next : Next) → wait_in v ≡ next.wait → HasWaitedLonger w v → IsLonger (wait_in w) (Some next)
+  as_next w v next is longer =
+      let s : v.since ≡ next.wait.since = ap (λ x. x.since) is in
+      let q : v.queued ≡ next.wait.queued = ap (λ x. x.queued) is in
+      elim longer [ inl lt ↦ inl (omega (arith, lt, s)) | inr both ↦ inr (both.0 ∙ s, omega (arith, both.1, q)) ]
+
+module _ {S T P : Type 0} (connections : Slab (Connection S T P)) where
+  -- nobody with a key below the limit has waited longer
+  abbrev LongestBelow : ℕ → Waiting P → Type 0
+  LongestBelow limit v = (key : ℕ) → key < limit → IfSome (queue_in connections key) (λ w. ¬ (HasWaitedLonger w v))
+
+  abbrev NobodyBelow : ℕ → Type 0
+  NobodyBelow limit = (key : ℕ) → key < limit → queue_in connections key ≡ None
+
+  pub record IsNextBelow (limit : ℕ) (next : Next) : Type 0 where
+    pub waiting : Waiting P
+    pub there : queue_in connections next.key ≡ Some waiting
+    pub its : wait_in waiting ≡ next.wait
+    pub longest : LongestBelow limit waiting
+
+  abbrev pub FoundNext : ℕ → Option Next → Type 0
+  FoundNext limit None = NobodyBelow limit
+  FoundNext limit (Some next) = IsNextBelow limit next
+
+  -- who has this key doesn't wait
+  pub next_passed : (limit : ℕ) (next : Option Next) → option_map wait_in (queue_in connections limit) ≡ None → FoundNext limit next → FoundNext (limit + 1) next
+  next_passed limit next is p = which (queue_in connections limit) refl is next p where
+    which : (o : Option (Waiting P)) → queue_in connections limit ≡ o → option_map wait_in o ≡ None → (next : Option Next) → FoundNext limit next → FoundNext (limit + 1) next
+    which (Some w) at is next p = absurd (cc)
+    which None at is None p = below_more (λ k. queue_in connections k ≡ None) limit p at
+    which None at is (Some n) p = record {
+      waiting = p.waiting;
+      there = p.there;
+      its = p.its;
+      longest = below_more (λ k. IfSome (queue_in connections k) (λ w. ¬ (HasWaitedLonger w p.waiting))) limit p.longest
+          (subst (λ (o : Option (Waiting P)). IfSome o (λ w. ¬ (HasWaitedLonger w p.waiting))) (sym at) tt);
+    }
+
+  waits_at : (limit : ℕ) (wait : Wait) → option_map wait_in (queue_in connections limit) ≡ Some wait → (w : Waiting P) × (queue_in connections limit ≡ Some w) × (wait_in w ≡ wait)
+  waits_at limit wait is = which (queue_in connections limit) refl is where
+    which : (o : Option (Waiting P)) → queue_in connections limit ≡ o → option_map wait_in o ≡ Some wait → (w : Waiting P) × (queue_in connections limit ≡ Some w) × (wait_in w ≡ wait)
+    which None at is = absurd (cc)
+    which (Some w) at is = (w, at, same_Some _ _ is)
+
+  -- who has this key has waited no longer
+  pub next_left_out : (limit : ℕ) (wait : Wait) (next : Option Next) → option_map wait_in (queue_in connections limit) ≡ Some wait → ¬ (IsLonger wait next)
+      → FoundNext limit next → FoundNext (limit + 1) next
+  next_left_out limit wait None is not p = absurd (not tt)
+  next_left_out limit wait (Some n) is not p = let (w, at, its) = waits_at limit wait is in record {
+    waiting = p.waiting;
+    there = p.there;
+    its = p.its;
+    longest = below_more (λ k. IfSome (queue_in connections k) (λ u. ¬ (HasWaitedLonger u p.waiting))) limit p.longest
+        (subst (λ (o : Option (Waiting P)). IfSome o (λ u. ¬ (HasWaitedLonger u p.waiting))) (sym at)
+        (λ longer. not (subst (λ x. IsLonger x (Some n)) its (as_next w p.waiting n p.its longer))));
+  }
+
+  -- who has this key has waited longest so far
+  pub next_taken : (limit : ℕ) (wait : Wait) (next : Option Next) → option_map wait_in (queue_in connections limit) ≡ Some wait → IsLonger wait next
+      → FoundNext limit next → IsNextBelow (limit + 1) (record { key = limit; wait = wait })
+  next_taken limit wait next is longer p = let (w, at, its) = waits_at limit wait is in record {
+    waiting = w;
+    there = at;
+    its = its;
+    longest = below_more (λ k. IfSome (queue_in connections k) (λ u. ¬ (HasWaitedLonger u w))) limit (each w next (subst (λ x. IsLonger x next) (sym its) longer) p)
+        (subst (λ (o : Option (Waiting P)). IfSome o (λ u. ¬ (HasWaitedLonger u w))) (sym at) (not_longer w));
+  } where
+    weaker : (o : Option (Waiting P)) (A B : Waiting P → Type 0) → ((u : Waiting P) → A u → B u) → IfSome o A → IfSome o B
+    weaker None A B more q = tt
+    weaker (Some u) A B more q = more u q
+
+    each : (w : Waiting P) (next : Option Next) → IsLonger (wait_in w) next → FoundNext limit next → LongestBelow limit w
+    each w None before p key lt = subst (λ (o : Option (Waiting P)). IfSome o (λ u. ¬ (HasWaitedLonger u w))) (sym (p key lt)) tt
+    each w (Some n) before p key lt =
+        weaker (queue_in connections key) (λ u. ¬ (HasWaitedLonger u p.waiting)) (λ u. ¬ (HasWaitedLonger u w)) (longest_still w p.waiting n p.its before) (p.longest key lt)
+
+  nobody_past : (limit key : ℕ) → length connections.slots ≤ limit → limit ≤ key → queue_in connections key ≡ None
+  nobody_past limit key le past = ap (option_and_then waiting_of) (get_or_past connections.slots key None (omega arith))
+
+  pub next_all : (limit : ℕ) (next : Next) → length connections.slots ≤ limit → IsNextBelow limit next → IsNext (queue_in connections) next.key
+  next_all limit next le p = record {
+    waiting = p.waiting;
+    there = p.there;
+    longest = λ other. elim (cases_lt other limit) [
+      | inl lt ↦ p.longest other lt
+      | inr past ↦ subst (λ (o : Option (Waiting P)). IfSome o (λ u. ¬ (HasWaitedLonger u p.waiting))) (sym (nobody_past limit other le past)) tt
+    ];
+  }
+
+  pub nobody_all : (limit : ℕ) → length connections.slots ≤ limit → NobodyBelow limit → NobodyWaits connections
+  nobody_all limit le p key = elim (cases_lt key limit) [ inl lt ↦ p key lt | inr past ↦ nobody_past limit key le past ]

@@ -1,15 +1,11 @@
 -- Runs, one after another.
 use Rattle.std.proofs.Common.{◌≡◌, ◌≢◌, ◌==◌, ◌∙◌, ℕ, List, [], ◌∷◌, ◌++◌, ap, refl, subst, sym, Option, None, Some, inl, inr}
 use Rattle.std.proofs.lemmas.Bool.Decides.{eqb_tells}
-use Rattle.std.specs.Prelude.{option_and_then, if◌then◌else◌}
-use Rattle.toll_server.specs.RequestBuffers.{bytes_received, listener_of}
+use Rattle.std.specs.Prelude.{if◌then◌else◌}
 use Rattle.toll_server.specs.Runs.{AreOwn, Yields, Input, Request, IsOwn, IsRun, Runs, Tasks, Turn, after_turn, after_turns}
 use Rattle.toll_server.specs.ConnectionStates.{pending_task}
-use Rattle.toll_server.specs.Steps.{AnswersWhenComplete, ResumesTask}
-use Rattle.toll_server.specs.declared.request_buffer.RequestBuffer.{RequestBuffer}
 use Rattle.toll_server.specs.declared.listener.Listener.{Listener}
 use Rattle.toll_server.specs.declared.poll.Poll.{Poll}
-use Rattle.toll_server.specs.declared.poll.Poll.TheVariants.{Ready, Pending}
 
 -- where all is as it was but for one of them
 pub all_but : {A : Type 0} (key : ℕ) (p q : ℕ → A) → p key ≡ q key → ((other : ℕ) → other ≢ key → p other ≡ q other) → (whose : ℕ) → p whose ≡ q whose
@@ -20,26 +16,26 @@ all_but key p q at others whose = elim (eqb_tells whose key) [
 
 module _ {T : Type 0} where
   -- for nobody is less or more left to do
-  abbrev Agree : Tasks T → Tasks T → Type 0
+  abbrev pub Agree : Tasks T → Tasks T → Type 0
   Agree left other = (whose : ℕ) → left whose ≡ other whose
 
-  after_same : (left other : Tasks T) (turn : Turn T) → Agree left other → Agree (after_turn left turn) (after_turn other turn)
+  pub after_same : (left other : Tasks T) (turn : Turn T) → Agree left other → Agree (after_turn left turn) (after_turn other turn)
   after_same left other turn same whose = ap (λ (task : Option T). if whose == turn.whose then pending_task turn.poll else task) (same whose)
 
-  turns_same : (left other : Tasks T) (turns : List (Turn T)) → Agree left other → Agree (after_turns left turns) (after_turns other turns)
+  pub turns_same : (left other : Tasks T) (turns : List (Turn T)) → Agree left other → Agree (after_turns left turns) (after_turns other turns)
   turns_same left other [] same = same
   turns_same left other (t ∷ turns) same = turns_same (after_turn left t) (after_turn other t) turns (after_same left other t same)
 
-  own_same : (left other : Tasks T) (turns : List (Turn T)) → Agree left other → AreOwn other turns → AreOwn left turns
+  pub own_same : (left other : Tasks T) (turns : List (Turn T)) → Agree left other → AreOwn other turns → AreOwn left turns
   own_same left other [] same own = tt
   own_same left other (t ∷ turns) same own =
       (subst (λ task. IsOwn task t.input) (sym (same t.whose)) own.0, own_same (after_turn left t) (after_turn other t) turns (after_same left other t same) own.1)
 
-  turns_append : (left : Tasks T) (ts us : List (Turn T)) → Agree (after_turns left (ts ++ us)) (after_turns (after_turns left ts) us)
+  pub turns_append : (left : Tasks T) (ts us : List (Turn T)) → Agree (after_turns left (ts ++ us)) (after_turns (after_turns left ts) us)
   turns_append left [] us whose = refl
   turns_append left (t ∷ ts) us whose = turns_append (after_turn left t) ts us whose
 
-  own_append : (left : Tasks T) (ts us : List (Turn T)) → AreOwn left ts → AreOwn (after_turns left ts) us → AreOwn left (ts ++ us)
+  pub own_append : (left : Tasks T) (ts us : List (Turn T)) → AreOwn left ts → AreOwn (after_turns left ts) us → AreOwn left (ts ++ us)
   own_append left [] us own more = more
   own_append left (t ∷ ts) us own more = (own.0, own_append (after_turn left t) ts us own.1 more)
 
@@ -51,7 +47,7 @@ module _ {T : Type 0} where
   ]
 
 module _ {O T : Type 0} (answers : O → Listener → List ℕ → Poll T → O → Type 0) (resumes : O → T → Poll T → O → Type 0) where
-  Runs-append : (a b c : O) (ts us : List (Turn T)) → Runs answers resumes a ts b → Runs answers resumes b us c → Runs answers resumes a (ts ++ us) c
+  pub Runs-append : (a b c : O) (ts us : List (Turn T)) → Runs answers resumes a ts b → Runs answers resumes b us c → Runs answers resumes a (ts ++ us) c
   Runs-append a b c [] us p q = subst (λ o. Runs answers resumes o us c) p q
   Runs-append a b c (t ∷ ts) us p q = let (middle, one, rest) = p in (middle, one, Runs-append middle b c ts us rest q)
 
@@ -60,7 +56,7 @@ module _ {O T : Type 0} (answers : O → Listener → List ℕ → Poll T → O 
   run_none a b left now_left same agree = record { turns = []; runs = same; own = tt; rest = λ whose. sym (agree whose) }
 
   -- nothing more or less is left to do
-  pub run_kept : (a b : O) (left middle now_left : Tasks T) → IsRun answers resumes a b left middle → Agree now_left middle → IsRun answers resumes a b left now_left
+  abbrev pub run_kept : (a b : O) (left middle now_left : Tasks T) → IsRun answers resumes a b left middle → Agree now_left middle → IsRun answers resumes a b left now_left
   run_kept a b left middle now_left p agree = record { turns = p.turns; runs = p.runs; own = p.own; rest = λ whose. p.rest whose ∙ sym (agree whose) }
 
   -- it took one
@@ -75,7 +71,7 @@ module _ {O T : Type 0} (answers : O → Listener → List ℕ → Poll T → O 
   }
 
   -- one run after another
-  pub run_more : (a b c : O) (left middle now_left : Tasks T) → IsRun answers resumes a b left middle → IsRun answers resumes b c middle now_left
+  abbrev pub run_more : (a b c : O) (left middle now_left : Tasks T) → IsRun answers resumes a b left middle → IsRun answers resumes b c middle now_left
       → IsRun answers resumes a c left now_left
   run_more a b c left middle now_left p q = record {
     turns = p.turns ++ q.turns;
@@ -83,22 +79,3 @@ module _ {O T : Type 0} (answers : O → Listener → List ℕ → Poll T → O 
     own = own_append left p.turns q.turns p.own (own_same (after_turns left p.turns) middle q.turns p.rest q.own);
     rest = λ whose. turns_append left p.turns q.turns whose ∙ (turns_same (after_turns left p.turns) middle q.turns p.rest whose ∙ q.rest whose);
   }
-
-  -- what one connection's request comes to
-  pub run_hands : (key : ℕ) (was now : Option (Poll T)) (request : RequestBuffer) (a b : O) (left now_left : Tasks T) → AnswersWhenComplete answers was now request a b
-      → left key ≡ option_and_then pending_task was → now_left key ≡ option_and_then pending_task now → ((other : ℕ) → other ≢ key → now_left other ≡ left other)
-      → IsRun answers resumes a b left now_left
-  run_hands key None None request a b left now_left p before after others =
-      run_none a b left now_left p (all_but key now_left left (after ∙ sym before) others)
-  run_hands key None (Some poll) request a b left now_left p before after others =
-      run_one key a b left now_left (Request (listener_of request) (bytes_received request)) poll before p after others
-  run_hands key (Some was) now request a b left now_left p before after others =
-      run_none a b left now_left p.1 (all_but key now_left left (after ∙ (ap (option_and_then pending_task) p.0 ∙ sym before)) others)
-
--- whose task was gone on with
-pub gone_on : {O T : Type 0} (resumes : O → T → Poll T → O → Type 0) (was now : Option (Poll T)) (task : T) (a b : O) → ResumesTask resumes was now a b
-    → option_and_then pending_task was ≡ Some task → (poll : Poll T) × (now ≡ Some poll) × resumes a task poll b
-gone_on resumes None now task a b p is = absurd (cc)
-gone_on resumes (Some (Ready text)) now task a b p is = absurd (cc)
-gone_on resumes (Some (Pending was)) None task a b p is = absurd p
-gone_on resumes (Some (Pending was)) (Some poll) task a b p is = (poll, refl, subst (λ t. resumes a t poll b) (cc) p)

@@ -1,11 +1,11 @@
 -- What a network has done, step by step; and who stays meanwhile.
-use Rattle.std.proofs.Common.{◌≡◌, ◌≢◌, ℕ, Option, None, Some, sym, subst}
-use Rattle.std.specs.Prelude.{IfSome, option_map}
+use Rattle.std.proofs.Common.{◌≡◌, ◌≢◌, ◌||◌, ℕ, Bool, true, false, Option, None, Some, refl, sym, subst}
+use Rattle.std.specs.Prelude.{Err, IfSome, Ok, OnErr, Result, is_err, option_map}
 use Rattle.slab.specs.Slab.{Slab, get}
 use Rattle.toll_server.specs.Connections.{KeepsSubmitted}
-use Rattle.toll_server.specs.ConnectionStates.{last_poll}
 use Rattle.toll_server.specs.Networks.{Tallies, Tally}
 use Rattle.toll_server.specs.declared.connection.Connection.{Connection}
+use Rattle.toll_server.specs.declared.connection_state.ConnectionState.TheVariants.{Reading}
 
 pub tallies_same : (P : Tally → Tally → Type 0) (a b c : Option Tally) → c ≡ b → Tallies P a b → Tallies P a c
 tallies_same P a b c is p = subst (Tallies P a) (sym is) p
@@ -26,12 +26,20 @@ tallies_then P R Q (Some t) None c p r more = absurd p
 tallies_then P R Q (Some t) (Some u) None p r more = absurd r
 tallies_then P R Q (Some t) (Some u) (Some v) p r more = more t u v p r
 
-module _ {S T : Type 0} where
-  keep_more : (key : ℕ) (old middle new : Option (Connection S T)) → IfSome old (λ connection. last_poll connection.state ≢ None → middle ≡ Some connection)
-      → IfSome middle (λ connection. last_poll connection.state ≢ None → new ≡ Some connection) → IfSome old (λ connection. last_poll connection.state ≢ None → new ≡ Some connection)
+pub on_err : {A E X : Type 0} (r : Result A E) → is_err r ≡ true → OnErr r X → X
+on_err (Ok x) is p = absurd (cc)
+on_err (Err e) is p = p
+
+pub or_true : (a b : Bool) → b ≡ true → (a || b) ≡ true
+or_true true b is = refl
+or_true false b is = is
+
+module _ {S T P : Type 0} where
+  keep_more : (key : ℕ) (old middle new : Option (Connection S T P)) → IfSome old (λ connection. connection.state ≢ Reading → middle ≡ Some connection)
+      → IfSome middle (λ connection. connection.state ≢ Reading → new ≡ Some connection) → IfSome old (λ connection. connection.state ≢ Reading → new ≡ Some connection)
   keep_more key None middle new p q = tt
   keep_more key (Some connection) middle new p q = λ some.
-      let stays = subst (λ (o : Option (Connection S T)). IfSome o (λ connection. last_poll connection.state ≢ None → new ≡ Some connection)) (p some) q in stays some
+      let stays = subst (λ (o : Option (Connection S T P)). IfSome o (λ connection. connection.state ≢ Reading → new ≡ Some connection)) (p some) q in stays some
 
-  pub keeps_more : (old middle new : Slab (Connection S T)) → KeepsSubmitted old middle → KeepsSubmitted middle new → KeepsSubmitted old new
+  pub keeps_more : (old middle new : Slab (Connection S T P)) → KeepsSubmitted old middle → KeepsSubmitted middle new → KeepsSubmitted old new
   keeps_more old middle new p q key = keep_more key (get old key) (get middle key) (get new key) (p key) (q key)

@@ -5,15 +5,18 @@ use Rattle.toll_protocol.specs.Streams.{HasFailed, bytes_between}
 use Rattle.toll_protocol.specs.declared.streams.response_writer.ResponseWriter.{ResponseWriter}
 use Rattle.toll_protocol.specs.declared.streams.sink.Sink as sink
 use Rattle.toll_server.specs.RequestBuffers.{IsComplete, bytes_received, listener_of}
-use Rattle.toll_server.specs.ConnectionStates.{last_poll, reply_of, task_of}
+use Rattle.toll_server.specs.Queues.{Waiting, newly}
+use Rattle.toll_server.specs.ConnectionStates.{reply_of, ticket_of}
 use Rattle.toll_server.specs.declared.request_buffer.RequestBuffer.{RequestBuffer}
 use Rattle.toll_server.specs.declared.listener.Listener.{Listener}
 use Rattle.toll_server.specs.declared.connection.Connection.{Connection}
 use Rattle.toll_server.specs.declared.connection.TheConstants.{MOST_MILLISECONDS}
 use Rattle.toll_server.specs.declared.poll.Poll.{Poll}
-use Rattle.toll_server.specs.declared.poll.Poll.TheVariants.{Pending}
+use Rattle.toll_server.specs.declared.connection_state.ConnectionState.{ConnectionState}
+use Rattle.toll_server.specs.declared.connection_state.ConnectionState.TheVariants.{Reading, Queued, Working, Writing}
 use Rattle.toll_server.specs.declared.step_result.StepResult.{StepResult}
-use Rattle.toll_server.specs.declared.step_result.StepResult.TheVariants.{Waits, Answered}
+use Rattle.toll_server.specs.declared.step_result.StepResult.TheVariants.{Waits, Joins, Answered, Failed}
+use Rattle.toll_server.specs.declared.ticket.Ticket.{Ticket}
 
 -- the reply, all of it, once there is one
 abbrev pub text_of : Option ResponseWriter → Option (List ℕ)
@@ -38,18 +41,13 @@ abbrev pub IsWhollyWritten : Option ResponseWriter → Type 0
 IsWhollyWritten None = ⊥
 IsWhollyWritten (Some r) = r.written ≡ length r.bytes.items
 
-module _ {O T : Type 0} where
-  -- the service answers all that came from a connection, once that is whole; who has a task or a reply keeps it, and the service does nothing
-  abbrev pub AnswersWhenComplete : (O → Listener → List ℕ → Poll T → O → Type 0) → Option (Poll T) → Option (Poll T) → RequestBuffer → O → O → Type 0
-  AnswersWhenComplete answers None None request old new = new ≡ old
-  AnswersWhenComplete answers None (Some poll) request old new = answers old (listener_of request) (bytes_received request) poll new
-  AnswersWhenComplete answers (Some was) now request old new = (now ≡ Some was) × (new ≡ old)
-
-  -- the service goes on with a connection's task, once; where it has none, nothing comes of it, and the service does nothing
-  abbrev pub ResumesTask : (O → T → Poll T → O → Type 0) → Option (Poll T) → Option (Poll T) → O → O → Type 0
-  ResumesTask resumes (Some (Pending task)) None old new = ⊥
-  ResumesTask resumes (Some (Pending task)) (Some poll) old new = resumes old task poll new
-  ResumesTask resumes was now old new = (now ≡ was) × (new ≡ old)
+module _ {O T P : Type 0} (answers : O → Listener → List ℕ → Poll T → O → Type 0) (resumes : O → T → Poll T → O → Type 0) where
+  -- the service answers all that came from who waits with its request, or goes on with the task of who has one
+  abbrev pub Asks : ConnectionState T P → RequestBuffer → Poll T → O → O → Type 0
+  Asks Reading request poll old new = ⊥
+  Asks (Queued ticket) request poll old new = answers old (listener_of request) (bytes_received request) poll new
+  Asks (Working ticket task) request poll old new = resumes old task poll new
+  Asks (Writing reply) request poll old new = ⊥
 
 -- what was received of a request is what the stream gave behind what was received before; and once it was handed to the service, it was all that it takes, or
 -- the stream's end
@@ -62,23 +60,46 @@ pub record Received (unread now_unread : Option (List ℕ)) (was now : RequestBu
   pub early : ¬ IsHanded → (now_unread ≡ rest) × ¬ (IsComplete now)
   pub whole : IsHanded → IsComplete now ⊎ IsAtEnd rest
 
-module _ {S T : Type 0} where
-  -- who was not handed to the service was read
-  abbrev pub ReceivesRequest : (S → Option (List ℕ)) → Connection S T → Connection S T → Type 0
-  ReceivesRequest unread old new =
-      last_poll old.state ≡ None → Received (unread old.stream) (unread new.stream) old.request new.request (IsSome (last_poll new.state))
+-- who has that place in the queue waits with what it asked
+abbrev pub waiting_with : {P : Type 0} → RequestBuffer → Ticket P → Waiting P
+waiting_with request t = record { party = t.party; listener = listener_of request; request = bytes_received request; queued = t.queued; since = t.since }
 
-  -- whose request isn't whole has met a read that failed, as one does that would wait
-  abbrev pub IsReadBlocked : (S → Option Bool) → Connection S T → Connection S T → Type 0
-  IsReadBlocked reads old new = last_poll new.state ≡ None → HasFailed (reads old.stream) (reads new.stream)
+-- one more has happened once a request is whole
+abbrev pub moment_after : StepResult → ℕ → ℕ
+moment_after Waits moment = moment
+moment_after Joins moment = moment + 1
+moment_after Answered moment = moment
+moment_after Failed moment = moment
+
+module _ {S T P : Type 0} where
+  -- it waits for a turn of the service, with what it asked
+  abbrev pub waiting_of : Connection S T P → Option (Waiting P)
+  waiting_of connection = option_map (waiting_with connection.request) (ticket_of connection.state)
+
+  -- who was reading was heard, and waits for a turn once its request is whole
+  abbrev pub ReceivesRequest : (S → Option (List ℕ)) → Connection S T P → Connection S T P → Type 0
+  ReceivesRequest unread old new =
+      old.state ≡ Reading → Received (unread old.stream) (unread new.stream) old.request new.request (IsSome (ticket_of new.state))
+
+  -- who is reading still has met a read that failed, as one does that would wait
+  abbrev pub IsReadBlocked : (S → Option Bool) → Connection S T P → Connection S T P → Type 0
+  IsReadBlocked reads old new = new.state ≡ Reading → HasFailed (reads old.stream) (reads new.stream)
+
+  -- a connection whose request became whole joined the queue, and any other waits as it did
+  abbrev pub JoinsAs : (Listener → List ℕ → P → Type 0) → ℕ → Connection S T P → Connection S T P → StepResult → Type 0
+  JoinsAs is_by moment old new Joins =
+      (waiting_of old ≡ None)
+      × ((party : P) × is_by (listener_of new.request) (bytes_received new.request) party × (waiting_of new ≡ Some (newly party (listener_of new.request) (bytes_received new.request) moment)))
+  JoinsAs is_by moment old new Waits = waiting_of new ≡ waiting_of old
+  JoinsAs is_by moment old new Answered = (waiting_of new ≡ None) × (waiting_of old ≡ None)
+  JoinsAs is_by moment old new Failed = (waiting_of new ≡ None) × (waiting_of old ≡ None)
 
   -- the stream was given the next bytes of the reply; the step is the last where it has all of them, and where it waits for the stream, a write has failed,
-  -- as one does that would wait; who has a task waits
-  pub record Writes (to : sink.Ghosts S) (old new : Connection S T) (step : StepResult) : Type 0 where
+  -- as one does that would wait; who waits for a turn stays
+  pub record Writes (to : sink.Ghosts S) (old new : Connection S T P) (step : StepResult) : Type 0 where
     pub wrote : WritesNextBytes (to.held old.stream) (to.held new.stream) (reply_of old.state) (reply_of new.state)
     pub given : step ≡ Answered ↔ IsWhollyWritten (reply_of new.state)
     pub blocked : step ≡ Waits → IsSome (reply_of new.state) → HasFailed (to.has_failed old.stream) (to.has_failed new.stream)
-    pub pending : IsSome (task_of new.state) → step ≡ Waits
 
 -- when the time is over that a connection has from this moment on
 abbrev pub deadline_from : ℕ → ℕ

@@ -1,8 +1,10 @@
 //! One connection, from its first byte to the last of its reply.
-ghost use Rattle.std.specs.Prelude.{◌≡◌, [], None, Some, IfOk, IsSome};
+ghost use Rattle.std.specs.Prelude.{◌≡◌, ◌≢◌, [], None, Some, IfNone, IfOk, IfSome, IsSome};
 ghost use Rattle.toll_server.specs.RequestBuffers.{bytes_received, listener_of};
-ghost use Rattle.toll_server.specs.ConnectionStates.{last_poll, reply_of, task_of};
-ghost use Rattle.toll_server.specs.Steps.{AnswersWhenComplete, IsReadBlocked, ReceivesRequest, ResumesTask, Writes, deadline_after, deadline_from};
+ghost use Rattle.toll_server.specs.ConnectionStates.{last_poll, reply_of, task_of, ticket_after, ticket_of};
+ghost use Rattle.toll_server.specs.Steps.{Asks, IsReadBlocked, JoinsAs, ReceivesRequest, Writes, deadline_after, deadline_from};
+ghost use Rattle.toll_server.specs.declared.connection_state.ConnectionState.{ConnectionState};
+ghost use Rattle.toll_server.specs.declared.step_result.StepResult.{StepResult};
 
 use crate::connection_state::ConnectionState;
 use crate::listener::Listener;
@@ -10,6 +12,7 @@ use crate::poll::Poll;
 use crate::request_buffer::RequestBuffer;
 use crate::service::Service;
 use crate::step_result::StepResult;
+use crate::ticket::Ticket;
 use std::alloc::{AllocError, Global};
 use std::mem;
 use toll_protocol::{ReadStatus, ResponseWriter, Stream};
@@ -18,21 +21,29 @@ use toll_protocol::{ReadStatus, ResponseWriter, Stream};
 pub const MOST_MILLISECONDS: u64 = 10_000;
 
 /// A connection: what was received of its request, how far it has come since, and the millisecond at which
-/// its time for its request or its reply is over. No time is over for one that has a task of its service.
+/// its time for its request or its reply is over. No time is over for one that waits for a turn of its
+/// service.
 #[derive(Drop)]
-pub struct Connection<S, T> {
+pub struct Connection<S, T, P> {
     pub stream: S,
     pub request: RequestBuffer,
-    pub state: ConnectionState<T>,
+    pub state: ConnectionState<T, P>,
     pub deadline: u64,
 }
 
-impl<S: Stream, T: Drop> Connection<S, T> {
+/// What came of a turn of the service for who had this place in the queue.
+#[derive(Drop)]
+pub struct Outcome<T, P> {
+    pub ticket: Ticket<P>,
+    pub poll: Poll<T>,
+}
+
+impl<S: Stream, T: Drop, P: Drop> Connection<S, T, P> {
     /// Nothing was received from it yet.
     pub fn new(alloc: Global, listener: Listener, stream: S, now: u64) -> Result<Self, AllocError>
         ensures stream { IfOk result (λ connection. connection.stream ≡ stream) }
         ensures request { IfOk result (λ connection. (bytes_received connection.request ≡ []) × (listener_of connection.request ≡ listener)) }
-        ensures state { IfOk result (λ connection. last_poll connection.state ≡ None) }
+        ensures state { IfOk result (λ connection. connection.state ≡ ConnectionState.Reading) }
         ensures deadline { IfOk result (λ connection. connection.deadline ≡ deadline_from now) }
     {
         match RequestBuffer::new(alloc, listener) {
@@ -46,20 +57,16 @@ impl<S: Stream, T: Drop> Connection<S, T> {
         }
     }
 
-    /// Goes on as far as the stream does: reads on, has the request answered once it is complete, and
-    /// writes on. While its service has something left to do for it, nothing is read or written.
-    pub fn advance<O: Service<Task = T>>(
-        &mut self,
-        alloc: Global,
-        service: &mut O,
-        now: u64,
-    ) -> StepResult
-        ensures submits { AnswersWhenComplete O.answers (last_poll self.old.state) (last_poll self.new.state) self.new.request service.old service.new }
-        ensures received { ReceivesRequest S.Source.unread self.old self.new }
+    /// Goes on as far as the stream does: reads on, and joins the queue for its service once its request is
+    /// whole; or writes on. While it waits for its turn, nothing is read or written.
+    pub fn advance<O: Service<Task = T, Party = P>>(&mut self, moment: u128) -> StepResult
+        ensures joins { JoinsAs O.is_by moment self.old self.new result }
+        ensures same { last_poll self.new.state ≡ last_poll self.old.state }
+        ensures hears { ReceivesRequest S.Source.unread self.old self.new }
         ensures writes { Writes S.Sink self.old self.new result }
         ensures waits { result ≡ StepResult.Waits → IsReadBlocked S.Source.has_failed self.old self.new }
-        ensures idle { IsSome (task_of self.old.state) → self.new ≡ self.old }
-        ensures deadline { self.new.deadline ≡ deadline_after (reply_of self.old.state) (reply_of self.new.state) self.old.deadline now }
+        ensures idle { IsSome (ticket_of self.old.state) → self.new ≡ self.old }
+        ensures deadline { self.new.deadline ≡ self.old.deadline }
     {
         if !matches!(self.state, ConnectionState::Reading) {
             return self.write_pending();
@@ -68,70 +75,76 @@ impl<S: Stream, T: Drop> Connection<S, T> {
             ReadStatus::Waiting => StepResult::Waits,
             ReadStatus::Failed => StepResult::Failed,
             ReadStatus::Complete => {
-                let listener = self.request.listener();
-                let poll = service.answer(alloc, listener, self.request.bytes());
-                self.store_poll(poll, now)
+                let party = O::party(self.request.listener(), self.request.bytes());
+                self.state = ConnectionState::Queued(Ticket::new(party, moment));
+                StepResult::Joins
             }
         }
     }
 
-    /// Has the service resume what it has left to do for it, and once there is a reply, writes it. One for
-    /// whom nothing is left to do writes on.
-    pub fn resume<O: Service<Task = T>>(
+    /// Has the service take a turn for it, if it waits for one: its request is answered, or what is left to
+    /// do for it is gone on with. What came of it is to be [taken](Connection::take).
+    pub fn ask<O: Service<Task = T, Party = P>>(
         &mut self,
         alloc: Global,
         service: &mut O,
-        now: u64,
-    ) -> StepResult
-        ensures submits { ResumesTask O.resumes (last_poll self.old.state) (last_poll self.new.state) service.old service.new }
-        ensures request { self.new.request ≡ self.old.request }
-        ensures writes { Writes S.Sink self.old self.new result }
-        ensures deadline { self.new.deadline ≡ deadline_after (reply_of self.old.state) (reply_of self.new.state) self.old.deadline now }
+    ) -> Option<Outcome<T, P>>
+        ensures asks { IfSome result (λ o. Asks O.answers O.resumes self.old.state self.old.request o.poll service.old service.new) }
+        ensures ticket { IfSome result (λ o. ticket_of self.old.state ≡ Some o.ticket) }
+        ensures taken { IfSome result (λ o. self.new ≡ record { stream = self.old.stream; request = self.old.request; state = ConnectionState.Reading; deadline = self.old.deadline }) }
+        ensures none { IfNone result ((ticket_of self.old.state ≡ None) × (self.new ≡ self.old) × (service.new ≡ service.old)) }
     {
         match mem::replace(&mut self.state, ConnectionState::Reading) {
-            ConnectionState::Working(task) => {
+            ConnectionState::Queued(ticket) => {
+                let listener = self.request.listener();
+                let poll = service.answer(alloc, listener, self.request.bytes());
+                Some(Outcome { ticket, poll })
+            }
+            ConnectionState::Working(ticket, task) => {
                 let poll = service.resume(alloc, task);
-                self.store_poll(poll, now)
+                Some(Outcome { ticket, poll })
             }
             state => {
                 self.state = state;
-                self.write_pending()
+                None
             }
         }
     }
 
-    // Stores what came of a turn of the service, and writes it, if it is the reply.
-    fn store_poll(&mut self, poll: Poll<T>, now: u64) -> StepResult
+    /// Stores what came of a turn of the service: begins to write the reply, if there is one, and else
+    /// waits for its next turn.
+    pub fn store_poll(&mut self, outcome: Outcome<T, P>, moment: u128, now: u64) -> StepResult
         requires { reply_of self.old.state ≡ None }
-        ensures taken { last_poll self.new.state ≡ Some poll }
+        ensures taken { last_poll self.new.state ≡ Some outcome.poll }
+        ensures ticket { ticket_of self.new.state ≡ ticket_after outcome.poll moment outcome.ticket }
+        ensures pending { IsSome (ticket_of self.new.state) → result ≡ StepResult.Waits }
         ensures request { self.new.request ≡ self.old.request }
         ensures writes { Writes S.Sink self.old self.new result }
         ensures deadline { self.new.deadline ≡ deadline_after None (reply_of self.new.state) self.old.deadline now }
     {
-        match poll {
-            Poll::Ready(reply) => {
-                self.state = ConnectionState::Writing(ResponseWriter::new(reply));
-                self.deadline = now.saturating_add(MOST_MILLISECONDS);
-                self.write_pending()
-            }
-            Poll::Pending(task) => {
-                self.state = ConnectionState::Working(task);
-                StepResult::Waits
-            }
+        if matches!(outcome.poll, Poll::Ready(_)) {
+            self.deadline = now.saturating_add(MOST_MILLISECONDS);
         }
+        self.state = ConnectionState::after(outcome.poll, outcome.ticket, moment);
+        self.write_pending()
     }
 
     // Writes on, if there is a reply.
     fn write_pending(&mut self) -> StepResult
-        ensures idle { reply_of self.old.state ≡ None → self.new ≡ self.old }
+        ensures idle { reply_of self.old.state ≡ None → (self.new ≡ self.old) × (result ≡ StepResult.Waits) }
         ensures same { last_poll self.new.state ≡ last_poll self.old.state }
+        ensures ticket { ticket_of self.new.state ≡ ticket_of self.old.state }
+        ensures answers { result ≢ StepResult.Waits → IsSome (reply_of self.new.state) }
+        ensures unjoined { result ≢ StepResult.Joins }
         ensures request { self.new.request ≡ self.old.request }
         ensures deadline { self.new.deadline ≡ self.old.deadline }
         ensures writes { Writes S.Sink self.old self.new result }
     {
         match &mut self.state {
             ConnectionState::Writing(reply) => StepResult::after(reply.write_on(&mut self.stream)),
-            ConnectionState::Reading | ConnectionState::Working(_) => StepResult::Waits,
+            ConnectionState::Reading
+            | ConnectionState::Queued(_)
+            | ConnectionState::Working(_, _) => StepResult::Waits,
         }
     }
 }

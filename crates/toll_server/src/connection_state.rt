@@ -1,14 +1,60 @@
 //! How far a connection has come.
+ghost use Rattle.std.specs.Prelude.{◌≡◌, Some, IfSome, option_copied};
+ghost use Rattle.toll_server.specs.ConnectionStates.{last_poll, reply_of, stage_behind, ticket_after, ticket_of};
 
+use crate::poll::Poll;
+use crate::ticket::Ticket;
 use toll_protocol::ResponseWriter;
 
 /// How far a connection has come.
 #[derive(Drop)]
-pub enum ConnectionState<T> {
+pub enum ConnectionState<T, P> {
     /// Its request is not whole.
     Reading,
-    /// Its service has this left to do before there is a reply.
-    Working(T),
+    /// Its request is whole, and waits for its turn.
+    Queued(Ticket<P>),
+    /// Its service has this left to do before there is a reply, which waits for its turn.
+    Working(Ticket<P>, T),
     /// Its reply is written.
     Writing(ResponseWriter),
+}
+
+impl<T: Drop, P: Drop> ConnectionState<T, P> {
+    /// What a turn comes to for who had that place in the queue: the reply, or a place at the queue's end.
+    pub fn after(poll: Poll<T>, ticket: Ticket<P>, moment: u128) -> Self
+        ensures poll { last_poll result ≡ Some poll }
+        ensures ticket { ticket_of result ≡ ticket_after poll moment ticket }
+        ensures begun { IfSome (reply_of result) (λ reply. reply.written ≡ 0) }
+    {
+        match poll {
+            Poll::Ready(reply) => ConnectionState::Writing(ResponseWriter::new(reply)),
+            Poll::Pending(task) => ConnectionState::Working(
+                Ticket::new(ticket.party, moment),
+                task,
+            ),
+        }
+    }
+
+    /// Its place in the queue, if it waits for its turn.
+    pub fn ticket(&self) -> Option<&Ticket<P>>
+        ensures { option_copied result ≡ ticket_of self.now }
+    {
+        match self {
+            ConnectionState::Queued(ticket) | ConnectionState::Working(ticket, _) => Some(ticket),
+            ConnectionState::Reading | ConnectionState::Writing(_) => None,
+        }
+    }
+}
+
+impl<T: Drop, P: PartialEq + Drop> ConnectionState<T, P> {
+    /// That party has a turn now.
+    pub fn put_behind(&mut self, party: &P, moment: u128)
+        ensures { self.new ≡ stage_behind P.eq party.now moment self.old }
+    {
+        match self {
+            ConnectionState::Queued(ticket) => ticket.put_behind(party, moment),
+            ConnectionState::Working(ticket, _) => ticket.put_behind(party, moment),
+            ConnectionState::Reading | ConnectionState::Writing(_) => {}
+        }
+    }
 }

@@ -1,13 +1,12 @@
 //! The open connections.
-ghost use Rattle.std.specs.Prelude.{◌≡◌, ◌↔◌, ◌≤◌, ◌<◌, ◌+◌, ◌⊎◌, ℕ, None, IfSome, IsTrue};
+ghost use Rattle.std.specs.Prelude.{◌≡◌, ◌↔◌, ◌≤◌, ◌<◌, ◌+◌, ◌⊎◌, ◌^◌, ℕ, None, IfSome, IsTrue};
 ghost use Rattle.slab.specs.Slab.{HasRoomFor, Updates, get, slab_len};
-ghost use Rattle.toll_server.specs.Connections.{ClosesExpired, IfStays, IsBlocked, IsDueAt, IsDueTo, IsInTime, IsOldOrNew, KeepsSubmitted, KeepsTasks, KeepsTime, OnlyAt, ResumesFirst, stays_after, tasks_in};
-ghost use Rattle.toll_server.specs.Runs.{IsRun};
+ghost use Rattle.toll_server.specs.Connections.{ClosesExpired, IfStays, IsBlocked, IsDueAt, IsDueTo, IsInTime, IsOldOrNew, JoinsAt, KeepsQueue, KeepsSubmitted, KeepsTasks, KeepsTime, OnlyAt, TakesNext, stays_after};
 ghost use Rattle.toll_server.specs.Networks.{Accepts, IsPaused, IsPausedAt, Tallies, owners_at};
 ghost use Rattle.toll_server.specs.declared.listener.Listener.{Listener};
 
 use crate::connection::Connection;
-use crate::expiry::{close_expired, earliest_of, evict_oldest};
+use crate::expiry::{close_expired, earliest_of, evict_oldest, next_of, put_behind};
 use crate::filter::Filter;
 use crate::listener::Listener;
 use crate::network::{Accepted, Network, NetworkFault};
@@ -37,24 +36,28 @@ pub enum AcceptState {
     Paused(u64),
 }
 
-/// The open connections, and how many owners are still to be accepted.
+/// The open connections, how many owners are still to be accepted, and how much has happened: how many
+/// requests became whole, and how many turns the service took.
 #[derive(Drop)]
-pub struct Connections<S, T> {
-    pub slots: Slab<Connection<S, T>>,
+pub struct Connections<S, T, P> {
+    pub slots: Slab<Connection<S, T, P>>,
     pub owners_left: u64,
     pub accept_state: AcceptState,
+    pub moment: u128,
 }
 
-impl<S: Stream, T: Drop> Connections<S, T> {
+impl<S: Stream, T: Drop, P: Eq + Drop> Connections<S, T, P> {
     /// No connection is open yet, and so many owners are to be accepted.
     pub fn new(alloc: Global, owners_left: u64) -> Self
         ensures empty { slab_len result.slots ≡ 0 }
         ensures owners_left { result.owners_left ≡ owners_left }
+        ensures moment { result.moment ≡ 0 }
     {
         Connections {
             slots: Slab::new(alloc),
             owners_left,
             accept_state: AcceptState::Open,
+            moment: 0,
         }
     }
 
@@ -66,12 +69,12 @@ impl<S: Stream, T: Drop> Connections<S, T> {
     }
 
     /// How many milliseconds to wait at most, so that nobody stays longer than its time: none while somebody
-    /// has a task.
+    /// waits for its turn.
     pub fn wait_limit(&self, now: u64) -> Option<u64>
         ensures in_time { IsInTime result now self.now.slots }
         ensures cause { IfSome result (λ most. IsDueAt self.now.accept_state now most ⊎ IsDueTo self.now.slots now most) }
     {
-        if earliest_of(&self.slots, Filter::Working).is_some() {
+        if earliest_of(&self.slots, Filter::Queued).is_some() {
             return Some(0);
         }
         match (self.accept_state, earliest_of(&self.slots, Filter::Timed)) {
@@ -96,6 +99,8 @@ impl<S: Stream, T: Drop> Connections<S, T> {
         ensures tally { Tallies (Accepts result self.old.accept_state self.old.owners_left self.new.owners_left) (W.tally network.old) (W.tally network.new) }
         ensures submitted { KeepsSubmitted self.old.slots self.new.slots }
         ensures tasks { KeepsTasks self.old.slots self.new.slots }
+        ensures queue { KeepsQueue self.old.slots self.new.slots }
+        ensures moment { self.new.moment ≡ self.old.moment }
         ensures full { slab_len self.old.slots ≤ MOST_CONNECTIONS → slab_len self.new.slots ≤ MOST_CONNECTIONS }
     {
         let now = network.now();
@@ -142,6 +147,8 @@ impl<S: Stream, T: Drop> Connections<S, T> {
         ensures received { let key = self.old.slots.vacant_key in IsOldOrNew listener stream now (get self.old.slots key) (get self.new.slots key) }
         ensures submitted { KeepsSubmitted self.old.slots self.new.slots }
         ensures tasks { KeepsTasks self.old.slots self.new.slots }
+        ensures queue { KeepsQueue self.old.slots self.new.slots }
+        ensures moment { self.new.moment ≡ self.old.moment }
         ensures full { slab_len self.old.slots ≤ MOST_CONNECTIONS → slab_len self.new.slots ≤ MOST_CONNECTIONS }
     {
         if listener == Listener::Owners {
@@ -159,57 +166,68 @@ impl<S: Stream, T: Drop> Connections<S, T> {
     }
 
     /// Takes the connection with this key as far as its stream goes. It is closed once it has its reply, or
-    /// where a read or a write failed; where one would wait, or the service has something left to do for
-    /// it, it stays.
-    pub fn advance<O: Service<Task = T>>(
-        &mut self,
-        alloc: Global,
-        key: usize,
-        service: &mut O,
-        now: u64,
-    )
-        ensures run { IsRun O.answers O.resumes service.old service.new (tasks_in self.old.slots) (tasks_in self.new.slots) }
+    /// where a read or a write failed; where one would wait, or its request is whole and waits for its
+    /// turn, it stays.
+    pub fn advance<O: Service<Task = T, Party = P>>(&mut self, key: usize)
+        requires { self.old.moment + 1 < 2 ^ 128 }
+        ensures joins { JoinsAt O.is_by key self.old.moment self.new.moment self.old.slots self.new.slots }
+        ensures more { self.new.moment ≤ self.old.moment + 1 }
+        ensures tasks { KeepsTasks self.old.slots self.new.slots }
         ensures others { OnlyAt key self.old.slots self.new.slots }
         ensures blocked { IfStays key self.old.slots self.new.slots (IsBlocked S.Source.has_failed S.Sink.has_failed) }
-        ensures deadline { IfStays key self.old.slots self.new.slots (KeepsTime now) }
+        ensures deadline { IfStays key self.old.slots self.new.slots (λ connection later. later.deadline ≡ connection.deadline) }
         ensures fewer { slab_len self.new.slots ≤ slab_len self.old.slots }
         ensures owners_left { self.new.owners_left ≡ self.old.owners_left }
     {
         let Some(mut connection) = self.slots.try_remove(key) else {
             return;
         };
-        let step = connection.advance(alloc, service, now);
+        let step = connection.advance::<O>(self.moment);
+        self.moment = step.count(self.moment);
         self.keep(connection, step);
     }
 
-    /// Has the service resume the task of the connection whose time is over first of those that have one,
-    /// if there is one. It is closed once it has its reply, or where a write of that failed.
-    pub fn resume<O: Service<Task = T>>(&mut self, alloc: Global, service: &mut O, now: u64)
-        ensures run { IsRun O.answers O.resumes service.old service.new (tasks_in self.old.slots) (tasks_in self.new.slots) }
-        ensures first { ResumesFirst O.resumes self.old.slots self.new.slots service.old service.new }
+    /// Has the service take a turn for who has waited longest, if somebody waits: for each party, the wait
+    /// begins with its latest turn, or when a request of it was whole. Who was told goes once it has its
+    /// reply, or where a write of that failed.
+    pub fn take_turn<O: Service<Task = T, Party = P>>(
+        &mut self,
+        alloc: Global,
+        service: &mut O,
+        now: u64,
+    )
+        requires { self.old.moment + 1 < 2 ^ 128 }
+        ensures turn { TakesNext O.answers O.resumes P.eq self.old.moment self.new.moment self.old.slots self.new.slots service.old service.new }
+        ensures more { self.new.moment ≤ self.old.moment + 1 }
         ensures deadline { (key : ℕ) → IfStays key self.old.slots self.new.slots (KeepsTime now) }
         ensures fewer { slab_len self.new.slots ≤ slab_len self.old.slots }
         ensures owners_left { self.new.owners_left ≡ self.old.owners_left }
     {
-        let Some(first) = earliest_of(&self.slots, Filter::Working) else {
+        let Some(next) = next_of(&self.slots) else {
             return;
         };
-        let Some(mut connection) = self.slots.try_remove(first.key) else {
+        let Some(mut connection) = self.slots.try_remove(next.key) else {
             return;
         };
-        let step = connection.resume(alloc, service, now);
+        let Some(outcome) = connection.ask(alloc, service) else {
+            return;
+        };
+        put_behind(&mut self.slots, &outcome.ticket.party, self.moment);
+        let step = connection.store_poll(outcome, self.moment, now);
+        self.moment += 1;
         self.keep(connection, step);
     }
 
     // The connection, which was taken out, stays where it waits, and is closed else.
-    fn keep(&mut self, connection: Connection<S, T>, step: StepResult)
+    fn keep(&mut self, connection: Connection<S, T, P>, step: StepResult)
         requires room { HasRoomFor self.old.slots 1 }
         requires out { get self.old.slots self.old.slots.vacant_key ≡ None }
         ensures kept { Updates self.old.slots self.new.slots self.old.slots.vacant_key (stays_after step connection) }
         ensures more { slab_len self.new.slots ≤ slab_len self.old.slots + 1 }
         ensures owners_left { self.new.owners_left ≡ self.old.owners_left }
+        ensures moment { self.new.moment ≡ self.old.moment }
     {
-        if step == StepResult::Waits {
+        if matches!(step, StepResult::Waits | StepResult::Joins) {
             let _ = self.slots.insert_reserved(connection);
             return;
         }
@@ -220,6 +238,7 @@ impl<S: Stream, T: Drop> Connections<S, T> {
     pub fn close_expired(&mut self, now: u64)
         ensures gone { ClosesExpired now self.old.slots self.new.slots }
         ensures owners_left { self.new.owners_left ≡ self.old.owners_left }
+        ensures moment { self.new.moment ≡ self.old.moment }
     {
         let before = self.slots.len();
         close_expired(&mut self.slots, now);

@@ -1,7 +1,8 @@
 //! Looking through the open connections.
-ghost use Rattle.std.specs.Prelude.{◌↔◌, IfSome, IfNone, IsTrue};
-ghost use Rattle.slab.specs.Slab.{get};
-ghost use Rattle.toll_server.specs.Connections.{ClosesExpired, EvictsOldest, IsBefore, IsEarliest, IsExpired, NoneIncluded};
+ghost use Rattle.std.specs.Prelude.{◌≡◌, ◌↔◌, ℕ, IfSome, IfNone, IsTrue, option_map};
+ghost use Rattle.slab.specs.Slab.{get, slab_len};
+ghost use Rattle.toll_server.specs.Connections.{ClosesExpired, EvictsOldest, IsBefore, IsEarliest, IsExpired, IsLonger, NobodyWaits, NoneIncluded, OnlyAt, peer_behind, queue_in, wait_in};
+ghost use Rattle.toll_server.specs.Queues.{IsNext};
 
 use crate::connection::Connection;
 use crate::filter::Filter;
@@ -16,8 +17,8 @@ pub struct Earliest {
 }
 
 /// That of these connections whose time is over first.
-pub fn earliest_of<S: Stream, T: Drop>(
-    connections: &Slab<Connection<S, T>>,
+pub fn earliest_of<S: Stream, T: Drop, P: Drop>(
+    connections: &Slab<Connection<S, T, P>>,
     filter: Filter,
 ) -> Option<Earliest>
     ensures found { IfSome result (λ first. IsEarliest filter connections.now first.key first.deadline) }
@@ -52,8 +53,11 @@ fn is_before(deadline: u64, first: Option<Earliest>) -> bool
     }
 }
 
-/// Those are closed whose time is over, which that of one with a task is not.
-pub fn close_expired<S: Stream, T: Drop>(connections: &mut Slab<Connection<S, T>>, now: u64)
+/// Those go whose time is over, which that of one who waits for its turn is not.
+pub fn close_expired<S: Stream, T: Drop, P: Drop>(
+    connections: &mut Slab<Connection<S, T, P>>,
+    now: u64,
+)
     ensures { ClosesExpired now connections.old connections.new }
 {
     for key in 0..connections.capacity() {
@@ -64,8 +68,8 @@ pub fn close_expired<S: Stream, T: Drop>(connections: &mut Slab<Connection<S, T>
 }
 
 // Whether there is a connection with this key, and its time is over.
-fn is_expired<S: Stream, T: Drop>(
-    connections: &Slab<Connection<S, T>>,
+fn is_expired<S: Stream, T: Drop, P: Drop>(
+    connections: &Slab<Connection<S, T, P>>,
     key: usize,
     now: u64,
 ) -> bool
@@ -78,10 +82,108 @@ fn is_expired<S: Stream, T: Drop>(
 }
 
 /// The one is closed that has been reading longest, if one is reading.
-pub fn evict_oldest<S: Stream, T: Drop>(connections: &mut Slab<Connection<S, T>>)
+pub fn evict_oldest<S: Stream, T: Drop, P: Drop>(connections: &mut Slab<Connection<S, T, P>>)
     ensures { EvictsOldest connections.old connections.new }
 {
     if let Some(first) = earliest_of(connections, Filter::Reading) {
         let _ = connections.try_remove(first.key);
+    }
+}
+
+/// Since when somebody waits for its turn, and when it joined the queue.
+#[derive(Clone, Copy)]
+pub struct Wait {
+    pub since: u128,
+    pub queued: u128,
+}
+
+/// Whose turn is next, and how long it has waited.
+#[derive(Clone, Copy)]
+pub struct Next {
+    pub key: usize,
+    pub wait: Wait,
+}
+
+/// Who has waited longest for its turn.
+pub fn next_of<S: Stream, T: Drop, P: Drop>(connections: &Slab<Connection<S, T, P>>) -> Option<Next>
+    ensures found { IfSome result (λ next. IsNext (queue_in connections.now) next.key) }
+    ensures none { IfNone result (NobodyWaits connections.now) }
+{
+    let mut next: Option<Next> = None;
+    for key in 0..connections.capacity() {
+        let Some(wait) = wait_of(connections, key) else {
+            continue;
+        };
+        if !is_longer(wait, next) {
+            continue;
+        }
+        next = Some(Next { key, wait });
+    }
+    next
+}
+
+// How long the one with this key waits, if it does.
+fn wait_of<S: Stream, T: Drop, P: Drop>(
+    connections: &Slab<Connection<S, T, P>>,
+    key: usize,
+) -> Option<Wait>
+    ensures { result ≡ option_map wait_in (queue_in connections.now key) }
+{
+    let connection = connections.get(key)?;
+    let ticket = connection.state.ticket()?;
+    Some(Wait {
+        since: ticket.since,
+        queued: ticket.queued,
+    })
+}
+
+// Whether this wait is longer than that of the other one, if there is one.
+fn is_longer(wait: Wait, next: Option<Next>) -> bool
+    ensures { IsTrue result ↔ IsLonger wait next }
+{
+    match next {
+        Some(
+            Next {
+                key: _,
+                wait: other,
+            },
+        ) => {
+            wait.since < other.since || (wait.since == other.since && wait.queued < other.queued)
+        }
+        None => true,
+    }
+}
+
+/// That party has a turn now: the wait of each of it begins anew.
+pub fn put_behind<S: Stream, T: Drop, P: PartialEq + Drop>(
+    connections: &mut Slab<Connection<S, T, P>>,
+    party: &P,
+    moment: u128,
+)
+    ensures behind { (key : ℕ) → get connections.new key ≡ option_map (peer_behind P.eq party.now moment) (get connections.old key) }
+    ensures vacant { connections.new.vacant_key ≡ connections.old.vacant_key }
+    ensures capacity { connections.new.capacity ≡ connections.old.capacity }
+    ensures len { slab_len connections.new ≡ slab_len connections.old }
+{
+    for key in 0..connections.capacity() {
+        put_one_behind(connections, key, party, moment);
+    }
+}
+
+// The wait of the one with this key begins anew, if it waits and is of that party.
+fn put_one_behind<S: Stream, T: Drop, P: PartialEq + Drop>(
+    connections: &mut Slab<Connection<S, T, P>>,
+    key: usize,
+    party: &P,
+    moment: u128,
+)
+    ensures behind { get connections.new key ≡ option_map (peer_behind P.eq party.now moment) (get connections.old key) }
+    ensures others { OnlyAt key connections.old connections.new }
+    ensures vacant { connections.new.vacant_key ≡ connections.old.vacant_key }
+    ensures capacity { connections.new.capacity ≡ connections.old.capacity }
+    ensures len { slab_len connections.new ≡ slab_len connections.old }
+{
+    if let Some(connection) = connections.get_mut(key) {
+        connection.state.put_behind(party, moment);
     }
 }

@@ -10,21 +10,27 @@ use crate::connection_state::ConnectionState;
 pub enum Filter {
     /// Those whose requests are not whole.
     Reading,
-    /// Those for whom the service has something left to do.
-    Working,
+    /// Those who wait for a turn of the service.
+    Queued,
     /// Those whose time may be over: all others.
     Timed,
 }
 
 impl Filter {
     /// Whether this connection is one of them.
-    pub fn includes<S, T>(self, connection: &Connection<S, T>) -> bool
+    pub fn includes<S, T, P>(self, connection: &Connection<S, T, P>) -> bool
         ensures { IsTrue result ↔ IsIncluded self connection.now }
     {
         match self {
             Filter::Reading => matches!(connection.state, ConnectionState::Reading),
-            Filter::Working => matches!(connection.state, ConnectionState::Working(_)),
-            Filter::Timed => !matches!(connection.state, ConnectionState::Working(_)),
+            Filter::Queued => matches!(
+                connection.state,
+                ConnectionState::Queued(_) | ConnectionState::Working(_, _)
+            ),
+            Filter::Timed => !matches!(
+                connection.state,
+                ConnectionState::Queued(_) | ConnectionState::Working(_, _)
+            ),
         }
     }
 }

@@ -15,8 +15,9 @@ mod request_buffer;
 mod service;
 mod serving;
 mod step_result;
+mod ticket;
 
-pub use connection::{Connection, MOST_MILLISECONDS};
+pub use connection::{Connection, MOST_MILLISECONDS, Outcome};
 pub use connection_state::ConnectionState;
 pub use listener::Listener;
 pub use network::{Accepted, Network, NetworkFault};
@@ -25,4 +26,5 @@ pub use request_buffer::RequestBuffer;
 pub use service::Service;
 pub use serving::{ServingEnd, serve};
 pub use step_result::StepResult;
+pub use ticket::Ticket;
 pub use toll_protocol::Stream;

@@ -13,12 +13,22 @@ pub trait Service {
     /// What is left to do of something that was asked.
     type Task: Drop;
 
+    /// Whose requests are answered in turn.
+    type Party: Eq + Drop;
+
+    // Such a request, which came in at that listener, is of that party.
+    ghost is_by: { Listener → List ℕ → Self.Party → Type 0 };
+
     // From this service such a request, which came in at that listener, comes to that, which leaves such a
     // service.
     ghost answers: { Self → Listener → List ℕ → Poll Self.Task → Self → Type 0 };
 
     // From this service such a task comes to that, which leaves such a service.
     ghost resumes: { Self → Self.Task → Poll Self.Task → Self → Type 0 };
+
+    /// Whose a request is.
+    fn party(listener: Listener, request: &[u8]) -> Self::Party
+        ensures { is_by listener request.now result };
 
     /// The reply to the bytes of a request, or what is left to do before there is one.
     fn answer(&mut self, alloc: Global, listener: Listener, request: &[u8]) -> Poll<Self::Task>

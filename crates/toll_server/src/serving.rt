@@ -1,7 +1,8 @@
 //! Serving connections side by side.
-ghost use Rattle.std.specs.Prelude.{◌≡◌};
-ghost use Rattle.toll_server.specs.Connections.{tasks_in};
-ghost use Rattle.toll_server.specs.Runs.{IsRun, IsWholeRun};
+ghost use Rattle.std.specs.Prelude.{◌≡◌, ◌≤◌, ◌<◌, ◌+◌, ◌^◌, List};
+ghost use Rattle.toll_server.specs.Connections.{KeepsTasks, queue_in, tasks_in};
+ghost use Rattle.toll_server.specs.Queues.{Happening, HasGrown, IsHistory, IsServedInTurn};
+ghost use Rattle.toll_server.specs.Runs.{IsWholeRun};
 ghost use Rattle.toll_server.specs.Networks.{EndsSo, Tallies};
 
 use crate::connections::Connections;
@@ -23,10 +24,14 @@ pub enum ServingEnd {
 /// How many connections go on after one wait.
 const MOST_READY: usize = 4096;
 
-/// Serves so many owners side by side, and those of the plant that come meanwhile. Each request is handed
-/// to the service as soon as it is complete. Where that leaves something to do, the service goes on with it
-/// turn by turn, between which requests are handed to it that became complete meanwhile. It changes by
+/// Serves so many owners side by side, and those of the plant that come meanwhile. A request that is whole
+/// joins a queue. After each wait, all who may go on are heard, and then the service takes one turn, for
+/// who has waited longest: it answers a request, or goes on with what an earlier turn left. A party's wait
+/// begins anew with each of its turns, so that none has two while another one waits. The service changes by
 /// nothing else.
+///
+/// Before its turn a connection costs the reading of at most a whole request, and after it the writing of
+/// its reply, each in no more than [`MOST_MILLISECONDS`](crate::MOST_MILLISECONDS).
 pub fn serve<W: Network, O: Service>(
     alloc: Global,
     network: &mut W,
@@ -34,6 +39,7 @@ pub fn serve<W: Network, O: Service>(
     count: u64,
 ) -> ServingEnd
     ensures run { IsWholeRun O.answers O.resumes service.old service.new (result ≡ ServingEnd.All) }
+    ensures in_turn { IsServedInTurn O.Party.eq O.is_by O.answers O.resumes service.old service.new }
     ensures end { Tallies (EndsSo result count) (W.tally network.old) (W.tally network.new) }
 {
     let mut connections = Connections::new(alloc, count);
@@ -48,23 +54,24 @@ pub fn serve<W: Network, O: Service>(
         if network.wait(wait_limit).is_err() {
             return ServingEnd::Fault;
         }
-        // what an answer takes is no connection's time
         let now = network.now();
-        advance_all(alloc, network, &mut connections, service);
-        connections.resume(alloc, service, now);
+        advance_all::<W, O>(network, &mut connections);
         connections.close_expired(now);
+        connections.take_turn(alloc, service, now);
     }
     ServingEnd::Spent
 }
 
 // Takes those as far as they go who may go on.
 fn advance_all<W: Network, O: Service>(
-    alloc: Global,
     network: &mut W,
-    connections: &mut Connections<W::Stream, O::Task>,
-    service: &mut O,
+    connections: &mut Connections<W::Stream, O::Task, O::Party>,
 )
-    ensures run { IsRun O.answers O.resumes service.old service.new (tasks_in connections.old.slots) (tasks_in connections.new.slots) }
+    requires { connections.old.moment + MOST_READY < 2 ^ 128 }
+    ensures history { (h : List (Happening O.Task O.Party)) → IsHistory O.Party.eq O.is_by h connections.old.moment (queue_in connections.old.slots) (tasks_in connections.old.slots)
+        → HasGrown O.Party.eq O.is_by h connections.new.moment (queue_in connections.new.slots) (tasks_in connections.new.slots) }
+    ensures tasks { KeepsTasks connections.old.slots connections.new.slots }
+    ensures moment { connections.new.moment ≤ connections.old.moment + MOST_READY }
     ensures tally { W.tally network.new ≡ W.tally network.old }
     ensures owners_left { connections.new.owners_left ≡ connections.old.owners_left }
 {
@@ -72,6 +79,6 @@ fn advance_all<W: Network, O: Service>(
         let Some(key) = network.next_ready() else {
             break;
         };
-        connections.advance(alloc, key, service, network.now());
+        connections.advance::<O>(key);
     }
 }

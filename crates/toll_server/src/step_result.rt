@@ -1,5 +1,6 @@
 //! What a step of a connection comes to.
-ghost use Rattle.std.specs.Prelude.{◌≡◌, ◌↔◌};
+ghost use Rattle.std.specs.Prelude.{◌≡◌, ◌≢◌, ◌↔◌, ◌<◌, ◌+◌, ◌^◌};
+ghost use Rattle.toll_server.specs.Steps.{moment_after};
 ghost use Rattle.toll_protocol.specs.declared.streams.write_status.WriteStatus.{WriteStatus};
 
 use toll_protocol::WriteStatus;
@@ -7,8 +8,10 @@ use toll_protocol::WriteStatus;
 /// What became of a connection by a step.
 #[derive(Clone, Copy, Debug, PartialEq, Eq)]
 pub enum StepResult {
-    /// It goes on when its stream does.
+    /// It goes on when its stream does, or at its turn.
     Waits,
+    /// Its request is whole, and joins the queue for the service.
+    Joins,
     /// It has its reply.
     Answered,
     /// A read or a write failed, or there was no memory.
@@ -20,11 +23,23 @@ impl StepResult {
     pub fn after(status: WriteStatus) -> Self
         ensures answered { result ≡ StepResult.Answered ↔ status ≡ WriteStatus.Written }
         ensures waits { result ≡ StepResult.Waits ↔ status ≡ WriteStatus.Waiting }
+        ensures unjoined { result ≢ StepResult.Joins }
     {
         match status {
             WriteStatus::Written => StepResult::Answered,
             WriteStatus::Waiting => StepResult::Waits,
             WriteStatus::Failed => StepResult::Failed,
+        }
+    }
+
+    /// How much has happened once this did, of which a request that is whole is one more.
+    pub fn count(self, moment: u128) -> u128
+        requires { moment + 1 < 2 ^ 128 }
+        ensures { result ≡ moment_after self moment }
+    {
+        match self {
+            StepResult::Joins => moment + 1,
+            StepResult::Waits | StepResult::Answered | StepResult::Failed => moment,
         }
     }
 }

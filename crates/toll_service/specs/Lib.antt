@@ -1,5 +1,6 @@
 pub mod Common
 pub mod Requested
+pub mod Parties
 pub mod Unwritten
 pub mod Listeners
 pub mod Events

@@ -1,7 +1,9 @@
 //! An office over a keep.
+ghost use Rattle.toll_service.specs.Parties.{IsBy};
 ghost use Rattle.toll_service.specs.Serving.{AnswersOver, ResumesOver};
 
 use crate::answering::answer_at;
+use crate::party::Party;
 use crate::pending_import::PendingImport;
 use std::alloc::{AllocError, Global};
 use toll_keep::Keep;
@@ -16,9 +18,19 @@ pub struct KeepService<K> {
 impl<K: Keep> Service for KeepService<K> {
     type Task = PendingImport;
 
+    type Party = Party;
+
+    ghost is_by = { IsBy };
+
     ghost answers = { AnswersOver K.meaning (λ service. service.keep) };
 
     ghost resumes = { ResumesOver K.meaning (λ service. service.keep) };
+
+    fn party(listener: Listener, asked: &[u8]) -> Party
+        ensures { IsBy listener asked.now result }
+    {
+        Party::of(listener, asked)
+    }
 
     /// The reply, or the import that is left; no bytes where there was no memory, and nothing was done.
     fn answer(&mut self, alloc: Global, listener: Listener, asked: &[u8]) -> Poll<PendingImport> {

@@ -1,11 +1,13 @@
 //! The office in a file, as the clients of a server ask it.
 ghost use Rattle.std.specs.Prelude.{◌≡◌};
+ghost use Rattle.toll_service.specs.Parties.{IsBy};
 ghost use Rattle.toll_service.specs.Sessions.{AnswersBy, IsTurnedAway, IsUnopened, ResumesBy, state_of_session};
 
 use crate::fault_log::{FaultLog, ServingFault};
 use crate::office_fault::OfficeFault;
 use crate::office_path::{KeepOpener, OfficePath};
 use crate::office_session::OfficeSession;
+use crate::party::Party;
 use crate::pending_import::PendingImport;
 use crate::turn_result::TurnResult;
 use std::alloc::Global;
@@ -82,9 +84,19 @@ impl<K: Drop, O: Drop> OfficeService<'_, K, O> {
 impl<K: Keep + Drop, O: KeepOpener<K>> Service for OfficeService<'_, K, O> {
     type Task = PendingImport;
 
+    type Party = Party;
+
+    ghost is_by = { IsBy };
+
     ghost answers = { AnswersBy K.meaning O.is_opened (λ service. state_of_session service.session) (λ service. O.openings service.office_path.opener) };
 
     ghost resumes = { ResumesBy K.meaning O.is_opened (λ service. state_of_session service.session) (λ service. O.openings service.office_path.opener) };
+
+    fn party(listener: Listener, asked: &[u8]) -> Party
+        ensures { IsBy listener asked.now result }
+    {
+        Party::of(listener, asked)
+    }
 
     // Who came in at the plant's listener and asked nothing only looked whether somebody is there.
     fn answer(&mut self, alloc: Global, listener: Listener, asked: &[u8]) -> Poll<PendingImport> {

@@ -1,11 +1,14 @@
 //! Serving over a keep, and over an office in a file.
 ghost use Rattle.std.specs.Prelude.{◌≡◌};
 ghost use Rattle.toll_server.specs.Networks.{EndsSo, Tallies};
-ghost use Rattle.toll_service.specs.Serving.{HasServed};
+ghost use Rattle.toll_server.specs.Queues.{IsServedInTurn};
+ghost use Rattle.toll_service.specs.Parties.{IsBy};
+ghost use Rattle.toll_service.specs.Serving.{AnswersOver, HasServed, ResumesOver};
 
 use crate::keep_service::KeepService;
 use crate::office_path::{KeepOpener, OfficePath};
 use crate::office_service::OfficeService;
+use crate::party::Party;
 use std::alloc::Global;
 use toll_keep::Keep;
 use toll_server::{Network, ServingEnd, serve};
@@ -20,6 +23,8 @@ pub fn serve_keep<W: Network, K: Keep>(
     service: &mut KeepService<K>,
     count: u64,
 ) -> ServingEnd
+    ensures in_turn { IsServedInTurn ⟦<Party as PartialEq>⟧.eq IsBy
+        (AnswersOver K.meaning (λ service. service.keep)) (ResumesOver K.meaning (λ service. service.keep)) service.old service.new }
     ensures served { HasServed K.meaning service.old.keep service.new.keep (result ≡ ServingEnd.All) }
     ensures end { Tallies (EndsSo result count) (W.tally world.old) (W.tally world.new) }
 {

@@ -101,9 +101,23 @@ impl Service for Scribe<'_> {
 
     type Task = Chore;
 
+    type Party = u8;
+
+    ghost is_by = { λ listener asked party. ⊤ };
+
     ghost answers = { λ old listener asked poll new. ⊤ };
 
     ghost resumes = { λ old task poll new. ⊤ };
+
+    // Whom it is of is told by its first digit.
+    fn party(_listener: Listener, asked: &[u8]) -> u8
+        ensures { ⊤ }
+    {
+        match asked.iter().find(|byte| byte.is_ascii_digit()) {
+            Some(digit) => *digit,
+            None => 0,
+        }
+    }
 
     fn answer(&mut self, alloc: Global, listener: Listener, asked: &[u8]) -> Poll<Chore> {
         self.answered = self.answered.saturating_add(1);
