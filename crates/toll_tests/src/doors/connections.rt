@@ -272,7 +272,8 @@ fn two_tasks_are_done_side_by_side(rt: HostRuntime) {
     let coming = [Some(SEVENTH), Some(EIGHTH), Some(WHOLE)];
     let outcome = outcome_of(rt.alloc(), 1, &coming, &[1, 0, 2], &log);
     assert_eq!(rt; outcome, all_with(3, 9, 0));
-    assert_eq!(rt; log.turns.get(), 8_877_178);
+    // the eighth has waited since its turn, before the owner came, and the seventh since a later one
+    assert_eq!(rt; log.turns.get(), 8_878_177);
     assert!(rt; !log.wrong.get());
 }
 

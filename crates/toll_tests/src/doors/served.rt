@@ -78,6 +78,11 @@ const VISITS: &[Visit<'static>] = &[
     ADD_OWNER, ADD_RECIPE, ADD_AGAIN, PLACE, IMPORT, BAD_IMPORT, LIST,
 ];
 
+// What is there before clients come side by side, who take turns, the plant and the owner.
+const SETUP: &[Visit<'static>] = &[ADD_OWNER, ADD_RECIPE];
+
+const SIDE_BY_SIDE: &[Visit<'static>] = &[ADD_AGAIN, PLACE, IMPORT, BAD_IMPORT, LIST];
+
 // What one more turn comes to, where an import is left.
 fn resume<K: Keep>(alloc: Global, keep: &mut K, reply: TurnResult) -> TurnResult {
     let TurnResult { poll, keep_usable } = reply;
@@ -143,12 +148,21 @@ fn each_listener_tells_what_the_program_would(rt: HostRuntime) -> Result<(), All
 
 #[test]
 fn clients_side_by_side_are_told_what_each_asked(rt: HostRuntime) -> Result<(), AllocError> {
-    let keep = MemKeep::new(rt.alloc());
+    let mut keep = MemKeep::new(rt.alloc());
+    for visit in SETUP {
+        let told = is_told(rt.alloc(), &mut keep, visit, true)?;
+        assert!(rt; told, "at {:?}", visit.asked);
+    }
     let mut office = KeepService { keep };
     let log = Log::new();
-    let served = serve_keep(rt.alloc(), &mut Street::new(VISITS, &log), &mut office, 2);
+    let served = serve_keep(
+        rt.alloc(),
+        &mut Street::new(SIDE_BY_SIDE, &log),
+        &mut office,
+        2,
+    );
     assert_eq!(rt; served, ServingEnd::All);
-    assert_eq!(rt; log.told.get(), VISITS.len());
+    assert_eq!(rt; log.told.get(), SIDE_BY_SIDE.len());
     let placed = is_told(rt.alloc(), &mut office.keep, &LIST, true)?;
     assert!(rt; placed);
     Ok(())

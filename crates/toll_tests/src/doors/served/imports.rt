@@ -140,10 +140,11 @@ fn owners_are_answered_before_an_import_is_over(rt: HostRuntime) -> Result<(), F
         asked: &asked,
         told: &told,
     };
-    let visits = [ADD_OWNER, ADD_RECIPE, import, PLACE, LIST];
-    let mut office = KeepService {
-        keep: MemKeep::new(rt.alloc()),
-    };
+    let mut keep = MemKeep::new(rt.alloc());
+    let is_ready = are_told(rt.alloc(), &mut keep, &[ADD_OWNER, ADD_RECIPE])?;
+    assert!(rt; is_ready);
+    let visits = [import, PLACE, LIST];
+    let mut office = KeepService { keep };
     let log = Log::new();
     let served = serve_keep(rt.alloc(), &mut Street::new(&visits, &log), &mut office, 2);
     assert_eq!(rt; served, ServingEnd::All);
