@@ -29,6 +29,16 @@ def end_by_signals() -> None:
 
 
 @contextlib.contextmanager
+def held_back() -> Iterator[None]:
+    """Holds the signals that end a program back, over a fork: what is raised in Python's own steps around one is lost."""
+    before = signal.pthread_sigmask(signal.SIG_BLOCK, ENDING)
+    try:
+        yield
+    finally:
+        signal.pthread_sigmask(signal.SIG_SETMASK, before)
+
+
+@contextlib.contextmanager
 def room(parent: str) -> Iterator[str]:
     """A folder in `parent`, for this user alone, that is removed at the end."""
     try:

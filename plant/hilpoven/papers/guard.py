@@ -7,6 +7,8 @@ import sys
 import time
 from collections.abc import Iterator
 
+from ..rooms import held_back
+
 MOST_OPEN = 1 << 16  # files that this process may have open
 TRIES, PAUSE = 100, 0.1  # to remove a folder, and the seconds between two
 
@@ -17,9 +19,10 @@ def over(folder: str) -> Iterator[None]:
     sys.stdout.flush()
     sys.stderr.flush()
     listening, held = os.pipe()
-    child = os.fork()
-    if not child:
-        watch(listening, folder)
+    with held_back():
+        child = os.fork()
+        if not child:
+            watch(listening, folder)
     os.close(listening)
     try:
         yield

@@ -2,10 +2,12 @@
 import importlib.util
 import os
 import pathlib
+import signal
 from dataclasses import dataclass, field
 from typing import Any
 
 from ..failure import Failure
+from ..rooms import ENDING, held_back
 from .longtables import LongTable, finisher
 from .pictures import SIGNS
 from .sheets import Sheet
@@ -84,7 +86,8 @@ def print_all(jobs: list[Job]) -> None:
     assert weasyprint
     try:
         for worker, _ in workers:
-            worker.start()
+            with held_back():
+                worker.start()
         for worker, receiver in workers:
             worker.join()
             if worker.exitcode:
@@ -97,6 +100,7 @@ def print_all(jobs: list[Job]) -> None:
 
 def worked(jobs: list[Job], sender: Any) -> None:
     """Prints a share of the pages in a process of its own, which tells why it can't."""
+    signal.pthread_sigmask(signal.SIG_UNBLOCK, ENDING)
     try:
         print_share(jobs)
     except Failure as failure:
