@@ -83,7 +83,7 @@ impl<S: Stream, T: Drop, P: Drop> Connection<S, T, P> {
     }
 
     /// Has the service take a turn for it, if it waits for one: its request is answered, or what is left to
-    /// do for it is gone on with. What came of it is to be [taken](Connection::take).
+    /// do for it is gone on with. What came of it is to be [stored](Connection::store_poll).
     pub fn ask<O: Service<Task = T, Party = P>>(
         &mut self,
         alloc: Global,
