@@ -1,0 +1,1 @@
+"""docs/PROMISES.md, made of docs/PROVED.md and the sources."""

@@ -1,0 +1,142 @@
+"""docs/PROMISES.md: what belongs to each sentence of docs/PROVED.md."""
+import collections
+import math
+import re
+from typing import NamedTuple
+
+SECTION = re.compile(r"^## (\d+\. .*)$", re.M)
+PROMISE = re.compile(r"^- \*\*(\d+\.\d+)\*\* (.*)$", re.M)
+NAME = re.compile(r"`(\w+(?:::\w+)*)`(?: \(((?:`\w+`(?:, )?)+)\))?")
+LAWS = re.compile(r" \((`.*)\)$")  # what carries a promise, at its end
+TESTS = re.compile(r"^<!-- tests:(.*?)-->$", re.M | re.S)
+MOST_DEFINITIONS = 3
+VERDICTS = "toll_history", "Verdict"  # where the checks of decisions are
+NONE = "-"
+INTRODUCTION = """# Promises
+
+`tools/promises` makes this page. Each line leads from a promise, by its number in `docs/PROVED.md`, to the laws and contracts that carry it (with the clauses' names, if only some do), definitions in those clauses, the code, wrong bodies, and tests. A wrong body is a file of the crate's `must-fail/`; it stands in the line, of those whose code it changes, that is most like its name. `-` means that there is none: a law has no body, or no test says more than the contract.
+"""
+HEAD = "|promise|law or contract|definition|code|wrong body|test|\n|---|---|---|---|---|---|\n"
+
+
+class Promise(NamedTuple):
+    """A sentence of docs/PROVED.md: its number, its words, what carries it as the page names that, and the functions behind these names."""
+    number: str
+    words: str
+    laws: list  # of (name, names of clauses)
+    items: list  # of (function, names of clauses)
+
+
+def promises_of(text, sources):
+    """The promises of the page, by its sections' headings."""
+    parts = SECTION.split(text)[1:]
+    return {heading: [promise_of(number, line, sources) for number, line in PROMISE.findall(part)] for heading, part in zip(parts[::2], parts[1::2])}
+
+
+def promise_of(number, line, sources):
+    found = LAWS.search(line)
+    laws = [(name, re.findall(r"\w+", clauses)) for name, clauses in NAME.findall(found[1] if found else "")]
+    return Promise(number, LAWS.sub("", line), laws, [(item, clauses) for name, clauses in laws for item in sources.called(name)])
+
+
+def tests_of(text):
+    """The tests that the page names, in comments, for its promises: `<!-- tests: 2.2 ship_test; 2.3 .. -->`."""
+    lines = [it.split() for marker in TESTS.findall(text) for it in marker.split(";")]
+    return {number: names for number, *names in lines}
+
+
+def stems(text):
+    """What texts are told apart by: the beginnings of their words."""
+    words = re.findall(r"[a-z]+|\d+", re.sub(r"([a-z])([A-Z])", r"\1 \2", text).lower())
+    return {it.rstrip("s")[:5] for it in words if len(it) > 2}
+
+
+class Likeness:
+    """How much two texts have in common; a word that is in few of all texts counts more."""
+
+    def __init__(self, texts):
+        self.number = len(texts)
+        self.counts = collections.Counter(stem for it in texts for stem in stems(it))
+
+    def of(self, one, other):
+        return sum(math.log(self.number / self.counts[it]) for it in stems(one) & stems(other))
+
+
+def wrong_bodies_of(promises, sources):
+    """The wrong bodies of each promise. One belongs where the functions call what it changes, or lie in its file, or at least its crate."""
+    alike = Likeness([it.words for it in promises] + [it.name for it in sources.edits])
+    reached = {it.number: sources.reached_from([item for item, _ in it.items]) for it in promises}
+    found = collections.defaultdict(list)
+    for edit in sources.edits:
+        changed = {it.key for it in sources.items if it.crate == edit.crate and it.file == edit.file and edit.old in it.text}
+        near = [(distance(edit, changed, reached[it.number]), min(len(it.laws) / 2, 3) - alike.of(edit.name, it.words), it.number)
+                for it in promises if any(key[0] == edit.crate for key in reached[it.number])]
+        best = min(near, key=lambda it: it[0] + it[1], default=None)
+        found[best[2] if best else None].append(edit.name)
+    return found
+
+
+def distance(edit, changed, reached):
+    """How far a promise's functions are from what the wrong body changes: in calls, or by its file or crate if none calls it."""
+    return min((reached[it] for it in changed & reached.keys()), default=3 if any(it[1] == edit.file for it in reached) else 20)
+
+
+def quoted(names):
+    return ", ".join(f"`{it}`" for it in dict.fromkeys(names)) or NONE
+
+
+def laws_in(promise):
+    return ", ".join(f"`{name}`" + (f" ({quoted(clauses)})" if clauses else "") for name, clauses in promise.laws)
+
+
+def definitions_in(promise, sources):
+    """The definitions that the clauses cite, behind their files: the checks of a decision, and those that the fewest functions cite."""
+    cited = [(item, name) for item, clauses in promise.items for text in item.clauses(clauses) for name in sources.cited(item, text)]
+    decisions = {item.name: None for item, name in cited if name.startswith("Decides")}
+    checks = [f"{word}_checks" for name in decisions for word in name.split("_")]
+    found = collections.defaultdict(list, {VERDICTS[1]: [it for it in checks if VERDICTS in sources.definitions.get(it, ())]})
+    for item, name in sorted(dict.fromkeys(cited), key=lambda it: sources.citations[it[1]]):
+        file = sources.file_of(item, name)
+        if name not in found[file] and sum(map(len, found.values())) < MOST_DEFINITIONS:
+            found[file].append(name)
+    return "; ".join(f"`{file}`: {quoted(names)}" for file, names in found.items() if names) or NONE
+
+
+def row_of(promise, sources, wrong_bodies, tests):
+    code = quoted(f"{item.crate}/{item.file}" for item, _ in promise.items)
+    cells = promise.number, laws_in(promise), definitions_in(promise, sources), code, quoted(wrong_bodies), quoted(tests)
+    return "|" + "|".join(cells) + "|\n"
+
+
+def page_of(text, sources):
+    """docs/PROMISES.md, made of docs/PROVED.md."""
+    sections, tests = promises_of(text, sources), tests_of(text)
+    wrong_bodies = wrong_bodies_of([it for promises in sections.values() for it in promises], sources)
+    made = [f"\n## {heading}\n\n{HEAD}" + "".join(row_of(it, sources, wrong_bodies[it.number], tests.get(it.number, [])) for it in promises)
+            for heading, promises in sections.items() if promises]
+    return INTRODUCTION + "".join(made)
+
+
+def mistakes_of(text, sources):
+    """What of docs/PROVED.md leads nowhere: names that no public function has, tests that aren't there, numbers that don't follow one another."""
+    sections, tests = promises_of(text, sources), tests_of(text)
+    for number, (heading, promises) in enumerate(sections.items(), 1):
+        expected = [f"{number}.{it}" for it in range(1, len(promises) + 1)]
+        yield from (f"docs/PROVED.md: {it.number} should be {right}" for it, right in zip(promises, expected) if it.number != right)
+        for promise in promises:
+            yield from (f"docs/PROVED.md: {promise.number}: {name} is not public" for name, _ in promise.laws if not sources.called(name))
+            if not promise.laws:
+                yield f"docs/PROVED.md: {promise.number} names nothing that carries it"
+    known = {it.number for promises in sections.values() for it in promises}
+    yield from (f"docs/PROVED.md: tests of {it}, which is no promise" for it in tests if it not in known)
+    yield from (f"docs/PROVED.md: there is no test {it}" for names in tests.values() for it in names if it not in sources.tests)
+    lost = wrong_bodies_of([it for promises in sections.values() for it in promises], sources)[None]
+    yield from (f"docs/PROMISES.md: no promise has the wrong body {it}" for it in lost)
+
+
+def mistakes_in(root, sources):
+    """What is wrong with the two pages of the repository in this folder."""
+    text = (root / "docs" / "PROVED.md").read_text()
+    yield from mistakes_of(text, sources)
+    if (root / "docs" / "PROMISES.md").read_text() != page_of(text, sources):
+        yield "docs/PROMISES.md: it is not what tools/promises makes"
