@@ -12,6 +12,7 @@ TESTS = re.compile(r"^<!-- tests:(.*?)-->$", re.M | re.S)
 MOST_DEFINITIONS = 3
 VERDICTS = "toll_history", "Verdict"  # where the checks of decisions are
 NONE = "-"
+COMMON = {"all", "and", "are", "each", "its", "not", "one", "that", "the", "was", "what"}  # words that tell no texts apart
 INTRODUCTION = """# Promises
 
 `tools/promises` makes this page. Each line leads from a promise, by its number in `docs/PROVED.md`, to the laws and contracts that carry it (with the clauses' names, if only some do), definitions in those clauses, the code, wrong bodies, and tests. A wrong body is a file of the crate's `must-fail/`; it stands in the line, of those whose code it changes, that is most like its name. `-` means that there is none: a law has no body, or no test says more than the contract.
@@ -48,7 +49,7 @@ def tests_of(text):
 def stems(text):
     """What texts are told apart by: the beginnings of their words."""
     words = re.findall(r"[a-z]+|\d+", re.sub(r"([a-z])([A-Z])", r"\1 \2", text).lower())
-    return {it.rstrip("s")[:5] for it in words if len(it) > 2}
+    return {it.rstrip("s")[:5] for it in words if len(it) > 2 and it not in COMMON}
 
 
 class Likeness:
@@ -78,7 +79,7 @@ def wrong_bodies_of(promises, sources):
 
 def distance(edit, changed, reached):
     """How far a promise's functions are from what the wrong body changes: in calls, or by its file or crate if none calls it."""
-    return min((reached[it] for it in changed & reached.keys()), default=3 if any(it[1] == edit.file for it in reached) else 20)
+    return min((reached[it] for it in changed & reached.keys()), default=1 if any(it[1] == edit.file for it in reached) else 20)
 
 
 def quoted(names):
