@@ -8,9 +8,9 @@ SECTION = re.compile(r"^## (\d+\. .*)$", re.M)
 PROMISE = re.compile(r"^- \*\*(\d+\.\d+)\*\* (.*)$", re.M)
 NAME = re.compile(r"`(\w+(?:::\w+)*)`(?: \(((?:`\w+`(?:, )?)+)\))?")
 LAWS = re.compile(r" \((`.*)\)$")  # what carries a promise, at its end
-TESTS = re.compile(r"^<!-- tests:(.*?)-->$", re.M | re.S)
 MOST_DEFINITIONS = 3
 VERDICTS = "toll_history", "Verdict"  # where the checks of decisions are
+TESTS = "tools/promising/tests.txt"
 NONE = "-"
 COMMON = {"all", "and", "are", "each", "its", "not", "one", "that", "the", "was", "what"}  # words that tell no texts apart
 INTRODUCTION = """# Promises
@@ -41,8 +41,8 @@ def promise_of(number, line, sources):
 
 
 def tests_of(text):
-    """The tests that the page names, in comments, for its promises: `<!-- tests: 2.2 ship_test; 2.3 .. -->`."""
-    lines = [it.split() for marker in TESTS.findall(text) for it in marker.split(";")]
+    """The tests of the promises: a line with a promise's number and the names of its tests."""
+    lines = [it.split() for it in text.split("\n") if it and not it.startswith("#")]
     return {number: names for number, *names in lines}
 
 
@@ -109,18 +109,18 @@ def row_of(promise, sources, wrong_bodies, tests):
     return "|" + "|".join(cells) + "|\n"
 
 
-def page_of(text, sources):
-    """docs/PROMISES.md, made of docs/PROVED.md."""
-    sections, tests = promises_of(text, sources), tests_of(text)
+def page_of(text, tests, sources):
+    """docs/PROMISES.md, made of docs/PROVED.md and the tests of its promises."""
+    sections = promises_of(text, sources)
     wrong_bodies = wrong_bodies_of([it for promises in sections.values() for it in promises], sources)
     made = [f"\n## {heading}\n\n{HEAD}" + "".join(row_of(it, sources, wrong_bodies[it.number], tests.get(it.number, [])) for it in promises)
             for heading, promises in sections.items() if promises]
     return INTRODUCTION + "".join(made)
 
 
-def mistakes_of(text, sources):
-    """What of docs/PROVED.md leads nowhere: names that no public function has, tests that aren't there, numbers that don't follow one another."""
-    sections, tests = promises_of(text, sources), tests_of(text)
+def mistakes_of(text, tests, sources):
+    """What leads nowhere: names that no public function has, tests that aren't there, numbers that don't follow one another."""
+    sections = promises_of(text, sources)
     for number, (heading, promises) in enumerate(sections.items(), 1):
         expected = [f"{number}.{it}" for it in range(1, len(promises) + 1)]
         yield from (f"docs/PROVED.md: {it.number} should be {right}" for it, right in zip(promises, expected) if it.number != right)
@@ -129,15 +129,20 @@ def mistakes_of(text, sources):
             if not promise.laws:
                 yield f"docs/PROVED.md: {promise.number} names nothing that carries it"
     known = {it.number for promises in sections.values() for it in promises}
-    yield from (f"docs/PROVED.md: tests of {it}, which is no promise" for it in tests if it not in known)
-    yield from (f"docs/PROVED.md: there is no test {it}" for names in tests.values() for it in names if it not in sources.tests)
+    yield from (f"{TESTS}: {it} is no promise" for it in tests if it not in known)
+    yield from (f"{TESTS}: there is no test {it}" for names in tests.values() for it in names if it not in sources.tests)
     lost = wrong_bodies_of([it for promises in sections.values() for it in promises], sources)[None]
     yield from (f"docs/PROMISES.md: no promise has the wrong body {it}" for it in lost)
 
 
+def texts_in(root):
+    """What the page is made of, in the repository in this folder: docs/PROVED.md, and the tests of its promises."""
+    return (root / "docs" / "PROVED.md").read_text(), tests_of((root / TESTS).read_text())
+
+
 def mistakes_in(root, sources):
-    """What is wrong with the two pages of the repository in this folder."""
-    text = (root / "docs" / "PROVED.md").read_text()
-    yield from mistakes_of(text, sources)
-    if (root / "docs" / "PROMISES.md").read_text() != page_of(text, sources):
+    """What is wrong with the pages of the repository in this folder."""
+    texts = texts_in(root)
+    yield from mistakes_of(*texts, sources)
+    if (root / "docs" / "PROMISES.md").read_text() != page_of(*texts, sources):
         yield "docs/PROMISES.md: it is not what tools/promises makes"

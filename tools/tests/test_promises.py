@@ -39,10 +39,9 @@ PROVED = """\
 - **1.2** A decision is the verdict. (`ship`)
 - **1.3** A lot has a total. (`Lots::total`)
 
-<!-- tests: 1.1 what_is_there_is_shipped -->
-
 ## Premises
 """
+TESTS = "# The tests.\n1.1 what_is_there_is_shipped\n"
 
 
 @pytest.fixture
@@ -55,6 +54,7 @@ def repository(tmp_path):
         "crates/toll_tests/src/stock.rt": "#[test]\nfn what_is_there_is_shipped(rt: HostRuntime) {}\n",
         "docs/PROVED.md": PROVED,
         "docs/PROMISES.md": "",
+        "tools/promising/tests.txt": TESTS,
     }
     for name, text in files.items():
         (tmp_path / name).parent.mkdir(parents=True, exist_ok=True)
@@ -62,13 +62,13 @@ def repository(tmp_path):
     return tmp_path
 
 
-def rows(root, text=PROVED):
-    made = page.page_of(text, sources.Sources(root))
+def rows(root):
+    made = page.page_of(*page.texts_in(root), sources.Sources(root))
     return {cells[1]: cells[2:-1] for cells in (line.split("|") for line in made.split("\n")) if len(cells) == 8 and cells[1][0].isdigit()}
 
 
-def mistakes(root, text=PROVED):
-    return list(page.mistakes_of(text, sources.Sources(root)))
+def mistakes(root, text=PROVED, tests=TESTS):
+    return list(page.mistakes_of(text, page.tests_of(tests), sources.Sources(root)))
 
 
 def test_a_promise_leads_to_all_that_belongs_to_it(repository):
@@ -100,17 +100,20 @@ def test_a_wrong_body_without_a_promise_is_a_mistake(repository):
     ("`ship` (`enough`)", "`check_amount`", "1.1: check_amount is not public"),
     (" (`Lots::total`)", "", "1.3 names nothing that carries it"),
     ("**1.2**", "**1.4**", "1.4 should be 1.2"),
-    ("tests: 1.1", "tests: 2.1", "tests of 2.1, which is no promise"),
-    ("what_is_there_is_shipped", "what_is_gone", "there is no test what_is_gone"),
 ])
 def test_what_leads_nowhere_is_a_mistake(repository, old, new, told):
     assert mistakes(repository, PROVED.replace(old, new)) == [f"docs/PROVED.md: {told}"]
 
 
+@pytest.mark.parametrize("tests, told", [("2.1 what_is_there_is_shipped", "2.1 is no promise"), ("1.1 what_is_gone", "there is no test what_is_gone")])
+def test_tests_of_nothing_are_a_mistake(repository, tests, told):
+    assert mistakes(repository, tests=tests) == [f"tools/promising/tests.txt: {told}"]
+
+
 def test_an_old_page_is_a_mistake(repository):
     known = sources.Sources(repository)
     assert list(page.mistakes_in(repository, known)) == ["docs/PROMISES.md: it is not what tools/promises makes"]
-    (repository / "docs" / "PROMISES.md").write_text(page.page_of(PROVED, known))
+    (repository / "docs" / "PROMISES.md").write_text(page.page_of(*page.texts_in(repository), known))
     assert list(page.mistakes_in(repository, known)) == []
 
 
