@@ -16,6 +16,7 @@ COMMON = {"all", "and", "are", "each", "its", "not", "one", "that", "the", "was"
 INTRODUCTION = """# Promises
 
 `tools/promises` makes this page. Each line leads from a promise, by its number in `docs/PROVED.md`, to the laws and contracts that carry it (with the clauses' names, if only some do), definitions in those clauses, the code, wrong bodies, and tests. A wrong body is a file of the crate's `must-fail/`; it stands in the line, of those whose code it changes, that is most like its name. `-` means that there is none: a law has no body, or no test says more than the contract.
+
 """
 HEAD = "|promise|law or contract|definition|code|wrong body|test|\n|---|---|---|---|---|---|\n"
 
@@ -112,10 +113,9 @@ def row_of(promise, sources, wrong_bodies, tests):
 def page_of(text, tests, sources):
     """docs/PROMISES.md, made of docs/PROVED.md and the tests of its promises."""
     sections = promises_of(text, sources)
-    wrong_bodies = wrong_bodies_of([it for promises in sections.values() for it in promises], sources)
-    made = [f"\n## {heading}\n\n{HEAD}" + "".join(row_of(it, sources, wrong_bodies[it.number], tests.get(it.number, [])) for it in promises)
-            for heading, promises in sections.items() if promises]
-    return INTRODUCTION + "".join(made)
+    promises = [it for section in sections.values() for it in section]
+    wrong_bodies = wrong_bodies_of(promises, sources)
+    return INTRODUCTION + HEAD + "".join(row_of(it, sources, wrong_bodies[it.number], tests.get(it.number, [])) for it in promises)
 
 
 def mistakes_of(text, tests, sources):
