@@ -31,11 +31,11 @@ TracesAgree H o way from =
 abbrev pub IsRecallOfJoints : History → (o : Bytes) → LotId → Type 0
 IsRecallOfJoints H o lot = (lines : List RecallLine) → IsRecall H lot lines → AreJoints (acts house_name H) (acts o H) o lot (map (λ line. line.step) lines)
 
--- this is so where the owner's part and HOUSE's are the same in both
+-- this is so if the owner's part and HOUSE's are the same in both
 abbrev pub IfPartsAgree : (G H : History) → (o : Bytes) → Type 0 → Type 0
 IfPartsAgree G H o P = part o G ≡ part o H → part house_name G ≡ part house_name H → P
 
--- the recalls of the lot, where it is HOUSE's, have the same lines at the owner's lots
+-- if the lot is HOUSE's, its recalls have the same lines at the owner's lots
 abbrev pub RecallsAgree : (G H : History) → (o : Bytes) → LotId → Type 0
 RecallsAgree G H o lot =
     lot.owner ≡ house_name → (xs ys : List RecallLine) → IsRecall G lot xs → IsRecall H lot ys →

@@ -20,7 +20,7 @@ pub record IsViewOfRow (s : Slice) (known : LotRow) (view : LotView) : Type 0 wh
   pub results : view.results.items ≡ filter (λ row. same_bytes row.lot known.lot) s.results
   pub sublots : view.sublots.items ≡ filter (λ row. same_bytes row.lot known.lot) s.sublots
 
--- the view of a lot, where it is known
+-- the view of a lot, if it is known
 abbrev pub IsLotViewIn : Slice → Option LotRow → Option LotView → Type 0
 IsLotViewIn s None None = Unit {0}
 IsLotViewIn s (Some row) (Some view) = IsViewOfRow s row view

@@ -12,7 +12,7 @@ pub record IsJoint (house own : List Action) (a : LotId) (n : ℕ) (b : LotId) :
   pub first : IsChain (IsOwnJoined house Forward) a in_house through
   pub then_own : IsChain (IsOwnJoined own Forward) through in_own b
 
--- of these steps, those at the owner's lots are just the lots that end such a chain, each with the fewest edges of one
+-- of these steps, those at the owner's lots are exactly the lots that end such a chain, each with the fewest edges of one
 pub record AreJoints (house own : List Action) (o : Bytes) (a : LotId) (steps : List Step) : Type 0 where
   pub only : (s : Step) → Contains steps s → s.lot.owner ≡ o → IsJoint house own a s.steps s.lot
   pub fewest : (s : Step) → Contains steps s → s.lot.owner ≡ o → (n : ℕ) → IsJoint house own a n s.lot → s.steps ≤ n

@@ -1,4 +1,4 @@
--- What the plant is answered over a list of commands.
+-- The answers to the plant over a list of commands.
 use Rattle.std.specs.Prelude.{◌≡◌, ℕ, not, Option, Some, is_none, List, [], ◌∷◌, ◌++◌}
 use Rattle.toll_answers.specs.Common.{Bytes, bytes_cmp, RequirementKey, requirement_cmp, AreRowsGiven, Command, History, acts, owner_known, order_of, batch_of, tables_given, lot_row, Verdict, Refused, Checks, first_of, verdict, grow, known_batch_checks, Refusal, UnknownOwner, UnknownLot, LotId, BatchRow, OrderRow, Step, IsTrace, line_of, line_key, RequirementLine}
 use Rattle.toll_answers.specs.Edges.{IsPlantJoined}
@@ -17,12 +17,12 @@ pub data PlantAsked : Type 0 where
   AsksRecall : (lot : LotId) → PlantAsked
   CannotRead : (why : Refusal) → PlantAsked
 
--- what the plant is told: a verdict, or a text
+-- an answer to the plant: a verdict, or a text
 pub data PlantTold : Type 0 where
   Judged : (verdict : Verdict) → PlantTold
   Shows : (text : Bytes) → PlantTold
 
--- ---- what is shown
+-- ---- texts
 
 pub record AreOrdersShown (H : History) (o : Bytes) (r : PlantTold) : Type 0 where
   pub orders : List OrderRow
@@ -40,7 +40,7 @@ pub record IsBatchShown (given : RequirementKey → Option RequirementLine) (bat
   pub are_given : AreRowsGiven requirement_cmp line_key given lines
   pub shown : r ≡ Shows (batch_text batch lines)
 
--- the batch of an order, where both are known; else the refusal
+-- the batch of an order, if both are known; otherwise the refusal
 abbrev pub IsBatchShownOr : History → Bytes → Option OrderRow → Option BatchRow → Verdict → PlantTold → Type 0
 IsBatchShownOr H o (Some order) (Some batch) verdict r = IsBatchShown (line_of H o batch.order batch.number order.recipe) batch r
 IsBatchShownOr H o _ _ (Refused why) r = r ≡ Judged (Refused why)
@@ -58,7 +58,7 @@ pub record IsRecallShown (H : History) (lot : LotId) (r : PlantTold) : Type 0 wh
 
 -- ---- answers
 
--- the refusal of the first check that applies, and else what is shown
+-- the refusal of the first check that applies, otherwise the text
 abbrev pub IsCheckedOr : Verdict → Type 0 → PlantTold → Type 0
 IsCheckedOr (Refused why) shown r = r ≡ Judged (Refused why)
 IsCheckedOr _ shown r = shown
@@ -66,7 +66,7 @@ IsCheckedOr _ shown r = shown
 abbrev pub owner_checks : History → Bytes → Checks
 owner_checks H o = (not (owner_known H o), Some UnknownOwner) ∷ []
 
--- the lot is known to its owner, who is known
+-- the owner is known, and so is its lot
 abbrev pub lot_checks : History → LotId → Checks
 lot_checks H lot = owner_checks H lot.owner ++ (is_none (lot_row H lot.owner lot.lot), Some UnknownLot) ∷ []
 

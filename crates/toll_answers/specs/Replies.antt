@@ -1,4 +1,4 @@
--- What an owner is told over a list of commands.
+-- The replies to an owner over a list of commands.
 use Rattle.std.specs.Prelude.{◌≡◌, ◌↔◌, ℕ, Bool, not, ◌&&◌, if◌then◌else◌, Option, Some, None, is_some, List, MatchBool}
 use Rattle.toll_answers.specs.Common.{Bytes, same_bytes, bytes_cmp, RequirementKey, requirement_cmp, result_cmp, pair_cmp, Action, PlaceOrder, CancelOrder, Release, Reject, by, History, acts, owner_key, part, measure_of, order_of, batch_of, tables_given, lot_row, Verdict, Refused, IsValid, first_of, verdict, grow, known_batch_checks, UnknownOrder, UnknownLot, LotId, OrderRow, BatchRow, LotRow, ResultRow, SublotRow, Step, IsTrace, AreRowsGiven, line_of, line_key, RequirementLine, house_name}
 use Rattle.toll_answers.specs.Edges.{IsOwnJoined}
@@ -15,7 +15,7 @@ use Rattle.toll_answers.specs.Views.{stock_line, results_of_lot, sublots_of_lot,
 abbrev pub has_key : Bytes → Bytes → History → Bool
 has_key o key H = not (same_bytes o house_name) && is_some_where (same_bytes key) (owner_key (acts o H))
 
--- ---- what is told of rows that are given, in the order of their keys
+-- ---- replies from given rows, in the order of their keys
 
 pub record AreOrdersTold (given : Bytes → Option OrderRow) (r : Told) : Type 0 where
   pub orders : List OrderRow
@@ -47,7 +47,7 @@ pub record IsTraceTold (E : LotId → LotId → Type 0) (a : LotId) (r : Told) :
   pub traced : IsTrace E a trace
   pub told : r ≡ TellTrace trace
 
--- ---- what is told where it is there
+-- ---- replies about what is there
 
 abbrev pub IsOrderOr : Option OrderRow → Told → Type 0
 IsOrderOr None r = r ≡ TellRefused UnknownOrder
@@ -92,7 +92,7 @@ IsAnswer o H (AskBack lot) r = IsTraceOr (IsOwnJoined (acts o H) Back) (lot_id o
 IsAnswer o H (AskForward lot) r = IsTraceOr (IsOwnJoined (acts o H) Forward) (lot_id o lot) (is_some (lot_row H o lot)) r
 IsAnswer o H (AskHouseForward lot) r = IsTraceOr (IsOwnJoined (acts o H) Forward) (lot_id house_name lot) (has_consumed (acts o H) (lot_id house_name lot)) r
 
--- the reply to who asks as this owner with this key
+-- the reply to a request as this owner with this key
 unfoldable pub IsReply : Bytes → Bytes → History → Asked → Told → Type 0
 IsReply o key H q r = MatchBool (has_key o key H) (IsAnswer o H q r) (r ≡ TellForbidden)
 

@@ -1,4 +1,4 @@
--- The texts that the plant is shown.
+-- The plant's texts.
 use Rattle.std.specs.Prelude.{◌≡◌, Bool, true, false, Option, List, [], ◌∷◌, ◌++◌, codes, decimal, flat_map}
 use Rattle.std.specs.List.{filter_map}
 use Rattle.std.specs.Option.{option_map, option_and_then}
@@ -45,7 +45,7 @@ sublot_line shown = line (left 16 shown.row.lot ∷ left 16 shown.row.sublot ∷
 abbrev pub stock_text : List SublotShown → Bytes
 stock_text shown = flat_map sublot_line shown
 
--- a sublot of a slice, where its lot and the lot's material are there
+-- a sublot of a slice, if its lot and the lot's material are there
 abbrev pub shown_in : Slice → SublotRow → Option SublotShown
 shown_in s row = option_and_then (λ lot. option_map (λ material. record { row = row; lot = lot; measure = material.measure }) (material_at s lot.material)) (lot_at s row.lot)
 

@@ -1,4 +1,4 @@
--- What owners ask, and what they are told.
+-- Owners' requests and their replies.
 use Rattle.std.specs.Prelude.{ℕ, List}
 use Rattle.toll_answers.specs.Common.{Bytes, Refusal, OrderRow, BatchRow, LotRow, ResultRow, SublotRow, Step, RequirementLine}
 use Rattle.toll_answers.specs.declared.views.stock.StockLine.{StockLine}
@@ -18,7 +18,7 @@ pub data Asked : Type 0 where
   AskForward : (lot : Bytes) → Asked
   AskHouseForward : (lot : Bytes) → Asked
 
--- what an owner is told
+-- a reply to an owner
 pub data Told : Type 0 where
   TellForbidden : Told
   TellOrders : (orders : List OrderRow) → Told

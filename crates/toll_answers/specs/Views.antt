@@ -42,7 +42,7 @@ pub record IsLotView (H : History) (o : Bytes) (known : LotRow) (view : LotView)
   pub results : AreRowsGiven result_cmp (λ row. (row.lot, row.test, row.number)) (results_of_lot (acts o H) known.lot) view.results.items
   pub sublots : AreRowsGiven pair_cmp (λ row. (row.lot, row.sublot)) (sublots_of_lot H o known.lot) view.sublots.items
 
--- the view of a lot, where it is known
+-- the view of a lot, if it is known
 abbrev pub IsLotViewOf : History → Bytes → Option LotRow → Option LotView → Type 0
 IsLotViewOf H o None None = Unit {0}
 IsLotViewOf H o (Some row) (Some view) = IsLotView H o row view

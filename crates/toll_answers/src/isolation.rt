@@ -1,4 +1,4 @@
-//! What an owner is told comes from the owner's own commands.
+//! Replies to an owner come from the owner's own commands.
 ghost use Rattle.std.specs.Prelude.{◌≡◌, false};
 ghost use Rattle.toll_answers.specs.Common.{Bytes, same_bytes, house_name, History, part, IsLawful};
 ghost use Rattle.toll_answers.specs.Replies.{IsOwnGrowth, IsOwnReply};

@@ -1,5 +1,5 @@
-//! What owners and the plant are answered over a history, and shown of rows: lots and stock as an owner sees
-//! them, genealogy and recalls, and the texts of the plant.
+//! The answers to owners and the plant over a history: views of lots and stock, genealogy and recalls,
+//! and the plant's texts.
 #![tactic(auto)]
 
 mod genealogy;

@@ -1,4 +1,4 @@
-//! The texts that the plant is shown, in columns.
+//! The plant's texts, in columns.
 
 mod batches;
 mod column;

@@ -1,5 +1,5 @@
-//! An owner's rows as they are shown to the owner: what is in stock, a lot with all that is known of
-//! it, and whether a lot was consumed.
+//! An owner's rows as the owner sees them: stock, a lot with its results and sublots, and whether a lot
+//! was consumed.
 
 mod consumed;
 mod lot;

@@ -20,12 +20,12 @@ abbrev pub said : {X : Type 0} → Result X Refusal → Verdict
 said (Ok x) = Accepted
 said (Err why) = Refused why
 
--- the changes of what is accepted; what is not has none
+-- the changes of an accepted command; another has none
 abbrev pub changes_if : Verdict → List Change → List Change
 changes_if Accepted changes = changes
 changes_if _ changes = []
 
--- the decision says what the first check that applies says, and makes these changes where none does
+-- the decision says what the first check that applies says, and makes these changes if none does
 pub record IsDecided (checks : Checks) (changes : List Change) (d : Decision) : Type 0 where
   pub says : verdict_of d ≡ first_of checks
   pub makes : changes_of d ≡ changes_if (first_of checks) changes

@@ -71,6 +71,6 @@ abbrev pub stays_released : (Bytes → ℤ → Bool) → Bytes → List Action �
 stays_released bad lot [] = false
 stays_released bad lot (a ∷ own) = releases lot a || not (is_bad_result bad lot a) && stays_released bad lot own
 
--- for a lot of this material: rejected if it was, else released if it stays so, else quarantined
+-- for a lot of this material: rejected if it was, otherwise released if it stays so, otherwise quarantined
 abbrev pub disposition_of : List Action → (material lot : Bytes) → Disposition
 disposition_of own material lot = if list_any (rejects lot) own then Rejected else if stays_released (is_bad own material) lot own then Released else Quarantined

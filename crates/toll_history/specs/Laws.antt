@@ -1,4 +1,4 @@
--- What every lawful history keeps, where it has a name.
+-- Named statements about every lawful history.
 use Rattle.std.specs.Prelude.{◌≡◌, ℕ, ◌+◌, ◌-◌, ◌≤◌, Bool, true, false, ◌||◌, Option, Some, None, is_some, List, ◌∷◌, if◌then◌else◌}
 use Rattle.toll_history.specs.Common.{list_any, Bytes, same_bytes, house_name, total, is_some_where, lot_id, same_lot, MOST_ACTUALS, MOST_LOTS, MOST_MATERIALS, MOST_MOVEMENTS, MOST_ORDERS, MOST_RECIPES, MOST_REQUIREMENTS, MOST_RESULTS, MOST_SUBLOTS, MOST_TESTS, LotId, Quarantined, Released, Consumed, TestRow, MoveRow, Move, Ship, Actual}
 use Rattle.toll_history.specs.Command.{Action, Record, Void, Command, by}
@@ -106,15 +106,15 @@ IsQuarantined own l = (material : Bytes) → disposition_of own material l ≡ Q
 abbrev pub PassesEach : List Action → Bytes → Made → Type 0
 PassesEach own l made = (test : Bytes) (row : TestRow) → test_of own (made.material, test) ≡ Some row → passes own l row ≡ true
 
--- this is so where the owner's lot was made so and is released
+-- this is so if the owner's lot was made so and is released
 abbrev pub IfReleased : History → (o l : Bytes) → Made → Type 0 → Type 0
 IfReleased H o l made P = lot_made H (lot_id o l) ≡ Some made → disposition_of (acts o H) made.material l ≡ Released → P
 
--- this is so where the owner's movement with the key is this one, and stands
+-- this is so if the owner's movement with the key is this one, and stands
 abbrev pub IfStands : History → (o key : Bytes) → MoveRow → Type 0 → Type 0
 IfStands H o key row P = movement_of (acts o H) key ≡ Some row → voided_in (acts o H) key ≡ false → P
 
--- this is so where the owner's movement is accepted
+-- this is so if the owner's movement is accepted
 abbrev pub IfRecorded : History → (o : Bytes) → MoveRow → Type 0 → Type 0
 IfRecorded H o row P = verdict H (by o (Record row)) ≡ Accepted → P
 
@@ -122,7 +122,7 @@ IfRecorded H o row P = verdict H (by o (Record row)) ≡ Accepted → P
 abbrev pub IsTakenBack : History → (o key : Bytes) → MoveRow → Type 0
 IsTakenBack H o key row = (f : Movement → ℕ) → total f (standing H) ≡ f (o, row) + total f (standing (by o (Void key) ∷ H))
 
--- where the movement comes into the lot, the lot is quarantined then, of the material and origin that it says
+-- if the movement comes into the lot, the lot is quarantined then, of the material and origin that it says
 abbrev pub ComesQuarantined : History → (o : Bytes) → MoveRow → (l : Bytes) → Made → Type 0
 ComesQuarantined H o row l made =
     made_by (lot_id o l) o row.what ≡ Some made →

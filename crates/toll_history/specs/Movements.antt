@@ -7,7 +7,7 @@ use Rattle.toll_history.specs.Work.{found, count_added}
 
 -- ---- movements
 
--- a movement, and the owner in whose rows it stands
+-- a movement, and the owner in whose rows it is
 abbrev pub Movement : Type 0
 Movement = Bytes × MoveRow
 

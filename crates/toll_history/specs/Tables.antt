@@ -35,7 +35,7 @@ pub record Tables : Type 0 where
   -- how many results of the lot's test there are, and the value of the latest
   pub results_of : (lot test : Bytes) → ℕ
   pub latest : (lot test : Bytes) → Option ℤ
-  -- an order names the recipe; a lot is of the material; a test of any material is such a one
+  -- an order names the recipe; a lot is of the material; a test meets this condition
   pub recipe_used : Bytes → Bool
   pub material_used : Bytes → Bool
   pub any_test : (TestRow → Bool) → Bool

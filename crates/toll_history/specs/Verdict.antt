@@ -14,7 +14,7 @@ pub data Verdict : Type 0 where
   Repeated : Verdict
   Refused : (why : Refusal) → Verdict
 
--- checks in their order: whether each applies, and what it then says, where None stands for Repeated
+-- checks in their order: whether each applies, and what it then says; None means Repeated
 abbrev pub Checks : Type 0
 Checks = List (Bool × Option Refusal)
 
@@ -22,7 +22,7 @@ abbrev pub stopped : Option Refusal → Verdict
 stopped None = Repeated
 stopped (Some why) = Refused why
 
--- what the first check that applies says; accepted where none does
+-- what the first check that applies says; accepted if none does
 abbrev pub first_of : Checks → Verdict
 first_of [] = Accepted
 first_of (check ∷ more) = if check.0 then stopped check.1 else first_of more
@@ -54,7 +54,7 @@ is_made_by order number (Batch o n) = same_bytes o order && n == number
 abbrev pub amount_in : Tables → (lot sublot : Bytes) → ℕ
 amount_in t lot sublot = option_map_or (λ row. row.amount) (t.sublot (lot, sublot)) 0
 
--- a source, or a lot's owner, that is neither the owner nor HOUSE, or isn't the owner where it is produced
+-- a source, or a lot's owner, that is neither the owner nor HOUSE, or isn't the owner if it is produced
 abbrev pub crosses : Bytes → Role → Bytes → Bool
 crosses o Consumed source = not (same_bytes source o || same_bytes source house_name)
 crosses o Produced source = not (same_bytes source o)
@@ -346,7 +346,7 @@ abbrev pub grown : Verdict → History → Command → History
 grown Accepted H c = c ∷ H
 grown _ H c = H
 
--- the history after a command: it is added where it is accepted
+-- the history after a command: it is added if it is accepted
 abbrev pub grow : History → Command → History
 grow H c = grown (verdict H c) H c
 

@@ -68,7 +68,7 @@ batch_started =
 abbrev pub setup_one : List Command
 setup_one = groundwork ++ batch_started
 
--- the same, where the recipe's second segment consumes what the first produces
+-- the same, if the recipe's second segment consumes what the first produces
 abbrev pub product_consumed : History
 product_consumed = after [] (groundwork ++ (require acme (codes "R") 2 Consumed acme (codes "P") 1 ∷ batch_started))
 
@@ -111,7 +111,7 @@ abbrev pub all_accepted : List Command → List Verdict
 all_accepted [] = []
 all_accepted (c ∷ commands) = Accepted ∷ all_accepted commands
 
--- the states of a batch before these commands to it and after each, where each leads somewhere
+-- the states of a batch before these commands to it and after each, if each leads somewhere
 abbrev pub states : List Action → (order : Bytes) → (number : ℕ) → List StateCommand → List State
 states own order number [] = state_of own order number ∷ []
 states own order number (command ∷ commands) = state_of own order number ∷ states (CommandBatch order number command ∷ own) order number commands
@@ -143,9 +143,9 @@ tested_lot =
 abbrev pub failed_lot : History
 failed_lot = after tested_lot (by acme (RecordResult (codes "A") (codes "PH") (pos 9) 2) ∷ [])
 
--- ---- what is told along commands, each with its verdict
+-- ---- the verdicts along commands
 
--- these commands, in order, are told these verdicts
+-- these commands, in order, have these verdicts
 abbrev pub AreTold : History → List (Command × Verdict) → Type 0
 AreTold H told = verdicts H (map (λ t. t.0) told) ≡ map (λ t. t.1) told
 

@@ -8,15 +8,15 @@ ghost use Rattle.toll_history.specs.Verdict.{Checks, key_checks};
 
 use toll_base::{Decision, Move, MoveRow, Refusal, Slice};
 
-/// What is decided of a movement whose key is known: `None` where it isn't.
+/// The decision on a movement whose key is known; `None` if it isn't.
 ///
-/// An equal movement is [`Refusal::Voided`] where it was voided, and else repeated; any other is a
+/// An equal movement is [`Refusal::Voided`] if it was voided, otherwise repeated; any other is a
 /// [`Refusal::KeyConflict`].
 pub fn decide_known(slice: &Slice, row: &MoveRow) -> Option<Decision>
     ensures known { IfSome result (λ d. (rest : Checks) (changes : List change.Change) → IsDecided (key_checks (tables_of slice.now) row.now ++ rest) changes d) }
     ensures unknown { result ≡ None → move_at slice.now row.now.key ≡ None }
 {
-    // The type of what is moved has to be named where movements are looked up.
+    // The lookup of movements needs their type named.
     let _what: &Move = &row.what;
     let known = slice.movement(&row.key)?;
     Some(if !row.is_same(&known) {

@@ -8,7 +8,7 @@ abbrev pub given_disposition : (LotRow → Disposition) → Option LotRow → Li
 given_disposition disposition None = []
 given_disposition disposition (Some row) = Lot (record row { disposition = disposition row }) ∷ []
 
--- after a value of the test, a released lot is quarantined where that is out of the test's limits; else a lot is what it was
+-- after a value of the test, a released lot is quarantined if that is out of the test's limits; otherwise the lot is unchanged
 abbrev pub disposition_after : Tables → Bytes → ℤ → LotRow → Disposition
 disposition_after t test value row = if is_released row.disposition && is_some_where (λ r. is_outside r.limits value) (t.test (row.material, test)) then Quarantined else row.disposition
 

@@ -52,7 +52,7 @@ totals_in s lot = where_so (is_some (lot_at s lot)) (record { on_hand = on_hand_
 
 -- ---- what was shipped of all lots, beside a slice
 
--- the amount of the lot, 0 where it has none
+-- the amount of the lot, 0 if it has none
 abbrev pub amount_of : Shipped → Bytes → ℕ
 amount_of shipped lot = unwrap_or (get bytes_cmp shipped.amounts lot) 0
 

@@ -1,4 +1,4 @@
--- The plan of each decision on lots: its checks, and the rows that it puts where none applies.
+-- The plan of each decision on lots: its checks, and the rows that it puts if none applies.
 use Rattle.std.specs.Prelude.{ℕ, ℤ, ◌++◌, ◌&&◌, Bool, not, nat_lt, if◌then◌else◌, Some, [], ◌∷◌}
 use Rattle.toll_stock.specs.Common.{Bytes, same_bytes, Slice, is_some_where, Disposition, Quarantined, MoveRow, LotRow, Lot, Sublot, IsDecided, is_outside, puts, gained, lost, Tables, tables_of, latest_in, Checks, amount_in, is_released, key_checks, movements_full, receive_checks, result_checks, split_checks}
 use Rattle.toll_base.specs.declared.decision.Change.TheVariants.{Put}
@@ -52,11 +52,11 @@ abbrev pub IsResultPlan : Slice → (lot test : Bytes) → ℤ → ℕ → Decis
 IsResultPlan s lot test value day d =
     IsDecided (result_checks (tables_of s) lot test) (puts s.owner (result_rows lot test value day (tables_of s))) d
 
--- a lot is given a disposition, where these checks let it be
+-- a lot is given a disposition, if these checks let it be
 abbrev pub IsDispositionPlan : Checks → Slice → (lot : Bytes) → Disposition → Decision → Type 0
 IsDispositionPlan checks s lot disposition d = IsDecided checks (puts s.owner (given_disposition (λ row. disposition) ((tables_of s).lot lot))) d
 
--- the row of a lot after a value of a test with these limits: a released one is quarantined where the value is out of them
+-- the row of a lot after a value of a test with these limits: a released one is quarantined if the value is out of them
 abbrev pub lot_after : Limits → ℤ → LotRow → LotRow
 lot_after limits value row = record row { disposition = if is_released row.disposition && is_outside limits value then Quarantined else row.disposition }
 

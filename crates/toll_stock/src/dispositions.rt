@@ -11,8 +11,8 @@ use toll_base::{Change, Decision, Disposition, LotRow, Name, Refusal, Row, Slice
 
 /// Releases a lot.
 ///
-/// [`Refusal::UnknownLot`] where the owner has no such lot, [`Refusal::NotQuarantined`] where it is
-/// released or rejected, then [`Refusal::TestsOpen`] where a test of its material has no result of
+/// [`Refusal::UnknownLot`] if the owner has no such lot, [`Refusal::NotQuarantined`] if it is
+/// released or rejected, then [`Refusal::TestsOpen`] if a test of its material has no result of
 /// the lot, or its latest is out of the test's limits.
 pub fn release(alloc: Global, slice: &Slice, lot: Name) -> Result<Decision, AllocError>
     ensures decides { IfOk result (Decides (by slice.now.owner (Release lot)) slice.now) }
@@ -24,7 +24,7 @@ pub fn release(alloc: Global, slice: &Slice, lot: Name) -> Result<Decision, Allo
 
 /// Rejects a lot, for good.
 ///
-/// [`Refusal::UnknownLot`] where the owner has no such lot, then [`Refusal::Rejected`] where it is
+/// [`Refusal::UnknownLot`] if the owner has no such lot, then [`Refusal::Rejected`] if it is
 /// rejected already.
 pub fn reject(alloc: Global, slice: &Slice, lot: Name) -> Result<Decision, AllocError>
     ensures decides { IfOk result (Decides (by slice.now.owner (Reject lot)) slice.now) }

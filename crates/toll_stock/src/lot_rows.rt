@@ -1,4 +1,4 @@
-//! The rows of one lot, which stand together where rows are in the order of their keys.
+//! The rows of one lot, which are next to each other, because rows are in the order of their keys.
 ghost use Rattle.std.specs.Prelude.{◌≡◌, filter};
 ghost use Rattle.std.specs.List.Sorted.{IsSortedByKey};
 ghost use Rattle.toll_stock.specs.Common.{Bytes, bytes_cmp, same_bytes, pair_cmp, IsInKeyOrder};

@@ -9,8 +9,8 @@ use toll_base::{Change, Decision, Limits, MOST_TESTS, Name, Refusal, Row, Slice,
 
 /// Adds a test of the material, which a result within these limits passes.
 ///
-/// [`Refusal::UnknownMaterial`] where the owner has no such material, [`Refusal::TestExists`] where
-/// the material has a test of this name, [`Refusal::MaterialInUse`] where a lot is of the material,
+/// [`Refusal::UnknownMaterial`] if the owner has no such material, [`Refusal::TestExists`] if
+/// the material has a test of this name, [`Refusal::MaterialInUse`] if a lot is of the material,
 /// then [`Refusal::LimitReached`] at 2,000 tests.
 pub fn add_test(
     alloc: Global,

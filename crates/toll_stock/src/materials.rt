@@ -11,7 +11,7 @@ use toll_base::{
 
 /// Adds a material, whose amounts are in this measure.
 ///
-/// [`Refusal::MaterialExists`] where the owner has one of this name, then [`Refusal::LimitReached`]
+/// [`Refusal::MaterialExists`] if the owner has one of this name, then [`Refusal::LimitReached`]
 /// at 200 materials.
 pub fn add_material(
     alloc: Global,

@@ -9,8 +9,8 @@ use toll_base::{
 };
 use toll_history::decide_known;
 
-/// What is decided of a movement: by its key where that is known, else what was checked of it says,
-/// and where that is nothing it makes these changes.
+/// The decision on a movement: by its key if that is known; otherwise the refusal of its checks, or these
+/// changes if there is none.
 pub fn decide_movement(
     alloc: Global,
     slice: &Slice,

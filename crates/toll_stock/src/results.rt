@@ -15,8 +15,8 @@ use toll_base::{
 /// Records a result of a test of a lot. Out of the test's limits it makes a released lot
 /// quarantined again.
 ///
-/// [`Refusal::UnknownLot`] where the owner has no such lot, [`Refusal::UnknownTest`] where the
-/// lot's material has no such test, [`Refusal::Rejected`] where the lot is rejected, then
+/// [`Refusal::UnknownLot`] if the owner has no such lot, [`Refusal::UnknownTest`] if the
+/// lot's material has no such test, [`Refusal::Rejected`] if the lot is rejected, then
 /// [`Refusal::LimitReached`] at 20,000 results.
 pub fn record_result(
     alloc: Global,

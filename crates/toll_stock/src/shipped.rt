@@ -29,7 +29,7 @@ impl Shipped {
         Ok(shipped)
     }
 
-    /// How much was shipped of the lot: 0 where it has no amount.
+    /// How much was shipped of the lot: 0 if it has no amount.
     pub(crate) fn amount(&self, lot: &Name) -> u64
         ensures { result ≡ amount_of self.now lot.now }
     {
@@ -39,7 +39,7 @@ impl Shipped {
         }
     }
 
-    // Adds the movement's amount, where it is a shipment.
+    // Adds the movement's amount, if it is a shipment.
     fn add(&mut self, what: &Move, amount: u64) -> Result<(), AllocError>
         requires { (lot : Bytes) → amount_of self.old lot + amount < 2 ^ 64 }
         ensures { OnOk result ((lot : Bytes) → amount_of self.new lot ≡ amount_of self.old lot + (if is_shipment_of lot what.now then amount else 0)) }
@@ -53,7 +53,7 @@ impl Shipped {
     }
 }
 
-// The lot that the movement ships, where it is a shipment.
+// The lot that the movement ships, if it is a shipment.
 fn lot_shipped(what: &Move) -> Option<Name>
     ensures { result ≡ lot_shipped what.now }
 {

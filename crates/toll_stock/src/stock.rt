@@ -16,7 +16,7 @@ pub struct Totals {
     pub shipped: u64,
 }
 
-/// How much is in the sublot, in the measure of the lot's material; `None` where the owner has no
+/// How much is in the sublot, in the measure of the lot's material; `None` if the owner has no
 /// such sublot.
 pub fn on_hand(slice: &Slice, lot: &Name, sublot: &Name) -> Option<u64>
     ensures rows { result ≡ option_map (λ row. row.amount) (sublot_at slice.now (lot.now, sublot.now)) }
@@ -34,7 +34,7 @@ fn amount_at(slice: &Slice, lot: &Name, sublot: &Name) -> Option<u64>
     }
 }
 
-/// How much of a lot is on hand: the sum of its sublots, in the measure of its material; 0 where the
+/// How much of a lot is on hand: the sum of its sublots, in the measure of its material; 0 if the
 /// owner has no such lot. It takes no memory, and looks at the lot's sublots alone.
 pub fn on_hand_of(slice: &Slice, lot: &Name) -> u64
     ensures rows { result ≡ on_hand_in slice.now lot.now }

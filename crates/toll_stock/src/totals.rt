@@ -6,8 +6,8 @@ ghost use Rattle.toll_stock.specs.LotTotals.{shipped_by, shipped_in, totals_in, 
 use crate::stock::{Totals, on_hand_of};
 use toll_base::{Move, MoveRow, Name, Slice};
 
-/// How much of a lot is on hand, and how much of it was shipped; `None` where the owner has no such lot. It
-/// takes no memory, and walks over the owner's movements: where the totals of many lots are wanted, see
+/// How much of a lot is on hand, and how much of it was shipped; `None` if the owner has no such lot. It
+/// takes no memory, and walks over the owner's movements: for the totals of many lots, see
 /// [`LotTotals`](crate::LotTotals).
 pub fn lot_totals(slice: &Slice, lot: &Name) -> Option<Totals>
     ensures rows { result ≡ totals_in slice.now lot.now }
@@ -45,7 +45,7 @@ fn sum_of_shipments(slice: &Slice, lot: &Name) -> u64
     sum
 }
 
-// What the movement takes of the lot, where it is a shipment.
+// What the movement takes of the lot, if it is a shipment.
 fn amount_shipped(row: &MoveRow, lot: &Name) -> u64
     ensures amount { result ≡ shipped_by lot.now row.now }
     ensures bound { result ≤ 1000000000 }

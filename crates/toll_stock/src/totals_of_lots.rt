@@ -27,7 +27,7 @@ impl Model for LotTotals {
     ghost invariant = { λ t. AreShippedIn t.slice t.shipped };
 }
 
-/// By hand, since what is derived is written out at every exit of every function that owns one.
+/// By hand, because a derived drop is written out at every exit of every function that owns one.
 impl Drop for LotTotals {
     fn drop(self) {
         let LotTotals {
@@ -53,7 +53,7 @@ impl LotTotals {
         &self.slice
     }
 
-    /// The totals of a lot; `None` where the owner has no such lot. It takes no memory, and looks at the
+    /// The totals of a lot; `None` if the owner has no such lot. It takes no memory, and looks at the
     /// lot's sublots alone.
     pub fn of_lot(&self, lot: &Name) -> Option<Totals>
         ensures rows { result ≡ totals_in self.now lot.now }
@@ -73,7 +73,7 @@ impl LotTotals {
         ensures rows { result ≡ shipped_in self.now lot.now }
         ensures amount { (H : History) → IsLawful H → IsRowsOf H self.now → result ≡ shipped H (lot_id self.now.owner lot.now) }
     {
-        // For the proof: movements stand in the order of their keys.
+        // For the proof: movements are in the order of their keys.
         let _moves = self.slice.moves();
         self.shipped.amount(lot)
     }

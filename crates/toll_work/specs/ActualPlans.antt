@@ -1,4 +1,4 @@
--- The plans of actuals and of their voids: their checks, and the rows that they put where none applies.
+-- The plans of actuals and of their voids: their checks, and the rows that they put if none applies.
 use Rattle.std.specs.Prelude.{ℕ, ◌++◌, nat_lt, is_none, Some, [], ◌∷◌}
 use Rattle.toll_work.specs.Common.{Bytes, Slice, batch_at, recipe_at, requirement_at, is_idle, is_some_where, Decision, MoveRow, BadSegment, BatchIdle, CrossOwner, LimitReached, NotEnough, NotInRecipe, Consumed, Produced, Lot, Move, Sublot, Void, lot_bounds, IsDecided, puts, gained, lost, Tables, tables_of, Checks, actual_checks, amount_in, consumed_checks, crosses, key_checks, open_batch_checks, produced_checks, tables_for}
 use Rattle.toll_base.specs.declared.decision.Change.TheVariants.{Put}
@@ -61,7 +61,7 @@ IsGivingPlan own house key used amount d =
     IsDecided (open_checks (tables_of own) key used.order used.number ++ giving_bounds own.owner (source_of own house used) used.lot used.sublot amount)
     (Put own.owner (Void (record { key = key })) ∷ Put used.lot.owner (Sublot (gained used.lot.lot used.sublot amount (source_of own house used))) ∷ []) d
 
--- the void of a production puts itself, and the sublot with so much less, where it has that
+-- the void of a production puts itself, and the sublot with so much less, if it has that
 abbrev pub IsTakingPlan : Slice → (key : Bytes) → Use → ℕ → Decision → Type 0
 IsTakingPlan s key used amount d =
     IsDecided (open_checks (tables_of s) key used.order used.number

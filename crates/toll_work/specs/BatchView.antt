@@ -1,4 +1,4 @@
--- What is told of a batch: its row, and each requirement of its order's recipe with what the batch did of it.
+-- The view of a batch: its row, and each requirement of its order's recipe with what the batch did of it.
 use Rattle.std.specs.Prelude.{◌≡◌, ℕ, not, ◌&&◌, if◌then◌else◌, Option, Some, None, is_some, List, map, filter}
 use Rattle.toll_work.specs.Common.{option_and_then, Bytes, same_bytes, total, where_so, History, acts, IsRowsOf, IsLawful, Slice, order_at, batch_at, void_at, BatchRow, OrderRow, RequirementRow, MoveRow, RequirementKey, requirement_cmp, AreRowsGiven, is_actual_of}
 use Rattle.toll_history.specs.Amounts.{meets, actual_of}
@@ -21,14 +21,14 @@ line row actuals = record { row = row; actual = amount_for row actuals }
 abbrev pub lines_in : Slice → (recipe : Bytes) → List MoveRow → List RequirementLine
 lines_in s recipe actuals = map (λ row. line row actuals) (filter (λ row. same_bytes row.recipe recipe) s.requirements)
 
--- the batch of an order, where both are known
+-- the batch of an order, if both are known
 abbrev pub IsViewIn : Slice → (order : Bytes) → (number : ℕ) → Option OrderRow → Option BatchRow → Option BatchView → Type 0
 IsViewIn s order number (Some known) (Some row) (Some view) = (view.row ≡ row) × (view.lines.items ≡ lines_in s known.recipe (standing_in s order number))
 IsViewIn s order number (Some known) (Some row) None = ⊥
 IsViewIn s order number _ _ None = Unit {0}
 IsViewIn s order number _ _ (Some view) = ⊥
 
--- what a slice tells of the batch
+-- the view that a slice gives
 abbrev pub TellsInSlice : Slice → (order : Bytes) → (number : ℕ) → Option BatchView → Type 0
 TellsInSlice s order number view = IsViewIn s order number (order_at s order) (batch_at s (order, number)) view
 
@@ -42,13 +42,13 @@ line_of H o order number recipe k =
 abbrev pub line_key : RequirementLine → RequirementKey
 line_key line = (line.row.recipe, line.row.segment, line.row.role, line.row.source, line.row.material)
 
--- the batch of an order, where both are known
+-- the batch of an order, if both are known
 abbrev pub IsViewOver : History → Bytes → (order : Bytes) → (number : ℕ) → Option OrderRow → Option BatchRow → Option BatchView → Type 0
 IsViewOver H o order number (Some known) (Some row) (Some view) = (view.row ≡ row) × AreRowsGiven requirement_cmp line_key (line_of H o order number known.recipe) view.lines.items
 IsViewOver H o order number (Some known) (Some row) None = ⊥
 IsViewOver H o order number _ _ None = Unit {0}
 IsViewOver H o order number _ _ (Some view) = ⊥
 
--- what every lawful history tells of the batch of which the slice has the rows
+-- the view is that of every lawful history of which the slice has the rows
 unfoldable pub TellsOverHistories : Slice → (order : Bytes) → (number : ℕ) → Option BatchView → Type 0
 TellsOverHistories s order number view = (H : History) → IsLawful H → IsRowsOf H s → IsViewOver H s.owner order number (order_of (acts s.owner H) order) (batch_of (acts s.owner H) (order, number)) view

@@ -32,7 +32,7 @@ closed_row row = record row { closed = true }
 abbrev pub changed_rows : (BatchRow → BatchRow) → (order : Bytes) → (number : ℕ) → Tables → List Row
 changed_rows change order number t = option_map_or (λ row. Batch (change row) ∷ []) (t.batch (order, number)) []
 
--- ---- plans: the checks of each decision, and the rows that it puts where none applies
+-- ---- plans: the checks of each decision, and the rows that it puts if none applies
 
 -- an order is placed as this row
 abbrev pub IsOrderPlan : Slice → OrderRow → Decision → Type 0
@@ -41,7 +41,7 @@ IsOrderPlan s row d = IsDecided (order_checks (tables_of s) row.order row.recipe
 abbrev pub IsCancelPlan : Slice → (order : Bytes) → Decision → Type 0
 IsCancelPlan s order d = IsDecided (cancel_checks (tables_of s) order) (puts s.owner (cancelled_rows order (tables_of s))) d
 
--- a batch is opened on a unit of which this was told
+-- a batch is opened on a unit with these facts
 abbrev pub IsOpeningPlan : Slice → (order unit : Bytes) → (is_known is_free : Bool) → Decision → Type 0
 IsOpeningPlan s order unit is_known is_free d =
     IsDecided (open_checks (tables_of s) order is_known (not is_free)) (puts s.owner (opened_rows order unit (tables_of s))) d

@@ -14,6 +14,6 @@ open_checks t key order number =
 abbrev pub giving_bounds : Bytes → Tables → LotId → (sublot : Bytes) → ℕ → Checks
 giving_bounds o u lot sublot amount = returning_bounds u lot.lot sublot amount ++ (crosses o Consumed lot.owner, Some LimitReached) ∷ []
 
--- the lot and the sublot that the actual names, where there is one
+-- the lot and the sublot that the actual names, if there is one
 abbrev pub actual_sublot : Option MoveRow → Bytes × Bytes
 actual_sublot known = option_map_or (λ row. sublot_named row.what) known ([], [])

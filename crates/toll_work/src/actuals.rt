@@ -56,7 +56,7 @@ pub fn use_of(what: &Move) -> Option<(Role, Use)>
 }
 
 /// Records an actual of a batch of `own`'s owner: it consumes from a sublot of the owner's or of
-/// HOUSE's, or produces into one of the owner's. Where the owner is HOUSE both slices are HOUSE's.
+/// HOUSE's, or produces into one of the owner's. If the owner is HOUSE both slices are HOUSE's.
 ///
 /// A known key with equal content is repeated, or [`Refusal::Voided`], with other content
 /// [`Refusal::KeyConflict`]. Then [`Refusal::UnknownOrder`], [`Refusal::UnknownBatch`],
@@ -78,7 +78,7 @@ pub fn record_actual(
     ensures house_rules { same_bytes own.now.owner house.now.owner ≡ false → IfOk result (DecisionKeepsRules house.now) }
     ensures own { IfOk result (λ d. PutsOnlyWith own.now.owner (sublot_named row.what) (changes_of d)) }
 {
-    // What its owner keeps holds of HOUSE's slice too.
+    // The rules hold of HOUSE's slice too.
     let _house = house.owner();
     match use_of(&row.what) {
         Some((Role::Consumed, used)) => plan_consumption(alloc, own, house, &row, &used),
@@ -114,7 +114,7 @@ fn plan_consumption(
             .amount_in(&used.lot.lot, &used.sublot)
             .saturating_sub(row.amount.get()),
     };
-    // The movement is the batch's owner's, also where the lot is HOUSE's.
+    // The movement is the batch's owner's, even if the lot is HOUSE's.
     let recorded = Change::Put(owner, Row::Move(*row));
     Decision::accept_all(
         alloc,
@@ -191,7 +191,7 @@ fn check_use(own: &Slice, used: &Use, role: Role) -> Result<(), Refusal>
     check_in_recipe(own, &recipe, used, role)
 }
 
-// The recipe of the batch, where it takes actuals.
+// The recipe of the batch, if it takes actuals.
 fn check_running(own: &Slice, order: &Name, number: BatchNo) -> Result<Name, Refusal>
     ensures checks { said result ≡ first_of (running_checks own.now order.now number) }
     ensures recipe { IfOk result (λ recipe. recipe ≡ recipe_of_order (tables_of own.now) order.now) }

@@ -12,10 +12,10 @@ use toll_base::{
     BatchNo, BatchRow, Change, Decision, Name, Refusal, Row, Slice, State, StateCommand,
 };
 
-/// Opens the next batch of the order on the unit, idle. It is told whether the unit is known, and
-/// whether it is free: no batch holds it that isn't closed.
+/// Opens the next batch of the order on the unit, idle. The caller says whether the unit is known, and
+/// whether it is free: no open batch holds it.
 ///
-/// [`Refusal::UnknownOrder`], then [`Refusal::OrderCancelled`], then [`Refusal::NoMoreBatches`] where
+/// [`Refusal::UnknownOrder`], then [`Refusal::OrderCancelled`], then [`Refusal::NoMoreBatches`] if
 /// all batches of the order were opened, then [`Refusal::UnknownUnit`], then [`Refusal::UnitBusy`].
 pub fn open_batch(
     alloc: Global,
@@ -80,7 +80,7 @@ fn next_number(opened: u64, batches: BatchNo) -> Option<BatchNo>
 /// Commands the batch, which goes to the state that the command leads to.
 ///
 /// [`Refusal::UnknownOrder`], then [`Refusal::UnknownBatch`], then [`Refusal::BatchClosed`], then
-/// [`Refusal::BadState`] where the command leads nowhere.
+/// [`Refusal::BadState`] if the command leads nowhere.
 pub fn command_batch(
     alloc: Global,
     slice: &Slice,
@@ -117,7 +117,7 @@ fn plan_command(
     Decision::accept(alloc, Change::Put(owner, Row::Batch(row)))
 }
 
-// The batch, where it is known and isn't closed.
+// The batch, if it is known and isn't closed.
 fn find_open(slice: &Slice, order: &Name, number: BatchNo) -> Result<BatchRow, Refusal>
     ensures checks { said result ≡ first_of (open_batch_checks (tables_of slice.now) order.now number) }
     ensures batch { IfOk result (λ row. batch_at slice.now (order.now, number) ≡ Some row) }

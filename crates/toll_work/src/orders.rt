@@ -8,8 +8,8 @@ use toll_base::{BatchNo, Change, Decision, MOST_ORDERS, Name, OrderRow, Refusal,
 
 /// Places an order of that many batches by the recipe.
 ///
-/// An order of this name by the same recipe and of as many batches is repeated, also where it was
-/// cancelled. Else [`Refusal::OrderExists`] where the owner has an order of this name, then
+/// An order of this name by the same recipe and of as many batches is repeated, even if it was
+/// cancelled. Otherwise [`Refusal::OrderExists`] if the owner has an order of this name, then
 /// [`Refusal::UnknownRecipe`], then [`Refusal::LimitReached`] at 2,000 orders.
 pub fn place_order(
     alloc: Global,
@@ -54,8 +54,8 @@ fn plan_order(alloc: Global, slice: &Slice, row: &OrderRow) -> Result<Decision, 
 
 /// Cancels the order.
 ///
-/// [`Refusal::UnknownOrder`], then [`Refusal::OrderCancelled`] where it was cancelled before, then
-/// [`Refusal::OrderStarted`] where a batch of it was opened.
+/// [`Refusal::UnknownOrder`], then [`Refusal::OrderCancelled`] if it was cancelled before, then
+/// [`Refusal::OrderStarted`] if a batch of it was opened.
 pub fn cancel_order(alloc: Global, slice: &Slice, order: Name) -> Result<Decision, AllocError>
     ensures decides { IfOk result (Decides (by slice.now.owner (CancelOrder order)) slice.now) }
     ensures rules { IfOk result (DecisionKeepsRules slice.now) }
@@ -83,7 +83,7 @@ fn plan_cancelling(alloc: Global, slice: &Slice, order: &Name) -> Result<Decisio
     Decision::accept(alloc, Change::Put(owner, Row::Order(row)))
 }
 
-/// The order, where it is known and isn't cancelled.
+/// The order, if it is known and isn't cancelled.
 pub fn find_standing(slice: &Slice, order: &Name) -> Result<OrderRow, Refusal>
     ensures checks { said result ≡ first_of (standing_order_checks (tables_of slice.now) order.now) }
     ensures order { IfOk result (λ row. order_at slice.now order.now ≡ Some row) }

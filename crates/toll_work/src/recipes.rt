@@ -14,7 +14,7 @@ use toll_base::{
 
 /// Adds a recipe of that many segments.
 ///
-/// [`Refusal::RecipeExists`] where the owner has one of this name, then [`Refusal::LimitReached`] at
+/// [`Refusal::RecipeExists`] if the owner has one of this name, then [`Refusal::LimitReached`] at
 /// 200 recipes.
 pub fn add_recipe(
     alloc: Global,
@@ -44,10 +44,10 @@ fn plan_recipe(alloc: Global, slice: &Slice, row: &RecipeRow) -> Result<Decision
 }
 
 /// Requires that much of the source's material, or produces it, in a segment of a recipe. `house` has
-/// the rows of HOUSE, also where the owner is HOUSE.
+/// the rows of HOUSE, even if the owner is HOUSE.
 ///
-/// [`Refusal::UnknownRecipe`], then [`Refusal::RecipeInUse`] where an order names the recipe, then
-/// [`Refusal::BadSegment`] above the recipe's segments, then [`Refusal::CrossOwner`] where the source
+/// [`Refusal::UnknownRecipe`], then [`Refusal::RecipeInUse`] if an order names the recipe, then
+/// [`Refusal::BadSegment`] above the recipe's segments, then [`Refusal::CrossOwner`] if the source
 /// is another owner, or HOUSE of what is produced, then [`Refusal::UnknownMaterial`] of the source,
 /// then [`Refusal::RequirementExists`], then [`Refusal::LimitReached`] at 2,000 requirements.
 pub fn require(

@@ -41,7 +41,7 @@ impl StateWord for State {
     }
 }
 
-/// The state that the command leads to, where it leads anywhere.
+/// The state that the command leads to, if it leads anywhere.
 pub fn next(state: State, command: StateCommand) -> Option<State>
     ensures { result ≡ next_state state command }
 {

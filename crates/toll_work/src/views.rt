@@ -1,4 +1,4 @@
-//! What is told of a batch.
+//! The view of a batch.
 ghost use Rattle.std.specs.Prelude.{◌≡◌, ◌≤◌, length, IfOk, if◌then◌else◌};
 ghost use Rattle.toll_work.specs.Common.{bytes_cmp, requirement_cmp, IsInKeyOrder, requirement_key};
 ghost use Rattle.toll_history.specs.Amounts as amount;
@@ -24,7 +24,7 @@ pub struct BatchView {
     pub lines: Vec<RequirementLine>,
 }
 
-/// The batch, with what it did of each requirement of its order's recipe; `None` where the order or
+/// The batch, with what it did of each requirement of its order's recipe; `None` if the order or
 /// the batch is not known.
 pub fn batch_view(
     alloc: Global,

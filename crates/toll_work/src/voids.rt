@@ -17,9 +17,9 @@ use toll_history::has_room_in;
 /// sublot, whatever the lot's disposition, and what it produced is taken out. A lot that it produced
 /// stays known, with its material and origin, and no disposition changes.
 ///
-/// [`Refusal::UnknownKey`] where `own`'s owner has no actual with the key, then [`Refusal::Voided`],
-/// [`Refusal::BatchClosed`], and for a production [`Refusal::NotEnough`] where its sublot holds less
-/// than its amount. Where the owner is HOUSE both slices are HOUSE's.
+/// [`Refusal::UnknownKey`] if `own`'s owner has no actual with the key, then [`Refusal::Voided`],
+/// [`Refusal::BatchClosed`], and for a production [`Refusal::NotEnough`] if its sublot holds less
+/// than its amount. If the owner is HOUSE both slices are HOUSE's.
 pub fn void_actual(
     alloc: Global,
     own: &Slice,
@@ -31,7 +31,7 @@ pub fn void_actual(
     ensures house_rules { same_bytes own.now.owner house.now.owner ≡ false → IfOk result (DecisionKeepsRules house.now) }
     ensures own { IfOk result (λ d. PutsOnlyWith own.now.owner (actual_sublot (move_at own.now key)) (changes_of d)) }
 {
-    // What each slice keeps is known where its owner is read.
+    // Reading the owners shows the rules of both slices.
     let _own = own.owner();
     let _house = house.owner();
     let Some(row) = own.movement(&key) else {

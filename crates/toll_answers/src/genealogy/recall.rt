@@ -17,7 +17,7 @@ pub struct RecallLine {
     pub totals: Totals,
 }
 
-/// The recall of a lot of HOUSE has, of an owner's lots, just those on the owner's forward traces from
+/// The recall of a lot of HOUSE has, of an owner's lots, exactly those on the owner's forward traces from
 /// the lots of HOUSE that HOUSE's own edges reach, each with the least sum of steps.
 pub fn recalls_within_an_owner_are_the_owners()
     ensures { (H : History) (o : Bytes) (lot : LotId) → IsLawful H → lot.owner ≡ house_name → IsRecallOfJoints H o lot }

@@ -5,8 +5,8 @@ ghost use Rattle.toll_base.specs.Slice.{Slice};
 ghost use Rattle.toll_answers.specs.Agreement.{AreKnown, IsWithin, TracesAgree};
 ghost use Rattle.toll_answers.specs.Edges.{WasDone, IsOwnEdge};
 
-/// A movement of an owner stands, which is that no later command voids it, just where it was recorded
-/// and no command at all voids its key.
+/// A movement of an owner stands (no later command voids it) exactly if it was recorded and no command
+/// at all voids its key.
 pub fn a_movement_stands_unless_it_is_voided()
     ensures { (H : History) (o : Bytes) (row : MoveRow) → IsLawful H → WasDone (acts o H) row ↔ Contains (standing H) (o, row) }
 {}
@@ -24,9 +24,9 @@ pub fn edges_of_a_slice_are_the_owners()
     ensures { (H : History) (s : Slice) (edges : List Edge) → IsLawful H → IsRowsOf H s → AreEdges (IsEdge s) edges → AreEdges (IsOwnEdge (acts s.owner H)) edges }
 {}
 
-/// The plant's trace from an owner's lot, back or forward, has at that owner's lots just the steps
-/// that the owner's own trace has there. So it is of HOUSE too: what leaves HOUSE's lots does not come
-/// back.
+/// The plant's trace from an owner's lot, back or forward, has at that owner's lots exactly the
+/// steps of the owner's own trace. This holds of HOUSE too, because material that leaves HOUSE's lots
+/// doesn't come back.
 pub fn plants_traces_within_an_owner_are_the_owners()
     ensures { (H : History) (o : Bytes) (way : Way) (a : LotId) → IsLawful H → a.owner ≡ o → TracesAgree H o way a }
 {}

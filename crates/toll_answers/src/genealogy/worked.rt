@@ -24,7 +24,7 @@ pub fn setups_of_genealogy_are_accepted()
     ensures house_material { verdicts [] made_of_house_material ≡ all_accepted made_of_house_material }
 {}
 
-/// Where two lots went into each other, each is one step from the other, both ways, and none is there
+/// If two lots went into each other, each is one step from the other, both ways, and no lot is listed
 /// twice.
 pub fn traces_of_a_circle()
     ensures back { IsOwnTrace circle acme Back p1 (step_at 0 p1 ∷ step_at 1 q1 ∷ []) }

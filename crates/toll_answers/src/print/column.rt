@@ -4,10 +4,10 @@ ghost use Rattle.toll_answers.specs.Columns.{blanks, left, right};
 
 use std::alloc::{AllocError, Global};
 
-/// What stands behind a column that is not the last of its line.
+/// The byte after a column that isn't the last of its line.
 pub(crate) const BLANK: u8 = b' ';
 
-/// What stands behind the last column of a line.
+/// The byte after the last column of a line.
 pub(crate) const LINE_FEED: u8 = b'\n';
 
 /// Adds a text as it is, and the byte behind it.

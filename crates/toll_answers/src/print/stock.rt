@@ -13,7 +13,7 @@ use toll_base::{LotRow, Measure, Slice, SublotRow};
 
 /// What an owner has, a line for each sublot in the order of its lot and its name: the lot, the sublot,
 /// the lot's material and disposition, and how much is in the sublot, with the material's measure. It
-/// is empty where there are none.
+/// is empty if there are none.
 pub fn stock_text(alloc: Global, slice: &Slice) -> Result<Vec<u8>, AllocError>
     ensures in_slice { IfOk result (λ text. text.items ≡ spec.stock_text (spec.sublots_in slice.now)) }
     ensures over_histories { (H : History) → IsLawful H → IsRowsOf H slice.now → IfOk result (λ text. spec.IsStockText H slice.now.owner text.items) }
@@ -32,7 +32,7 @@ fn text_in_slice(alloc: Global, slice: &Slice) -> Result<Vec<u8>, AllocError>
     Ok(text)
 }
 
-// A line, where the lot and its material are there.
+// A line, if the lot and its material are there.
 fn push_shown(
     alloc: Global,
     text: &mut Vec<u8>,

@@ -1,4 +1,4 @@
-//! A lot with all that is known of it.
+//! A lot with its results and its sublots.
 ghost use Rattle.std.specs.Prelude.{◌≡◌, true, is_some, IfOk};
 ghost use Rattle.toll_answers.specs.Common.{pair_cmp, result_cmp, lot_at, material_at, IsInKeyOrder, History, IsRowsOf, lot_row, IsLawful};
 ghost use Rattle.toll_answers.specs.InSlice.{measure_in, IsLotViewIn};
@@ -17,7 +17,7 @@ pub struct LotView {
     pub sublots: Vec<SublotRow>,
 }
 
-/// The lot of the slice's owner, with its results and its sublots; `None` where the owner has no such
+/// The lot of the slice's owner, with its results and its sublots; `None` if the owner has no such
 /// lot.
 pub fn lot_view(alloc: Global, slice: &Slice, lot: &Name) -> Result<Option<LotView>, AllocError>
     ensures in_slice { IfOk result (IsLotViewIn slice.now (lot_at slice.now lot.now)) }
@@ -31,7 +31,7 @@ fn view_in_slice(alloc: Global, slice: &Slice, lot: &Name) -> Result<Option<LotV
     ensures results { IsInKeyOrder result_cmp (λ row. (row.lot, row.test, row.number)) slice.now.results }
     ensures sublots { IsInKeyOrder pair_cmp (λ row. (row.lot, row.sublot)) slice.now.sublots }
 {
-    // For the proof: what the slice keeps, and in which order, is known where it is read.
+    // For the proof: reading the owner shows the slice's rules and the order of its rows.
     let _owner = slice.owner();
     let _results = slice.results();
     let _sublots = slice.sublots();

@@ -32,7 +32,7 @@ fn lines_in_slice(alloc: Global, slice: &Slice) -> Result<Vec<StockLine>, AllocE
     ensures lots { IsInKeyOrder bytes_cmp (λ row. row.lot) slice.now.lots }
     ensures sublots { IsInKeyOrder pair_cmp (λ row. (row.lot, row.sublot)) slice.now.sublots }
 {
-    // For the proof: what the slice keeps is known where it is read.
+    // For the proof: reading the owner shows the slice's rules.
     let _owner = slice.owner();
     let rows = slice.lots();
     let mut sublots = slice.sublots();
