@@ -106,11 +106,20 @@ class Sources:
         return found
 
     def called(self, name):
-        """The public functions that docs/PROVED.md means by this name: of a type, by themselves, or all methods of a type."""
+        """The public functions that docs/PROVED.md means by this name: of a type, by themselves, or all methods that a type has in its crate."""
         *owner, last = name.split("::")
-        found = [it for it in self.items if it.public and it.name == last and it.owner == "".join(owner) and "_tests" not in it.crate]
+        own = [it for it in self.items if "_tests" not in it.crate]
+        found = [it for it in own if it.public and it.name == last and it.owner == "".join(owner)]
         found = [it for it in found if (it.owner or it.name) in self.exported[it.crate]] or found
-        return found or [it for it in self.items if it.owner == name and "_tests" not in it.crate]
+        return found or [it for it in own if it.owner == name and name in self.types[it.crate]]
+
+    @functools.cached_property
+    def types(self):
+        """The types that each crate declares."""
+        found = collections.defaultdict(set)
+        for path, text in self.texts.items():
+            found[self.place_of(path)[0]].update(re.findall(r"\b(?:struct|enum) (\w+)", text))
+        return found
 
     @functools.cached_property
     def named(self):
