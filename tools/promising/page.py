@@ -15,7 +15,7 @@ NONE = "-"
 COMMON = {"all", "and", "are", "each", "its", "not", "one", "that", "the", "was", "what"}  # words that tell no texts apart
 INTRODUCTION = """# Promises
 
-`tools/promises` makes this page. Each line leads from a promise, by its number in `docs/PROVED.md`, to the laws and contracts that carry it (with the clauses' names, if only some do), definitions in those clauses, the code, wrong bodies, and tests. A wrong body is a file of the crate's `must-fail/`; it stands in the line, of those whose code it changes, that is most like its name. `-` means that there is none: a law has no body, or no test says more than the contract.
+`tools/promises` makes this page. A line leads from a promise, by its number in `docs/PROVED.md`, to the laws and contracts that carry it (with the clauses' names, if only some do), definitions in those clauses, the code, wrong bodies, and tests. Files are below `crates/`. A wrong body is a file of the crate's `must-fail/`, beside the promise, of those whose code it changes, that is most like its name. `-` means that there is none: a law has no body, or no test says more than the contract.
 
 """
 HEAD = "|promise|law or contract|definition|code|wrong body|test|\n|---|---|---|---|---|---|\n"
@@ -96,12 +96,12 @@ def definitions_in(promise, sources):
     cited = [(item, name) for item, clauses in promise.items for text in item.clauses(clauses) for name in sources.cited(item, text)]
     decisions = {item.name: None for item, name in cited if name.startswith("Decides")}
     checks = [f"{word}_checks" for name in decisions for word in name.split("_")]
-    found = collections.defaultdict(list, {VERDICTS[1]: [it for it in checks if VERDICTS in sources.definitions.get(it, ())]})
+    found = collections.defaultdict(list, {VERDICTS: [it for it in checks if VERDICTS in sources.definitions.get(it, ())]})
     for item, name in sorted(dict.fromkeys(cited), key=lambda it: sources.citations[it[1]]):
         file = sources.file_of(item, name)
         if name not in found[file] and sum(map(len, found.values())) < MOST_DEFINITIONS:
             found[file].append(name)
-    return "; ".join(f"`{file}`: {quoted(names)}" for file, names in found.items() if names) or NONE
+    return "; ".join(f"`{crate}/specs/{file}.antt`: {quoted(names)}" for (crate, file), names in found.items() if names) or NONE
 
 
 def row_of(promise, sources, wrong_bodies, tests):

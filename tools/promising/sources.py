@@ -10,6 +10,7 @@ COMMENT = re.compile(r"^\s*//.*$", re.M)
 CLAUSE = re.compile(r"^\s*ensures (?:(\w+) )?\{((?:[^{}]|\{[^{}]*\})*)\}", re.M)
 USED = re.compile(r"^\s*ghost use Rattle\.(\w+)\.specs\.(?:([\w.]+)\.\{([^}]*)\}|(\w+) as \w+);", re.M)
 DEFINED = re.compile(r"^ *(?:(?:pub|abbrev|unfoldable) )*([\w']+) *:|^ *(?:pub )?record (\w+)", re.M)
+UNSTATED = "Command", "Worked"  # files of actions and of examples
 TEST = re.compile(r"#\[test\]\s+(?:#\[[^\]]*\]\s+)*(?:pub )?fn (\w+)")
 
 
@@ -148,7 +149,7 @@ class Sources:
     def cited(self, item, clause):
         """The definitions that a clause of this item cites as statements: not the types of what it speaks of, actions or examples."""
         names = re.findall(r"[A-Za-z_]\w*", re.sub(r"\(([^()]*) : [^()]*(?:\([^()]*\))*[^()]*\)", "", clause))
-        return [it for it in names if it in self.imported(item) and self.file_of(item, it) not in ("Command", "Worked", None)]
+        return [it for it in names if it in self.imported(item) and (self.file_of(item, it) or UNSTATED)[1] not in UNSTATED]
 
     @functools.cache
     def imports_in(self, crate, file):
@@ -172,4 +173,4 @@ class Sources:
         places = self.definitions.get(name, [])
         crate, file = self.imported(item).get(name, (item.crate, None))
         exact = [it for it in places if it == (crate, file)] or [it for it in places if it[0] == crate] or places
-        return exact[0][1] if exact else None
+        return exact[0] if exact else None

@@ -72,11 +72,11 @@ def mistakes(root, text=PROVED, tests=TESTS):
 
 
 def test_a_promise_leads_to_all_that_belongs_to_it(repository):
-    assert rows(repository)["1.1"] == ["`ship` (`enough`)", "`Enough`: `IsEnough`", "`toll_stock/src/shipping.rt`", "`more_shipped_than_there_is`", "`what_is_there_is_shipped`"]
+    assert rows(repository)["1.1"] == ["`ship` (`enough`)", "`toll_stock/specs/Enough.antt`: `IsEnough`", "`toll_stock/src/shipping.rt`", "`more_shipped_than_there_is`", "`what_is_there_is_shipped`"]
 
 
 def test_a_decision_leads_to_its_checks(repository):
-    assert rows(repository)["1.2"][1] == "`Verdict`: `ship_checks`, `Decides`; `Enough`: `IsEnough`"
+    assert rows(repository)["1.2"][1] == "`toll_history/specs/Verdict.antt`: `ship_checks`, `Decides`; `toll_stock/specs/Enough.antt`: `IsEnough`"
 
 
 def test_a_method_is_its_types(repository):
