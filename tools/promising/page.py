@@ -15,7 +15,7 @@ NONE = "-"
 COMMON = {"all", "and", "are", "each", "its", "not", "one", "that", "the", "was", "what"}  # words that tell no texts apart
 INTRODUCTION = """# Promises
 
-`tools/promises` makes this page. A line leads from a promise, by its number in `docs/PROVED.md`, to the laws and contracts that carry it (with the clauses' names, if only some do), definitions in those clauses, the code, wrong bodies, and tests. Files are below `crates/`. A wrong body is a file of the crate's `must-fail/`, beside the promise, of those whose code it changes, that is most like its name. `-` means that there is none: a law has no body, or no test says more than the contract.
+`tools/promises` makes this page. A line leads from a promise, by its number in `docs/PROVED.md`, to the laws and contracts that carry it (with some clauses' names), definitions in those clauses, the code, wrong bodies, and tests. Files are below `crates/`. A wrong body is a file of the crate's `must-fail/`, beside the promise, of those whose code it changes, that is most like its name. `-` means that there is none: a law has no body, or no test says more than the contract.
 
 """
 HEAD = "|promise|law or contract|definition|code|wrong body|test|\n|---|---|---|---|---|---|\n"
