@@ -3,7 +3,7 @@ use Rattle.std.proofs.Common.{◌≡◌, ℕ, ◌+◌, ◌≤◌, ◌<◌, ◌^�
 use Rattle.toll_base.proofs.Common.{nat_list_cmp_total, option_map_or}
 use Rattle.toll_base.specs.Bytes.{Bytes, same_bytes, bytes_cmp}
 use Rattle.toll_base.specs.Keys.{batch_cmp}
-use Rattle.toll_base.specs.Table.{row_at, put_row, remove_row}
+use Rattle.toll_base.specs.Table.{row_at, put_row}
 use Rattle.toll_base.specs.ActualCounts.{counted, count_of, AreCountsOf, HasKnown}
 use Rattle.toll_base.specs.SliceRules.{is_actual_of}
 use Rattle.toll_base.specs.Words.{is_some_where}
@@ -12,7 +12,6 @@ use Rattle.toll_base.specs.declared.actual_count.ActualCount.{ActualCount}
 use Rattle.toll_base.proofs.Bools.{both, and_is}
 use Rattle.toll_base.proofs.KeyOrder.{row_at-put_row, none_of}
 use Rattle.toll_base.proofs.PutRules.{found_counted, count-le-length, count-put_row}
-use Rattle.toll_base.proofs.TakeBack.{count_removed}
 use Rattle.toll_base.proofs.Texts.{same_batch, same_bytes-exact, same_bytes-refl, nat_eq-exact, batch_cmp_total}
 use Rattle.toll_base.specs.declared.capacity.TheConstants.{MOST_MOVEMENTS}
 
@@ -123,11 +122,3 @@ module _ (moves : List MoveRow) (rows : List ActualCount) (counts : AreCountsOf 
   counts_after row after recounted o n =
       let put = count-put_row bytes_cmp nat_list_cmp_total (λ row. row.key) (λ row. is_actual_of o n row.what) moves row in
       omega (arith, recounted o n, put, counts o n)
-
-  -- and those after one was taken out
-  pub counts_without : (key : Bytes) (known : MoveRow) → row_at bytes_cmp (λ row. row.key) moves key ≡ Some known → (after : List ActualCount) →
-      ((o : Bytes) (n : ℕ) → cond (is_actual_of o n known.what) 1 0 + count_of after o n ≡ count_of rows o n) →
-      AreCountsOf after (remove_row bytes_cmp (λ row. row.key) moves key)
-  counts_without key known found after recounted o n =
-      let removed = count_removed bytes_cmp nat_list_cmp_total (λ row. row.key) (λ row. is_actual_of o n row.what) moves key known found in
-      omega (arith, recounted o n, removed, counts o n)

@@ -11,7 +11,6 @@ pub mod SliceRules
 pub mod ActualCounts
 pub mod SliceView
 pub mod SharedView
-pub mod Former
 pub mod States
 pub mod Lots
 pub mod ValueWords

@@ -1,9 +1,9 @@
 -- All rows of one owner.
 use Rattle.std.specs.Prelude.{ℕ, Option, List, []}
-use Rattle.std.specs.Option.{option_map, option_map_or}
+use Rattle.std.specs.Option.{option_map_or}
 use Rattle.toll_base.specs.Bytes.{Bytes, bytes_cmp}
 use Rattle.toll_base.specs.Keys.{pair_cmp, batch_cmp, result_cmp, RequirementKey, requirement_cmp}
-use Rattle.toll_base.specs.Table.{row_at, put_row, remove_row}
+use Rattle.toll_base.specs.Table.{row_at, put_row}
 use Rattle.toll_base.specs.declared.rows.MaterialRow.{MaterialRow}
 use Rattle.toll_base.specs.declared.rows.TestRow.{TestRow}
 use Rattle.toll_base.specs.declared.rows.RecipeRow.{RecipeRow}
@@ -102,31 +102,3 @@ with_row s (Sublot row) = record s { sublots = put_row pair_cmp (λ row. (row.lo
 with_row s (Move row) = record s { moves = put_row bytes_cmp (λ row. row.key) s.moves row }
 with_row s (Result row) = record s { results = put_row result_cmp (λ row. (row.lot, row.test, row.number)) s.results row }
 with_row s (Void row) = record s { voids = put_row bytes_cmp (λ row. row.key) s.voids row }
-
--- the slice without the row that has this one's key
-abbrev pub without_row : Slice → Row → Slice
-without_row s (Material row) = record s { materials = remove_row bytes_cmp (λ row. row.material) s.materials row.material }
-without_row s (Test row) = record s { tests = remove_row pair_cmp (λ row. (row.material, row.test)) s.tests (row.material, row.test) }
-without_row s (Recipe row) = record s { recipes = remove_row bytes_cmp (λ row. row.recipe) s.recipes row.recipe }
-without_row s (Requirement row) = record s { requirements = remove_row requirement_cmp (λ row. (row.recipe, row.segment, row.role, row.source, row.material)) s.requirements (row.recipe, row.segment, row.role, row.source, row.material) }
-without_row s (Order row) = record s { orders = remove_row bytes_cmp (λ row. row.order) s.orders row.order }
-without_row s (Batch row) = record s { batches = remove_row batch_cmp (λ row. (row.order, row.number)) s.batches (row.order, row.number) }
-without_row s (Lot row) = record s { lots = remove_row bytes_cmp (λ row. row.lot) s.lots row.lot }
-without_row s (Sublot row) = record s { sublots = remove_row pair_cmp (λ row. (row.lot, row.sublot)) s.sublots (row.lot, row.sublot) }
-without_row s (Move row) = record s { moves = remove_row bytes_cmp (λ row. row.key) s.moves row.key }
-without_row s (Result row) = record s { results = remove_row result_cmp (λ row. (row.lot, row.test, row.number)) s.results (row.lot, row.test, row.number) }
-without_row s (Void row) = record s { voids = remove_row bytes_cmp (λ row. row.key) s.voids row.key }
-
--- the row of the same kind with the same key
-abbrev pub row_like : Slice → Row → Option Row
-row_like s (Material row) = option_map (λ known. Material known) (material_at s row.material)
-row_like s (Test row) = option_map (λ known. Test known) (test_at s (row.material, row.test))
-row_like s (Recipe row) = option_map (λ known. Recipe known) (recipe_at s row.recipe)
-row_like s (Requirement row) = option_map (λ known. Requirement known) (requirement_at s (row.recipe, row.segment, row.role, row.source, row.material))
-row_like s (Order row) = option_map (λ known. Order known) (order_at s row.order)
-row_like s (Batch row) = option_map (λ known. Batch known) (batch_at s (row.order, row.number))
-row_like s (Lot row) = option_map (λ known. Lot known) (lot_at s row.lot)
-row_like s (Sublot row) = option_map (λ known. Sublot known) (sublot_at s (row.lot, row.sublot))
-row_like s (Move row) = option_map (λ known. Move known) (move_at s row.key)
-row_like s (Result row) = option_map (λ known. Result known) (result_at s (row.lot, row.test, row.number))
-row_like s (Void row) = option_map (λ known. Void known) (void_at s row.key)

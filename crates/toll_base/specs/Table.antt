@@ -28,11 +28,6 @@ module _ {K R : Type 0} (cmp : K → K → Ordering) (key : R → K) where
   unfoldable pub put_row : List R → R → List R
   put_row rows new = if is_some (row_at rows (key new)) then replace_row rows new else insert_row rows new
 
-  -- the rows without the first that has this key
-  abbrev pub remove_row : List R → K → List R
-  remove_row [] k = []
-  remove_row (row ∷ rows) k = if is_eq (cmp k (key row)) then rows else row ∷ remove_row rows k
-
   -- a row with the key is there, or there is room for one more
   abbrev pub has_room : ℕ → List R → R → Bool
   has_room most rows row = is_some (row_at rows (key row)) || nat_lt (length rows) most

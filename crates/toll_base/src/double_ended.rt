@@ -1,6 +1,6 @@
 //! Lists in one piece of memory, with room at both ends.
 ghost use Rattle.std.specs.Prelude.{◌≡◌, ◌≢◌, ℕ, ◌+◌, ◌-◌, ◌<◌, ◌≤◌, List, [], length, drop, vec_len, OnOk, OnErr, IfOk};
-ghost use Rattle.std.specs.List.{insert, remove, slice_set};
+ghost use Rattle.std.specs.List.{insert, slice_set};
 
 use std::alloc::{AllocError, Global};
 use std::marker::Model;
@@ -81,14 +81,6 @@ impl<T: Copy> DoubleEnded<T> {
         } else {
             Ok(self.room.insert(self.front + at, item)?)
         }
-    }
-
-    /// Takes the item out.
-    pub fn remove(&mut self, at: usize)
-        requires { at < length self.old }
-        ensures { self.new ≡ remove self.old at }
-    {
-        self.room.remove(self.front + at);
     }
 }
 

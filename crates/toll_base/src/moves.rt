@@ -3,7 +3,7 @@ ghost use Rattle.std.specs.Prelude.{◌≡◌, ℕ, ◌<◌, ◌≤◌, ◌^◌,
 ghost use Rattle.toll_base.specs.ActualCounts.{AreRecounted, HasKnown, HasRowFor, count_of};
 ghost use Rattle.toll_base.specs.Bytes.{Bytes, bytes_cmp};
 ghost use Rattle.toll_base.specs.SliceRules.{count_actuals};
-ghost use Rattle.toll_base.specs.Table.{row_at, put_row, remove_row, has_room, IsInKeyOrder};
+ghost use Rattle.toll_base.specs.Table.{row_at, put_row, has_room, IsInKeyOrder};
 
 use crate::actual_count::{ActualCount, add_one, add_row, count_in, take_one};
 use crate::bounded::BatchNo;
@@ -104,16 +104,6 @@ impl Moves {
         self.rows.put(row)?;
         recount(&mut self.actuals, &known, &row.what);
         Ok(())
-    }
-
-    /// Takes out the movement with this key, if there is one.
-    pub fn remove(&mut self, key: &Name)
-        ensures { self.new ≡ remove_row bytes_cmp (λ row. row.key) self.old key.now }
-    {
-        if let Some(known) = self.rows.get(key) {
-            take_one(&mut self.actuals, &known.what);
-            self.rows.remove(key);
-        }
     }
 }
 

@@ -10,13 +10,13 @@ use crate::bounded::{BatchNo, Segment};
 use crate::capacity::MOST_STOCK;
 use crate::movement::MoveRow;
 use crate::name::Name;
-use crate::open_slice::OpenSlice;
 use crate::role::Role;
 use crate::rows::{
     BatchRow, LotRow, MaterialRow, OrderRow, RecipeRow, RequirementRow, ResultRow, Row, SublotRow,
     TestRow, VoidRow,
 };
 use crate::tables::Tables;
+use crate::unique_slice::UniqueSlice;
 use std::alloc::{AllocError, Global};
 use std::marker::Model;
 use std::mem;
@@ -33,9 +33,9 @@ pub struct Slice {
 #[derive(Drop)]
 enum Sharing {
     // No copy has them.
-    Own(OpenSlice),
+    Own(UniqueSlice),
     // Copies may have them.
-    Shared(Rc<OpenSlice>),
+    Shared(Rc<UniqueSlice>),
 }
 
 impl Model for Slice {
@@ -62,7 +62,7 @@ impl Slice {
     {
         Slice {
             alloc,
-            rows: Sharing::Own(OpenSlice::new(alloc, owner)),
+            rows: Sharing::Own(UniqueSlice::new(alloc, owner)),
         }
     }
 
@@ -71,7 +71,7 @@ impl Slice {
         ensures owner { result.now ≡ self.now.owner }
         ensures kept { KeepsRules self.now }
     {
-        self.open_slice().owner()
+        self.unique_slice().owner()
     }
 
     /// Adds the row, or puts it in place of the one with its key. After want of memory nothing is
@@ -96,7 +96,7 @@ impl Slice {
     pub fn fits(&self, row: &Row) -> bool
         ensures { IsTrue result ↔ KeepsRules (with_row self.now row.now) }
     {
-        self.open_slice().fits(row)
+        self.unique_slice().fits(row)
     }
 
     /// How many actuals the batch has, voided ones included.
@@ -110,11 +110,11 @@ impl Slice {
     fn rows(&self) -> &Tables
         ensures { result.now ≡ self.now }
     {
-        &self.open_slice().tables
+        &self.unique_slice().tables
     }
 
     // The rows, wherever they are.
-    fn open_slice(&self) -> &OpenSlice
+    fn unique_slice(&self) -> &UniqueSlice
         ensures { result.now ≡ self.now }
     {
         match &self.rows {
@@ -141,7 +141,7 @@ impl Slice {
     pub fn share(&mut self, alloc: Global) -> Result<(), AllocError>
         ensures { self.new ≡ self.old }
     {
-        let empty = Sharing::Own(OpenSlice::new(alloc, *self.owner()));
+        let empty = Sharing::Own(UniqueSlice::new(alloc, *self.owner()));
         match mem::replace(&mut self.rows, empty) {
             Sharing::Own(rows) => match Rc::new(alloc, rows) {
                 Ok(shared) => self.rows = Sharing::Shared(shared),
@@ -157,12 +157,12 @@ impl Slice {
 
     /// Takes the rows out, to be changed in place, and leaves none. They are copied only where another
     /// slice shares them. After want of memory nothing is changed.
-    pub fn take(&mut self, alloc: Global) -> Result<OpenSlice, AllocError>
+    pub fn take(&mut self, alloc: Global) -> Result<UniqueSlice, AllocError>
         ensures rows { IfOk result (λ rows. rows ≡ self.old) }
         ensures ok { OnOk result (self.new ≡ empty_slice self.old.owner) }
         ensures err { OnErr result (self.new ≡ self.old) }
     {
-        let empty = Sharing::Own(OpenSlice::new(alloc, *self.owner()));
+        let empty = Sharing::Own(UniqueSlice::new(alloc, *self.owner()));
         match mem::replace(&mut self.rows, empty) {
             Sharing::Own(rows) => Ok(rows),
             Sharing::Shared(shared) => match Rc::try_unwrap(shared) {
@@ -179,7 +179,7 @@ impl Slice {
     }
 
     /// These rows.
-    pub fn of(alloc: Global, rows: OpenSlice) -> Self
+    pub fn of(alloc: Global, rows: UniqueSlice) -> Self
         ensures { result ≡ rows }
     {
         Slice {

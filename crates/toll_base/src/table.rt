@@ -2,7 +2,7 @@
 ghost use Rattle.std.specs.Prelude.{◌≡◌, List, [], length, is_some, true, OnOk, OnErr, IfOk, MatchResult};
 ghost use Rattle.std.specs.List.Sorted.{IsSearchInRange};
 ghost use Rattle.toll_base.specs.Places.{HasKeyAt, IsPlaceFor};
-ghost use Rattle.toll_base.specs.Table.{row_at, put_row, remove_row, IsInKeyOrder, has_room};
+ghost use Rattle.toll_base.specs.Table.{row_at, put_row, IsInKeyOrder, has_room};
 
 use crate::double_ended::DoubleEnded;
 use std::alloc::{AllocError, Global};
@@ -67,13 +67,6 @@ impl<R: Keyed> Table<R> {
         }
     }
 
-    /// The row with this one's key.
-    pub(crate) fn get_like(&self, row: &R) -> Option<R>
-        ensures { result ≡ row_at R.Key.cmp R.key_of self.now (R.key_of row.now) }
-    {
-        self.get(&row.key())
-    }
-
     /// Whether the row's key is there, or there are less rows than this.
     pub fn has_room(&self, row: &R, most: usize) -> bool
         ensures { result ≡ has_room R.Key.cmp R.key_of most self.now row.now }
@@ -101,22 +94,6 @@ impl<R: Keyed> Table<R> {
         if let Ok(at) = self.search(&row.key()) {
             self.rows.set(at, row);
         }
-    }
-
-    /// Takes out the row with this key, if there is one.
-    pub fn remove(&mut self, key: &R::Key)
-        ensures { self.new ≡ remove_row R.Key.cmp R.key_of self.old key.now }
-    {
-        if let Ok(at) = self.search(key) {
-            self.rows.remove(at);
-        }
-    }
-
-    /// Takes out the row with this one's key, if there is one.
-    pub(crate) fn remove_like(&mut self, row: &R)
-        ensures { self.new ≡ remove_row R.Key.cmp R.key_of self.old (R.key_of row.now) }
-    {
-        self.remove(&row.key());
     }
 
     /// The same rows once more.

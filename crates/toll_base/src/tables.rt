@@ -1,7 +1,6 @@
 //! The tables of one owner's rows.
 ghost use Rattle.std.specs.Prelude.{◌≡◌, ◌≤◌, length, OnOk, OnErr, IfOk, true};
-ghost use Rattle.toll_base.specs.Former.{can_replace};
-ghost use Rattle.toll_base.specs.Slice.{empty_slice, with_row, without_row, row_like, move_at};
+ghost use Rattle.toll_base.specs.Slice.{empty_slice, with_row, move_at};
 ghost use Rattle.toll_base.specs.SliceRules.{row_fits, batch_has_room, is_actual_of};
 ghost use Rattle.toll_base.specs.Words.{is_some_where};
 ghost use Rattle.toll_base.specs.declared.rows.Row.TheVariants.{Lot, Sublot};
@@ -185,63 +184,5 @@ impl Tables {
             results: self.results.copy(alloc)?,
             voids: self.voids.copy(alloc)?,
         })
-    }
-
-    /// The row of the same kind with the same key.
-    pub fn row_like(&self, row: &Row) -> Option<Row>
-        ensures { result ≡ row_like self.now row.now }
-    {
-        match row {
-            Row::Material(row) => Some(Row::Material(self.materials.get_like(row)?)),
-            Row::Test(row) => Some(Row::Test(self.tests.get_like(row)?)),
-            Row::Recipe(row) => Some(Row::Recipe(self.recipes.get_like(row)?)),
-            Row::Requirement(row) => Some(Row::Requirement(self.requirements.get_like(row)?)),
-            Row::Order(row) => Some(Row::Order(self.orders.get_like(row)?)),
-            Row::Batch(row) => Some(Row::Batch(self.batches.get_like(row)?)),
-            Row::Lot(row) => Some(Row::Lot(self.lots.get_like(row)?)),
-            Row::Sublot(row) => Some(Row::Sublot(self.sublots.get_like(row)?)),
-            Row::Move(row) => Some(Row::Move(self.moves.get(&row.key)?)),
-            Row::Result(row) => Some(Row::Result(self.results.get_like(row)?)),
-            Row::Void(row) => Some(Row::Void(self.voids.get_like(row)?)),
-        }
-    }
-
-    /// Takes out the row with this one's key, if there is one.
-    pub fn take_out(&mut self, row: &Row)
-        ensures { self.new ≡ without_row self.old row.now }
-    {
-        match row {
-            Row::Material(row) => self.materials.remove_like(row),
-            Row::Test(row) => self.tests.remove_like(row),
-            Row::Recipe(row) => self.recipes.remove_like(row),
-            Row::Requirement(row) => self.requirements.remove_like(row),
-            Row::Order(row) => self.orders.remove_like(row),
-            Row::Batch(row) => self.batches.remove_like(row),
-            Row::Lot(row) => self.lots.remove_like(row),
-            Row::Sublot(row) => self.sublots.remove_like(row),
-            Row::Move(row) => self.moves.remove(&row.key),
-            Row::Result(row) => self.results.remove_like(row),
-            Row::Void(row) => self.voids.remove_like(row),
-        }
-    }
-
-    /// Puts the row in place of the one with its key, which takes no memory.
-    pub fn replace(&mut self, row: Row)
-        requires { can_replace self.old row ≡ true }
-        ensures { self.new ≡ with_row self.old row }
-    {
-        match row {
-            Row::Material(row) => self.materials.replace(row),
-            Row::Test(row) => self.tests.replace(row),
-            Row::Recipe(row) => self.recipes.replace(row),
-            Row::Requirement(row) => self.requirements.replace(row),
-            Row::Order(row) => self.orders.replace(row),
-            Row::Batch(row) => self.batches.replace(row),
-            Row::Lot(row) => self.lots.replace(row),
-            Row::Sublot(row) => self.sublots.replace(row),
-            Row::Move(_) => {}
-            Row::Result(row) => self.results.replace(row),
-            Row::Void(row) => self.voids.replace(row),
-        }
     }
 }

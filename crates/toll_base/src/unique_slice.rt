@@ -1,10 +1,8 @@
 //! All rows of one owner, to be changed in place.
 ghost use Rattle.std.specs.Prelude.{◌≡◌, ◌↔◌, OnOk, OnErr, IfOk, IsTrue, true};
-ghost use Rattle.toll_base.specs.Former.{taken_back, is_there, TakesBack};
 ghost use Rattle.toll_base.specs.Slice.{empty_slice, with_row};
 ghost use Rattle.toll_base.specs.SliceRules.{KeepsRules};
 
-use crate::former::Former;
 use crate::name::Name;
 use crate::rows::Row;
 use crate::tables::Tables;
@@ -12,12 +10,12 @@ use std::alloc::{AllocError, Global};
 use std::marker::Model;
 
 /// All rows of one owner, each kind in the order of its keys. No copy has them too, so that they are
-/// changed in place, and a change is taken back without memory.
-pub struct OpenSlice {
+/// changed in place.
+pub struct UniqueSlice {
     pub(crate) tables: Tables,
 }
 
-impl Model for OpenSlice {
+impl Model for UniqueSlice {
     ghost use Rattle.toll_base.specs.Slice as rows;
 
     ghost Value = { rows.Slice };
@@ -30,18 +28,18 @@ impl Model for OpenSlice {
 }
 
 /// By hand, since what is derived is written out at every exit of every function that owns rows.
-impl Drop for OpenSlice {
+impl Drop for UniqueSlice {
     fn drop(self) {
-        let OpenSlice { tables: _ } = self;
+        let UniqueSlice { tables: _ } = self;
     }
 }
 
-impl OpenSlice {
+impl UniqueSlice {
     /// No rows of this owner. It takes no memory yet.
     pub fn new(alloc: Global, owner: Name) -> Self
         ensures { result ≡ empty_slice owner }
     {
-        OpenSlice {
+        UniqueSlice {
             tables: Tables::new(alloc, owner),
         }
     }
@@ -75,51 +73,8 @@ impl OpenSlice {
     pub fn copy(&self, alloc: Global) -> Result<Self, AllocError>
         ensures { IfOk result (λ copied. copied ≡ self.now) }
     {
-        Ok(OpenSlice {
+        Ok(UniqueSlice {
             tables: self.tables.copy(alloc)?,
         })
-    }
-}
-
-/// A change, and how it is taken back.
-impl OpenSlice {
-    /// Adds the row, or puts it in place of the one with its key, and tells what takes that back.
-    /// After want of memory nothing is changed.
-    pub fn change(&mut self, alloc: Global, row: Row) -> Result<Former, AllocError>
-        requires { KeepsRules (with_row self.old row) }
-        ensures ok { OnOk result (self.new ≡ with_row self.old row) }
-        ensures err { OnErr result (self.new ≡ self.old) }
-        ensures former { IfOk result (λ former. TakesBack former self.old self.new) }
-    {
-        let former = self.former(alloc, &row)?;
-        self.put(row)?;
-        Ok(former)
-    }
-
-    /// Takes back a change.
-    pub fn undo(&mut self, former: Former)
-        requires there { is_there former self.old ≡ true }
-        requires kept { KeepsRules (taken_back former self.old) }
-        ensures { self.new ≡ taken_back former self.old }
-    {
-        match former {
-            Former::Added(row) => self.tables.take_out(&row),
-            Former::Replaced(row) => self.tables.replace(row),
-            Former::Moves(moves) => self.tables.moves = moves,
-        }
-    }
-
-    // What takes back a put of the row. The counts beside the movements have no room for a movement
-    // that another one replaced, which no command does: so the movements are copied there.
-    fn former(&self, alloc: Global, row: &Row) -> Result<Former, AllocError>
-        ensures { IfOk result (λ former. TakesBack former self.now (with_row self.now row.now)) }
-    {
-        match self.tables.row_like(row) {
-            None => Ok(Former::Added(*row)),
-            Some(known) => match known {
-                Row::Move(_) => Ok(Former::Moves(self.tables.moves.copy(alloc)?)),
-                _ => Ok(Former::Replaced(known)),
-            },
-        }
     }
 }
