@@ -10,6 +10,8 @@ pub mod Drawn
 pub mod Unique
 pub mod DrawnRows
 pub mod Walks
+pub mod Parts
+pub mod Among
 pub mod EdgeJoints
 pub mod Ahead
 pub mod Recording

@@ -5,13 +5,13 @@ use Rattle.std.proofs.lemmas.List.{length-take, length-drop, get_or-take, get_or
 use Rattle.toll_trace.proofs.Common.{flat_map, flat_map_more, is_eq, take_more, cases_eq, cases_lt, not-true, not_from_false, tied_itself, tells_apart, Contains-append_left, Contains-append_right, Contains-append_cases, LotId, lot_cmp}
 use Rattle.toll_trace.specs.declared.joints.Span.{Span}
 use Rattle.toll_trace.specs.declared.step.Step.{Step}
-use Rattle.toll_trace.specs.InOrder.{IsInOrder}
 use Rattle.toll_trace.specs.Joints.{leaving, LeadsThrough}
 use Rattle.toll_trace.specs.Search.{step_at, is_found, IsLevel}
 use Rattle.toll_trace.specs.Trace.{lots_of}
-use Rattle.toll_trace.specs.Walk.{AreWalked, AreEntered, AreLedTo}
+use Rattle.toll_trace.specs.declared.search.Part.{Part}
+use Rattle.toll_trace.specs.Walk.{AreWalked, AreEntered, AreLedOn, AreLedTo, IsWalked, LeadThrough, all_joints}
 use Rattle.toll_trace.proofs.Levels.{lot_is_found, found_lot, not_found_lot, lots_more}
-use Rattle.toll_trace.proofs.Members.{Contains-none, Contains-here, Contains-cases, Contains-filter, Contains-from_filter, Contains-flat_map, Contains-from_flat_map, kept_in_order}
+use Rattle.toll_trace.proofs.Members.{Contains-none, Contains-here, Contains-cases, Contains-filter, Contains-from_filter, Contains-flat_map, Contains-from_flat_map}
 use Rattle.toll_trace.proofs.Orders.{lots_total, lots_exact}
 
 -- ==== what stands between two places
@@ -179,21 +179,17 @@ entry_of entries lots entry i =
 listed_entry : (entries : List (LotId × Span)) (lots : List LotId) (a : LotId) (span : Span) → Contains lots a → Contains entries (a, span) → Contains (entries_of entries lots) (a, span)
 listed_entry entries lots a span i j = Contains-flat_map (λ lot. filter (λ entry. is_eq (lot_cmp entry.0 lot)) entries) lots a (a, span) i (Contains-filter (λ (entry : LotId × Span). is_eq (lot_cmp entry.0 a)) entries (a, span) j (ap is_eq (tied_itself lots_total a)))
 
--- the lots that leave the spans of the front's entries, put in order
-pub led : (entries : List (LotId × Span)) (exits : List LotId) (is_old : LotId → Bool) (front : List LotId) (lows : List ℕ) (lots sorted : List LotId) → AreEntered exits is_old (entries_of entries front) lows [] lots → IsInOrder lot_cmp lots sorted → AreLedTo entries exits is_old front lows sorted
-led entries exits is_old front lows lots sorted entered order = record {
-  walked = record { low = entered.walked.low; known = λ end x le i. in_order x (entered.walked.known end x le i) };
-  only = λ b i. elim (entered.only b (order.none_new b i)) [
-    | inl none ↦ absurd (Contains-none b none)
-    | inr r ↦ let e = entry_of entries front r.1.0 r.1.1 in (r.0, (r.1.0.0, e.1, (r.1.0.1, e.0, r.1.2)))
+-- what leaves the spans of the front's entries is what a step through the joints leads to
+pub led_on : (is_old : LotId → Bool) (front : List LotId) (part : Part) (before lots : List LotId) → length part.lows.items ≡ length part.joints.now.exits.items + 1 → AreEntered part.joints.now.exits.items is_old (entries_of part.joints.now.entries front) part.lows.items before lots → AreLedOn is_old front part before lots
+led_on is_old front part before lots sized entered = record {
+  walked = record { sized = sized; walked = entered.walked };
+  kept = entered.kept;
+  only = λ b i. elim (entered.only b i) [
+    | inl old ↦ inl old
+    | inr r ↦ let e = entry_of part.joints.now.entries front r.1.0 r.1.1 in inr (r.0, (r.1.0.0, e.1, (r.1.0.1, e.0, r.1.2)))
   ];
-  every = λ a b i leads. in_order b (entered.every (a, leads.0) b (listed_entry entries front a leads.0 i leads.1) leads.2);
-  ordered = order.ordered;
+  every = λ a b i leads. entered.every (a, leads.0) b (listed_entry part.joints.now.entries front a leads.0 i leads.1) leads.2;
 }
-  where
-    in_order : (x : LotId) → (is_old x ≡ true) ⊎ Contains lots x → (is_old x ≡ true) ⊎ Contains sorted x
-    in_order x (inl h) = inl h
-    in_order x (inr i) = inr (kept_in_order lot_cmp lots_exact lots sorted order x i)
 
 -- ==== levels
 
@@ -205,16 +201,16 @@ more_lots : (found : List Step) (front : List LotId) (k : ℕ) (b : LotId) → C
 more_lots found front k b h = subst (λ l. Contains l b) (sym (lots_more found k front)) (elim h [ inl h ↦ Contains-append_left (lots_of found) front b h | inr h ↦ Contains-append_right (lots_of found) front b h ])
 
 -- the lots that the first front leads to, and those that a later one leads to
-pub level_first : (entries : List (LotId × Span)) (exits : List LotId) (from : LotId) (lows : List ℕ) (lots : List LotId) → AreLedTo entries exits (is_found (step_at 0 from ∷ [])) (from ∷ []) lows lots → IsLevel (LeadsThrough entries exits) (step_at 0 from ∷ []) lots
-level_first entries exits from lows lots led = record {
+pub level_first : (parts : List Part) (from : LotId) (lots : List LotId) → AreLedTo (is_found (step_at 0 from ∷ [])) (from ∷ []) parts lots → IsLevel (LeadThrough (all_joints parts)) (step_at 0 from ∷ []) lots
+level_first parts from lots led = record {
   led_to = λ b i. (led.only b i).1;
   not_found = λ b i. not_found_lot (step_at 0 from ∷ []) b (led.only b i).0;
   every = λ a b i leads. found_or (step_at 0 from ∷ []) lots b (led.every a b i leads);
   ordered = led.ordered;
 }
 
-pub level_next : (entries : List (LotId × Span)) (exits : List LotId) (found : List Step) (front : List LotId) (k : ℕ) (lows : List ℕ) (lots : List LotId) → IsLevel (LeadsThrough entries exits) found front → AreLedTo entries exits (is_found (found ++ map (step_at k) front)) front lows lots → IsLevel (LeadsThrough entries exits) (found ++ map (step_at k) front) lots
-level_next entries exits found front k lows lots level led = record {
+pub level_next : (parts : List Part) (found : List Step) (front : List LotId) (k : ℕ) (lots : List LotId) → IsLevel (LeadThrough (all_joints parts)) found front → AreLedTo (is_found (found ++ map (step_at k) front)) front parts lots → IsLevel (LeadThrough (all_joints parts)) (found ++ map (step_at k) front) lots
+level_next parts found front k lots level led = record {
   led_to = λ b i. let r = (led.only b i).1 in (r.0, more_lots found front k r.0 (inr r.1), r.2);
   not_found = λ b i. not_found_lot (found ++ map (step_at k) front) b (led.only b i).0;
   every = λ a b i leads. elim (Contains-append_cases (lots_of found) front a (subst (λ l. Contains l a) (lots_more found k front) i)) [
@@ -225,10 +221,13 @@ level_next entries exits found front k lows lots level led = record {
 }
 
 -- when the lots walked to are found, nothing is left among them
-pub walked_found : (exits : List LotId) (found : List Step) (k : ℕ) (lows : List ℕ) (lots : List LotId) → AreWalked exits (is_found found) lows lots → AreWalked exits (is_found (found ++ map (step_at k) lots)) lows []
-walked_found exits found k lows lots walked = record {
-  low = walked.low;
-  known = λ end x le i. inl (lot_is_found (found ++ map (step_at k) lots) x (more_lots found lots k x (elim (walked.known end x le i) [ inl h ↦ inl (found_lot found x h) | inr h ↦ inr h ])));
+pub walked_found : (part : Part) (found : List Step) (k : ℕ) (lots : List LotId) → IsWalked (is_found found) lots part → IsWalked (is_found (found ++ map (step_at k) lots)) [] part
+walked_found part found k lots old = record {
+  sized = old.sized;
+  walked = record {
+    low = old.walked.low;
+    known = λ end x le i. inl (lot_is_found (found ++ map (step_at k) lots) x (more_lots found lots k x (elim (old.walked.known end x le i) [ inl h ↦ inl (found_lot found x h) | inr h ↦ inr h ])));
+  };
 }
 
 -- where nothing was walked

@@ -25,3 +25,7 @@ pub record IsGraph (is_edge : Edge → Type 0) (graph : Graph) : Type 0 where
 -- the graph is of the edges of this list
 abbrev pub IsGraphOf : List Edge → Graph → Type 0
 IsGraphOf edges graph = IsGraph (Contains edges) graph
+
+-- in one of the graphs a step that way comes from `a` to `b`
+abbrev pub LeadAmong : List Graph → Way → LotId → LotId → Type 0
+LeadAmong graphs way a b = (graph : Graph) × Contains graphs graph × Leads graph way a b

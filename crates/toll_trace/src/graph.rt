@@ -1,11 +1,12 @@
 //! Traces over joints.
-ghost use Rattle.std.specs.Prelude.{◌≡◌, IfOk};
+ghost use Rattle.std.specs.Prelude.{◌≡◌, map, IfOk};
 ghost use Rattle.toll_trace.specs.Chain.{IsJoined};
+ghost use Rattle.toll_trace.specs.Graph.{LeadAmong};
 ghost use Rattle.toll_trace.specs.Trace.{IsTrace};
 
 use crate::joints::Joints;
 use crate::recorded::Recorded;
-use crate::search::search;
+use crate::search::{Part, search};
 use crate::step::Step;
 use crate::way::Way;
 use std::alloc::{AllocError, Global};
@@ -60,7 +61,7 @@ impl Graph {
         ensures led { IfOk result (λ trace. IsTrace (Leads self.now way) from.now trace.items) }
         ensures edges { IfOk result (λ trace. (edges : List Edge) → IsGraphOf edges self.now → IsTrace (IsJoined edges way) from.now trace.items) }
     {
-        search(alloc, self.joints(way), from)
+        trace_among(alloc, &[self], from, way)
     }
 
     /// The joints for that way.
@@ -74,15 +75,18 @@ impl Graph {
     }
 }
 
-/// Every lot that ends a chain of these edges from the lot, as [`crate::plain_trace`] answers it, by
-/// the joints of the one way that is asked: for one trace where there are many edges.
-pub fn trace_one_way(
+/// Every lot that ends a chain of the edges of these graphs from the lot. It walks each joint once at most.
+pub fn trace_among(
     alloc: Global,
-    edges: &[Edge],
+    graphs: &[&Graph],
     from: &LotId,
     way: Way,
 ) -> Result<Vec<Step>, AllocError>
-    ensures { IfOk result (λ trace. IsTrace (IsJoined edges.now way) from.now trace.items) }
+    ensures { IfOk result (λ trace. IsTrace (LeadAmong (map (λ graph. graph.now) graphs.now) way) from.now trace.items) }
 {
-    search(alloc, &Joints::of_edges(alloc, edges, way)?, from)
+    let mut parts = Vec::new(alloc);
+    for graph in graphs {
+        parts.push(Part::of(alloc, graph.joints(way))?)?;
+    }
+    search(alloc, &mut parts, from)
 }

@@ -18,7 +18,7 @@ mod step;
 mod way;
 
 pub use edges::edges_of;
-pub use graph::{Graph, trace_one_way};
+pub use graph::{Graph, trace_among};
 pub use in_order::put_in_order;
 pub use laws::traces_are_unique;
 pub use plain::plain_trace;

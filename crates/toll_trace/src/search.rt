@@ -1,9 +1,9 @@
 //! The search for a trace: level by level, each joint walked once.
-ghost use Rattle.std.specs.Prelude.{◌≡◌, ℕ, ◌+◌, ◌^◌, ◌<◌, ◌++◌, [], not, filter, length, slice_index, IfOk, OnOk};
-ghost use Rattle.toll_trace.specs.Joints.{AreWithin, LeadsThrough};
+ghost use Rattle.std.specs.Prelude.{◌≡◌, ℕ, ◌+◌, ◌^◌, ◌<◌, ◌++◌, [], not, filter, length, slice_index, IfOk, OnOk, Contains};
+ghost use Rattle.toll_trace.specs.Joints.{AreWithin};
 ghost use Rattle.toll_trace.specs.Search.{is_found};
 ghost use Rattle.toll_trace.specs.Trace.{IsTrace};
-ghost use Rattle.toll_trace.specs.Walk.{AreWalked, AreEntered, AreLedTo};
+ghost use Rattle.toll_trace.specs.Walk.{AreWalked, AreEntered, AreLedOn, AreLedTo, IsWalked, LeadThrough, all_joints};
 
 use crate::found::Found;
 use crate::in_order::put_in_order;
@@ -12,18 +12,64 @@ use crate::step::Step;
 use std::alloc::{AllocError, Global};
 use toll_base::LotId;
 
+/// The joints of one graph, and for each place where a span of them may end, from which joint on those
+/// before it were walked.
+#[derive(Drop)]
+pub(crate) struct Part<'a> {
+    pub(crate) joints: &'a Joints,
+    pub(crate) lows: Vec<usize>,
+}
+
+impl<'a> Part<'a> {
+    /// The joints, none of them walked.
+    pub(crate) fn of(alloc: Global, joints: &'a Joints) -> Result<Self, AllocError>
+        ensures joints { IfOk result (λ part. part.joints.now ≡ joints.now) }
+        ensures walked { IfOk result (λ part. (is_old : _) → IsWalked is_old [] part) }
+    {
+        let lows = nothing_walked(alloc, joints.exits.len())?;
+        Ok(Part { joints, lows })
+    }
+
+    // Adds the lots that one step through the joints leads to from the front and that are not found yet.
+    fn lead_on(
+        &mut self,
+        lots: &mut Vec<LotId>,
+        found: &Found,
+        front: &[LotId],
+    ) -> Result<(), AllocError>
+        requires { IsWalked (is_found found.now) lots.old.items self.old }
+        ensures joints { self.new.joints.now ≡ self.old.joints.now }
+        ensures led { OnOk result (AreLedOn (is_found found.now) front.now self.new lots.old.items lots.new.items) }
+    {
+        for lot in front {
+            enter(
+                lots,
+                &mut self.lows,
+                &self.joints.exits,
+                found,
+                self.joints.entries.at(lot),
+            )?;
+        }
+        Ok(())
+    }
+}
+
 /// Every lot that ends a chain of steps through the joints from the lot.
-pub(crate) fn search(alloc: Global, joints: &Joints, from: &LotId) -> Result<Vec<Step>, AllocError>
-    ensures { IfOk result (λ trace. IsTrace (LeadsThrough joints.now.entries joints.now.exits.items) from.now trace.items) }
+pub(crate) fn search(
+    alloc: Global,
+    parts: &mut Vec<Part<'_>>,
+    from: &LotId,
+) -> Result<Vec<Step>, AllocError>
+    requires { (part : _) → Contains parts.old.items part → (is_old : _) → IsWalked is_old [] part }
+    ensures { IfOk result (λ trace. IsTrace (LeadThrough (all_joints parts.old.items)) from.now trace.items) }
 {
     let mut found = Found::new(alloc, from)?;
-    let mut lows = nothing_walked(alloc, joints.exits.len())?;
-    let mut front = next_front(alloc, joints, &mut lows, &found, &[*from])?;
+    let mut front = next_front(alloc, parts, &found, &[*from])?;
     let mut steps = 0;
     'levels: while !front.is_empty() {
         steps += 1;
         found.add(steps, &front)?;
-        front = next_front(alloc, joints, &mut lows, &found, &front)?;
+        front = next_front(alloc, parts, &found, &front)?;
     }
     Ok(found.into_steps())
 }
@@ -45,24 +91,17 @@ fn nothing_walked(alloc: Global, joints: usize) -> Result<Vec<usize>, AllocError
 /// The lots that one step leads to from the front and that are not found yet, in order.
 fn next_front(
     alloc: Global,
-    joints: &Joints,
-    lows: &mut [usize],
+    parts: &mut Vec<Part<'_>>,
     found: &Found,
     front: &[LotId],
 ) -> Result<Vec<LotId>, AllocError>
-    requires sized { length lows.old ≡ length joints.now.exits.items + 1 }
-    requires walked { AreWalked joints.now.exits.items (is_found found.now) lows.old [] }
-    ensures { IfOk result (λ lots. AreLedTo joints.now.entries joints.now.exits.items (is_found found.now) front.now lows.new lots.items) }
+    requires { (part : _) → Contains parts.old.items part → IsWalked (is_found found.now) [] part }
+    ensures joints { OnOk result (all_joints parts.new.items ≡ all_joints parts.old.items) }
+    ensures led { IfOk result (λ lots. AreLedTo (is_found found.now) front.now parts.new.items lots.items) }
 {
     let mut lots = Vec::new(alloc);
-    for lot in front {
-        enter(
-            &mut lots,
-            lows,
-            &joints.exits,
-            found,
-            joints.entries.at(lot),
-        )?;
+    for part in parts.iter_mut() {
+        part.lead_on(&mut lots, found, front)?;
     }
     put_in_order(&mut lots);
     Ok(lots)

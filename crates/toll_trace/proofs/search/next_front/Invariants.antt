@@ -1,8 +1,6 @@
-use Rattle.std.proofs.Common.{[], take}
 use Rattle.toll_trace.specs.Search.{is_found}
-use Rattle.toll_trace.specs.Walk.{AreEntered}
-use Rattle.toll_trace.proofs.Walks.{entries_of}
+use Rattle.toll_trace.proofs.Parts.{AreLedSoFar}
 use Rattle.toll_trace.proofs.search.next_front.Given as goal
 
-abbrev pub invariant-loop-lot : goal.invariant-loop-lot
-invariant-loop-lot l = AreEntered l.joints.exits.items (is_found l.found) (entries_of l.joints.entries (take l.lot-index l.front)) l.lows [] l.lots.items
+abbrev pub invariant-loop-part : goal.invariant-loop-part
+invariant-loop-part l = AreLedSoFar (is_found l.found) l.front l.fn.parts.items l.part-items l.part-index l.lots.items
