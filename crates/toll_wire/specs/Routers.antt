@@ -52,8 +52,12 @@ pub record IsRowOf (r : spec.Route) (row : List ℕ × RouteOf Route) : Type 0 w
   pub names_are : length row.1.names ≡ count r.parts
   pub value_is : shown row.1.value ≡ served r
 
+-- the rows of a router of such routes
+abbrev pub OfficeRows : Type 0
+OfficeRows = RowsOf (RouteOf Route)
+
 -- each row is one of a route, and each route has a row
-pub record IsOffice (router : RowsOf (RouteOf Route)) : Type 0 where
+pub record IsOffice (router : OfficeRows) : Type 0 where
   pub from : (row : List ℕ × RouteOf Route) → In router row → (r : spec.Route) × In routes r × IsRowOf r row
   pub to : (r : spec.Route) → In routes r → (e : RouteOf Route) × In router (tokens r, e)
 

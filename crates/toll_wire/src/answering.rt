@@ -6,7 +6,7 @@ ghost use Rattle.toll_wire.specs.Steps.{IsAnswered, IsServing, claimed_request_o
 use crate::outgoing::Out;
 use crate::parsed_request::{ParsedRequest, read};
 use crate::reply::{fail, tell};
-use crate::routes::RoutedRequest;
+use crate::routes::{OfficeRouter, RoutedRequest};
 use std::alloc::Global;
 use toll_desk::{Request, admit, commit, owner_plan};
 use toll_keep::Keep;
@@ -20,7 +20,19 @@ use toll_protocol::Failure;
 pub fn answer<K: Keep>(alloc: Global, keep: &mut K, bytes: &[u8]) -> Out
     ensures { IsAnswered K.meaning keep.old keep.new bytes.now result }
 {
-    match read(alloc, bytes) {
+    answer_with_router(alloc, &mut OfficeRouter::new(), keep, bytes)
+}
+
+/// The same with a router that serves many requests.
+pub fn answer_with_router<K: Keep>(
+    alloc: Global,
+    router: &mut OfficeRouter,
+    keep: &mut K,
+    bytes: &[u8],
+) -> Out
+    ensures { IsAnswered K.meaning keep.old keep.new bytes.now result }
+{
+    match read(alloc, router, bytes) {
         Err(_) => Out::Unavailable,
         Ok(ParsedRequest::Refused(failure)) => fail(alloc, failure),
         Ok(ParsedRequest::Claimed { owner, key, asks }) => match (owner, key) {

@@ -12,7 +12,7 @@ mod reply;
 mod routes;
 mod run;
 
-pub use answering::answer;
+pub use answering::{answer, answer_with_router};
 pub use bodies::{
     Placing, batch_body, error_body, lot_body, order_asked, order_body, orders_body, refusal_body,
     stock_body, trace_body,
@@ -27,7 +27,8 @@ pub use laws::{
 };
 pub use outgoing::Out;
 pub use routes::{
-    RoutedRequest, a_request_asks_for_one_thing, each_request_has_its_route, route_request,
+    OfficeRouter, RoutedRequest, a_request_asks_for_one_thing, each_request_has_its_route,
+    route_request,
 };
 pub use run::run_events;
 pub use toll_protocol::{ReadFault, WriteFault, read_request, write_whole as write_reply};

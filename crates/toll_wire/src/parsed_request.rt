@@ -4,7 +4,7 @@ ghost use Rattle.toll_wire.specs.ParsedRequests.{Reads};
 ghost use Rattle.toll_wire.specs.ParsedRequests as spec;
 ghost use Rattle.toll_wire.specs.Shown.{asked_of};
 
-use crate::routes::{RoutedRequest, route_request};
+use crate::routes::{OfficeRouter, RoutedRequest, route_request};
 use std::alloc::{AllocError, Global};
 use toll_protocol::{Failure, parse_http};
 
@@ -22,13 +22,23 @@ pub enum ParsedRequest<'b> {
 }
 
 /// Reads a request (RFC 9112).
-pub fn read(alloc: Global, bytes: &[u8]) -> Result<ParsedRequest<'_>, AllocError>
+pub fn read<'b>(
+    alloc: Global,
+    router: &mut OfficeRouter,
+    bytes: &'b [u8],
+) -> Result<ParsedRequest<'b>, AllocError>
     ensures reads { IfOk result (λ asked. Reads bytes.now (asked_of asked)) }
     ensures only { IfOk result (λ read. (asked : spec.ParsedRequest) → Reads bytes.now asked → asked ≡ asked_of read) }
 {
     match parse_http(bytes) {
         Err(failure) => Ok(ParsedRequest::Refused(failure)),
-        Ok(arrival) => match route_request(alloc, arrival.verb, arrival.target, arrival.body) {
+        Ok(arrival) => match route_request(
+            alloc,
+            router,
+            arrival.verb,
+            arrival.target,
+            arrival.body,
+        ) {
             Ok(asks) => Ok(ParsedRequest::Claimed {
                 owner: arrival.owner,
                 key: arrival.key,

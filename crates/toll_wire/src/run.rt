@@ -5,8 +5,9 @@ ghost use Rattle.toll_keep.specs.Meaning.{NeverCloses};
 ghost use Rattle.toll_desk.specs.Reads.{Over};
 ghost use Rattle.toll_wire.specs.OfficeRuns.{AreServed, AreSteps, IsEventServed, IsOpenAnswer, IsRunOf};
 
-use crate::answering::answer;
+use crate::answering::answer_with_router;
 use crate::event::{Answer, Event};
+use crate::routes::OfficeRouter;
 use std::alloc::{AllocError, Global};
 use toll_desk::plant_do;
 use toll_keep::Keep;
@@ -27,19 +28,25 @@ pub fn run_events<K: Keep>(
     ensures steps { Over K.meaning keep.old keep.new (λ c H. IfOk result (λ answers. AreSteps K.meaning keep.old c H events.now answers.items keep.new)) }
     ensures open { NeverCloses K.meaning → Over K.meaning keep.old keep.new (λ c H. IfOk result (λ answers. AllByRecursion IsOpenAnswer answers.items)) }
 {
+    let mut router = OfficeRouter::new();
     let mut answers = Vec::with_capacity(alloc, events.len())?;
     for event in events {
-        let answer = answer_event(alloc, keep, event);
+        let answer = answer_event(alloc, &mut router, keep, event);
         answers.push_reserved(answer);
     }
     Ok(answers)
 }
 
-fn answer_event<K: Keep>(alloc: Global, keep: &mut K, event: &Event) -> Answer
+fn answer_event<K: Keep>(
+    alloc: Global,
+    router: &mut OfficeRouter,
+    keep: &mut K,
+    event: &Event,
+) -> Answer
     ensures { IsEventServed K.meaning keep.old keep.new event.now result }
 {
     match event {
-        Event::Owner(bytes) => Answer::Bytes(answer(alloc, keep, bytes)),
+        Event::Owner(bytes) => Answer::Bytes(answer_with_router(alloc, router, keep, bytes)),
         Event::Plant(command) => Answer::Plant(plant_do(alloc, keep, command)),
     }
 }

@@ -1,12 +1,9 @@
 //! The routes of the office.
-ghost use Rattle.std.specs.Prelude.{◌≡◌, IfOk};
-ghost use Rattle.toll_wire.specs.Routers.{IsOffice};
+ghost use Rattle.std.specs.Prelude.{◌≡◌};
 ghost use Rattle.toll_wire.specs.Routers.{ask_of};
 
 use crate::routes::parts::Parts;
 use crate::routes::request_kind::RequestKind;
-use matchit::{InsertError, Router};
-use std::alloc::{AllocError, Global};
 use toll_protocol::Verb;
 
 /// A route: the pattern of its paths, which parts stand in them, and what each method asks for there,
@@ -31,22 +28,8 @@ impl Route {
     }
 }
 
-/// The router of the office.
-pub fn router(alloc: Global) -> Result<Router<Route>, AllocError>
-    ensures { IfOk result IsOffice }
-{
-    let mut router = Router::new(alloc);
-    for route in &ROUTES {
-        if let Err(error) = router.insert(route.pattern, *route) {
-            prove!(matches!(&error, InsertError::OutOfMemory));
-            return Err(AllocError);
-        }
-    }
-    Ok(router)
-}
-
-// Every route of the office.
-static ROUTES: [Route; 11] = [
+/// Every route of the office.
+pub static ROUTES: [Route; 11] = [
     Route {
         pattern: "/orders",
         parts: Parts::Nothing,

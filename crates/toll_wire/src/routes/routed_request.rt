@@ -3,9 +3,9 @@ ghost use Rattle.std.specs.Prelude.{◌≡◌, IfOk};
 ghost use Rattle.toll_wire.specs.Routing.{AsksBy, AsksOf, IsAsking, IsPlacing, Fits, other_of};
 
 use crate::bodies::order_asked;
+use crate::routes::office_router::OfficeRouter;
 use crate::routes::path::{path_of, route_of};
 use crate::routes::request_kind::{RequestKind, request_from};
-use crate::routes::route::router;
 use crate::routes::values::Values;
 use std::alloc::{AllocError, Global};
 use toll_desk::Request;
@@ -26,14 +26,15 @@ pub enum RoutedRequest {
 /// placed and the body asks for none. All other bodies are ignored.
 pub fn route_request(
     alloc: Global,
+    router: &mut OfficeRouter,
     verb: Verb,
     target: &[u8],
     body: &[u8],
 ) -> Result<RoutedRequest, AllocError>
     ensures { IfOk result (IsAsking verb target.now body.now) }
 {
-    let router = router(alloc)?;
-    let Some((route, values)) = route_of(&router, path_of(target)) else {
+    let router = router.built(alloc)?;
+    let Some((route, values)) = route_of(router, path_of(target)) else {
         return Ok(RoutedRequest::Failing(Failure::NoRoute));
     };
     match route.ask(verb) {

@@ -14,8 +14,8 @@ returns-in-Some-ask c =
     asked_at c.args.verb c.args.target.now c.args.body.now c.path_of.result.now r c.in-Some.values c.in-Some-ask.ask c.asks_by.result
     c.path_of.ensures leads (c.in-Some-ask.ensures ∙ ask_is c.args.verb c.in-Some.route.now r same) c.asks_by.ensures
 
-pub returns : goal.returns
-returns c =
+pub returns-in-None : goal.returns-in-None
+returns-in-None c =
     let (r, leads, same) = c.in-Some.ensures in
     not_served c.args.verb c.other_of.result c.args.target.now c.args.body.now c.path_of.result.now r c.in-Some.values
     c.path_of.ensures leads (c.in-None.ensures ∙ ask_is c.args.verb c.in-Some.route.now r same) c.other_of.ensures

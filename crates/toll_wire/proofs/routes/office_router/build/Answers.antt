@@ -1,8 +1,8 @@
 use Rattle.std.proofs.Common.{refl}
 use Rattle.matchit.proofs.OnLiterals.{matchit_on_literals}
 use Rattle.toll_wire.proofs.Routers.{ended, entered, refused}
-use Rattle.toll_wire.proofs.routes.route.router.Goals as goal
-use Rattle.toll_wire.proofs.routes.route.router.Goals.{in-OutOfMemory, in_default-matches}
+use Rattle.toll_wire.proofs.routes.office_router.build.Goals as goal
+use Rattle.toll_wire.proofs.routes.office_router.build.Goals.{in-OutOfMemory, in_default-matches}
 
 pub loop-route-init : goal.loop-route-init
 unfolding matchit_on_literals

@@ -2,8 +2,8 @@ use Rattle.std.proofs.Common.{inl, refl}
 use Rattle.toll_protocol.specs.declared.http_messages.failure.Failure.TheVariants.{Forbidden}
 use Rattle.toll_wire.specs.ReplyTexts.{text_of_failure}
 use Rattle.toll_wire.proofs.Served.{untouched, keyless}
-use Rattle.toll_wire.proofs.answering.answer.Goals as goal
-use Rattle.toll_wire.proofs.answering.answer.Goals.{in_default-via-in-Some+in_default, in_default-via-in_default}
+use Rattle.toll_wire.proofs.answering.answer_with_router.Goals as goal
+use Rattle.toll_wire.proofs.answering.answer_with_router.Goals.{in_default-via-in-Some+in_default, in_default-via-in_default}
 
 pub returns-in-Ok-Refused : goal.returns-in-Ok-Refused
 returns-in-Ok-Refused g c =

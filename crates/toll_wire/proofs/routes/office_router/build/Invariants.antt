@@ -1,5 +1,5 @@
 use Rattle.toll_wire.proofs.Routers.{IsUpTo}
-use Rattle.toll_wire.proofs.routes.route.router.Given as goal
+use Rattle.toll_wire.proofs.routes.office_router.build.Given as goal
 
 -- the router holds the routes so far
 abbrev pub invariant-loop-route : goal.invariant-loop-route

@@ -1,0 +1,57 @@
+//! The router of the office.
+ghost use Rattle.std.specs.Prelude.{IfOk, IfSome, Option};
+ghost use Rattle.toll_wire.specs.Routers.{IsOffice, OfficeRows};
+
+use crate::routes::route::{ROUTES, Route};
+use matchit::{InsertError, Router};
+use std::alloc::{AllocError, Global};
+use std::marker::Model;
+
+/// The router of the office, by which many requests are routed: the first of them builds it.
+#[derive(Drop)]
+pub struct OfficeRouter {
+    built: Option<Router<Route>>,
+}
+
+impl Model for OfficeRouter {
+    ghost Value = { Option OfficeRows };
+
+    ghost view = { λ router. router.built };
+
+    ghost invariant = { λ router. IfSome router.built IsOffice };
+}
+
+impl OfficeRouter {
+    /// One that isn't built yet. It takes no memory.
+    pub fn new() -> Self {
+        OfficeRouter { built: None }
+    }
+
+    /// The router, which is built now if it wasn't before. An `Err` means that there was no memory for it;
+    /// the next request tries again.
+    pub fn built(&mut self, alloc: Global) -> Result<&Router<Route>, AllocError>
+        ensures { IfOk result (λ router. IsOffice router.now) }
+    {
+        if self.built.is_none() {
+            self.built = Some(build(alloc)?);
+        }
+        match &self.built {
+            Some(router) => Ok(router),
+            None => unreachable!(),
+        }
+    }
+}
+
+// Builds the router.
+fn build(alloc: Global) -> Result<Router<Route>, AllocError>
+    ensures { IfOk result IsOffice }
+{
+    let mut router = Router::new(alloc);
+    for route in &ROUTES {
+        if let Err(error) = router.insert(route.pattern, *route) {
+            prove!(matches!(&error, InsertError::OutOfMemory));
+            return Err(AllocError);
+        }
+    }
+    Ok(router)
+}
