@@ -1,12 +1,10 @@
 -- Words that several proofs here use.
-pub use Rattle.clap.proofs.WalkLemmas.{find-map, first_value-rows}
-pub use Rattle.clap.specs.Lexer.{usize_max}
-pub use Rattle.clap.specs.Simple.{App, HasMatchesOf, Shape, built, built_leaf, entered, filled, filled_from, inherited, is_in_order, is_ready_leaf, is_simple, is_simple_leaf, label_of, marked_built, names_of, new_shape, on_top, rows_at, subcommand_of, subcommand_rows_of, with_index, with_leaf_noted, with_rule, with_subcommand}
+pub use Rattle.clap.proofs.WalkLemmas.{find-map}
+pub use Rattle.clap.specs.Simple.{App, HasMatchesOf, Shape, built, filled, is_simple, with_index}
 unfoldable pub use Rattle.clap.specs.Takes.{walk_passes}
-pub use Rattle.clap.specs.Takes.{default_passes, is_given, level_passes, settle_passes, takes}
+pub use Rattle.clap.specs.Takes.{settle_passes, takes}
 unfoldable pub use Rattle.clap.specs.Walk.{walked}
-pub use Rattle.clap.specs.Walk.{Names, Row, Rule, Text, Walk, answers_to, arg_by_id, arg_by_index, at_row, finished, first_of, has_row, is_early_multiple, more_values, nothing_held, rows_of, settled, stop_after, used, walk, walk_from, with_default, without}
-pub use Rattle.clap.specs.Words.{first_value}
+pub use Rattle.clap.specs.Walk.{Row, Rule, Text, Walk, finished, nothing_held, walk, walk_from}
 unfoldable pub use Rattle.csv.specs.Reading.{Reached}
 pub use Rattle.csv.specs.Reading.{AreRecords, Ready, default_config, is_flexible, source_of, strip_bom}
 unfoldable pub use Rattle.csv.specs.Records.{field_at}
@@ -14,10 +12,9 @@ pub use Rattle.csv.specs.Records.{fields_of}
 pub use Rattle.std.proofs.Math.Seq.{drop-append-add, drop-cons}
 pub use Rattle.std.proofs.lemmas.Bool.{leb-true, not-false}
 pub use Rattle.std.proofs.lemmas.Bool.Decides.{nat_tests}
-pub use Rattle.std.proofs.lemmas.List.{append-nil, drop_all, drop_min, length-drop, length-map, length-take, length-take-le, map-append, map_more, take_all, take_min, take_more, take_rest}
+pub use Rattle.std.proofs.lemmas.List.{append-nil, drop_all, drop_min, length-drop, length-map, length-take, length-take-le, map-append, take_all, take_min, take_more, take_rest}
 pub use Rattle.std.proofs.lemmas.List.Folds.{list_any-append}
-pub use Rattle.std.proofs.lemmas.Slice.Eq.{bytes_eq-Decides}
-pub use Rattle.std.specs.Bool.{Decides, MatchBool}
+pub use Rattle.std.specs.Bool.{MatchBool}
 unfoldable pub use Rattle.std.specs.Fmt.{char_count, padded_integral}
 pub use Rattle.std.specs.Fmt.{format_spec, styled_decimal}
 pub use Rattle.std.specs.List.{repeat}

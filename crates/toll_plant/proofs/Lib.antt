@@ -1,8 +1,5 @@
 pub mod Common
-pub mod RuleLemmas
-pub mod GrowthLemmas
-pub mod ValueLemmas
-pub mod OfficeLemmas
+pub mod ClapLemmas
 pub mod WordLemmas
 pub mod ReadLemmas
 pub mod TableLemmas

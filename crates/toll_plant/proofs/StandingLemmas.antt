@@ -1,7 +1,7 @@
 -- What stands is repeated, and what was accepted or repeated stands.
-use Rattle.std.proofs.Common.{◌≡◌, ℕ, Bool, true, false, ◌&&◌, ◌||◌, not, cond, Option, Some, None, is_some, List, [], ◌∷◌, refl, sym, ap, subst, ◌∙◌, inl, inr}
-use Rattle.std.specs.Prelude.{option_map}
-use Rattle.toll_plant.proofs.Common.{MatchBool, AllByRecursion, list_any, not-false, false≢true, Bytes, same_bytes, house_name, is_some_where, MoveRow, Refusal, UnknownOwner, KeyConflict, Voided, Record, Command, by, History, acts, adds_owner, owner_known, has_key, movement_of, movements, voided_in, voids_key, any_acts, void_of_actual, PlantAsked, Does, Judged, IsPlantAnswer, after_plant, asked_by, PlantCmd}
+use Rattle.std.proofs.Common.{◌≡◌, ℕ, Bool, true, false, ◌&&◌, ◌||◌, not, cond, Option, Some, None, is_some, List, [], ◌∷◌, refl, sym, ap, subst, ◌∙◌, inl, inr, arith}
+use Rattle.std.specs.Prelude.{◌==◌, option_map}
+use Rattle.toll_plant.proofs.Common.{nat_tests, MatchBool, AllByRecursion, list_any, not-false, false≢true, Bytes, same_bytes, house_name, is_some_where, MoveRow, Refusal, UnknownOwner, KeyConflict, Voided, Record, Command, by, History, acts, adds_owner, owner_known, has_key, movement_of, movements, voided_in, voids_key, any_acts, void_of_actual, PlantAsked, Does, Judged, IsPlantAnswer, after_plant, asked_by, PlantCmd}
 use Rattle.toll_base.specs.Moves.{same_movement, same_what}
 use Rattle.toll_base.specs.declared.movement.Move.{Move}
 use Rattle.toll_base.specs.declared.movement.Move.TheVariants.{Receive, Split, Ship, Scrap, Actual}
@@ -20,7 +20,9 @@ use Rattle.toll_plant.specs.ImportLaws.{IsKept, IsRepeatedOrFault, IsStanding}
 use Rattle.toll_plant.specs.declared.outcome.Outcome.{Outcome}
 use Rattle.toll_plant.specs.declared.outcome.Outcome.TheVariants as came
 use Rattle.toll_plant.proofs.ImportRuns.{IsDeed, IsDeedOrNone}
-use Rattle.toll_plant.proofs.RuleLemmas.{this_number}
+
+this_number : (n : ℕ) → (n == n) ≡ true
+this_number n = grind (arith, nat_tests)
 
 -- ---- the owners of movements are known
 

@@ -1,16 +1,15 @@
 -- Each line of the table makes a command of its values.
-use Rattle.std.proofs.Common.{◌≡◌, ℕ, ℤ, Bool, true, false, cond, List, [], ◌∷◌, length, drop, refl, subst, arith, Option, Some, None}
-use Rattle.std.specs.Prelude.{◌==◌, ◌&&◌, IsSome, Result, Ok, Err, find, nat_le, option_and_then}
-use Rattle.toll_plant.proofs.Common.{AllByRecursion, bytes_eq, leb-true, Bytes, IsAmount, is_measure, is_name, is_owner_key, number_of, where_so, Role, Refusal, BadName, BadAmount}
+use Rattle.std.proofs.Common.{◌≡◌, ℕ, ℤ, ◌<◌, Bool, true, false, cond, List, [], ◌∷◌, length, drop, refl, subst, arith, Option, Some, None}
+use Rattle.std.specs.Prelude.{◌==◌, ◌&&◌, IsSome, Result, Ok, Err, find, nat_le, option_and_then, nat_lt, if◌then◌else◌}
+use Rattle.toll_plant.proofs.Common.{AllByRecursion, list_all, nat_tests, bytes_eq, leb-true, Bytes, IsAmount, is_measure, is_name, is_owner_key, number_of, where_so, Role, Refusal, BadName, BadAmount}
 use Rattle.toll_base.specs.States.{read_command}
 use Rattle.toll_base.specs.declared.state_command.StateCommand.{StateCommand}
 use Rattle.toll_trace.specs.declared.way.Way.{Way}
 use Rattle.toll_plant.specs.Commands.{command_from}
-use Rattle.toll_plant.specs.Lines.{Argument, Line, line_named, line_of}
+use Rattle.toll_plant.specs.Lines.{Argument, Line, line_named, line_of, takes_values}
 use Rattle.toll_plant.specs.Readings.{number_within, or_refused, read_as, role_of, value_of, way_of}
 use Rattle.toll_plant.specs.Table.{actual_line, plant_lines}
 use Rattle.toll_plant.specs.Words.{command_read, command_with, in_front, values_read}
-use Rattle.toll_plant.proofs.OfficeLemmas.{line_taken}
 use Rattle.toll_base.proofs.Bools.{both}
 use Rattle.toll_base.proofs.Texts.{nat_eq-exact}
 use Rattle.toll_plant.specs.declared.argument.ArgumentValue.{ArgumentValue}
@@ -139,10 +138,34 @@ found_has P p (y ∷ ys) x all e = on (p y) (found_has P p ys x all.1) e
     on true later e = let same : y ≡ x = cc in subst P same all.0
     on false later e = later e
 
+all_so : {A : Type 0} (p : A → Bool) (xs : List A) → list_all p xs ≡ true → AllByRecursion (λ x. p x ≡ true) xs
+all_so p [] so = tt
+all_so p (x ∷ xs) so = let parts = both (p x) (list_all p xs) so in (parts.0, all_so p xs parts.1)
+
 pub made : (l : Line) (words : List Bytes) (read : Result (List ArgumentValue) Refusal) → Makes l → length words ≡ length l.values → values_read l.values words ≡ read
     → IsSome (command_read l.command read)
 made l words (Err why) makes same e = refl
 made l words (Ok values) makes same e = values_have l.values (λ vs. IsSome (command_from l.command vs)) words values same makes e
+
+line_taken : (y : Option Line) (values : List Bytes) (l : Line)
+    → option_and_then (λ m. if takes_values m values then Some m else None) y ≡ Some l → (y ≡ Some l) × (takes_values l values ≡ true)
+line_taken None values l e = absurd (cc e)
+line_taken (Some m) values l e = on (takes_values m values) refl e
+  where
+    on : (b : Bool) → takes_values m values ≡ b → (if b then Some m else None) ≡ Some l → (Some m ≡ Some l) × (takes_values l values ≡ true)
+    on true is e = (e, let same : m ≡ l = cc in subst (λ (x : Line). takes_values x values ≡ true) same is)
+    on false is e = absurd (cc e)
+
+some_values : AllByRecursion (λ (l : Line). nat_lt 0 (length l.values) ≡ true) plant_lines
+some_values = all_so (λ (l : Line). nat_lt 0 (length l.values)) plant_lines refl
+
+-- words that fit a line are its name and its values, of which there are some
+pub fits_line : (words : List Bytes) (l : Line) → line_of plant_lines words ≡ Some l → (0 < length l.values) × (takes_values l (drop 1 words) ≡ true)
+fits_line [] l e = absurd (cc e)
+fits_line (name ∷ values) l e =
+    let t = line_taken (line_named plant_lines name) values l e in
+    let some = found_has (λ (l : Line). nat_lt 0 (length l.values) ≡ true) (λ m. bytes_eq m.name name) plant_lines l some_values t.0 in
+    (grind (arith, nat_tests), t.1)
 
 -- words that fit a line ask for a command
 pub asks : (words : List Bytes) (l : Line) → line_of plant_lines words ≡ Some l → IsSome (command_with l (drop 1 words))

@@ -1,34 +1,27 @@
-use Rattle.std.proofs.Common.{◌∙◌, [], ◌∷◌, ap, map}
-use Rattle.clap.specs.Words.{found_of}
-use Rattle.toll_plant.specs.ClapWords.{office}
-use Rattle.toll_plant.specs.Shown.{shown}
-use Rattle.toll_plant.proofs.OfficeLemmas.{all_some, alone_sound, in_ok, same_values, some_subcommand, taken, words_found}
+use Rattle.std.proofs.Common.{◌∙◌, ap, map}
+use Rattle.clap.specs.Words.{app_of}
+use Rattle.toll_plant.specs.Shown.{shown, shown_argument}
+use Rattle.toll_plant.proofs.Common.{length-map}
+use Rattle.toll_plant.proofs.ClapLemmas.{found, in_ok, none_found, some_found, taken}
 use Rattle.toll_plant.proofs.clap_words.values_of.Goals as goal
 
 pub unreachable-requires : goal.unreachable-requires
 unreachable-requires c =
-    let built = c.in_ok-office.ensures ∙ ap (λ lines. office (map shown lines)) c.from_ref.ensures.value in
-    let sound = alone_sound (shown c.args.line.now) c.requires.sound in
-    c.in_default.not-OutOfMemory (c.kind.ensures ∙ c.in-Err.ensures.passes (taken _ (shown c.args.line.now ∷ []) _ _ built sound c.requires.fits))
-
-pub values_in-requires : goal.values_in-requires
-values_in-requires c =
-    let built = c.in_ok-office.ensures ∙ ap (λ lines. office (map shown lines)) c.from_ref.ensures.value in
-    let sound = alone_sound (shown c.args.line.now) c.requires.sound in
-    all_some _ _ _
-    (words_found _ (shown c.args.line.now ∷ []) _ _ c.args.line.now (found_of c.in-Some.found.now) built c.in-Ok.ensures.matches sound c.requires.fits c.in-Some.ensures.rows)
+    let long = length-map c.args.line.now.values.now shown_argument in
+    c.in_default.not-OutOfMemory (c.kind.ensures ∙ c.in-Err.ensures.passes
+    (taken (app_of c.in_ok-command.command) (shown c.args.line.now) _ (rw long c.in_ok-command.ensures) (rw long c.requires.some) c.requires.fits))
 
 pub unreachable-requires-in-None : goal.unreachable-requires-in-None
 unreachable-requires-in-None c =
-    let built = c.in_ok-office.ensures ∙ ap (λ lines. office (map shown lines)) c.from_ref.ensures.value in
-    let sound = alone_sound (shown c.args.line.now) c.requires.sound in
-    some_subcommand _ (shown c.args.line.now ∷ []) _ _ _ built c.in-Ok.ensures.matches sound c.requires.fits c.in-None.ensures.rows
+    let long = length-map c.args.line.now.values.now shown_argument in
+    none_found _ _
+    (found (app_of c.in_ok-command.command) (shown c.args.line.now) _ c.in-Ok.matches (rw long c.in_ok-command.ensures) (rw long c.requires.some) c.requires.fits c.in-Ok.ensures.matches)
+    c.in-None.ensures
 
 pub returns : goal.returns
 returns c =
-    let built = c.in_ok-office.ensures ∙ ap (λ lines. office (map shown lines)) c.from_ref.ensures.value in
-    let sound = alone_sound (shown c.args.line.now) c.requires.sound in
-    in_ok c.values_in.result _ _
-    (λ values found. same_values _ values.items _ (found
-    ∙ words_found _ (shown c.args.line.now ∷ []) _ _ c.args.line.now (found_of c.in-Some.found.now) built c.in-Ok.ensures.matches sound c.requires.fits c.in-Some.ensures.rows))
-    c.values_in.ensures
+    let long = length-map c.args.line.now.values.now shown_argument in
+    let same = some_found _ _ _
+    (found (app_of c.in_ok-command.command) (shown c.args.line.now) _ c.in-Ok.matches (rw long c.in_ok-command.ensures) (rw long c.requires.some) c.requires.fits c.in-Ok.ensures.matches)
+    c.in-Some.ensures in
+    in_ok c.from_slice.result _ _ (λ values copied. ap (map (λ v. v.now)) copied ∙ same) c.from_slice.ensures.items
