@@ -1,9 +1,11 @@
 -- What the plant and the server of a file say to one another.
-use Rattle.std.specs.Prelude.{◌≡◌, ℕ, ◌≤◌, List, [], ◌∷◌, ◌++◌, Option, Some, None, codes, length}
+use Rattle.std.specs.Prelude.{◌≡◌, ℕ, ◌≤◌, List, [], ◌∷◌, ◌++◌, map, Option, Some, None, option_map, codes, length}
 use Rattle.toll_base.specs.Bytes.{Bytes}
 use Rattle.toll_protocol.specs.Frames.{IsFrameOf, frame}
 use Rattle.toll_protocol.specs.Words.{AreWords, words_text}
+use Rattle.toll_protocol.specs.declared.frames.call.Call.{Call}
 use Rattle.toll_protocol.specs.declared.frames.call.TheConstants.{MOST_CALL_BYTES}
+use Rattle.toll_protocol.specs.declared.frames.response.Response.{Response}
 use Rattle.toll_protocol.specs.declared.frames.response.TheConstants.{MOST_RESPONSE_BYTES}
 
 -- nothing, or a 1 and the bytes of the file
@@ -23,6 +25,14 @@ FitsCall words file = AreWords words × (length (call_text words file) ≤ MOST_
 abbrev pub IsCall : Bytes → List Bytes → Option Bytes → Type 0
 IsCall text words file = AreWords words × IsFrameOf MOST_CALL_BYTES text (call_text words file)
 
+-- the text is a frame of this call, as it was read
+abbrev pub IsReadCall : Bytes → Call → Type 0
+IsReadCall text call = IsCall text (map (λ w. w.now) call.words.items) (option_map (λ f. f.now) call.file)
+
+-- the text is a frame of no call
+abbrev pub IsNoCall : Bytes → Type 0
+IsNoCall text = (words : List Bytes) (file : Option Bytes) → ¬ (IsCall text words file)
+
 -- the text asks this and nothing else
 abbrev pub IsOnlyCall : Bytes → List Bytes → Option Bytes → Type 0
 IsOnlyCall text words file = (others : List Bytes) (another : Option Bytes) → IsCall text others another → (words ≡ others) × (file ≡ another)
@@ -34,6 +44,18 @@ response_text status output error = status ∷ frame output ++ error
 -- the text is a frame of this response
 abbrev pub IsResponse : Bytes → ℕ → Bytes → Bytes → Type 0
 IsResponse text status output error = IsFrameOf MOST_RESPONSE_BYTES text (response_text status output error)
+
+-- what the plant is told by a response
+abbrev pub told_text : Response → Bytes
+told_text r = response_text r.status r.output.now r.error.now
+
+-- the text is a frame of this response, as it was read
+abbrev pub IsReadResponse : Bytes → Response → Type 0
+IsReadResponse text r = IsResponse text r.status r.output.now r.error.now
+
+-- the text is a frame of no response
+abbrev pub IsNoResponse : Bytes → Type 0
+IsNoResponse text = (status : ℕ) (output error : Bytes) → ¬ (IsResponse text status output error)
 
 -- the text tells this and nothing else
 abbrev pub IsOnlyResponse : Bytes → ℕ → Bytes → Bytes → Type 0

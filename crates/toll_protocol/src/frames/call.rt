@@ -1,7 +1,7 @@
 //! What the plant asks of the server of a file.
-ghost use Rattle.std.specs.Prelude.{◌≡◌, List, ◌++◌, Option, option_map, map, IfNone, IfOk, IfSome, OnOk, Err};
+ghost use Rattle.std.specs.Prelude.{◌≡◌, ◌++◌, Option, option_map, map, IfNone, IfOk, IfSome, OnOk, Err};
 ghost use Rattle.toll_base.specs.Bytes.{Bytes};
-ghost use Rattle.toll_protocol.specs.PlantMessages.{FitsCall, IsCall, call_text, file_text};
+ghost use Rattle.toll_protocol.specs.PlantMessages.{FitsCall, IsNoCall, IsReadCall, call_text, file_text};
 ghost use Rattle.toll_protocol.specs.Frames.{frame};
 ghost use Rattle.toll_protocol.specs.declared.frames.fault.EncodeFault.{EncodeFault};
 
@@ -41,11 +41,10 @@ impl Call<'_> {
         encode(alloc, &content, MOST_CALL_BYTES)
     }
 
-    /// What a frame asks; `None` where it is damaged, cut or too long.
+    /// What a frame asks; `None` just where the text is a frame of no call: one that is damaged, cut or too long.
     pub fn read(alloc: Global, text: &[u8]) -> Result<Option<Call<'_>>, AllocError>
-        ensures found { IfOk result (λ found. IfSome found (λ call.
-            IsCall text.now (map (λ w. w.now) call.words.items) (option_map (λ f. f.now) call.file))) }
-        ensures none { IfOk result (λ found. IfNone found ((words : List Bytes) (file : Option Bytes) → ¬ (IsCall text.now words file))) }
+        ensures found { IfOk result (λ found. IfSome found (IsReadCall text.now)) }
+        ensures none { IfOk result (λ found. IfNone found (IsNoCall text.now)) }
     {
         let Some(content) = content_of(text, MOST_CALL_BYTES) else {
             return Ok(None);

@@ -1,7 +1,6 @@
 //! What the plant is told by the server of a file.
-ghost use Rattle.std.specs.Prelude.{◌≡◌, ◌<◌, ◌≤◌, ◌∷◌, ◌++◌, ℕ, IfNone, IfOk, IfSome, Err, length};
-ghost use Rattle.toll_base.specs.Bytes.{Bytes};
-ghost use Rattle.toll_protocol.specs.PlantMessages.{IsResponse, response_text};
+ghost use Rattle.std.specs.Prelude.{◌≡◌, ◌<◌, ◌≤◌, ◌∷◌, ◌++◌, IfNone, IfOk, IfSome, Err, length};
+ghost use Rattle.toll_protocol.specs.PlantMessages.{IsNoResponse, IsReadResponse, told_text};
 ghost use Rattle.toll_protocol.specs.Frames.{frame};
 ghost use Rattle.toll_protocol.specs.declared.frames.fault.EncodeFault.{EncodeFault};
 
@@ -23,9 +22,9 @@ pub struct Response<'a> {
 impl<'a> Response<'a> {
     /// What is told, as a frame. It is unfit where it is longer than a frame can be.
     pub fn encode(&self, alloc: Global) -> Result<Vec<u8>, EncodeFault>
-        ensures whole { IfOk result (λ bytes. bytes.items ≡ frame (response_text self.now.status self.now.output.now self.now.error.now)) }
-        ensures fit { IfOk result (λ _. length (response_text self.now.status self.now.output.now self.now.error.now) ≤ MOST_RESPONSE_BYTES) }
-        ensures unfit { result ≡ Err EncodeFault.Unfit → MOST_RESPONSE_BYTES < length (response_text self.now.status self.now.output.now self.now.error.now) }
+        ensures whole { IfOk result (λ bytes. bytes.items ≡ frame (told_text self.now)) }
+        ensures fit { IfOk result (λ _. length (told_text self.now) ≤ MOST_RESPONSE_BYTES) }
+        ensures unfit { result ≡ Err EncodeFault.Unfit → MOST_RESPONSE_BYTES < length (told_text self.now) }
     {
         let output = encode(alloc, self.output, MOST_RESPONSE_BYTES)?;
         let content = self.content(alloc, &output)?;
@@ -43,10 +42,10 @@ impl<'a> Response<'a> {
         Ok(content)
     }
 
-    /// What a frame tells; `None` where it is damaged or cut.
+    /// What a frame tells; `None` just where the text is a frame of no response: one that is damaged or cut.
     pub fn read(text: &'a [u8]) -> Option<Response<'a>>
-        ensures found { IfSome result (λ response. IsResponse text.now response.status response.output.now response.error.now) }
-        ensures none { IfNone result ((status : ℕ) (output error : Bytes) → ¬ (IsResponse text.now status output error)) }
+        ensures found { IfSome result (IsReadResponse text.now) }
+        ensures none { IfNone result (IsNoResponse text.now) }
     {
         let Some(content) = content_of(text, MOST_RESPONSE_BYTES) else {
             return None;
