@@ -1,15 +1,12 @@
 -- What is so of a request, by its form.
-use Rattle.std.proofs.Common.{◌≡◌, Bool, true, false, ◌&&◌, [], refl, sym, subst}
-use Rattle.toll_desk.proofs.Common.{false≢true, Bytes, History, Asked, Told, IsAnswer, after_answer, Content, StandsFor}
-use Rattle.toll_desk.specs.Forms.{asked_to_read, asked_to_trace, asked_to_write}
-use Rattle.toll_desk.specs.Translations.{writes}
+use Rattle.std.proofs.Common.{◌≡◌, [], refl, sym, subst}
+use Rattle.toll_desk.proofs.Common.{Bytes, History, Asked, Told, IsAnswer, after_answer, Content, StandsFor}
+use Rattle.toll_desk.specs.Forms.{asked_to_read, asked_to_trace}
 use Rattle.toll_desk.specs.Plans.{LeadsTo, IsPlanFor}
 use Rattle.toll_desk.specs.declared.form.ReadRequest.{ReadRequest}
 use Rattle.toll_desk.specs.declared.form.ReadRequest.TheVariants as reading
 use Rattle.toll_desk.specs.declared.form.TraceRequest.{TraceRequest}
 use Rattle.toll_desk.specs.declared.form.TraceRequest.TheVariants as tracing
-use Rattle.toll_desk.specs.declared.form.WriteRequest.{WriteRequest}
-use Rattle.toll_desk.specs.declared.form.WriteRequest.TheVariants as writing
 use Rattle.toll_desk.proofs.Lift.{leads_nowhere}
 
 -- a question leaves the history
@@ -34,14 +31,3 @@ module _ (c : Content) (H : History) (stands : StandsFor c H) (o : Bytes) (told 
 
   pub plan_trace : (t : TraceRequest) (q : Asked) → q ≡ asked_to_trace t → IsAnswer o H (asked_to_trace t) told → IsPlanFor c H o q told []
   plan_trace t q is answer = subst (λ q. IsPlanFor c H o q told []) (sym is) (unchanged (asked_to_trace t) (trace_stays o H t) answer)
-
--- what is written is no question
-pub write_writes : (w : WriteRequest) → writes (asked_to_write w) ≡ true
-write_writes (writing.Place order recipe batches) = refl
-write_writes (writing.Cancel order) = refl
-write_writes (writing.Release lot) = refl
-write_writes (writing.Reject lot) = refl
-
-pub both_false : (b c : Bool) → b ≡ true → (b && c) ≡ false → c ≡ false
-both_false true c so none = none
-both_false false c so none = absurd (false≢true so)

@@ -1,15 +1,17 @@
 -- What the desk's functions say of what they answer, where several say the same.
-use Rattle.std.specs.Prelude.{◌≡◌, ◌≢◌, ◌++◌, [], ◌∷◌, List, OnOk, true, false, is_some, ℕ, Option, Result, IfOk, IfErr, Vec, Err}
-use Rattle.toll_desk.specs.Common.{Global, Bytes, same_bytes, Slice, order_at, house_name, where_so, Decision, LotId, IsRowsOf, Step, IsRecall, RecallLine, HaveRead, Damaged, Disposition, Refusal, Action, History, owner_known, Refused, IsPlantAnswer, Judged, PlantAsked, PlantTold, Shows, after_plant, IsAnswer, IsReply, after_reply, has_key, AskPlace, Asked, Told, Content, Meaning, KeepFault}
+use Rattle.std.specs.Prelude.{◌≡◌, ◌≢◌, ◌++◌, [], ◌∷◌, List, OnOk, Bool, true, false, not, is_some, ℕ, Option, Result, IfOk, IfErr, Vec, Err}
+use Rattle.toll_desk.specs.Common.{Global, Bytes, same_bytes, Slice, order_at, house_name, where_so, Decision, LotId, IsRowsOf, lot_row, acts, Step, IsRecall, RecallLine, HaveRead, Damaged, Disposition, Refusal, Action, History, owner_known, Refused, IsPlantAnswer, Judged, PlantAsked, PlantTold, Shows, after_plant, IsAnswer, IsLotOr, IsOrderOr, IsReply, after_reply, has_key, AskPlace, Asked, Told, Content, Meaning, OverHeld, KeepFault}
 use Rattle.toll_desk.specs.Standing.{StandsFor}
 use Rattle.std.specs.declared.alloc.AllocError.{AllocError}
 use Rattle.toll_base.specs.declared.lot.Edge.{Edge}
 use Rattle.toll_trace.specs.declared.way.Way.TheVariants.{Forward}
 use Rattle.toll_answers.specs.Agreement.{IsPlantTrace}
 use Rattle.toll_answers.specs.Edges.{AreOwnEdges}
-use Rattle.toll_desk.specs.Translations.{plant_told, told_of}
+use Rattle.toll_history.specs.Holders.{holder}
+use Rattle.toll_history.specs.Work.{order_of}
+use Rattle.toll_desk.specs.Translations.{may_change, plant_told, told_of}
 use Rattle.toll_desk.specs.Outcome.{IsDone}
-use Rattle.toll_desk.specs.Plans.{Disposes, IsOwnDecision, IsPlan, IsPlanFor, IsPlanOver, LeadsTo}
+use Rattle.toll_desk.specs.Plans.{Disposes, IsOwnDecision, IsPlan, IsPlanFor, IsPlanOver, IsPlantDecision, LeadsTo}
 use Rattle.toll_desk.specs.Questions.{AreSlicesFor, is_known_lot}
 use Rattle.toll_desk.specs.Reads.{Over}
 use Rattle.toll_desk.specs.declared.plant_cmd.PlantPlan.{PlantPlan}
@@ -62,6 +64,24 @@ IsTextAs H q result = IfOk result (λ told. IfOk told (λ text. IsPlantAnswer H 
 abbrev pub IsRefusedAs : History → PlantAsked → Result (Result (Vec ℕ Global) Refusal) AllocError → Type 0
 IsRefusedAs H q result = IfOk result (λ told. IfErr told (λ why. IsPlantAnswer H q (Judged (Refused why))))
 
+-- where an order is shown, it is the order as it stands, and a refusal where there is none
+abbrev pub IsOrderShown : History → (o order : Bytes) → Reply → Type 0
+IsOrderShown H o order reply = IfOk (told_of reply) (IsOrderOr (order_of (acts o H) order))
+
+-- where a lot is shown, it is the lot as it stands, and a refusal where there is none
+abbrev pub IsLotShown : History → (o lot : Bytes) → Result Reply AllocError → Type 0
+IsLotShown H o lot result = IfOk result (λ reply. IfOk (told_of reply) (IsLotOr H o (lot_row H o lot)))
+
+-- ---- what is decided
+
+-- where it was told, the decision over what was held is the one on what the plant asks
+abbrev pub IsDecidedOver : {K : Type 0} → Meaning K → (old new : K) → PlantAsked → Result Decision KeepFault → Type 0
+IsDecidedOver meaning old new q result = Over meaning old new (λ c H. IfOk result (IsPlantDecision c H q))
+
+-- this tells whether no batch holds the unit in the history
+abbrev pub IsFreeIn : History → (unit : Bytes) → Bool → Type 0
+IsFreeIn H unit free = free ≡ not (is_some (holder H unit))
+
 -- ---- what is planned
 
 -- where a plan is made, it is the one for what is asked over the slice
@@ -89,7 +109,28 @@ IsPlantPlanned c H q plan = IfOk (plant_told plan.reply) (λ told. IsPlantAnswer
 abbrev pub IfPlacedAgain : Slice → Asked → Type 0 → Type 0
 IfPlacedAgain s q P = (order recipe : Bytes) (batches : ℕ) → q ≡ AskPlace order recipe batches → is_some (order_at s order) ≡ true → P
 
+-- so it is of these rows
+abbrev pub OverSlice : Slice → (Slice → Type 0) → Type 0
+OverSlice s P = P s
+
+-- so it is of the rows that were held of the owner
+abbrev pub OverHeldRows : {K : Type 0} → Meaning K → (old new : K) → (o : Bytes) → (Slice → Type 0) → Type 0
+OverHeldRows meaning old new o P = OverHeld meaning old new (λ c. P (c.rows o))
+
+-- this is so where what was asked is to change nothing: it only asks, or isn't granted, or, over these rows, places an order that is there
+pub record IfUnchanging (OverRows : (Slice → Type 0) → Type 0) (q : Asked) (told : Result Told KeepFault) (P : Type 0) : Type 0 where
+  pub quiet : may_change q told ≡ false → P
+  pub once : OverRows (λ s. IfPlacedAgain s q P)
+
+-- the plan makes no change where what was asked is to change nothing
+abbrev pub ChangesIfAsked : ((Slice → Type 0) → Type 0) → Asked → Planned → Type 0
+ChangesIfAsked OverRows q planned = IfUnchanging OverRows q (told_of planned.reply) (planned.changes.items ≡ [])
+
 -- ---- what is done
+
+-- what was held is held where what was asked is to change nothing
+abbrev pub StaysIfUnasked : {K : Type 0} → Meaning K → (old new : K) → (o : Bytes) → Asked → Result Told KeepFault → Type 0
+StaysIfUnasked meaning old new o q told = OverHeld meaning old new (λ c. IfUnchanging (OverSlice (c.rows o)) q told (meaning.holds new c))
 
 module _ {K : Type 0} (meaning : Meaning K) (old new : K) where
   -- who asks as the owner with this key is answered over what was held, and what that makes of it is held

@@ -1,8 +1,6 @@
 //! Decisions over the rows of a keep.
-ghost use Rattle.std.specs.Prelude.{◌≡◌, true, not, is_some, Some, IfOk};
-ghost use Rattle.toll_base.specs.Values.{house_name};
+ghost use Rattle.std.specs.Prelude.{◌≡◌, true, Some, IfOk};
 ghost use Rattle.toll_history.specs.Command.{OpenBatch, by};
-ghost use Rattle.toll_history.specs.Holders.{holder};
 ghost use Rattle.toll_history.specs.Verdict.{IsValid};
 ghost use Rattle.toll_answers.specs.PlantAnswers.{Does};
 ghost use Rattle.toll_work.specs.Opening.{IsToldOfUnit};
@@ -10,8 +8,9 @@ ghost use Rattle.toll_keep.specs.Goes.{IsReading};
 ghost use Rattle.toll_keep.specs.Meaning.{OverHeld};
 ghost use Rattle.toll_keep.specs.PendingChanges.{IsOver, OverLaid, ReadsThrough};
 ghost use Rattle.toll_desk.specs.Translations.{asked_by};
-ghost use Rattle.toll_desk.specs.Plans.{IsOwnDecision, IsPlantDecision};
-ghost use Rattle.toll_desk.specs.Reads.{AreBoth, Over};
+ghost use Rattle.toll_desk.specs.Clauses.{IsDecidedOver, IsFreeIn};
+ghost use Rattle.toll_desk.specs.Plans.{IsOwnDecision};
+ghost use Rattle.toll_desk.specs.Reads.{AreBoth, Over, both_with};
 ghost use Rattle.toll_desk.specs.Subjects.{IsCommandSuchThat, IsOwn, is_shared};
 
 use crate::decisions::{decide_own, decide_shared};
@@ -31,7 +30,7 @@ pub fn decide<K: Keep>(
 ) -> Result<Decision, KeepFault>
     requires { IsCommandSuchThat IsValid (asked_by command.now) }
     ensures reads { IsReading K.meaning keep.old keep.new result }
-    ensures over { Over K.meaning keep.old keep.new (λ c H. IfOk result (IsPlantDecision c H (asked_by command.now))) }
+    ensures over { IsDecidedOver K.meaning keep.old keep.new (asked_by command.now) result }
 {
     match *command {
         PlantCmd::OwnerAdd { owner, key } => decide_owner(alloc, keep, owner, key),
@@ -53,7 +52,7 @@ fn decide_over<K: Keep>(
     requires own { IsCommandSuchThat IsOwn (asked_by command.now) }
     requires valid { IsCommandSuchThat IsValid (asked_by command.now) }
     ensures reads { IsReading K.meaning keep.old keep.new result }
-    ensures over { Over K.meaning keep.old keep.new (λ c H. IfOk result (IsPlantDecision c H (asked_by command.now))) }
+    ensures over { IsDecidedOver K.meaning keep.old keep.new (asked_by command.now) result }
 {
     match keep.slice(alloc, &command.owner()) {
         Ok(Some(slice)) => match decide_own(alloc, &slice, command) {
@@ -89,7 +88,7 @@ fn decide_both<K: Keep>(
     requires shared { IsCommandSuchThat (λ a. is_shared a ≡ true) (asked_by command.now) }
     requires valid { IsCommandSuchThat IsValid (asked_by command.now) }
     ensures reads { IsReading K.meaning keep.old keep.new result }
-    ensures over { Over K.meaning keep.old keep.new (λ c H. IfOk result (IsPlantDecision c H (asked_by command.now))) }
+    ensures over { IsDecidedOver K.meaning keep.old keep.new (asked_by command.now) result }
 {
     match both_of(alloc, keep, &command.owner()) {
         Ok(Some(both)) => match decide_shared(alloc, &both.own, &both.house, command) {
@@ -128,7 +127,7 @@ fn house_over<K: Keep>(
     own: Slice,
 ) -> Result<Option<Both>, KeepFault>
     ensures reading { ReadsThrough K.meaning keep.old keep.new pending.old result }
-    ensures both { OverLaid K.meaning keep.old keep.new pending.old (λ c. IfOk result (λ both. both ≡ Some (record { own = own; house = c.rows house_name }))) }
+    ensures both { OverLaid K.meaning keep.old keep.new pending.old (λ c. IfOk result (λ both. both ≡ Some (both_with c own))) }
     ensures over { OverHeld K.meaning keep.old keep.new (λ c. IsOver c pending.old → IsOver c pending.new) }
     ensures changes { pending.new.changes.items ≡ pending.old.changes.items }
 {
@@ -165,7 +164,7 @@ fn decide_opening<K: Keep>(
     unit: Name,
 ) -> Result<Decision, KeepFault>
     ensures reads { IsReading K.meaning keep.old keep.new result }
-    ensures over { Over K.meaning keep.old keep.new (λ c H. IfOk result (IsPlantDecision c H (Does (by owner.now (OpenBatch order unit))))) }
+    ensures over { IsDecidedOver K.meaning keep.old keep.new (Does (by owner.now (OpenBatch order unit))) result }
 {
     match keep.slice(alloc, owner) {
         Ok(Some(slice)) => open_on(alloc, keep, &slice, order, unit),
@@ -217,7 +216,7 @@ fn holding<K: Keep>(
     known: bool,
 ) -> Result<UnitState, KeepFault>
     ensures reads { IsReading K.meaning keep.old keep.new result }
-    ensures over { Over K.meaning keep.old keep.new (λ c H. IfOk result (λ state. (state.known ≡ known) × (state.free ≡ not (is_some (holder H unit.now))))) }
+    ensures over { Over K.meaning keep.old keep.new (λ c H. IfOk result (λ state. (state.known ≡ known) × IsFreeIn H unit.now state.free)) }
 {
     match keep.holder(alloc, unit) {
         Ok(held) => Ok(UnitState {

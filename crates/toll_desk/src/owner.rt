@@ -1,10 +1,10 @@
 //! Owners' requests over a keep.
-ghost use Rattle.std.specs.Prelude.{◌≡◌, ◌≢◌, false, [], Err, OnErr};
+ghost use Rattle.std.specs.Prelude.{◌≡◌, ◌≢◌, Err};
 ghost use Rattle.toll_keep.specs.Content.{ContentKeepsRules};
 ghost use Rattle.toll_keep.specs.Goes.{Goes, IsReading, IsSpared, Settles};
 ghost use Rattle.toll_keep.specs.Meaning.{OverHeld};
-ghost use Rattle.toll_desk.specs.Clauses.{IfPlacedAgain, IsOwnerDone, IsPlannedBy, IsPlannedFor, OverOwner};
-ghost use Rattle.toll_desk.specs.Translations.{asked_of, may_change, told_of};
+ghost use Rattle.toll_desk.specs.Clauses.{ChangesIfAsked, IsOwnerDone, IsPlannedBy, IsPlannedFor, OverHeldRows, OverOwner, StaysIfUnasked};
+ghost use Rattle.toll_desk.specs.Translations.{asked_of, told_of};
 ghost use Rattle.toll_desk.specs.Reads.{Over};
 
 use crate::admission::admit;
@@ -29,9 +29,7 @@ pub fn owner_plan<K: Keep>(
     request: &Request,
 ) -> Planned
     ensures reads { IsReading K.meaning keep.old keep.new (told_of result.reply) }
-    ensures none { OnErr (told_of result.reply) (result.changes.items ≡ []) }
-    ensures quiet { may_change (asked_of request.now) (told_of result.reply) ≡ false → result.changes.items ≡ [] }
-    ensures once { OverHeld K.meaning keep.old keep.new (λ c. IfPlacedAgain (c.rows owner.now) (asked_of request.now) (result.changes.items ≡ [])) }
+    ensures idle { ChangesIfAsked (OverHeldRows K.meaning keep.old keep.new owner.now) (asked_of request.now) result }
     ensures plan { Over K.meaning keep.old keep.new (λ c H. IsPlannedBy c H owner.now key.now (asked_of request.now) result) }
 {
     match admit(alloc, keep, owner, key) {
@@ -44,9 +42,7 @@ pub fn owner_plan<K: Keep>(
 // The same for an owner that was admitted.
 fn plan_for<K: Keep>(alloc: Global, keep: &mut K, owner: &Name, request: &Request) -> Planned
     ensures reads { IsReading K.meaning keep.old keep.new (told_of result.reply) }
-    ensures none { OnErr (told_of result.reply) (result.changes.items ≡ []) }
-    ensures quiet { may_change (asked_of request.now) (told_of result.reply) ≡ false → result.changes.items ≡ [] }
-    ensures once { OverHeld K.meaning keep.old keep.new (λ c. IfPlacedAgain (c.rows owner.now) (asked_of request.now) (result.changes.items ≡ [])) }
+    ensures idle { ChangesIfAsked (OverHeldRows K.meaning keep.old keep.new owner.now) (asked_of request.now) result }
     ensures plan { OverOwner K.meaning keep.old keep.new owner.now (λ c H. IsPlannedFor c H owner.now (asked_of request.now) result) }
 {
     match form_of(request) {
@@ -72,8 +68,7 @@ pub fn owner_do<K: Keep>(
     ensures settles { Settles K.meaning keep.old keep.new }
     ensures spared { told_of result ≡ Err KeepFault.Memory → IsSpared K.meaning keep.old keep.new }
     ensures whole { OverHeld K.meaning keep.old keep.new (λ c. ContentKeepsRules c → told_of result ≢ Err KeepFault.Damaged) }
-    ensures quiet { OverHeld K.meaning keep.old keep.new (λ c. may_change (asked_of request.now) (told_of result) ≡ false → K.meaning.holds keep.new c) }
-    ensures once { OverHeld K.meaning keep.old keep.new (λ c. IfPlacedAgain (c.rows owner.now) (asked_of request.now) (K.meaning.holds keep.new c)) }
+    ensures idle { StaysIfUnasked K.meaning keep.old keep.new owner.now (asked_of request.now) (told_of result) }
     ensures done { IsOwnerDone K.meaning keep.old keep.new owner.now key.now (asked_of request.now) (told_of result) }
 {
     let planned = owner_plan(alloc, keep, owner, key, request);

@@ -1,13 +1,11 @@
 //! What owners are told of their rows.
 ghost use Rattle.std.specs.Prelude.{◌≡◌, true, IfOk, is_ok};
-ghost use Rattle.toll_history.specs.History.{History, acts};
+ghost use Rattle.toll_history.specs.History.{History};
 ghost use Rattle.toll_history.specs.OverRows.{OverRows};
-ghost use Rattle.toll_history.specs.Tables.{IsRowsOf, lot_row};
-ghost use Rattle.toll_history.specs.Work.{order_of};
-ghost use Rattle.toll_answers.specs.Replies.{IsAnswer, IsLotOr, IsOrderOr};
+ghost use Rattle.toll_history.specs.Tables.{IsRowsOf};
 ghost use Rattle.toll_answers.specs.Told.{AskBatch, AskOrders};
 ghost use Rattle.toll_keep.specs.Goes.{IsReading};
-ghost use Rattle.toll_desk.specs.Clauses.{IsReadAs, OverKnown};
+ghost use Rattle.toll_desk.specs.Clauses.{IsLotShown, IsOrderShown, IsReadAs, IsToldAs, OverKnown};
 ghost use Rattle.toll_desk.specs.Forms.{asked_to_read};
 ghost use Rattle.toll_desk.specs.Translations.{told_of};
 
@@ -22,7 +20,7 @@ use toll_work::batch_view;
 /// What an owner is told of its rows.
 pub fn read_rows<K: Keep>(alloc: Global, keep: &mut K, owner: &Name, reading: &ReadRequest) -> Reply
     ensures reads { IsReading K.meaning keep.old keep.new (told_of result) }
-    ensures over { OverKnown K.meaning keep.old keep.new owner.now (λ c H. IfOk (told_of result) (IsAnswer owner.now H (asked_to_read reading.now))) }
+    ensures over { OverKnown K.meaning keep.old keep.new owner.now (λ c H. IsToldAs H owner.now (asked_to_read reading.now) (told_of result)) }
 {
     match keep.slice(alloc, owner) {
         Ok(Some(slice)) => match read_over(alloc, &slice, reading) {
@@ -69,7 +67,7 @@ fn copied(alloc: Global, orders: &[OrderRow]) -> Result<Vec<OrderRow>, AllocErro
 /// The order as it stands.
 pub fn order_shown(slice: &Slice, order: &Name) -> Reply
     ensures told { is_ok (told_of result) ≡ true }
-    ensures over { (H : History) → IsRowsOf H slice.now → IfOk (told_of result) (IsOrderOr (order_of (acts slice.now.owner H) order.now)) }
+    ensures over { (H : History) → IsRowsOf H slice.now → IsOrderShown H slice.now.owner order.now result }
 {
     match slice.order(order) {
         Some(row) => Reply::Order(row),
@@ -99,7 +97,7 @@ fn batch_shown(
 /// The lot as it stands.
 pub fn lot_shown(alloc: Global, slice: &Slice, lot: &Name) -> Result<Reply, AllocError>
     ensures told { IfOk result (λ reply. is_ok (told_of reply) ≡ true) }
-    ensures over { OverRows slice.now (λ H. IfOk result (λ reply. IfOk (told_of reply) (IsLotOr H slice.now.owner (lot_row H slice.now.owner lot.now)))) }
+    ensures over { OverRows slice.now (λ H. IsLotShown H slice.now.owner lot.now result) }
 {
     match lot_view(alloc, slice, lot) {
         Ok(Some(view)) => Ok(Reply::Lot(view)),

@@ -9,8 +9,7 @@ ghost use Rattle.toll_history.specs.Decision.{IsDecided};
 ghost use Rattle.toll_answers.specs.PlantAnswers.{Does};
 ghost use Rattle.toll_keep.specs.Goes.{IsReading};
 ghost use Rattle.toll_desk.specs.Admission.{owner_row_checks, unit_row_checks};
-ghost use Rattle.toll_desk.specs.Plans.{IsPlantDecision};
-ghost use Rattle.toll_desk.specs.Reads.{Over};
+ghost use Rattle.toll_desk.specs.Clauses.{IsDecidedOver};
 
 use crate::admission::{find_owner, is_house, is_same};
 use std::alloc::{AllocError, Global};
@@ -27,7 +26,7 @@ pub fn decide_owner<K: Keep>(
     key: OwnerKey,
 ) -> Result<Decision, KeepFault>
     ensures reads { IsReading K.meaning keep.old keep.new result }
-    ensures over { Over K.meaning keep.old keep.new (λ c H. IfOk result (IsPlantDecision c H (Does (by owner (AddOwner key))))) }
+    ensures over { IsDecidedOver K.meaning keep.old keep.new (Does (by owner (AddOwner key))) result }
 {
     match keep.owners(alloc) {
         Ok(rows) => match judge_owner(alloc, &rows, OwnerRow { owner, key }) {
@@ -56,7 +55,7 @@ fn judge_owner(alloc: Global, rows: &[OwnerRow], row: OwnerRow) -> Result<Decisi
 /// The decision on a unit to be added.
 pub fn decide_unit<K: Keep>(alloc: Global, keep: &mut K, unit: Name) -> Result<Decision, KeepFault>
     ensures reads { IsReading K.meaning keep.old keep.new result }
-    ensures over { Over K.meaning keep.old keep.new (λ c H. IfOk result (IsPlantDecision c H (Does (by house_name (AddUnit unit))))) }
+    ensures over { IsDecidedOver K.meaning keep.old keep.new (Does (by house_name (AddUnit unit))) result }
 {
     match keep.units(alloc) {
         Ok(rows) => match judge_unit(alloc, &rows, UnitRow { unit }) {

@@ -1,11 +1,9 @@
 //! Owners' requests that are decided.
-ghost use Rattle.std.specs.Prelude.{◌≡◌, true, false, is_some, [], IfOk, is_ok};
-ghost use Rattle.toll_base.specs.Slice.{order_at};
+ghost use Rattle.std.specs.Prelude.{◌≡◌, true, false, [], IfOk, is_ok};
 ghost use Rattle.toll_history.specs.OverRows.{OverOwnRows};
 ghost use Rattle.toll_answers.specs.Told.{AskCancel, AskPlace};
 ghost use Rattle.toll_keep.specs.Goes.{IsReading};
-ghost use Rattle.toll_keep.specs.Meaning.{OverHeld};
-ghost use Rattle.toll_desk.specs.Clauses.{IfPlacedAgain, IsDisposedOver, IsPlannedFor, IsPlannedOver, OverKnown};
+ghost use Rattle.toll_desk.specs.Clauses.{ChangesIfAsked, IsDisposedOver, IsPlannedFor, IsPlannedOver, OverHeldRows, OverKnown, OverSlice};
 ghost use Rattle.toll_desk.specs.Forms.{asked_to_write};
 ghost use Rattle.toll_desk.specs.Translations.{is_granted, told_of};
 
@@ -27,8 +25,7 @@ pub fn plan_write<K: Keep>(
     writing: &WriteRequest,
 ) -> Planned
     ensures reads { IsReading K.meaning keep.old keep.new (told_of result.reply) }
-    ensures quiet { is_granted (told_of result.reply) ≡ false → result.changes.items ≡ [] }
-    ensures once { OverHeld K.meaning keep.old keep.new (λ c. IfPlacedAgain (c.rows owner.now) (asked_to_write writing.now) (result.changes.items ≡ [])) }
+    ensures idle { ChangesIfAsked (OverHeldRows K.meaning keep.old keep.new owner.now) (asked_to_write writing.now) result }
     ensures plan { OverKnown K.meaning keep.old keep.new owner.now (λ c H. IsPlannedFor c H owner.now (asked_to_write writing.now) result) }
 {
     match keep.slice(alloc, owner) {
@@ -43,8 +40,7 @@ pub fn plan_write<K: Keep>(
 
 fn write_over(alloc: Global, slice: &Slice, writing: &WriteRequest) -> Result<Planned, AllocError>
     ensures told { IfOk result (λ planned. is_ok (told_of planned.reply) ≡ true) }
-    ensures quiet { IfOk result (λ planned. is_granted (told_of planned.reply) ≡ false → planned.changes.items ≡ []) }
-    ensures once { IfPlacedAgain slice.now (asked_to_write writing.now) (IfOk result (λ planned. planned.changes.items ≡ [])) }
+    ensures idle { IfOk result (ChangesIfAsked (OverSlice slice.now) (asked_to_write writing.now)) }
     ensures over { OverOwnRows slice.now (λ H. IsPlannedOver H slice.now (asked_to_write writing.now) result) }
 {
     match *writing {
@@ -75,8 +71,7 @@ fn plan_order(
     batches: BatchNo,
 ) -> Result<Planned, AllocError>
     ensures told { IfOk result (λ planned. is_ok (told_of planned.reply) ≡ true) }
-    ensures quiet { IfOk result (λ planned. is_granted (told_of planned.reply) ≡ false → planned.changes.items ≡ []) }
-    ensures once { is_some (order_at slice.now order) ≡ true → IfOk result (λ planned. planned.changes.items ≡ []) }
+    ensures idle { IfOk result (ChangesIfAsked (OverSlice slice.now) (AskPlace order recipe batches)) }
     ensures over { OverOwnRows slice.now (λ H. IsPlannedOver H slice.now (AskPlace order recipe batches) result) }
 {
     // The proof is told of the bounds.

@@ -25,9 +25,12 @@ returns-in-Ok-None-clause-plan g c honest content H held stands lawful =
     let wrong = wrong_key o (has_key o key H) (sym c.in-Ok-None.field-0-is ∙ c.in-Ok-None.ensures.found honest content held H stands) in
     rw (c.unchanged.ensures.reply, c.unchanged.ensures.changes) (plan_forbidden content H o key (asked_of c.args.request.now) stands wrong)
 
-pub returns-in-Ok-Some-clause-once : goal.returns-in-Ok-Some-clause-once
-returns-in-Ok-Some-clause-once g c honest content held order recipe batches asks there =
-    let before = c.plan_for.ensures.reads.goes.honest honest in
-    let named = subst (λ found. IfSome found (λ name. name ≡ c.args.owner.now)) c.in-Ok-Some.field-0-is c.in-Ok-Some.ensures.named in
-    c.plan_for.ensures.once honest content ((c.in-Ok-Some.ensures.reads.keeps before).content content held) order recipe batches asks
-    (subst (λ p. is_some (order_at (content.rows p) order) ≡ true) (sym named) there)
+pub returns-in-Ok-Some-clause-idle : goal.returns-in-Ok-Some-clause-idle
+returns-in-Ok-Some-clause-idle g c = record {
+  quiet = c.plan_for.ensures.idle.quiet;
+  once = λ honest content held order recipe batches asks there.
+      let before = c.plan_for.ensures.reads.goes.honest honest in
+      let named = subst (λ found. IfSome found (λ name. name ≡ c.args.owner.now)) c.in-Ok-Some.field-0-is c.in-Ok-Some.ensures.named in
+      c.plan_for.ensures.idle.once honest content ((c.in-Ok-Some.ensures.reads.keeps before).content content held) order recipe batches asks
+      (subst (λ p. is_some (order_at (content.rows p) order) ≡ true) (sym named) there);
+}

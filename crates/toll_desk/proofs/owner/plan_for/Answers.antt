@@ -1,8 +1,9 @@
-use Rattle.std.proofs.Common.{IfOk, sym, ap, subst, ◌∙◌}
+use Rattle.std.proofs.Common.{IfOk, sym, subst}
 use Rattle.std.proofs.lemmas.Result.{IfOk-weaker}
-use Rattle.toll_desk.specs.Translations.{asked_of, is_granted, told_of, writes}
+use Rattle.toll_desk.specs.Clauses.{ChangesIfAsked, OverHeldRows}
+use Rattle.toll_desk.specs.Translations.{asked_of, told_of}
 use Rattle.toll_desk.specs.Plans.{IsPlanFor}
-use Rattle.toll_desk.proofs.OwnerForms.{plan_read, plan_trace, write_writes, both_false}
+use Rattle.toll_desk.proofs.OwnerForms.{plan_read, plan_trace}
 use Rattle.toll_desk.proofs.owner.plan_for.Goals as goal
 
 pub returns-in-Read-clause-plan : goal.returns-in-Read-clause-plan
@@ -17,12 +18,9 @@ returns-in-Trace-clause-plan g c honest content H held stands lawful known not_h
     (IfOk-weaker (told_of c.trace_own.result) _ _ (λ told answer. plan_trace content H stands c.args.owner.now told c.in-Trace.tracing (asked_of c.args.request.now) c.in-Trace.ensures answer)
     (c.trace_own.ensures.over honest content H held stands lawful known not_house))
 
-pub returns-in-Write-clause-quiet : goal.returns-in-Write-clause-quiet
-returns-in-Write-clause-quiet g c none =
-    c.plan_write.ensures.quiet (both_false (writes (asked_of c.args.request.now)) (is_granted (told_of c.plan_write.result.reply)) (ap writes c.in-Write.ensures ∙ write_writes c.in-Write.writing) none)
-
-pub returns-in-Write-clause-once : goal.returns-in-Write-clause-once
-returns-in-Write-clause-once g c honest content held order recipe batches asks there = c.plan_write.ensures.once honest content held order recipe batches (sym c.in-Write.ensures ∙ asks) there
+pub returns-in-Write-clause-idle : goal.returns-in-Write-clause-idle
+returns-in-Write-clause-idle g c =
+    subst (λ q. ChangesIfAsked (OverHeldRows g.K.Keep.meaning c.args.keep.now c.plan_write.new.keep c.args.owner.now) q c.plan_write.result) (sym c.in-Write.ensures) c.plan_write.ensures.idle
 
 pub returns-in-Write-clause-plan : goal.returns-in-Write-clause-plan
 returns-in-Write-clause-plan g c honest content H held stands lawful known not_house =

@@ -5,11 +5,14 @@ use Rattle.toll_desk.specs.Translations.{told_of}
 use Rattle.toll_desk.proofs.OwnerPlans.{slice_read, none_read, plan_lift}
 use Rattle.toll_desk.proofs.writing.plan_write.Goals as goal
 
-pub returns-in-Ok-clause-once : goal.returns-in-Ok-clause-once
-returns-in-Ok-clause-once g c honest content held order recipe batches asks is_there =
-    let s = c.in-Ok-Some.slice in
-    let is = slice_read content c.args.owner.now s (sym c.in-Ok-Some.field-0-is ∙ c.in-Ok-Some.ensures.reads honest content held) in
-    c.in-Ok.ensures.once order recipe batches asks (subst (λ s. is_some (order_at s order) ≡ true) (sym is) is_there)
+pub returns-in-Ok-clause-idle : goal.returns-in-Ok-clause-idle
+returns-in-Ok-clause-idle g c = record {
+  quiet = c.in-Ok.ensures.idle.quiet;
+  once = λ honest content held order recipe batches asks is_there.
+      let s = c.in-Ok-Some.slice in
+      let is = slice_read content c.args.owner.now s (sym c.in-Ok-Some.field-0-is ∙ c.in-Ok-Some.ensures.reads honest content held) in
+      c.in-Ok.ensures.idle.once order recipe batches asks (subst (λ s. is_some (order_at s order) ≡ true) (sym is) is_there);
+}
 
 pub returns-in-Ok-clause-plan : goal.returns-in-Ok-clause-plan
 returns-in-Ok-clause-plan g c honest content H held stands lawful known =
