@@ -52,4 +52,4 @@ K2,ACME,O,1,1,consumed,M,ACME,A,S1,40,11
 """
 
 # What brings a file of version 2 back to version 1, as the program that wrote version 1 left it.
-BACK_TO_VERSION_1 = "DROP TABLE voids; DROP INDEX moves_by_batch; UPDATE meta SET value = 1 WHERE name = 'toll'"
+BACK_TO_VERSION_1 = "DROP TABLE voids; UPDATE meta SET value = 1 WHERE name = 'toll'"

@@ -1,13 +1,13 @@
 -- Tables that are ours already, and the version that is read.
-use Rattle.std.proofs.Common.{◌≡◌, ◌≢◌, ◌⊎◌, inl, inr, ℕ, true, false, if◌then◌else◌, List, [], ◌∷◌, ◌++◌, slice_get, None, Some, Ok, Result, Option, IfOk, IfSome, OnOk, IsTrue, refl, sym, ap, subst, ◌∙◌}
-use Rattle.toll_sql.proofs.Common.{survives_weaker, Database, Schema, Table, KeepsRows, indexed, State, HasCleanDisk, Survives, Trees, Error, Content}
+use Rattle.std.proofs.Common.{◌≡◌, ◌≢◌, ◌⊎◌, inl, inr, ℕ, true, false, List, ◌++◌, slice_get, None, Some, Ok, Result, Option, IfOk, IfSome, OnOk, IsTrue, sym, ap, subst, ◌∙◌}
+use Rattle.toll_sql.proofs.Common.{survives_weaker, Database, Schema, Table, State, HasCleanDisk, Survives, Trees, Error, Content}
 use Rattle.toll_sql.specs.Asking.{IsQuerying}
 use Rattle.toll_sql.specs.First.{AreFirst, HasVersion, Tells, first_version, meta_rows}
 use Rattle.toll_sql.specs.Holds.{Holds, version}
 use Rattle.toll_sql.specs.Opening.{Adopts, FindsVersion, HoldsEither, IsForeign, IsUnlike, LeavesRaised, TakesOver, without_limit}
-use Rattle.toll_sql.specs.Others.{HasOurs, Indexed, has_its_name}
-use Rattle.toll_sql.specs.Tables.{by_batch, made_all, table_of}
-use Rattle.toll_sql.specs.declared.table_kind.TableKind.TheVariants.{Moves, Voids}
+use Rattle.toll_sql.specs.Others.{HasOurs}
+use Rattle.toll_sql.specs.Tables.{made_all, table_of}
+use Rattle.toll_sql.specs.declared.table_kind.TableKind.TheVariants.{Voids}
 use Rattle.toll_sql.specs.declared.open_fault.OpenFault.{OpenFault}
 use Rattle.toll_sql.specs.declared.open_fault.OpenFault.TheVariants.{Disk, Damaged, NotOurs}
 use Rattle.toll_sql.specs.Stores.{IsOurs}
@@ -19,10 +19,6 @@ pub apart : {schema : Schema} → HasOurs schema → ¬ AreFirst schema
 apart has first =
     let none : None ≡ slice_get (made_all.tables ++ has.tables.0) 13 = ap (λ (tables : List Table). slice_get tables 13) (ap (λ (s : Schema). s.tables) (sym first) ∙ has.tables.1) in
     absurd (let no : None ≡ Some (table_of Voids) = none in cc)
-
-all_same : (tables : List Table) (db : Trees) → KeepsRows tables db db
-all_same [] db = tt
-all_same (t ∷ tables) db = (refl, all_same tables db)
 
 -- the fault of tables that are not of the version that was told: Damaged where it is this other one, and else NotOurs
 pub record IsMisfit (told : Option ℕ) (other : ℕ) (fault : OpenFault) : Type 0 where
@@ -53,7 +49,7 @@ turned_down old new fault over damaged foreign unheld = record {
   damaged = λ clean same. damaged clean (let it : fault ≡ Damaged = cc in it);
   foreign = λ clean same. inr (foreign clean (let it : fault ≡ NotOurs = cc in it));
   ours = λ _ _. tt;
-  indexed = λ _ _. tt;
+  stays = λ _ _. tt;
   raised = λ _ _. tt;
   holds = λ _ _ _. tt;
   known = λ clean _ c h. absurd (unheld clean c h);
@@ -87,13 +83,12 @@ module _ (old new : State) (auto : old.in_transaction ≡ false) (settled : IsTr
       ])
 
   -- this version was told
-  pub this_version : has_its_name new.now.schema ≡ true → told ≡ Some version → (HasCleanDisk new → IfOk r (λ v. IfSome v (λ n. Tells n (meta_rows old.now.trees)))) → Adopts old new done
-  this_version named so tells =
+  pub this_version : told ≡ Some version → (HasCleanDisk new → IfOk r (λ v. IfSome v (λ n. Tells n (meta_rows old.now.trees)))) → Adopts old new done
+  this_version so tells =
       let a = asking.asks in
       let live = λ (clean : HasCleanDisk new). (let it : IsTrue new.is_open = subst (λ (x : Result (Option ℕ) Error). OnOk x (IsTrue new.is_open)) is (a.shown clean) in it) in
       let idle = λ (clean : HasCleanDisk new). (let it : old.now ≡ old.committed = settled (a.live clean (live clean)) in it) in
       let same = λ (clean : HasCleanDisk new). (let it : (new.now ≡ old.now) × (new.committed ≡ old.committed) = a.same clean has (live clean) (idle clean) in it) in
-      let was_named = λ (clean : HasCleanDisk new). (let it : has_its_name old.now.schema ≡ true = ap (λ (d : Database). has_its_name d.schema) (sym (same clean).0) ∙ named in it) in
       let it_tells = λ (clean : HasCleanDisk new). tells_it old.now version told r is so (tells clean) in
       record {
         over = record {
@@ -111,7 +106,7 @@ module _ (old new : State) (auto : old.in_transaction ≡ false) (settled : IsTr
           | inl own ↦ (subst IsOurs (sym (same clean).0) own, subst (λ (db : Database). Tells version (meta_rows db.trees)) (sym (same clean).0) (it_tells clean))
           | inr first ↦ absurd (apart has first.schema)
         ];
-        indexed = λ clean _. subst (Indexed old.now) (sym (same clean).0) (record { schema = ap (λ b. if b then old.now.schema else indexed old.now.schema (table_of Moves) by_batch) (sym (was_named clean)); rows = all_same old.now.schema.tables old.now.trees });
+        stays = λ clean _. (same clean).0;
         raised = λ _ first. absurd (apart has first.schema);
         holds = λ clean c h. elim h [
           | inl held ↦ record {
@@ -132,7 +127,7 @@ either s c (inl h) = inl (record { ours = h.ours; idle = h.idle; rows = h.rows }
 either s c (inr h) = inr (record { first = h.first; idle = h.idle; rows = h.rows })
 
 leaves : (s : State) (db : Trees) → LeavesRaised (without_limit s) db → LeavesRaised s db
-leaves s db h = record { lacking = h.lacking; rows = λ c held. h.rows c (either s c held) }
+leaves s db h = record { first = h.first; rows = λ c held. h.rows c (either s c held) }
 
 pub adopted : {X : Type 0} (old new : State) (r : Result X OpenFault) → Adopts (without_limit old) new r → Adopts old new r
 adopted old new r h = record {
@@ -148,7 +143,7 @@ adopted old new r h = record {
   };
   known_as = h.known_as;
   ours = h.ours;
-  indexed = h.indexed;
+  stays = h.stays;
   raised = λ clean first. h.raised clean first;
   holds = λ clean c held. h.holds clean c (either old c held);
   known = λ clean auto c held. h.known clean auto c (either old c held);

@@ -1,4 +1,4 @@
--- What CREATE TABLE and CREATE INDEX make of a database.
+-- What CREATE TABLE makes of a database.
 use Rattle.std.proofs.Common.{◌≡◌, ℕ, false, List, [], slice_get, None, Some, Ok, sym, ap, subst, ◌∙◌}
 use Rattle.toll_sql.proofs.Common.{IsPlain, command_of, statement_of, runs_as, CreateTable, CreateIndex, table_defined_by, Tally, Does, OnTable, AtPlace, Defines, MakesIndex, lacks_sequence, Database, understood, Schema, State, Writes, Executes, mode_of, Table, indexed, index_defined_by, Index}
 use Rattle.sqlite.specs.Change.{created, next_tree, KeepsRows}
@@ -28,25 +28,4 @@ module _ (sql : List ℕ) (schema : Schema) (whole : statement_of sql (understoo
         schema_is = ap (λ (d : Database). d.schema) now ∙ after;
         empty = subst (λ (d : Database). d.trees (next_tree schema) ≡ []) (sym now) empty;
         others = subst (λ (d : Database). KeepsRows schema.tables old.now.trees d.trees) (sym now) others;
-      }
-
-  pub record Lists (table : Table) (index : Index) : Type 0 where
-    pub schema_is : new.now.schema ≡ indexed schema table index
-    pub others : KeepsRows schema.tables old.now.trees new.now.trees
-
-  pub lists : (table : Table) (index : Index) (at : ℕ) → slice_get schema.tables at ≡ Some table → command_of (understood schema sql) ≡ CreateIndex at → index_defined_by table sql ≡ Ok index → Lists table index
-  lists table index at listed is made =
-      let w = subst (λ t. Writes old new None (CreateIndex at) t [] count) whole (runs_as sql [] old new schema has (CreateIndex at) is plain count h) in
-      let all : OnTable old.step_limit (mode_of old) [] (record { schema = schema; trees = old.now.trees }) at (λ task. Defines (mode_of old) (MakesIndex sql (record { schema = schema; trees = old.now.trees }) task.table)) (Ok (w.tally, new.now)) =
-      subst (λ s. Does old.step_limit (mode_of old) [] (record { schema = s; trees = old.now.trees }) sql None (CreateIndex at) (Ok (w.tally, new.now))) has w.changed in
-      let here : Defines (mode_of old) (MakesIndex sql (record { schema = schema; trees = old.now.trees }) table) (Ok (w.tally, new.now)) =
-      subst (λ o. AtPlace (λ table. Defines (mode_of old) (MakesIndex sql (record { schema = schema; trees = old.now.trees }) table)) o (Ok (w.tally, new.now))) listed all in
-      let done = went here in
-      let it = done.1 in
-      let both : Ok it.index ≡ Ok index = sym it.defined ∙ made in
-      let same : it.index ≡ index = cc in
-      let now : new.now ≡ done.0 = ap (λ (p : Tally × Database). p.1) (same_value done.2) in
-      record {
-        schema_is = ap (λ (d : Database). d.schema) now ∙ it.is ∙ ap (indexed schema table) same;
-        others = subst (λ (d : Database). KeepsRows schema.tables old.now.trees d.trees) (sym now) it.rows;
       }

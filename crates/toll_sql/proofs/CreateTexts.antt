@@ -1,10 +1,10 @@
--- What the texts that make the tables and the index mean.
+-- What the texts that make the tables mean.
 use Rattle.std.proofs.Common.{◌≡◌, ◌<◌, ℕ, suc, false, [], ◌∷◌, take, get_or, Ok, refl, arith}
-use Rattle.toll_sql.proofs.Common.{IsPlain, command_of, statement_of, created, next_tree, CreateTable, table_defined_by, lacks_sequence, understood, Table, compiled, index_defined_by, everything}
+use Rattle.toll_sql.proofs.Common.{IsPlain, command_of, statement_of, created, next_tree, CreateTable, table_defined_by, lacks_sequence, understood, Table, compiled, everything}
 use Rattle.toll_sql.specs.Plain.{no_schema}
-use Rattle.toll_sql.specs.Tables.{every_table, with_tables, earlier, table_of, tree_of, made_before, by_batch, create_text, index_text}
+use Rattle.toll_sql.specs.Tables.{every_table, with_tables, earlier, table_of, tree_of, made_before, create_text}
 use Rattle.toll_sql.specs.declared.table_kind.TableKind.{TableKind}
-use Rattle.toll_sql.specs.declared.table_kind.TableKind.TheVariants.{Meta, Moves}
+use Rattle.toll_sql.specs.declared.table_kind.TableKind.TheVariants.{Meta}
 use Rattle.toll_sql.proofs.PutTexts.{number_of}
 use Rattle.toll_sql.proofs.TextLemmas.{one_statement, command_is, statement_is, plain}
 
@@ -48,7 +48,3 @@ place_of _ low = refl
 pub next_is : (k : TableKind) → with_tables (made_before k) (k ∷ []) ≡ with_tables no_schema (take (suc (number_of k)) every_table)
 next_is Meta = refl
 next_is _ = refl
-
-pub index_defines : index_defined_by (table_of Moves) index_text ≡ Ok by_batch
-unfolding everything
-index_defines = refl

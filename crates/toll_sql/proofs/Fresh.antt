@@ -1,10 +1,10 @@
--- What the tables hold once the index and the version are there.
+-- What the tables hold once the version is there.
 use Rattle.std.proofs.Common.{◌≡◌, true, List, [], ◌∷◌, refl, sym, subst, ◌∙◌, arith}
 use Rattle.toll_sql.proofs.Common.{AllByRecursion, Row, State, Table, Trees, IsShaped, Bytes, empty_slice, Content, nothing}
 use Rattle.sqlite_trees.specs.declared.store.Shape.TheVariants as shape
 use Rattle.toll_sql.specs.Bag.{all_cells, owned_by, place}
 use Rattle.toll_sql.specs.Cells.{key_order}
-use Rattle.toll_sql.specs.Create.{Finishes, IsNew, IsShapedAs, MakesAllTables}
+use Rattle.toll_sql.specs.Create.{WritesVersion, IsNew, IsShapedAs, MakesAllTables}
 use Rattle.toll_sql.specs.Encode.{meta_cells, owner_cells, unit_cells, rows_for}
 use Rattle.toll_sql.specs.First.{as_second}
 use Rattle.toll_sql.specs.Holds.{HasRows, Holds, HoldsSlice, NamesOwner, version}
@@ -31,13 +31,11 @@ holds_same c old new same meta h =
       each = same_each old new c.rows tables h.each;
     }
 
-pub finished_holds : (c : Content) (db : Trees) (rows : List Row) (old new : State) → Finishes old new → HasRows Meta rows (old.now.trees (tree_of Meta)) → place (key_order Meta) (meta_cells version) rows ≡ meta_cells version ∷ []
+pub written_holds : (c : Content) (db : Trees) (rows : List Row) (old new : State) → WritesVersion old new → HasRows Meta rows (old.now.trees (tree_of Meta)) → place (key_order Meta) (meta_cells version) rows ≡ meta_cells version ∷ []
     → ((k : TableKind) → IsOther k → old.now.trees (tree_of k) ≡ db (tree_of k)) → Holds db c → Holds new.now.trees c
-finished_holds c db rows old new h has placed same holds =
-    let kept = λ (k : TableKind). at_table (λ tree. h.mid tree ≡ old.now.trees tree) k h.rows in
-    let before = subst (λ stored. HasRows Meta rows stored) (sym (kept Meta)) has in
-    let meta = subst (λ r. HasRows Meta r (new.now.trees (tree_of Meta))) placed (rows_after Meta (meta_cells version) refl rows (h.mid (tree_of Meta)) (new.now.trees (tree_of Meta)) before h.put.here) in
-    holds_same c db new.now.trees (λ k other. other_tree k Meta (meta_cells version) h.mid new.now.trees other h.put ∙ kept k ∙ same k other) meta holds
+written_holds c db rows old new h has placed same holds =
+    let meta = subst (λ r. HasRows Meta r (new.now.trees (tree_of Meta))) placed (rows_after Meta (meta_cells version) refl rows (old.now.trees (tree_of Meta)) (new.now.trees (tree_of Meta)) has h.put.here) in
+    holds_same c db new.now.trees (λ k other. other_tree k Meta (meta_cells version) old.now.trees new.now.trees other h.put ∙ same k other) meta holds
 
 -- ---- no rows
 
@@ -75,13 +73,13 @@ holds_nothing = record {
   each = record { slices = no_slice; owned = λ k owned. subst (λ tree. AllByRecursion NamesOwner (all_cells tree)) (none_there k (other_is k owned)) tt };
 }
 
-pub made_new : (old mid new : State) → MakesAllTables old mid → Finishes mid new → IsNew new.now
+pub made_new : (old mid new : State) → MakesAllTables old mid → WritesVersion mid new → IsNew new.now
 made_new old mid new h f =
     let empty = λ (k : TableKind). at_table (λ tree. mid.now.trees tree ≡ []) k h.empty in
     record {
       ours = f.ours;
       alone = f.alone;
-      rows = finished_holds nothing (as_second no_rows) [] mid new f (subst (λ stored. HasRows Meta [] stored) (sym (empty Meta)) (record { same = λ g. refl; rising = tt })) refl (λ k other. empty k ∙ none_there k other) holds_nothing;
+      rows = written_holds nothing (as_second no_rows) [] mid new f (subst (λ stored. HasRows Meta [] stored) (sym (empty Meta)) (record { same = λ g. refl; rising = tt })) refl (λ k other. empty k ∙ none_there k other) holds_nothing;
     }
 
 none_shaped : (ts : List Table) (db : Trees) → AllByRecursion (λ t. db t.tree ≡ []) ts → AllByRecursion (λ t. IsShaped shape.Table (db t.tree)) ts

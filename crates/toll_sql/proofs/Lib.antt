@@ -15,7 +15,6 @@ pub mod PutTexts
 pub mod CellLemmas
 pub mod PutRows
 pub mod CreateTexts
-pub mod IndexText
 pub mod CloseLemmas
 pub mod CreateLemmas
 pub mod SoFar
@@ -40,7 +39,6 @@ pub mod OverLemmas
 pub mod AskInside
 pub mod AdoptLemmas
 pub mod Raising
-pub mod Indexing
 pub mod RaiseLemmas
 pub mod SelectTexts
 pub mod AskLemmas

@@ -1,20 +1,19 @@
--- What is made of the tables by making one more, the index, and the row of the version.
+-- What is made of the tables by making one more, and the row of the version.
 use Rattle.std.proofs.Common.{◌≡◌, ◌&&◌, ◌==◌, inl, ℕ, suc, ◌+◌, ◌<◌, false, List, [], ◌∷◌, ◌++◌, take, get_or, arith, Ok, Result, IsTrue, ap, subst, ◌∙◌, sym, refl}
-use Rattle.toll_sql.proofs.Common.{AllByRecursion, State, ExecutesInside, Survives, HasCleanDisk, Schema, Table, Trees, Error, same_name, Index, IsShaped}
-use Rattle.sqlite_catalog.specs.Change.{KeepsRows, indexed, next_tree}
+use Rattle.toll_sql.proofs.Common.{AllByRecursion, State, ExecutesInside, Survives, HasCleanDisk, Schema, Table, Trees, Error, IsShaped}
+use Rattle.sqlite_catalog.specs.Change.{KeepsRows, next_tree}
 use Rattle.sqlite_trees.specs.declared.store.Shape.TheVariants as shape
-use Rattle.toll_sql.specs.Create.{AreEmpty, IsStep, IsMaking, IsUnindexed, MakesIndex, MakesTable, Keeps, IsShapedAs, Finishes}
+use Rattle.toll_sql.specs.Create.{AreEmpty, IsStep, IsMaking, MakesTable, IsShapedAs, WritesVersion}
 use Rattle.toll_sql.specs.Encode.{meta_cells}
 use Rattle.toll_sql.specs.Holds.{version}
-use Rattle.toll_sql.specs.Others.{GuardsNone, HasOurs, has_its_name}
+use Rattle.toll_sql.specs.Others.{HasOurs}
 use Rattle.toll_sql.specs.Stores.{IsReady, MakesRow}
 use Rattle.toll_sql.specs.Plain.{no_schema}
-use Rattle.toll_sql.specs.Tables.{every_table, with_tables, made_before, made_all, ours, table_of, by_batch, create_text, index_text}
+use Rattle.toll_sql.specs.Tables.{every_table, with_tables, made_before, made_all, table_of, create_text}
 use Rattle.toll_sql.specs.declared.table_kind.TableKind.{TableKind}
-use Rattle.toll_sql.specs.declared.table_kind.TableKind.TheVariants.{Meta, Moves}
-use Rattle.toll_sql.proofs.CreateLemmas.{adds, lists}
-use Rattle.toll_sql.proofs.CreateTexts.{unplaced, create_is, create_defines, create_uncounted, create_place, earlier_is, next_is, place_of, index_defines}
-use Rattle.toll_sql.proofs.IndexText.{index_is, index_listed}
+use Rattle.toll_sql.specs.declared.table_kind.TableKind.TheVariants.{Meta}
+use Rattle.toll_sql.proofs.CreateLemmas.{adds}
+use Rattle.toll_sql.proofs.CreateTexts.{unplaced, create_is, create_defines, create_uncounted, create_place, earlier_is, next_is, place_of}
 use Rattle.toll_sql.proofs.PutTexts.{number_of}
 use Rattle.toll_sql.proofs.StepLemmas.{in_turn, one_step}
 use Rattle.toll_sql.proofs.ListLemmas.{more_valid}
@@ -29,13 +28,6 @@ table_step k old new r outside runs survives = one_step (IsMaking (made_before k
       others = it.others;
     }) outside runs survives
 
-pub index_step : (old new : State) (r : Result ℕ Error) → (old.in_transaction ≡ false → new ≡ old) → (HasCleanDisk new → IsTrue old.in_transaction → ExecutesInside 0 index_text [] old new r) → Survives old new (λ _. ⊥)
-    → IsStep IsUnindexed MakesIndex old new r
-index_step old new r outside runs survives = one_step IsUnindexed MakesIndex index_text [] old new r (λ count limit before h.
-    let is = index_is before.ours before.lacking in
-    let it = lists index_text old.now.schema is.1 is.2 old new count refl h.0 (table_of Moves) by_batch (number_of Moves) (index_listed before.ours) is.0 index_defines in
-    record { making = record { schema = it.schema_is; unlimited = limit ∙ before.unlimited; inside = h.1.mode }; rows = it.others }) outside runs survives
-
 -- rows that stay have rowids still
 pub shaped_still : (ts : List Table) (old new : Trees) → KeepsRows ts old new → AllByRecursion (λ t. IsShaped shape.Table (old t.tree)) ts → AllByRecursion (λ t. IsShaped shape.Table (new t.tree)) ts
 shaped_still [] old new kept shaped = tt
@@ -45,41 +37,16 @@ shaped_still (t ∷ ts) old new kept shaped = (subst (IsShaped shape.Table) (sym
 pub all_ours : HasOurs made_all
 all_ours = record { tables = ([], refl, tt); indexes = ([], refl, tt) }
 
-no_guard : (i : Index) → i.is_unique ≡ false → (ts : List Table) → GuardsNone ts i
-no_guard i plain [] = tt
-no_guard i plain (t ∷ ts) = (ap (λ b. b && (i.table == t.tree)) plain, no_guard i plain ts)
-
--- with the index they are theirs still
-pub ours_indexed : {schema : Schema} → HasOurs schema → HasOurs (indexed schema (table_of Moves) by_batch)
-ours_indexed {schema} has =
-    let index : Index = record by_batch { tree = next_tree schema } in
-    record { tables = has.tables; indexes = (has.indexes.0 ++ index ∷ [], ap (λ indexes. indexes ++ index ∷ []) has.indexes.1, more_valid _ has.indexes.0 index has.indexes.2 (no_guard index refl made_all.tables)) }
-
-none_named : has_its_name made_all ≡ false
-unfolding same_name
-none_named = refl
-
--- all tables are made, and not the index
-pub unindexed : (s : State) → IsShapedAs made_all s → IsUnindexed s
-unindexed s h = record {
-  ours = subst HasOurs (sym h.making.schema) all_ours;
-  lacking = ap has_its_name h.making.schema ∙ none_named;
+-- all tables are made, and a row can be put
+pub ready : (s : State) → IsShapedAs made_all s → IsReady s
+ready s h = record {
+  ours = record { schema = subst HasOurs (sym h.making.schema) all_ours; shaped = h.shaped };
   unlimited = h.making.unlimited;
   inside = h.making.inside;
 }
 
-pub indexed_all : (old new : State) → IsShapedAs made_all old → MakesIndex old new → Keeps made_all ours old new
-indexed_all old new before h = subst (λ s. Keeps s (indexed s (table_of Moves) by_batch) old new) before.making.schema h
-
-pub ready_indexed : (old new : State) → IsShapedAs made_all old → Keeps made_all ours old new → IsReady new
-ready_indexed old new before h = record {
-  ours = record { schema = subst HasOurs (sym h.making.schema) (ours_indexed all_ours); shaped = shaped_still made_all.tables old.now.trees new.now.trees h.rows before.shaped };
-  unlimited = h.making.unlimited;
-  inside = h.making.inside;
-}
-
-pub finished : (old mid new : State) → Keeps made_all ours old mid → MakesRow Meta (meta_cells version) mid new → Finishes old new
-finished old mid new h put = record { mid = mid.now.trees; rows = h.rows; put = put.put; ours = put.ready.ours; alone = put.schema ∙ h.making.schema }
+pub version_written : (old new : State) → IsShapedAs made_all old → MakesRow Meta (meta_cells version) old new → WritesVersion old new
+version_written old new before put = record { put = put.put; ours = put.ready.ours; alone = put.schema ∙ before.making.schema }
 
 -- ---- the tables, one after another
 

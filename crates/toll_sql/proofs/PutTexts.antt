@@ -4,7 +4,7 @@ use Rattle.std.specs.Fmt.{decimal}
 use Rattle.toll_sql.proofs.Common.{cases_Bool, eqb-true, eq-eqb, command_of, Binary, Command, InsertOr, understood, Query, Values, Term, lit, col, op2, Null, Abort, compiled, Compare, Eq, everything}
 use Rattle.toll_sql.specs.Given.{IsGiven}
 use Rattle.toll_sql.specs.Select.{plain_query}
-use Rattle.toll_sql.specs.Tables.{ours, every_table, table_of, tree_of, keys_of, width_of, put_text}
+use Rattle.toll_sql.specs.Tables.{made_all, every_table, table_of, tree_of, keys_of, width_of, put_text}
 use Rattle.toll_sql.specs.declared.table_kind.TableKind.{TableKind}
 use Rattle.toll_sql.specs.declared.table_kind.TableKind.TheVariants.{Meta, Owners, Units, Materials, Tests, Recipes, Requirements, Orders, Batches, Lots, Sublots, Moves, Results, Voids}
 use Rattle.toll_sql.proofs.Beside.{Others, ours_and}
@@ -63,7 +63,7 @@ same_table j k = elim (cases_Bool (nat_eq (number_of j) (number_of k))) [
 ]
 
 -- it is that one
-pub listed : (k : TableKind) → slice_get ours.tables (number_of k) ≡ Some (table_of k)
+pub listed : (k : TableKind) → slice_get made_all.tables (number_of k) ≡ Some (table_of k)
 listed Meta = refl
 listed _ = refl
 

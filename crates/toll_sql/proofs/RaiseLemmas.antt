@@ -5,17 +5,16 @@ use Rattle.sqlite.specs.declared.error.ErrorCode.TheVariants as code
 use Rattle.toll_sql.specs.Asked.{IsUnreadBy, meta_text}
 use Rattle.toll_sql.specs.Asking.{IsQuerying}
 use Rattle.toll_sql.specs.Causes.{Reason, is_disk_fault}
-use Rattle.toll_sql.specs.Create.{IsShapedAs, IsUnindexed, IsWhole, LeavesMade, begin}
+use Rattle.toll_sql.specs.Create.{IsShapedAs, IsWhole, LeavesMade, begin}
 use Rattle.toll_sql.specs.First.{AreFirst, HasVersion, IsFirst, Raised, Tells, first_ours, first_version, meta_rows}
 use Rattle.toll_sql.specs.Holds.{Holds, version}
 use Rattle.toll_sql.specs.Opening.{Adopts, Brings, FindsVersion, HoldsEither, IsLeft, IsUnreadFor, LeavesRaised, TakesOver, without_limit}
-use Rattle.toll_sql.specs.Others.{HasOurs, HasOursIn, Indexed, has_its_name}
+use Rattle.toll_sql.specs.Others.{HasOurs}
 use Rattle.toll_sql.specs.Stores.{HoldsIn}
 use Rattle.toll_sql.specs.declared.open_fault.OpenFault.{OpenFault}
 use Rattle.toll_sql.specs.declared.open_fault.OpenFault.TheVariants.{Disk, Damaged, NotOurs}
 use Rattle.toll_sql.proofs.AdoptLemmas.{IsMisfit, apart, as_unlimited, found_in, no_disk, tells_it, turned_down}
 use Rattle.toll_sql.proofs.CauseLemmas.{reason_before}
-use Rattle.toll_sql.proofs.Indexing.{first_unnamed, holds_kept, indexed_ours, indexed_told, kept_ours}
 use Rattle.toll_sql.proofs.MetaLemmas.{shows_it, shows_neither}
 use Rattle.toll_sql.proofs.OverLemmas.{IsTold, disk_told, done, failed, made, not_damaged, not_foreign, refused}
 use Rattle.toll_sql.proofs.SoFar.{when_ok}
@@ -54,9 +53,6 @@ module _ (Found : Database → Type 0) (Brought : Database → Database → Type
 pub start_first : (s : State) → IsFirst s.now → s.step_limit ≡ None → IsShapedAs first_ours (begin s)
 start_first s first free = record { making = record { schema = first.schema; unlimited = free; inside = refl }; shaped = first.shaped }
 
-pub start_unindexed : (s : State) → has_its_name s.now.schema ≡ false → HasOursIn s.now → s.step_limit ≡ None → IsUnindexed (begin s)
-start_unindexed s lacking ours free = record { ours = ours; lacking = lacking; unlimited = free; inside = refl }
-
 -- a refusal of what was asked for alone
 left_over : {X : Type 0} (old new : State) (r : Result X Error) → old.step_limit ≡ None → IsLeft old new r → (fault : OpenFault) → (HasCleanDisk new → fault ≡ Disk → Reason old new) → TakesOver (LeavesRaised old) old new (refused (Unit {0}) fault)
 left_over old new r free left fault cause = record {
@@ -76,7 +72,7 @@ both_ok A B C (Err e) join a b = tt
 
 -- the version was read, and then the tables were brought to what they are to be
 module _ (Found : Database → Type 0) (Brought : Database → Database → Type 0) (old mid new : State) (free : old.step_limit ≡ None) (survives : Survives old mid (λ _. ⊥)) (was_live : HasCleanDisk mid → IsTrue mid.is_open → IsTrue old.is_open)
-    (same : HasCleanDisk mid → (mid.now ≡ old.now) × (mid.committed ≡ old.committed)) (lacking : HasCleanDisk mid → has_its_name old.now.schema ≡ false)
+    (same : HasCleanDisk mid → (mid.now ≡ old.now) × (mid.committed ≡ old.committed)) (first : AreFirst old.now.schema)
     (held : (c : Content) → HoldsEither old c → Found old.now × ((after : Database) → Brought old.now after → Holds after.trees c)) (q : Result (Unit {0}) OpenFault) (brings : Brings Found Brought mid new q) where
   pub late : HasCleanDisk new → HasCleanDisk mid
   late clean = omega (arith, clean, brings.survives.clean)
@@ -92,7 +88,7 @@ module _ (Found : Database → Type 0) (Brought : Database → Database → Type
 
   leaves_raised : HasCleanDisk new → (db : Trees) → LeavesMade (Found mid.now × (mid.step_limit ≡ None)) (Brought mid.now) db → LeavesRaised old db
   leaves_raised clean db h = record {
-    lacking = lacking (late clean);
+    first = first;
     rows = λ c has.
         let it = held c has in
         let left = h (subst Found (sym (now clean)) it.0, limit) in
@@ -127,28 +123,25 @@ module _ (old mid : State) (has : AreFirst old.now.schema) (free : old.step_limi
     same : HasCleanDisk mid → (mid.now ≡ old.now) × (mid.committed ≡ old.committed)
     same clean = let it = subst (λ (x : Result (Option ℕ) Error). OnOk x (IsUnchanged old mid)) is (unchanged clean) in (it.0.now_is, it.0.committed_is)
 
-    lacking : HasCleanDisk mid → has_its_name old.now.schema ≡ false
-    lacking _ = ap has_its_name has ∙ first_unnamed
-
     held : (c : Content) → HoldsEither old c → IsFirst old.now × ((after : Database) → Raised old.now after → Holds after.trees c)
     held c (inl this) = absurd (apart this.ours.schema has)
     held c (inr first) = (first.first, λ after it. it.rows c first.rows)
 
     raised_in : HasCleanDisk new → IsFirst old.now → OnOk q (Raised old.now new.now)
-    raised_in = brought_in IsFirst Raised old mid new free left.survives left.live same lacking held q raises
+    raised_in = brought_in IsFirst Raised old mid new free left.survives left.live same has held q raises
 
     late_first : HasCleanDisk new → HasCleanDisk mid
-    late_first = late IsFirst Raised old mid new free left.survives left.live same lacking held q raises
+    late_first = late IsFirst Raised old mid new free left.survives left.live same has held q raises
 
     told_first : HasCleanDisk new → Tells first_version (meta_rows old.now.trees)
     told_first clean = tells_it old.now first_version told r is so (tells (late_first clean))
 
     pub all_adopted : Adopts old new q
     all_adopted = record {
-      over = brought_over IsFirst Raised old mid new free left.survives left.live same lacking held q raises;
+      over = brought_over IsFirst Raised old mid new free left.survives left.live same has held q raises;
       known_as = λ clean. when_ok _ q (inr (record { tables = has; told = told_first clean }));
       ours = λ clean h. elim h [ inl ours ↦ absurd (apart ours.schema has) | inr first ↦ on_ok_weaker q (λ it. (it.ours, it.told)) (raised_in clean first) ];
-      indexed = λ _ ours. absurd (apart ours has);
+      stays = λ _ ours. absurd (apart ours has);
       raised = λ clean first. on_ok_weaker q (λ it. it.alone) (raised_in clean first);
       holds = λ clean c h. elim h [
         | inl held ↦ absurd (apart held.ours.schema has)
@@ -158,50 +151,6 @@ module _ (old mid : State) (has : AreFirst old.now.schema) (free : old.step_limi
       damaged = λ _ no. absurd (raises.known.1 no);
       foreign = λ _ no. absurd (raises.known.0 no);
     }
-
--- tables of this version, and nothing is called as their index is
-module _ (old mid new : State) (auto : old.in_transaction ≡ false) (settled : IsTrue old.is_open → old.now ≡ old.committed) (has : HasOurs old.now.schema) (free : old.step_limit ≡ None) (told : Option ℕ) (r : Result (Option ℕ) Error) (is : r ≡ Ok told)
-    (asking : IsQuerying old mid r) (so : told ≡ Some version) (tells : HasCleanDisk mid → IfOk r (λ v. IfSome v (λ n. Tells n (meta_rows old.now.trees)))) (unnamed : has_its_name mid.now.schema ≡ false) (q : Result (Unit {0}) OpenFault)
-    (brings : Brings HasOursIn Indexed mid new q) where
-  unchanged : HasCleanDisk mid → (mid.now ≡ old.now) × (mid.committed ≡ old.committed)
-  unchanged clean =
-      let a = asking.asks in
-      let live : IsTrue mid.is_open = subst (λ (x : Result (Option ℕ) Error). OnOk x (IsTrue mid.is_open)) is (a.shown clean) in
-      a.same clean has live (settled (a.live clean live))
-
-  still : Survives old mid (λ _. ⊥)
-  still = survives_weaker old mid _ (λ _. ⊥) (λ _ _ h. h has settled) asking.asks.survives
-
-  lacks : HasCleanDisk mid → has_its_name old.now.schema ≡ false
-  lacks clean = ap (λ (d : Database). has_its_name d.schema) (sym (unchanged clean).0) ∙ unnamed
-
-  held_so : (c : Content) → HoldsEither old c → HasOursIn old.now × ((after : Database) → Indexed old.now after → Holds after.trees c)
-  held_so c (inl this) = (has, λ after it. holds_kept c old.now.trees after.trees (kept_ours old.now.trees after.trees has it.rows) this.rows)
-  held_so c (inr first) = absurd (apart has first.first.schema)
-
-  indexed_in : HasCleanDisk new → OnOk q (Indexed old.now new.now)
-  indexed_in clean = brought_in HasOursIn Indexed old mid new free still asking.asks.live unchanged lacks held_so q brings clean has
-
-  told_this : HasCleanDisk new → Tells version (meta_rows old.now.trees)
-  told_this clean =
-      let before = late HasOursIn Indexed old mid new free still asking.asks.live unchanged lacks held_so q brings clean in
-      tells_it old.now version told r is so (tells before)
-
-  pub all_indexed : Adopts old new q
-  all_indexed = record {
-    over = brought_over HasOursIn Indexed old mid new free still asking.asks.live unchanged lacks held_so q brings;
-    known_as = λ clean. when_ok _ q (inl (record { tables = has; told = told_this clean }));
-    ours = λ clean h. elim h [ inl own ↦ on_ok_weaker q (λ it. (indexed_ours old.now new.now own it, indexed_told old.now new.now has it (told_this clean))) (indexed_in clean) | inr first ↦ absurd (apart has first.schema) ];
-    indexed = λ clean _. indexed_in clean;
-    raised = λ _ first. absurd (apart has first.schema);
-    holds = λ clean c h. elim h [
-      | inl held ↦ both_ok _ _ (HoldsIn new c) q (λ it live. record { ours = indexed_ours old.now new.now held.ours it; idle = live.1; rows = (held_so c (inl held)).1 new.now it }) (indexed_in clean) (brings.shown clean)
-      | inr first ↦ absurd (apart has first.first.schema)
-    ];
-    known = λ _ _ c _. brings.known;
-    damaged = λ _ no. absurd (brings.known.1 no);
-    foreign = λ _ no. absurd (brings.known.0 no);
-  }
 
 -- tables of neither version
 module _ (old new : State) (free : old.step_limit ≡ None) (not_ours : ¬ HasOurs old.now.schema) (not_first : ¬ AreFirst old.now.schema) where

@@ -5,7 +5,7 @@ use Rattle.sqlite_catalog.specs.Change.{next_tree}
 use Rattle.sqlite_trees.specs.declared.store.Shape.TheVariants as shape
 use Rattle.toll_sql.specs.Bag.{place}
 use Rattle.toll_sql.specs.Cells.{key_order}
-use Rattle.toll_sql.specs.Create.{Finishes, IsShapedAs, MakesTable}
+use Rattle.toll_sql.specs.Create.{IsShapedAs, MakesTable, WritesVersion}
 use Rattle.toll_sql.specs.Encode.{meta_cells}
 use Rattle.toll_sql.specs.First.{Raised, as_second, first_ours, first_version}
 use Rattle.toll_sql.specs.Holds.{HasRows, version}
@@ -13,7 +13,7 @@ use Rattle.toll_sql.specs.Tables.{made_all, tree_of}
 use Rattle.toll_sql.specs.declared.table_kind.TableKind.{TableKind}
 use Rattle.toll_sql.specs.declared.table_kind.TableKind.TheVariants.{Meta, Voids}
 use Rattle.toll_sql.proofs.CreateTexts.{unplaced}
-use Rattle.toll_sql.proofs.Fresh.{IsOther, finished_holds}
+use Rattle.toll_sql.proofs.Fresh.{IsOther, written_holds}
 use Rattle.toll_sql.proofs.MakeLemmas.{shaped_still}
 use Rattle.toll_sql.proofs.MetaLemmas.{put_told}
 use Rattle.toll_sql.proofs.Orders.{key_order_total}
@@ -46,10 +46,10 @@ in_place =
     let same : key_order Meta (meta_cells first_version) (meta_cells version) ≡ Equal = own _ ((key_order_total Meta).antisymm (meta_cells version) (meta_cells version)) in
     ap (λ r. match_ordering r (meta_cells first_version ∷ meta_cells version ∷ []) (meta_cells version ∷ []) (meta_cells version ∷ meta_cells first_version ∷ [])) same
 
-pub raised : (old mid new : State) → MakesTable Voids old mid → Finishes mid new → Raised old.now new.now
+pub raised : (old mid new : State) → MakesTable Voids old mid → WritesVersion mid new → Raised old.now new.now
 raised old mid new h f = record {
   ours = f.ours;
   alone = f.alone;
-  told = put_told version f.mid new.now.trees f.put;
-  rows = λ c held. finished_holds c (as_second old.now.trees) (meta_cells first_version ∷ []) mid new f (subst (λ stored. HasRows Meta (meta_cells first_version ∷ []) stored) (sym (meta_was old mid h)) held.meta) in_place (as_were old mid h) held.others;
+  told = put_told version mid.now.trees new.now.trees f.put;
+  rows = λ c held. written_holds c (as_second old.now.trees) (meta_cells first_version ∷ []) mid new f (subst (λ stored. HasRows Meta (meta_cells first_version ∷ []) stored) (sym (meta_was old mid h)) held.meta) in_place (as_were old mid h) held.others;
 }

@@ -5,7 +5,7 @@ use Rattle.sqlite_trees.specs.declared.store.Shape.TheVariants as shape
 use Rattle.toll_sql.specs.Cells.{columns_from, fill}
 use Rattle.toll_sql.specs.Others.{HasOurs}
 use Rattle.toll_sql.specs.Stores.{IsReady, IsWriting, MakesRow, PutsRow}
-use Rattle.toll_sql.specs.Tables.{ours, table_of, tree_of, width_of, put_text}
+use Rattle.toll_sql.specs.Tables.{made_all, table_of, tree_of, width_of, put_text}
 use Rattle.toll_sql.specs.declared.table_kind.TableKind.{TableKind}
 use Rattle.toll_sql.proofs.CauseLemmas.{exec_fault}
 use Rattle.toll_sql.proofs.CellLemmas.{all_columns, fit_length}
@@ -14,8 +14,8 @@ use Rattle.toll_sql.proofs.PutRows.{puts_at}
 use Rattle.toll_sql.proofs.PutTexts.{listed, tree_is, columns_are, number_of}
 
 -- each of our tables
-pub at_table : (P : ℕ → Type 0) (k : TableKind) → AllByRecursion (λ (t : Table). P t.tree) ours.tables → P (tree_of k)
-at_table P k all = subst P (tree_is k) (at_listed (λ (t : Table). P t.tree) ours.tables (number_of k) (table_of k) all (listed k))
+pub at_table : (P : ℕ → Type 0) (k : TableKind) → AllByRecursion (λ (t : Table). P t.tree) made_all.tables → P (tree_of k)
+at_table P k all = subst P (tree_is k) (at_listed (λ (t : Table). P t.tree) made_all.tables (number_of k) (table_of k) all (listed k))
 
 -- ---- what is shaped stays so
 
@@ -51,7 +51,7 @@ module _ (k : TableKind) (cells : Row) (fits : fill k cells ≡ true) (old new :
       record {
         put = put;
         ready = record {
-          ours = record { schema = subst HasOurs (sym p0.1) ready.ours.schema; shaped = shaped_after (tree_of k) old.now.trees new.now.trees ours.tables put.shaped put.others ready.ours.shaped };
+          ours = record { schema = subst HasOurs (sym p0.1) ready.ours.schema; shaped = shaped_after (tree_of k) old.now.trees new.now.trees made_all.tables put.shaped put.others ready.ours.shaped };
           unlimited = limit ∙ ready.unlimited;
           inside = h.1.mode;
         };

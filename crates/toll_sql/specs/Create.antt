@@ -1,15 +1,15 @@
 -- Tables that are being made, within a transaction.
 use Rattle.std.specs.Prelude.{◌≡◌, None, [], ◌∷◌, IsTrue, Result, IfErr, OnOk, false, true}
-use Rattle.toll_sql.specs.Common.{AllByRecursion, Database, Schema, State, HasCleanDisk, KeepsCommit, Survives, Trees, Error, KeepsRows, indexed, IsShaped, nothing}
+use Rattle.toll_sql.specs.Common.{AllByRecursion, Database, Schema, State, HasCleanDisk, KeepsCommit, Survives, Trees, Error, KeepsRows, IsShaped, nothing}
 use Rattle.sqlite_trees.specs.declared.store.Shape.TheVariants as shape
 use Rattle.toll_sql.specs.Causes.{IsCaused}
 use Rattle.toll_sql.specs.Encode.{meta_cells}
 use Rattle.toll_sql.specs.Holds.{Holds, version}
 use Rattle.toll_sql.specs.Stores.{IsOurs, PutsRow, StaysOnErr}
-use Rattle.toll_sql.specs.Others.{HasOurs, IsJustOurs, has_its_name}
-use Rattle.toll_sql.specs.Tables.{by_batch, made_all, made_before, table_of, with_tables, tree_of}
+use Rattle.toll_sql.specs.Others.{IsJustOurs}
+use Rattle.toll_sql.specs.Tables.{made_all, made_before, with_tables, tree_of}
 use Rattle.toll_sql.specs.declared.table_kind.TableKind.{TableKind}
-use Rattle.toll_sql.specs.declared.table_kind.TableKind.TheVariants.{Meta, Moves}
+use Rattle.toll_sql.specs.declared.table_kind.TableKind.TheVariants.{Meta}
 
 -- no table of the schema has a row
 abbrev pub AreEmpty : Schema → Trees → Type 0
@@ -27,27 +27,9 @@ pub record MakesTable (k : TableKind) (old new : State) : Type 0 where
   pub empty : new.now.trees (tree_of k) ≡ []
   pub others : KeepsRows (made_before k).tables old.now.trees new.now.trees
 
--- the schema is this one now, and the tables have the rows that they had
-pub record Keeps (made after : Schema) (old new : State) : Type 0 where
-  pub making : IsMaking after new
-  pub rows : KeepsRows made.tables old.now.trees new.now.trees
-
--- the office's tables are there and its index is not, within a transaction and without a limit of steps
-pub record IsUnindexed (s : State) : Type 0 where
-  pub ours : HasOurs s.now.schema
-  pub lacking : has_its_name s.now.schema ≡ false
-  pub unlimited : s.step_limit ≡ None
-  pub inside : IsTrue s.in_transaction
-
--- the index is made, and all tables have the rows that they had
-abbrev pub MakesIndex : State → State → Type 0
-MakesIndex old new = Keeps old.now.schema (indexed old.now.schema (table_of Moves) by_batch) old new
-
--- the index is made, and the version written
-pub record Finishes (old new : State) : Type 0 where
-  pub mid : Trees
-  pub rows : KeepsRows made_all.tables old.now.trees mid
-  pub put : PutsRow Meta (meta_cells version) mid new.now.trees
+-- the version is written
+pub record WritesVersion (old new : State) : Type 0 where
+  pub put : PutsRow Meta (meta_cells version) old.now.trees new.now.trees
   pub ours : IsOurs new.now
   pub alone : IsJustOurs new.now.schema
 
@@ -61,7 +43,7 @@ pub record MakesAllTables (old new : State) : Type 0 where
   pub making : IsMaking made_all new
   pub empty : AreEmpty made_all new.now.trees
 
--- these are all tables and the index, and they hold the empty content
+-- these are all tables, and they hold the empty content
 pub record IsNew (db : Database) : Type 0 where
   pub ours : IsOurs db
   pub alone : IsJustOurs db.schema

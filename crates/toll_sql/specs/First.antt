@@ -1,4 +1,4 @@
--- The tables of version 1: no voids, and no index.
+-- The tables of version 1: no voids.
 use Rattle.std.specs.Prelude.{◌≡◌, ◌⊎◌, ℕ, nat_eq, pos, List, [], ◌∷◌, Option, Some, IfSome, codes, if◌then◌else◌}
 use Rattle.toll_sql.specs.Common.{AllByRecursion, Database, Row, column, Schema, State, Trees, Int, Text, IsShaped, Content}
 use Rattle.sqlite_trees.specs.declared.store.Shape.TheVariants as shape

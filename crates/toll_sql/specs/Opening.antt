@@ -9,7 +9,7 @@ use Rattle.toll_sql.specs.First.{AreFirst, HoldsFirstIn, IsFirst, IsVersionIn, T
 use Rattle.toll_sql.specs.Holds.{Holds, version}
 use Rattle.toll_sql.specs.Plain.{no_schema}
 use Rattle.toll_sql.specs.Stores.{HoldsIn, IsOurs, LiesIdle, StaysOnErr}
-use Rattle.toll_sql.specs.Others.{HasOurs, Indexed, IsJustOurs, has_its_name}
+use Rattle.toll_sql.specs.Others.{HasOurs, IsJustOurs}
 use Rattle.toll_sql.specs.declared.open_fault.OpenFault.{OpenFault}
 use Rattle.toll_sql.specs.declared.open_fault.OpenFault.TheVariants.{Memory, Disk, Damaged, NotOurs}
 
@@ -52,9 +52,9 @@ pub record Creates {X : Type 0} (old new : State) (result : Result X OpenFault) 
 abbrev pub HoldsEither : State → Content → Type 0
 HoldsEither s c = HoldsIn s c ⊎ HoldsFirstIn s c
 
--- a store without the index, as it has its rows with it: whatever the content is
+-- a store of version 1, as it has its rows in this version: whatever the content is
 pub record LeavesRaised (old : State) (db : Trees) : Type 0 where
-  pub lacking : has_its_name old.now.schema ≡ false
+  pub first : AreFirst old.now.schema
   pub rows : (c : Content) → HoldsEither old c → Holds db c
 
 -- these are the tables, and `meta` tells this version
@@ -88,7 +88,7 @@ pub record Adopts {X : Type 0} (old new : State) (result : Result X OpenFault) :
   pub foreign : HasCleanDisk new → result ≡ Err NotOurs → IsTrue old.in_transaction ⊎ IsForeign old.now
   pub ours : HasCleanDisk new → IsOurs old.now ⊎ IsFirst old.now → OnOk result (IsOurs new.now × Tells version (meta_rows new.now.trees))
   -- tables of this version stay as they are, and so does what others have made beside them
-  pub indexed : HasCleanDisk new → HasOurs old.now.schema → OnOk result (Indexed old.now new.now)
+  pub stays : HasCleanDisk new → HasOurs old.now.schema → OnOk result (new.now ≡ old.now)
   pub raised : HasCleanDisk new → IsFirst old.now → OnOk result (IsJustOurs new.now.schema)
   pub holds : HasCleanDisk new → (c : Content) → HoldsEither old c → OnOk result (HoldsIn new c)
   pub known : HasCleanDisk new → old.in_transaction ≡ false → (c : Content) → HoldsEither old c → (result ≢ Err NotOurs) × (result ≢ Err Damaged)

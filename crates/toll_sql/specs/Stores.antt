@@ -11,7 +11,7 @@ use Rattle.toll_sql.specs.Encode.{owner_cells, unit_cells, table_for, cells_for}
 use Rattle.toll_sql.specs.Holds.{Holds, HoldsPart}
 use Rattle.toll_sql.specs.Others.{HasOurs}
 use Rattle.toll_sql.specs.Put.{Puts}
-use Rattle.toll_sql.specs.Tables.{ours, tree_of, keys_of}
+use Rattle.toll_sql.specs.Tables.{made_all, tree_of, keys_of}
 use Rattle.toll_sql.specs.Valid.{IsOwner, IsUnit, IsRow}
 use Rattle.toll_sql.specs.declared.table_kind.TableKind.{TableKind}
 use Rattle.toll_sql.specs.declared.table_kind.TableKind.TheVariants.{Owners, Units}
@@ -19,7 +19,7 @@ use Rattle.toll_sql.specs.declared.table_kind.TableKind.TheVariants.{Owners, Uni
 -- the tables are ours, and each has its rows by rowids
 pub record IsOurs (db : Database) : Type 0 where
   pub schema : HasOurs db.schema
-  pub shaped : AllByRecursion (λ t. IsShaped shape.Table (db.trees t.tree)) ours.tables
+  pub shaped : AllByRecursion (λ t. IsShaped shape.Table (db.trees t.tree)) made_all.tables
 
 -- rows can be put: within a transaction, without a limit of steps
 pub record IsReady (s : State) : Type 0 where
@@ -35,7 +35,7 @@ has_key k cells row = agree plain (keys_of k) row (keys_of k) (Int (pos 0) ∷ c
 
 -- the row is put into its table
 abbrev pub PutsRow : TableKind → Row → Trees → Trees → Type 0
-PutsRow k cells = Puts ours (tree_of k) (has_key k cells) cells
+PutsRow k cells = Puts made_all (tree_of k) (has_key k cells) cells
 
 -- the row is put, nothing is committed, and more can be put
 pub record MakesRow (k : TableKind) (cells : Row) (old new : State) : Type 0 where

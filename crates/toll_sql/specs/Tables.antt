@@ -1,7 +1,7 @@
 -- The tables, and the texts of the statements on them. Written by tools/sql-texts.
 use Rattle.std.specs.Prelude.{ℕ, Bool, true, false, List, [], ◌∷◌, codes}
 use Rattle.sqlite.specs.Change.{created}
-use Rattle.toll_sql.specs.Common.{Schema, Table, indexed, Index, plain}
+use Rattle.toll_sql.specs.Common.{Schema, Table}
 use Rattle.toll_sql.specs.Plain.{no_schema, table_with, text_column, int_column}
 use Rattle.toll_sql.specs.declared.table_kind.TableKind.{TableKind}
 use Rattle.toll_sql.specs.declared.table_kind.TableKind.TheVariants.{Meta, Owners, Units, Materials, Tests, Recipes, Requirements, Orders, Batches, Lots, Sublots, Moves, Results, Voids}
@@ -116,20 +116,12 @@ abbrev pub with_tables : Schema → List TableKind → Schema
 with_tables schema [] = schema
 with_tables schema (k ∷ kinds) = with_tables (created schema (record (table_of k) { tree = 0 })) kinds
 
--- the schema before the table is made, and with all tables
+-- the schema before the table is made, and with all tables, which is version 2
 abbrev pub made_before : TableKind → Schema
 made_before k = with_tables no_schema (earlier k)
 
 abbrev pub made_all : Schema
 made_all = with_tables no_schema every_table
-
--- movements by their batch
-abbrev pub by_batch : Index
-by_batch = record { name = codes "moves_by_batch"; tree = 0; table = tree_of Moves; columns = 1 ∷ 9 ∷ 10 ∷ 3 ∷ []; order = plain; is_unique = false }
-
--- the tables and the index: version 2
-abbrev pub ours : Schema
-ours = indexed made_all (table_of Moves) by_batch
 
 -- makes the table
 abbrev pub create_text : TableKind → List ℕ
@@ -181,7 +173,3 @@ select_text Sublots = codes "SELECT owner, lot, sublot, amount FROM sublots WHER
 select_text Moves = codes "SELECT owner, mkey, kind, lot_owner, lot, sublot, target, material, ord, number, segment, amount, day FROM moves WHERE owner = ?1 ORDER BY owner, mkey"
 select_text Results = codes "SELECT owner, lot, test, number, value, day FROM results WHERE owner = ?1 ORDER BY owner, lot, test, number"
 select_text Voids = codes "SELECT owner, mkey FROM voids WHERE owner = ?1 ORDER BY owner, mkey"
-
--- makes the index
-abbrev pub index_text : List ℕ
-index_text = codes "CREATE INDEX moves_by_batch ON moves (owner, ord, number, kind)"

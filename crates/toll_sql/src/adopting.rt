@@ -8,30 +8,26 @@ ghost use Rattle.toll_sql.specs.Causes.{is_disk_fault};
 ghost use Rattle.toll_sql.specs.First.{AreFirst, IsFirst, Raised, first_version};
 ghost use Rattle.toll_sql.specs.Holds.{version};
 ghost use Rattle.toll_sql.specs.Opening.{Adopts, Brings};
-ghost use Rattle.toll_sql.specs.Others.{HasOurs, HasOursIn, Indexed, IsJustOurs, has_its_name};
+ghost use Rattle.toll_sql.specs.Others.{HasOurs, IsJustOurs};
 ghost use Rattle.toll_sql.specs.Stores.{HoldsIn, LiesIdle};
 
-use crate::creating::{create_tables, index_or_none, raise_or_none};
+use crate::creating::{create_tables, raise_or_none};
 use crate::open_fault::{OpenFault, open_fault_of};
 use crate::ours::{Layout, layout_of};
 use crate::version::{find_version, read_first_version, read_version};
 use sqlite::{Alter, Connection, Error, ErrorCode, MemStore};
-use sqlite_catalog::layout::is_used;
 use sqlite_schema::schema::Schema;
 use std::alloc::Global;
 
 /// The version of these tables.
 const VERSION: u64 = 2;
 
-/// The name of the index.
-const INDEX: &[u8] = b"moves_by_batch";
-
-/// The version before, which had no voids and no index.
+/// The version before, which had no voids.
 const FIRST_VERSION: u64 = 1;
 
 /// Takes the office's tables as they are: those of this version stay, and so do tables, indexes and views
-/// that others have made behind them; where nothing is called as the index of this version, it is made, in
-/// one transaction. Those of version 1, which are to be alone, are brought to this one in one transaction.
+/// that others have made behind them. Those of version 1, which are to be alone, are brought to this one in
+/// one transaction.
 /// NotOurs where `meta` has no row of the office with one of these versions, or a transaction is open;
 /// Damaged where it has, and a table, a column or a key is missing or differs, or comes in another order,
 /// or where another table refers to any, or another index lets no two rows of a table of the office have
@@ -65,7 +61,7 @@ fn layout_in(alloc: Global, schema: &Schema) -> Result<Layout, OpenFault>
     }
 }
 
-// The tables are ours: the version is read, and the index made where it is missing.
+// The tables are ours: the version is read.
 fn adopt_ours<S: Alter>(conn: &mut Connection<S>) -> Result<(), OpenFault>
     requires autocommit { conn.old.in_transaction ≡ false }
     requires settled { LiesIdle (state S.Store conn.old) }
@@ -75,27 +71,12 @@ fn adopt_ours<S: Alter>(conn: &mut Connection<S>) -> Result<(), OpenFault>
 {
     match read_version(conn) {
         Ok(told) => {
-            if told != Some(VERSION) {
-                Err(misfit(told, FIRST_VERSION))
-            } else if is_used(conn.schema(), INDEX) {
+            if told == Some(VERSION) {
                 Ok(())
             } else {
-                index_all(conn)
+                Err(misfit(told, FIRST_VERSION))
             }
         },
-        Err(error) => Err(open_fault_of(error)),
-    }
-}
-
-// The store is of this version, and nothing in it is called as the index is, which is made.
-fn index_all<S: Alter>(conn: &mut Connection<S>) -> Result<(), OpenFault>
-    requires autocommit { conn.old.in_transaction ≡ false }
-    requires settled { HasCleanDisk (state S.Store conn.old) → LiesIdle (state S.Store conn.old) }
-    requires unnamed { has_its_name (state S.Store conn.old).now.schema ≡ false }
-    ensures brings { Brings HasOursIn Indexed (state S.Store conn.old) (state S.Store conn.new) result }
-{
-    match index_or_none(conn) {
-        Ok(()) => Ok(()),
         Err(error) => Err(open_fault_of(error)),
     }
 }

@@ -2,10 +2,9 @@
 ghost use Rattle.std.specs.Prelude.{◌≡◌, false};
 ghost use Rattle.sqlite.specs.Held.{state};
 ghost use Rattle.sqlite.specs.State.{HasCleanDisk};
-ghost use Rattle.toll_sql.specs.Create.{Finishes, IsMaking, IsNew, IsShapedAs, IsStep, IsUnindexed, IsWhole, MakesAllTables, MakesIndex, MakesTable};
+ghost use Rattle.toll_sql.specs.Create.{IsMaking, IsNew, IsShapedAs, IsStep, IsWhole, MakesAllTables, MakesTable, WritesVersion};
 ghost use Rattle.toll_sql.specs.First.{MakesRaised, Raised, first_ours};
 ghost use Rattle.toll_sql.specs.Opening.{Creates};
-ghost use Rattle.toll_sql.specs.Others.{Indexed};
 ghost use Rattle.toll_sql.specs.Plain.{no_schema};
 ghost use Rattle.toll_sql.specs.Stores.{LiesIdle};
 ghost use Rattle.toll_sql.specs.Tables.{every_table, made_all, made_before};
@@ -53,23 +52,11 @@ pub(crate) fn make_table<S: Alter>(
     tx.execute(table.create_text(), &[])
 }
 
-// Makes the index; all tables are there, and nothing is called as it is.
-fn make_index<S: Alter>(tx: &mut Transaction<'_, S>) -> Result<usize, Error>
+// Writes the version; all tables are there.
+fn write_version<S: Alter>(tx: &mut Transaction<'_, S>) -> Result<(), Error>
     ensures same_reference { tx.new.conn.ghost_name ≡ tx.old.conn.ghost_name }
-    ensures steps { IsStep IsUnindexed MakesIndex (state S.Store tx.old.conn.now) (state S.Store tx.new.conn.now) result }
+    ensures steps { IsStep (IsShapedAs made_all) WritesVersion (state S.Store tx.old.conn.now) (state S.Store tx.new.conn.now) result }
 {
-    tx.execute(
-        "CREATE INDEX moves_by_batch ON moves (owner, ord, number, kind)",
-        &[],
-    )
-}
-
-/// Makes the index and writes the version; all tables are there.
-pub(crate) fn finish<S: Alter>(tx: &mut Transaction<'_, S>) -> Result<(), Error>
-    ensures same_reference { tx.new.conn.ghost_name ≡ tx.old.conn.ghost_name }
-    ensures steps { IsStep (IsShapedAs made_all) Finishes (state S.Store tx.old.conn.now) (state S.Store tx.new.conn.now) result }
-{
-    make_index(tx)?;
     put(tx, TableKind::Meta, &meta_values(VERSION))
 }
 
@@ -84,13 +71,13 @@ fn make_tables<S: Alter>(tx: &mut Transaction<'_, S>) -> Result<(), Error>
     Ok(())
 }
 
-// Makes all tables and the index, and writes the version.
+// Makes all tables, and writes the version.
 fn make_all<S: Alter>(tx: &mut Transaction<'_, S>) -> Result<(), Error>
     ensures same_reference { tx.new.conn.ghost_name ≡ tx.old.conn.ghost_name }
     ensures steps { IsStep (IsMaking no_schema) (λ _ new. IsNew new.now) (state S.Store tx.old.conn.now) (state S.Store tx.new.conn.now) result }
 {
     make_tables(tx)?;
-    finish(tx)
+    write_version(tx)
 }
 
 // Makes all of it in one transaction, or nothing.
@@ -127,7 +114,7 @@ fn raise<S: Alter>(tx: &mut Transaction<'_, S>) -> Result<(), Error>
     ensures steps { IsStep (IsShapedAs first_ours) MakesRaised (state S.Store tx.old.conn.now) (state S.Store tx.new.conn.now) result }
 {
     make_table(tx, TableKind::Voids)?;
-    finish(tx)
+    write_version(tx)
 }
 
 /// Makes of the tables of version 1 those of this version, in one transaction, or nothing.
@@ -138,16 +125,5 @@ pub(crate) fn raise_or_none<S: Alter>(conn: &mut Connection<S>) -> Result<(), Er
 {
     let mut tx = conn.transaction();
     raise(&mut tx)?;
-    tx.commit()
-}
-
-/// Makes the index of the office's tables, in one transaction, or nothing; nothing is called as it is.
-pub(crate) fn index_or_none<S: Alter>(conn: &mut Connection<S>) -> Result<(), Error>
-    requires autocommit { conn.old.in_transaction ≡ false }
-    requires settled { HasCleanDisk (state S.Store conn.old) → LiesIdle (state S.Store conn.old) }
-    ensures whole { IsWhole IsUnindexed (Indexed (state S.Store conn.old).now) (state S.Store conn.old) (state S.Store conn.new) result }
-{
-    let mut tx = conn.transaction();
-    make_index(&mut tx)?;
     tx.commit()
 }

@@ -6,7 +6,7 @@ ghost use Rattle.toll_sql.specs.First.{AreFirst};
 ghost use Rattle.toll_sql.specs.Others.{BeginsWith, GuardsNone, HasOurs, RefersToNone};
 ghost use Rattle.toll_sql.specs.Plain.{no_schema, no_stamps, table_with};
 ghost use Rattle.toll_sql.specs.Plainly.{IsPlainColumn, IsPlainIndex, IsPlainTable, schema_of};
-ghost use Rattle.toll_sql.specs.Tables.{ours};
+ghost use Rattle.toll_sql.specs.Tables.{made_all};
 
 use sqlite_items::Items;
 use sqlite_schema::code::Terms;
@@ -16,9 +16,6 @@ use sqlite_value::value::{Bytes, Value};
 
 /// How many tables version 1 has, and so many indexes.
 const FIRST: usize = 13;
-
-/// How many tables this version has, each with the index of its key.
-const TABLES: usize = 14;
 
 /// Whether there is nothing.
 pub(crate) fn is_blank(schema: &Schema) -> bool
@@ -160,7 +157,7 @@ fn are_indexes(indexes: &[Index], wanted: &[Index]) -> bool
 /// The tables that a schema has.
 #[derive(Clone, Copy)]
 pub(crate) enum Layout {
-    /// Those of the office, of this version, with or without its index, and perhaps others behind them.
+    /// Those of the office, of this version, and perhaps others behind them.
     Ours,
     /// Those of the office, of version 1, and no others.
     First,
@@ -170,7 +167,7 @@ pub(crate) enum Layout {
 
 /// Which tables these are; `made` is the schema that is made for the office.
 pub(crate) fn layout_of(schema: &Schema, made: &Schema) -> Layout
-    requires { made.now ≡ ours }
+    requires { made.now ≡ made_all }
     ensures ours { result ≡ Layout.Ours → HasOurs schema.now }
     ensures first { result ≡ Layout.First → AreFirst schema.now }
     ensures other { result ≡ Layout.Other → (¬ HasOurs schema.now) × (¬ AreFirst schema.now) }
@@ -199,12 +196,12 @@ fn has_tables(schema: &Schema, tables: &[Table], indexes: &[Index]) -> bool
 
 // Whether the schema has the office's tables, and behind them none that touch their rows.
 fn has_ours(schema: &Schema, made: &Schema) -> bool
-    requires { made.now ≡ ours }
+    requires { made.now ≡ made_all }
     ensures { IsTrue result ↔ HasOurs schema.now }
 {
-    let keys = &made.indexes.as_slice()[..TABLES];
-    begin_with_tables(schema.tables.as_slice(), made.tables.as_slice())
-        && begin_with_indexes(schema.indexes.as_slice(), keys, made.tables.as_slice())
+    let tables = made.tables.as_slice();
+    begin_with_tables(schema.tables.as_slice(), tables)
+        && begin_with_indexes(schema.indexes.as_slice(), made.indexes.as_slice(), tables)
 }
 
 // Whether the first tables are the plain ones, and none behind them has a foreign key.

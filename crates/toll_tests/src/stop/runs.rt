@@ -94,11 +94,7 @@ fn first_version<S: Alter + Drop>(
 
 // What version 2 has and version 1 has not is taken away.
 fn as_version_1<S: Alter + Drop>(mut conn: Connection<S>) -> Result<Connection<S>, Fail> {
-    for statement in [
-        "DROP INDEX moves_by_batch",
-        "DROP TABLE voids",
-        "UPDATE meta SET value = 1",
-    ] {
+    for statement in ["DROP TABLE voids", "UPDATE meta SET value = 1"] {
         conn.execute(statement, &[])?;
     }
     Ok(conn)

@@ -1,5 +1,5 @@
 use Rattle.sqlite.specs.Held.{state}
-use Rattle.toll_sql.specs.Create.{Finishes, IsMaking, IsNew, IsShapedAs, MakesAllTables}
+use Rattle.toll_sql.specs.Create.{IsMaking, IsNew, IsShapedAs, MakesAllTables, WritesVersion}
 use Rattle.toll_sql.specs.Plain.{no_schema}
 use Rattle.toll_sql.specs.Tables.{made_all}
 use Rattle.toll_sql.proofs.Fresh.{made_new, shaped_new}
@@ -10,5 +10,5 @@ pub returns-clause-steps : goal.returns-clause-steps
 returns-clause-steps g c =
     let old = state g.S.Store c.args.tx.now.conn.now in
     let mid = state g.S.Store c.make_tables.new.tx.conn.now in
-    let new = state g.S.Store c.finish.new.tx.conn.now in
-    in_turn (IsMaking no_schema) (IsShapedAs made_all) MakesAllTables Finishes (λ _ s. IsNew s.now) old mid new c.in_ok-make_tables.field-0 c.finish.result (λ _. shaped_new old mid) (made_new old mid new) c.in_ok-make_tables.ensures.steps c.finish.ensures.steps
+    let new = state g.S.Store c.write_version.new.tx.conn.now in
+    in_turn (IsMaking no_schema) (IsShapedAs made_all) MakesAllTables WritesVersion (λ _ s. IsNew s.now) old mid new c.in_ok-make_tables.field-0 c.write_version.result (λ _. shaped_new old mid) (made_new old mid new) c.in_ok-make_tables.ensures.steps c.write_version.ensures.steps
