@@ -1,10 +1,12 @@
 -- The checks of a request that look at its bytes alone, in their order, on the whole text.
-use Rattle.std.specs.Prelude.{◌≡◌, ℕ, ◌==◌, ◌≤◌, ◌⊎◌, List, length, take, drop, map, codes, nat_lt, Bool, true, false, Option, Some, None, if◌then◌else◌}
+use Rattle.std.specs.Prelude.{◌≡◌, ℕ, ◌==◌, ◌≤◌, ◌⊎◌, List, ◌++◌, length, take, drop, map, codes, nat_lt, Bool, true, false, Option, Some, None, if◌then◌else◌}
+use Rattle.std.specs.Io.KnownBytes.{Consumes}
 use Rattle.httparse.specs.Grammar.{RequestHead}
 use Rattle.httparse.specs.Spans.{name_and_value}
 use Rattle.toll_protocol.specs.Limits.{head_limit, body_limit}
 use Rattle.toll_protocol.specs.Head.{IsHeadOf, IsHeadLen, NoHead}
 use Rattle.toll_protocol.specs.Fields.{Pair, Seen, absent, once, several, named, is_present, only_one, length_claimed}
+use Rattle.toll_protocol.specs.Streams.{ReadsWhile}
 use Rattle.toll_protocol.specs.Verbs.{verb_of}
 use Rattle.toll_protocol.specs.declared.http_messages.verb.Verb.{Verb}
 use Rattle.toll_protocol.specs.declared.http_messages.failure.Failure.{Failure}
@@ -55,3 +57,11 @@ abbrev pub IsSettled : List ℕ → Type 0
 IsSettled text =
     (NoHead text × (head_limit ≤ length text))
     ⊎ ((n : ℕ) × IsHeadLen text n × (n ≤ head_limit) × ((h : RequestHead) → IsHeadOf text n h → HasBody h (drop n text)))
+
+-- behind the bytes that had come it was read only while all that had come was not settled
+abbrev pub ReadsUntilSettled : List ℕ → Option (List (List ℕ)) → Option (List (List ℕ)) → Type 0
+ReadsUntilSettled come reads now_reads = ReadsWhile (λ given. ¬ (IsSettled (come ++ given))) reads now_reads
+
+-- what was read is not settled
+abbrev pub ReadsUnsettled : Option (List ℕ) → Option (List ℕ) → Type 0
+ReadsUnsettled unread now_unread = (given : List ℕ) × Consumes unread now_unread given × ¬ (IsSettled given)

@@ -45,9 +45,9 @@ response_text status output error = status ∷ frame output ++ error
 abbrev pub IsResponse : Bytes → ℕ → Bytes → Bytes → Type 0
 IsResponse text status output error = IsFrameOf MOST_RESPONSE_BYTES text (response_text status output error)
 
--- what the plant is told by a response
-abbrev pub told_text : Response → Bytes
-told_text r = response_text r.status r.output.now r.error.now
+-- the text of a response
+abbrev pub text_of_response : Response → Bytes
+text_of_response r = response_text r.status r.output.now r.error.now
 
 -- the text is a frame of this response, as it was read
 abbrev pub IsReadResponse : Bytes → Response → Type 0

@@ -1,6 +1,6 @@
 //! What the plant is told by the server of a file.
 ghost use Rattle.std.specs.Prelude.{◌≡◌, ◌<◌, ◌≤◌, ◌∷◌, ◌++◌, IfNone, IfOk, IfSome, Err, length};
-ghost use Rattle.toll_protocol.specs.PlantMessages.{IsNoResponse, IsReadResponse, told_text};
+ghost use Rattle.toll_protocol.specs.PlantMessages.{IsNoResponse, IsReadResponse, text_of_response};
 ghost use Rattle.toll_protocol.specs.Frames.{frame};
 ghost use Rattle.toll_protocol.specs.declared.frames.fault.EncodeFault.{EncodeFault};
 
@@ -22,9 +22,9 @@ pub struct Response<'a> {
 impl<'a> Response<'a> {
     /// What is told, as a frame. It is unfit where it is longer than a frame can be.
     pub fn encode(&self, alloc: Global) -> Result<Vec<u8>, EncodeFault>
-        ensures whole { IfOk result (λ bytes. bytes.items ≡ frame (told_text self.now)) }
-        ensures fit { IfOk result (λ _. length (told_text self.now) ≤ MOST_RESPONSE_BYTES) }
-        ensures unfit { result ≡ Err EncodeFault.Unfit → MOST_RESPONSE_BYTES < length (told_text self.now) }
+        ensures whole { IfOk result (λ bytes. bytes.items ≡ frame (text_of_response self.now)) }
+        ensures fit { IfOk result (λ _. length (text_of_response self.now) ≤ MOST_RESPONSE_BYTES) }
+        ensures unfit { result ≡ Err EncodeFault.Unfit → MOST_RESPONSE_BYTES < length (text_of_response self.now) }
     {
         let output = encode(alloc, self.output, MOST_RESPONSE_BYTES)?;
         let content = self.content(alloc, &output)?;

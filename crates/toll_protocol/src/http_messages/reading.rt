@@ -1,8 +1,8 @@
 //! Reading a request from a stream.
-ghost use Rattle.std.specs.Prelude.{◌≡◌, ◌≤◌, ◌↔◌, ℕ, List, length, IfOk, IfSome, OnOk, Err};
+ghost use Rattle.std.specs.Prelude.{◌≡◌, ◌≤◌, ◌↔◌, [], length, IfOk, IfSome, OnOk, Err};
 ghost use Rattle.std.specs.Io.KnownBytes.{Consumes};
-ghost use Rattle.toll_protocol.specs.Parsing.{IsParsedAs, IsSettled, ParseResult};
-ghost use Rattle.toll_protocol.specs.Streams.{HasFailed, NoneFailed, ReadsWhile};
+ghost use Rattle.toll_protocol.specs.Parsing.{IsParsedAs, ParseResult, ReadsUnsettled, ReadsUntilSettled};
+ghost use Rattle.toll_protocol.specs.Streams.{HasFailed, NoneFailed};
 
 use crate::http_messages::request_reader::RequestReader;
 use crate::http_messages::settled::TEXT_LIMIT;
@@ -44,8 +44,8 @@ pub fn read_request<R: Source>(alloc: Global, reader: &mut R) -> Result<Vec<u8>,
     ensures bound { IfOk result (λ text. length text.items ≤ TEXT_LIMIT) }
     ensures same { IfOk result (λ text. IfSome (R.unread reader.old) (λ stream.
         (outcome : ParseResult) → IsParsedAs text.items outcome ↔ IsParsedAs stream outcome)) }
-    ensures no_further { ReadsWhile (λ given. ¬ (IsSettled given)) (R.reads reader.old) (R.reads reader.new) }
-    ensures early { result ≡ Err ReadFault.Io → (given : List ℕ) × Consumes (R.unread reader.old) (R.unread reader.new) given × ¬ (IsSettled given) }
+    ensures no_further { ReadsUntilSettled [] (R.reads reader.old) (R.reads reader.new) }
+    ensures early { result ≡ Err ReadFault.Io → ReadsUnsettled (R.unread reader.old) (R.unread reader.new) }
     ensures failed { result ≡ Err ReadFault.Io → HasFailed (R.has_failed reader.old) (R.has_failed reader.new) }
     ensures sound { OnOk result (NoneFailed (R.has_failed reader.old) (R.has_failed reader.new)) }
     ensures memory { result ≡ Err ReadFault.Memory → reader.new ≡ reader.old }

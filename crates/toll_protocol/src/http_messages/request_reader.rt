@@ -1,9 +1,9 @@
 //! Reading a request bit by bit, as it comes.
-ghost use Rattle.std.specs.Prelude.{◌≡◌, ◌≢◌, ◌≤◌, ◌⊎◌, ℕ, List, [], ◌++◌, length, take, drop, IfOk};
+ghost use Rattle.std.specs.Prelude.{◌≡◌, ◌≢◌, ◌≤◌, ◌⊎◌, ℕ, List, [], length, take, drop, IfOk};
 ghost use Rattle.std.specs.Io.KnownBytes.{Consumes, IsAtEnd};
-ghost use Rattle.toll_protocol.specs.Parsing.{IsSettled};
+ghost use Rattle.toll_protocol.specs.Parsing.{IsSettled, ReadsUntilSettled};
 ghost use Rattle.toll_protocol.specs.Filled.{IsFilled};
-ghost use Rattle.toll_protocol.specs.Streams.{AppendsRead, HasFailed, NoneFailed, ReadsWhile};
+ghost use Rattle.toll_protocol.specs.Streams.{AppendsRead, HasFailed, NoneFailed};
 
 use crate::http_messages::settled::{TEXT_LIMIT, unsettled};
 use crate::streams::{ReadStatus, Source, read_behind};
@@ -68,7 +68,7 @@ impl RequestReader {
         ensures early { result ≢ ReadStatus.Complete → ¬ (IsSettled self.new) }
         ensures failed { result ≢ ReadStatus.Complete → HasFailed (R.has_failed reader.old) (R.has_failed reader.new) }
         ensures sound { result ≡ ReadStatus.Complete → NoneFailed (R.has_failed reader.old) (R.has_failed reader.new) }
-        ensures no_further { ReadsWhile (λ given. ¬ (IsSettled (self.old ++ given))) (R.reads reader.old) (R.reads reader.new) }
+        ensures no_further { ReadsUntilSettled self.old (R.reads reader.old) (R.reads reader.new) }
         ensures write_side { R.write_side reader.new ≡ R.write_side reader.old }
     {
         let filled = fill_on(reader, self.text.as_mut_slice(), self.filled, self.searched);
@@ -98,7 +98,7 @@ fn fill_on<R: Source>(reader: &mut R, text: &mut [u8], begun: usize, looked: usi
     ensures early { result.status ≢ ReadStatus.Complete → ¬ (IsSettled (take result.filled text.new)) }
     ensures failed { result.status ≢ ReadStatus.Complete → HasFailed (R.has_failed reader.old) (R.has_failed reader.new) }
     ensures sound { result.status ≡ ReadStatus.Complete → NoneFailed (R.has_failed reader.old) (R.has_failed reader.new) }
-    ensures no_further { ReadsWhile (λ given. ¬ (IsSettled (take begun text.old ++ given))) (R.reads reader.old) (R.reads reader.new) }
+    ensures no_further { ReadsUntilSettled (take begun text.old) (R.reads reader.old) (R.reads reader.new) }
     ensures write_side { R.write_side reader.new ≡ R.write_side reader.old }
 {
     let mut filled = begun;
