@@ -13,18 +13,3 @@ pub refused_unread : (file : Bytes) (fault : ImportFault) → length file ≤ MO
 refused_unread file Memory bounded why = bounded
 refused_unread file TooLong bounded why = absurd why
 refused_unread file BadHeader bounded why = (bounded, why)
-
-module _ {X : Type 0} where
-  abbrev refused : ImportFault → Result X ImportFault
-  refused fault = Err fault
-
-  pub too_long : (file : Bytes) (fault : ImportFault) → IsRefusedFor file fault → (refused fault ≡ Err TooLong) ↔ (MOST_FILE_BYTES < length file)
-  too_long file TooLong why = (λ is. why, λ long. refl)
-  too_long file Memory why = (λ is. absurd (cc is), λ long. absurd (omega (arith, why, long)))
-  too_long file BadHeader why = (λ is. absurd (cc is), λ long. absurd (omega (arith, why.0, long)))
-
-  pub bad_header : (file : Bytes) (fault : ImportFault) → IsRefusedFor file fault → length file ≤ MOST_FILE_BYTES → refused fault ≢ Err Memory
-      → (refused fault ≡ Err BadHeader) ↔ ¬ (HasHeader file)
-  bad_header file TooLong why bounded some = absurd (omega (arith, why, bounded))
-  bad_header file Memory why bounded some = absurd (some refl)
-  bad_header file BadHeader why bounded some = (λ is. why.1, λ none. refl)

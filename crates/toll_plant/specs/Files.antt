@@ -1,5 +1,5 @@
 -- Files of actuals, as `csv` reads them.
-use Rattle.std.specs.Prelude.{◌==◌, List, [], ◌∷◌, length, codes, Option, None, if◌then◌else◌}
+use Rattle.std.specs.Prelude.{◌≡◌, ◌==◌, List, [], ◌∷◌, length, map, codes, Option, None, if◌then◌else◌}
 use Rattle.csv.specs.Reading.{AreRecords, default_config, strip_bom}
 use Rattle.csv.specs.declared.parser.State.TheVariants.{StartRecord}
 use Rattle.toll_plant.specs.Common.{Bytes, PlantCmd}
@@ -29,3 +29,7 @@ HasHeader file = (records : List Fields) × HasActuals file records
 -- the command of a record: that of the words for an actual, where it has as many fields as they have values
 abbrev pub command_in : Fields → Option PlantCmd
 command_in fields = if length fields == length actual_line.values then command_with actual_line fields else None
+
+-- these are the commands of the records under the header, in order
+abbrev pub AreCommandsOf : Bytes → List (Option PlantCmd) → Type 0
+AreCommandsOf file commands = (records : List Fields) × HasActuals file records × (commands ≡ map command_in records)

@@ -1,5 +1,5 @@
 -- Why a file of actuals is not imported.
-use Rattle.std.specs.Prelude.{⊤, ◌<◌, ◌≤◌, length}
+use Rattle.std.specs.Prelude.{⊤, ◌<◌, ◌≤◌, length, Result, Ok, Err}
 use Rattle.csv.specs.declared.error.ErrorKind.{ErrorKind}
 use Rattle.csv.specs.declared.error.ErrorKind.TheVariants as csv
 use Rattle.toll_base.specs.Bytes.{Bytes}
@@ -19,6 +19,15 @@ abbrev pub IsRefusedFor : Bytes → ImportFault → Type 0
 IsRefusedFor file TooLong = MOST_FILE_BYTES < length file
 IsRefusedFor file Memory = length file ≤ MOST_FILE_BYTES
 IsRefusedFor file BadHeader = (length file ≤ MOST_FILE_BYTES) × ¬ (HasHeader file)
+
+-- the file is not too long, and it has the header
+abbrev pub CanBeImported : Bytes → Type 0
+CanBeImported file = (length file ≤ MOST_FILE_BYTES) × HasHeader file
+
+-- a file that can be imported was, or it was refused for this fault
+abbrev pub IsImportedOrRefused : {X : Type 0} → Bytes → Result X ImportFault → Type 0
+IsImportedOrRefused file (Ok report) = CanBeImported file
+IsImportedOrRefused file (Err fault) = IsRefusedFor file fault
 
 -- there was no memory, or the reader underneath failed: `csv` refused no record for a reason of its own
 abbrev pub IsOfReader : ErrorKind → Type 0

@@ -1,7 +1,7 @@
 //! The actuals of a file.
 ghost use Rattle.std.specs.Prelude.{◌≡◌, ◌≢◌, ◌↔◌, ◌∷◌, IsTrue, IfOk, IfErr, IsErr, List, Option, Some, map};
 ghost use Rattle.csv.specs.Records.{field_at, fields_of};
-ghost use Rattle.toll_plant.specs.Files.{Fields, HasActuals, command_in, header};
+ghost use Rattle.toll_plant.specs.Files.{AreCommandsOf, Fields, command_in, header};
 ghost use Rattle.toll_plant.specs.ImportFaults.{IsNoActualsOf};
 
 use crate::import_fault::ImportFault;
@@ -31,7 +31,7 @@ const HEADER: [&'static [u8]; 12] = [
 /// The commands of the records under the header of a file: `None` for a record that hasn't as many
 /// fields as an actual has values.
 pub fn actuals(alloc: Global, file: &[u8]) -> Result<Vec<Option<PlantCmd>>, ImportFault>
-    ensures commands { IfOk result (λ commands. (rows : List Fields) × HasActuals file.now rows × (commands.items ≡ map command_in rows)) }
+    ensures commands { IfOk result (λ commands. AreCommandsOf file.now commands.items) }
     ensures fault { IfErr result (IsNoActualsOf file.now) }
 {
     let records = records(alloc, file)?;

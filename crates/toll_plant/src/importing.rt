@@ -1,8 +1,8 @@
 //! Files of actuals are imported.
-ghost use Rattle.std.specs.Prelude.{◌≡◌, ◌≢◌, ◌↔◌, ◌<◌, ◌≤◌, Err, IfOk, OnErr, length};
+ghost use Rattle.std.specs.Prelude.{◌≡◌, IfOk, OnErr};
 ghost use Rattle.toll_keep.specs.Meaning.{NeverCloses};
 ghost use Rattle.toll_desk.specs.Reads.{Over};
-ghost use Rattle.toll_plant.specs.Files.{HasHeader};
+ghost use Rattle.toll_plant.specs.ImportFaults.{IsImportedOrRefused};
 ghost use Rattle.toll_plant.specs.Imports.{AllTell, AreNumbered, AreRecordsServed, AreStepsOf, IsImportOf, IsOpenOutcome, IsWholeOutcome, OfRecords};
 
 use crate::import::Import;
@@ -36,8 +36,7 @@ pub fn import_actuals<K: Keep>(
     keep: &mut K,
     file: &[u8],
 ) -> Result<ImportReport, ImportFault>
-    ensures too_long { (result ≡ Err ImportFault.TooLong) ↔ (MOST_FILE_BYTES < length file.now) }
-    ensures bad_header { length file.now ≤ MOST_FILE_BYTES → result ≢ Err ImportFault.Memory → ((result ≡ Err ImportFault.BadHeader) ↔ ¬ (HasHeader file.now)) }
+    ensures read { IsImportedOrRefused file.now result }
     ensures err { OnErr result (keep.new ≡ keep.old) }
     ensures honest { K.meaning.is_honest keep.new → K.meaning.is_honest keep.old }
     ensures numbered { IfOk result (λ report. AreNumbered 1 report.lines.items) }
