@@ -1,13 +1,11 @@
 -- Changes that keep the rules of all rows, and put rows of known owners, fit the content.
-use Rattle.std.proofs.Common.{◌≡◌, Bool, true, false, ◌||◌, List, [], ◌∷◌, cond, refl, ap, subst, ◌∙◌}
-use Rattle.std.specs.Cmp.Lexicographic.{nat_list_cmp_total}
-use Rattle.toll_desk.proofs.Common.{Bytes, bytes_cmp, same_bytes, house_name, Slice, with_row, KeepsRules, same_bytes-refl, Content, knows, after, Fits, PutsToKnown}
+use Rattle.std.proofs.Common.{◌≡◌, true, List, [], ◌∷◌, cond, ap, subst, ◌∙◌}
+use Rattle.toll_desk.proofs.Common.{Bytes, same_bytes, with_row, KeepsRules, same_bytes-refl, Content, after, Fits, PutsToKnown}
 use Rattle.toll_base.specs.Changes.{after_change}
 use Rattle.toll_history.specs.Decision.{ChangesKeepRules}
 use Rattle.toll_base.specs.declared.rows.Row.{Row}
 use Rattle.toll_base.specs.declared.decision.Change.{Change}
 use Rattle.toll_base.specs.declared.decision.Change.TheVariants.{Owner, Unit as UnitAdded, Put}
-use Rattle.toll_base.proofs.PutRules.{still_there}
 use Rattle.toll_keep.proofs.Changed.{own_after, known_after}
 
 -- ---- the owners stay known

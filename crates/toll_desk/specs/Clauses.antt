@@ -7,13 +7,16 @@ use Rattle.toll_base.specs.declared.lot.Edge.{Edge}
 use Rattle.toll_trace.specs.declared.way.Way.TheVariants.{Forward}
 use Rattle.toll_answers.specs.Agreement.{IsPlantTrace}
 use Rattle.toll_answers.specs.Edges.{AreOwnEdges}
+use Rattle.toll_history.specs.Command.{by}
+use Rattle.toll_history.specs.Decision.{Decides}
 use Rattle.toll_history.specs.Holders.{holder}
 use Rattle.toll_history.specs.Work.{order_of}
-use Rattle.toll_desk.specs.Translations.{may_change, plant_told, told_of}
+use Rattle.toll_desk.specs.Translations.{is_accepted, may_change, plant_told, told_of}
 use Rattle.toll_desk.specs.Outcome.{IsDone}
 use Rattle.toll_desk.specs.Plans.{Disposes, IsOwnDecision, IsPlan, IsPlanFor, IsPlanOver, IsPlantDecision, LeadsTo}
 use Rattle.toll_desk.specs.Questions.{AreSlicesFor, is_known_lot}
 use Rattle.toll_desk.specs.Reads.{Over}
+use Rattle.toll_desk.specs.Subjects.{IsCommandSuchThat}
 use Rattle.toll_desk.specs.declared.plant_cmd.PlantPlan.{PlantPlan}
 use Rattle.toll_desk.specs.declared.request.Planned.{Planned}
 use Rattle.toll_desk.specs.declared.request.Reply.{Reply}
@@ -74,6 +77,10 @@ IsLotShown H o lot result = IfOk result (λ reply. IfOk (told_of reply) (IsLotOr
 
 -- ---- what is decided
 
+-- where it was decided over these rows, the decision is right for the command
+abbrev pub DecidesCommand : Slice → PlantAsked → Result Decision AllocError → Type 0
+DecidesCommand s q result = IsCommandSuchThat (λ a. IfOk result (Decides (by s.owner a) s)) q
+
 -- where it was told, the decision over what was held is the one on what the plant asks
 abbrev pub IsDecidedOver : {K : Type 0} → Meaning K → (old new : K) → PlantAsked → Result Decision KeepFault → Type 0
 IsDecidedOver meaning old new q result = Over meaning old new (λ c H. IfOk result (IsPlantDecision c H q))
@@ -108,6 +115,10 @@ IsPlantPlanned c H q plan = IfOk (plant_told plan.reply) (λ told. IsPlantAnswer
 -- this is so where an order is placed that is there already
 abbrev pub IfPlacedAgain : Slice → Asked → Type 0 → Type 0
 IfPlacedAgain s q P = (order recipe : Bytes) (batches : ℕ) → q ≡ AskPlace order recipe batches → is_some (order_at s order) ≡ true → P
+
+-- a plan that is not accepted makes no change
+abbrev pub ChangesIfAccepted : PlantPlan → Type 0
+ChangesIfAccepted plan = is_accepted (plant_told plan.reply) ≡ false → plan.changes.items ≡ []
 
 -- so it is of these rows
 abbrev pub OverSlice : Slice → (Slice → Type 0) → Type 0

@@ -1,7 +1,7 @@
 //! The changes of a plan.
-ghost use Rattle.std.specs.Prelude.{◌≡◌, ◌≢◌, [], ◌∷◌, Ok, Err, OnOk, OnErr};
-ghost use Rattle.toll_keep.specs.Content.{after, Fits, ContentKeepsRules};
-ghost use Rattle.toll_keep.specs.Goes.{Goes, Settles};
+ghost use Rattle.std.specs.Prelude.{◌≡◌, [], ◌∷◌, Ok, OnOk, OnErr};
+ghost use Rattle.toll_keep.specs.Content.{after, Fits};
+ghost use Rattle.toll_keep.specs.Goes.{FindsNoDamage, Goes, Settles};
 ghost use Rattle.toll_keep.specs.Meaning.{OverHeld, OverLive};
 
 use std::alloc::Global;
@@ -16,7 +16,7 @@ pub fn commit<K: Keep>(alloc: Global, keep: &mut K, changes: &[Change]) -> Resul
     ensures settles { Settles K.meaning keep.old keep.new }
     ensures all { OverHeld K.meaning keep.old keep.new (λ c. Fits c changes.now → OnOk result (K.meaning.holds keep.new (after changes.now c))) }
     ensures none { OverHeld K.meaning keep.old keep.new (λ c. OnErr result (K.meaning.holds keep.new c)) }
-    ensures whole { OverHeld K.meaning keep.old keep.new (λ c. ContentKeepsRules c → result ≢ Err KeepFault.Damaged) }
+    ensures whole { FindsNoDamage K.meaning keep.old keep.new result }
     ensures crash { OverLive K.meaning keep.old keep.new (λ c. Fits c changes.now → K.meaning.leaves keep.new (c ∷ after changes.now c ∷ [])) }
 {
     if changes.is_empty() {

@@ -3,8 +3,9 @@ ghost use Rattle.std.specs.Prelude.{◌≡◌, true, false, IfOk};
 ghost use Rattle.toll_base.specs.Bytes.{same_bytes};
 ghost use Rattle.toll_base.specs.Changes.{changes_of};
 ghost use Rattle.toll_history.specs.Command.{by};
-ghost use Rattle.toll_history.specs.Decision.{Decides, DecidesWith, DecisionKeepsRules};
+ghost use Rattle.toll_history.specs.Decision.{DecidesWith, DecisionKeepsRules};
 ghost use Rattle.toll_history.specs.OwnChanges.{PutsOnly};
+ghost use Rattle.toll_desk.specs.Clauses.{DecidesCommand};
 ghost use Rattle.toll_desk.specs.Translations.{asked_by};
 ghost use Rattle.toll_desk.specs.Plans.{PutsShared};
 ghost use Rattle.toll_desk.specs.Subjects.{IsCommandSuchThat, IsOfLot, IsOwn, is_shared};
@@ -23,7 +24,7 @@ use toll_work::{
 /// The decision over the rows of the slice's owner.
 pub fn decide_own(alloc: Global, slice: &Slice, command: &PlantCmd) -> Result<Decision, AllocError>
     requires { IsCommandSuchThat IsOwn (asked_by command.now) }
-    ensures decides { IsCommandSuchThat (λ a. IfOk result (Decides (by slice.now.owner a) slice.now)) (asked_by command.now) }
+    ensures decides { DecidesCommand slice.now (asked_by command.now) result }
     ensures rules { IfOk result (DecisionKeepsRules slice.now) }
     ensures own { IfOk result (λ d. PutsOnly slice.now.owner (changes_of d)) }
 {
@@ -71,7 +72,7 @@ pub fn decide_own(alloc: Global, slice: &Slice, command: &PlantCmd) -> Result<De
 // The same of a movement, and of a lot's release and rejection.
 fn decide_lot(alloc: Global, slice: &Slice, command: &PlantCmd) -> Result<Decision, AllocError>
     requires { IsCommandSuchThat IsOfLot (asked_by command.now) }
-    ensures decides { IsCommandSuchThat (λ a. IfOk result (Decides (by slice.now.owner a) slice.now)) (asked_by command.now) }
+    ensures decides { DecidesCommand slice.now (asked_by command.now) result }
     ensures rules { IfOk result (DecisionKeepsRules slice.now) }
     ensures own { IfOk result (λ d. PutsOnly slice.now.owner (changes_of d)) }
 {

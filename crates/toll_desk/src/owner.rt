@@ -1,8 +1,6 @@
 //! Owners' requests over a keep.
-ghost use Rattle.std.specs.Prelude.{◌≡◌, ◌≢◌, Err};
-ghost use Rattle.toll_keep.specs.Content.{ContentKeepsRules};
-ghost use Rattle.toll_keep.specs.Goes.{Goes, IsReading, IsSpared, Settles};
-ghost use Rattle.toll_keep.specs.Meaning.{OverHeld};
+ghost use Rattle.std.specs.Prelude.{◌≡◌, Err};
+ghost use Rattle.toll_keep.specs.Goes.{FindsNoDamage, Goes, IsReading, IsSpared, Settles};
 ghost use Rattle.toll_desk.specs.Clauses.{ChangesIfAsked, IsOwnerDone, IsPlannedBy, IsPlannedFor, OverHeldRows, OverOwner, StaysIfUnasked};
 ghost use Rattle.toll_desk.specs.Translations.{asked_of, told_of};
 ghost use Rattle.toll_desk.specs.Reads.{Over};
@@ -67,7 +65,7 @@ pub fn owner_do<K: Keep>(
     ensures goes { Goes K.meaning keep.old keep.new (told_of result) }
     ensures settles { Settles K.meaning keep.old keep.new }
     ensures spared { told_of result ≡ Err KeepFault.Memory → IsSpared K.meaning keep.old keep.new }
-    ensures whole { OverHeld K.meaning keep.old keep.new (λ c. ContentKeepsRules c → told_of result ≢ Err KeepFault.Damaged) }
+    ensures whole { FindsNoDamage K.meaning keep.old keep.new (told_of result) }
     ensures idle { StaysIfUnasked K.meaning keep.old keep.new owner.now (asked_of request.now) (told_of result) }
     ensures done { IsOwnerDone K.meaning keep.old keep.new owner.now key.now (asked_of request.now) (told_of result) }
 {

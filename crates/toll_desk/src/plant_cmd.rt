@@ -3,7 +3,8 @@ ghost use Rattle.std.specs.Prelude.{◌≡◌, false, [], Ok};
 ghost use Rattle.toll_base.specs.Changes.{changes_of};
 ghost use Rattle.toll_history.specs.Decision.{verdict_of};
 ghost use Rattle.toll_answers.specs.PlantAnswers.{Judged};
-ghost use Rattle.toll_desk.specs.Translations.{asked_by, is_accepted, plant_told, IsValidCommand};
+ghost use Rattle.toll_desk.specs.Clauses.{ChangesIfAccepted};
+ghost use Rattle.toll_desk.specs.Translations.{asked_by, plant_told, IsValidCommand};
 ghost use Rattle.toll_desk.specs.Outcome.{finished};
 ghost use Rattle.toll_desk.specs.Subjects.{concerned};
 
@@ -260,7 +261,7 @@ impl PlantPlan {
     pub fn of(alloc: Global, decision: Decision) -> Self
         ensures told { plant_told result.reply ≡ Ok (Judged (verdict_of decision)) }
         ensures changes { result.changes.items ≡ changes_of decision }
-        ensures quiet { is_accepted (plant_told result.reply) ≡ false → result.changes.items ≡ [] }
+        ensures quiet { ChangesIfAccepted result }
     {
         match decision {
             Decision::Accept(changes) => PlantPlan {

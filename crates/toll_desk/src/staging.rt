@@ -3,7 +3,8 @@ ghost use Rattle.std.specs.Prelude.{◌≡◌, [], false, true};
 ghost use Rattle.toll_history.specs.Verdict.{IsValid};
 ghost use Rattle.toll_keep.specs.Content.{Content};
 ghost use Rattle.toll_keep.specs.PendingChanges.{IsOver};
-ghost use Rattle.toll_desk.specs.Translations.{IsValidCommand, asked_by, is_accepted, plant_told};
+ghost use Rattle.toll_desk.specs.Clauses.{ChangesIfAccepted};
+ghost use Rattle.toll_desk.specs.Translations.{IsValidCommand, asked_by, plant_told};
 ghost use Rattle.toll_desk.specs.PlantStaged.{IsPlannedOn, IsPlantStaged, IsStagedAs, IsVerdictOrMemory, looks_at_two};
 ghost use Rattle.toll_desk.specs.Subjects.{IsCommandSuchThat, is_shared};
 
@@ -61,7 +62,7 @@ fn stage_shared<K: Keep>(
 fn plan_on(alloc: Global, both: Option<Both>, command: &PlantCmd) -> PlantPlan
     requires shared { IsCommandSuchThat (λ a. is_shared a ≡ true) (asked_by command.now) }
     requires valid { IsCommandSuchThat IsValid (asked_by command.now) }
-    ensures quiet { is_accepted (plant_told result.reply) ≡ false → result.changes.items ≡ [] }
+    ensures quiet { ChangesIfAccepted result }
     ensures judged { IsVerdictOrMemory (plant_told result.reply) }
     ensures plan { IsPlannedOn both (asked_by command.now) result }
 {
