@@ -3,7 +3,7 @@ use Rattle.std.proofs.Common.{◌≡◌, ◌∙◌, ℕ, ◌<◌, Bool, true, fa
 use Rattle.std.specs.Prelude.{◌==◌, IfSome}
 use Rattle.std.specs.Io.KnownBytes.{Consumes, IsAtEnd}
 use Rattle.std.proofs.lemmas.Bool.Decides.{nat_tests}
-use Rattle.toll_protocol.specs.Streams.{HasFailed, RecordsFailure}
+use Rattle.toll_protocol.specs.Streams.{HasFailed, NoneBlocked, RecordsFailure}
 
 -- ---- bytes
 
@@ -35,3 +35,9 @@ pub none_failed_by_some : (a b c : Option Bool) (n : ℕ) → 0 < n → RecordsF
 none_failed_by_some a b c n some p q =
     let taken : (n == 0) ≡ false = grind (arith, nat_tests) in
     none_more_failed a b c p (subst (RecordsFailure b c) taken q)
+
+-- ---- calls that would have waited
+
+pub none_more_blocked : (a b c : Option ℕ) → NoneBlocked a b → NoneBlocked b c → NoneBlocked a c
+none_more_blocked None b c p q = tt
+none_more_blocked (Some n) b c p q = let same = subst (λ (o : Option ℕ). NoneBlocked o c) p q in same

@@ -2,7 +2,7 @@
 ghost use Rattle.std.specs.Prelude.{◌≡◌, ◌≢◌, ◌⊎◌, []};
 ghost use Rattle.std.specs.Io.KnownBytes.{IsAtEnd};
 ghost use Rattle.toll_protocol.specs.declared.streams.read_status.ReadStatus.{ReadStatus};
-ghost use Rattle.toll_protocol.specs.Streams.{AppendsRead, HasFailed, NoneFailed};
+ghost use Rattle.toll_protocol.specs.Streams.{AppendsRead, HasFailed, NoneBlocked, NoneFailed, OneBlocked};
 ghost use Rattle.toll_protocol.specs.Frames.{IsEnough};
 
 use crate::frames::encoding::is_enough;
@@ -37,6 +37,8 @@ impl Frame {
         ensures early { result ≢ ReadStatus.Complete → ¬ (IsEnough most self.new.bytes.items) }
         ensures waits { result ≡ ReadStatus.Waiting → HasFailed (R.has_failed reader.old) (R.has_failed reader.new) }
         ensures sound { result ≡ ReadStatus.Complete → NoneFailed (R.has_failed reader.old) (R.has_failed reader.new) }
+        ensures blocks { result ≡ ReadStatus.Waiting → OneBlocked (R.blocked reader.old) (R.blocked reader.new) }
+        ensures goes_on { result ≢ ReadStatus.Waiting → NoneBlocked (R.blocked reader.old) (R.blocked reader.new) }
         ensures write_side { R.write_side reader.new ≡ R.write_side reader.old }
     {
         let mut piece = [0u8; PIECE_BYTES];

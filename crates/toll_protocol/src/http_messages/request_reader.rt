@@ -3,7 +3,7 @@ ghost use Rattle.std.specs.Prelude.{◌≡◌, ◌≢◌, ◌≤◌, ◌⊎◌, 
 ghost use Rattle.std.specs.Io.KnownBytes.{Consumes, IsAtEnd};
 ghost use Rattle.toll_protocol.specs.Parsing.{IsSettled, ReadsUntilSettled};
 ghost use Rattle.toll_protocol.specs.Filled.{IsFilled};
-ghost use Rattle.toll_protocol.specs.Streams.{AppendsRead, HasFailed, NoneFailed};
+ghost use Rattle.toll_protocol.specs.Streams.{AppendsRead, HasFailed, NoneBlocked, NoneFailed, OneBlocked};
 
 use crate::http_messages::settled::{TEXT_LIMIT, unsettled};
 use crate::streams::{ReadStatus, Source, read_behind};
@@ -68,6 +68,8 @@ impl RequestReader {
         ensures early { result ≢ ReadStatus.Complete → ¬ (IsSettled self.new) }
         ensures failed { result ≢ ReadStatus.Complete → HasFailed (R.has_failed reader.old) (R.has_failed reader.new) }
         ensures sound { result ≡ ReadStatus.Complete → NoneFailed (R.has_failed reader.old) (R.has_failed reader.new) }
+        ensures blocks { result ≡ ReadStatus.Waiting → OneBlocked (R.blocked reader.old) (R.blocked reader.new) }
+        ensures goes_on { result ≢ ReadStatus.Waiting → NoneBlocked (R.blocked reader.old) (R.blocked reader.new) }
         ensures no_further { ReadsUntilSettled self.old (R.reads reader.old) (R.reads reader.new) }
         ensures write_side { R.write_side reader.new ≡ R.write_side reader.old }
     {
@@ -98,6 +100,8 @@ fn fill_on<R: Source>(reader: &mut R, text: &mut [u8], begun: usize, looked: usi
     ensures early { result.status ≢ ReadStatus.Complete → ¬ (IsSettled (take result.filled text.new)) }
     ensures failed { result.status ≢ ReadStatus.Complete → HasFailed (R.has_failed reader.old) (R.has_failed reader.new) }
     ensures sound { result.status ≡ ReadStatus.Complete → NoneFailed (R.has_failed reader.old) (R.has_failed reader.new) }
+    ensures blocks { result.status ≡ ReadStatus.Waiting → OneBlocked (R.blocked reader.old) (R.blocked reader.new) }
+    ensures goes_on { result.status ≢ ReadStatus.Waiting → NoneBlocked (R.blocked reader.old) (R.blocked reader.new) }
     ensures no_further { ReadsUntilSettled (take begun text.old) (R.reads reader.old) (R.reads reader.new) }
     ensures write_side { R.write_side reader.new ≡ R.write_side reader.old }
 {

@@ -1,7 +1,7 @@
 //! Writing a text bit by bit, as its reader takes it.
 ghost use Rattle.std.specs.Prelude.{◌≡◌, ◌≢◌, ◌≤◌, ◌<◌, length};
 ghost use Rattle.std.specs.Io.KnownBytes.{Appends};
-ghost use Rattle.toll_protocol.specs.Streams.{HasFailed, bytes_between};
+ghost use Rattle.toll_protocol.specs.Streams.{HasFailed, NoneBlocked, OneBlocked, bytes_between};
 
 use crate::streams::sink::Sink;
 use crate::streams::write_status::WriteStatus;
@@ -32,6 +32,8 @@ impl ResponseWriter {
         ensures all { result ≡ WriteStatus.Written → self.new.written ≡ length self.new.bytes.items }
         ensures part { result ≢ WriteStatus.Written → self.new.written < length self.new.bytes.items }
         ensures failed { result ≢ WriteStatus.Written → HasFailed (W.has_failed writer.old) (W.has_failed writer.new) }
+        ensures waits { result ≡ WriteStatus.Waiting → OneBlocked (W.blocked writer.old) (W.blocked writer.new) }
+        ensures goes_on { result ≢ WriteStatus.Waiting → NoneBlocked (W.blocked writer.old) (W.blocked writer.new) }
     {
         let sent = send_on(writer, &self.bytes, self.written);
         self.written = sent.written;
@@ -55,6 +57,8 @@ pub fn send_on<W: Sink>(writer: &mut W, bytes: &[u8], begun: usize) -> Sent
     ensures all { result.status ≡ WriteStatus.Written → result.written ≡ length bytes.now }
     ensures part { result.status ≢ WriteStatus.Written → result.written < length bytes.now }
     ensures failed { result.status ≢ WriteStatus.Written → HasFailed (W.has_failed writer.old) (W.has_failed writer.new) }
+    ensures waits { result.status ≡ WriteStatus.Waiting → OneBlocked (W.blocked writer.old) (W.blocked writer.new) }
+    ensures goes_on { result.status ≢ WriteStatus.Waiting → NoneBlocked (W.blocked writer.old) (W.blocked writer.new) }
 {
     let mut written = begun;
     while written < bytes.len() {

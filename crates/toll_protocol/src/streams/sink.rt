@@ -2,7 +2,7 @@
 ghost use Rattle.std.specs.Prelude.{ℕ, Bool, List, Option, None};
 ghost use Rattle.std.specs.Io.{WritesAtMost};
 ghost use Rattle.std.specs.Io.KnownBytes.{WriteAppends};
-ghost use Rattle.toll_protocol.specs.Streams.{RecordsFailure, takes_nothing};
+ghost use Rattle.toll_protocol.specs.Streams.{CountsBlocked, RecordsFailure, takes_nothing};
 
 use std::io;
 use std::io::Write;
@@ -16,11 +16,15 @@ pub trait Sink {
     // Whether a write has failed or taken no byte, where that is known.
     ghost has_failed: { Self → Option Bool } = { λ _. None };
 
+    // How many writes have failed with `WouldBlock`, where that is known.
+    ghost blocked: { Self → Option ℕ } = { λ _. None };
+
     /// Writes some bytes of the front of these, and tells how many.
     fn write_some(&mut self, bytes: &[u8]) -> io::Result<usize>
         ensures bound { WritesAtMost result bytes.now }
         ensures bytes { WriteAppends (held self.old) (held self.new) result bytes.now }
-        ensures failures { RecordsFailure (has_failed self.old) (has_failed self.new) (takes_nothing result) };
+        ensures failures { RecordsFailure (has_failed self.old) (has_failed self.new) (takes_nothing result) }
+        ensures blocked { CountsBlocked (blocked self.old) (blocked self.new) result };
 }
 
 impl<W: Write> Sink for W {

@@ -2,7 +2,7 @@
 ghost use Rattle.std.specs.Prelude.{◌≡◌, ◌+◌, ◌<◌, ◌≤◌, ℕ, Bool, List, Option, None, length, take, drop, is_err, IfOk, OnErr};
 ghost use Rattle.std.specs.Io.{ReadsAtMost};
 ghost use Rattle.std.specs.Io.KnownBytes.{Consumes, IsAtEnd, Keeps, ReadConsumes};
-ghost use Rattle.toll_protocol.specs.Streams.{OneMoreRead, RecordsFailure, WriteSide, bytes_read};
+ghost use Rattle.toll_protocol.specs.Streams.{CountsBlocked, OneMoreRead, RecordsFailure, WriteSide, bytes_read};
 
 use std::io;
 use std::io::Read;
@@ -16,6 +16,9 @@ pub trait Source {
     // Whether a read has failed, where that is known.
     ghost has_failed: { Self → Option Bool } = { λ _. None };
 
+    // How many reads have failed with `WouldBlock`, where that is known.
+    ghost blocked: { Self → Option ℕ } = { λ _. None };
+
     // What each read gave, in order, where that is known.
     ghost reads: { Self → Option (List (List ℕ)) } = { λ _. None };
 
@@ -28,6 +31,7 @@ pub trait Source {
         ensures bound { ReadsAtMost result buffer.new }
         ensures bytes { ReadConsumes (unread self.old) (unread self.new) result buffer.new }
         ensures failures { RecordsFailure (has_failed self.old) (has_failed self.new) (is_err result) }
+        ensures blocked { CountsBlocked (blocked self.old) (blocked self.new) result }
         ensures one_read { OneMoreRead (reads self.old) (reads self.new) (bytes_read result buffer.new) }
         ensures write_side { write_side self.new ≡ write_side self.old };
 }
@@ -49,6 +53,7 @@ pub fn read_behind<R: Source>(reader: &mut R, buffer: &mut [u8], filled: usize) 
     ensures end { IfOk result (λ n. n ≡ 0 → filled < length buffer.old → IsAtEnd (R.unread reader.new)) }
     ensures kept { OnErr result (Keeps (R.unread reader.old) (R.unread reader.new)) }
     ensures failures { RecordsFailure (R.has_failed reader.old) (R.has_failed reader.new) (is_err result) }
+    ensures blocked { CountsBlocked (R.blocked reader.old) (R.blocked reader.new) result }
     ensures one_read { OneMoreRead (R.reads reader.old) (R.reads reader.new) (bytes_read result (drop filled buffer.new)) }
     ensures write_side { R.write_side reader.new ≡ R.write_side reader.old }
 {

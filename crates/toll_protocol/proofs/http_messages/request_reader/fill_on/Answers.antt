@@ -3,7 +3,7 @@ use Rattle.std.proofs.lemmas.List.{length-take-le}
 use Rattle.toll_protocol.specs.Parsing.{IsSettled}
 use Rattle.toll_protocol.proofs.Fronts.{searched_more}
 use Rattle.toll_protocol.proofs.ReadLemmas.{reads_once_more}
-use Rattle.toll_protocol.proofs.StreamLemmas.{none_more_failed}
+use Rattle.toll_protocol.proofs.StreamLemmas.{none_more_blocked, none_more_failed}
 use Rattle.toll_protocol.proofs.Onward.{front_onward, gave_onward, read_onward, whole_onward}
 use Rattle.toll_protocol.proofs.http_messages.request_reader.fill_on.Goals as goal
 
@@ -32,6 +32,7 @@ loop-next-preserved g c =
       given = read_onward _ _ _ old new c.args.begun at.filled c.in-Ok.n at.invariant.begun within same at.invariant.given c.in-Ok.ensures.given;
       only = gave_onward _ _ _ _ old new c.args.begun at.filled c.in-Ok.n (omega arith) c.in-Ok.ensures.fits at.invariant.begun within same at.invariant.only unready c.in-Ok.ensures.one_read;
       sound = none_more_failed _ _ _ at.invariant.sound c.in-Ok.ensures.failures;
+      unblocked = none_more_blocked _ _ _ at.invariant.unblocked c.in-Ok.ensures.blocked;
       write_side = c.read_behind.ensures.write_side ∙ at.invariant.write_side;
     }
 

@@ -4,7 +4,7 @@ use Rattle.std.proofs.Common.{◌≡◌, ◌≤◌, ◌-◌, ◌++◌, false, le
 use Rattle.std.specs.Io.KnownBytes.{Consumes}
 use Rattle.toll_protocol.specs.Parsing.{IsSettled}
 use Rattle.toll_protocol.specs.Filled.{IsFilled}
-use Rattle.toll_protocol.specs.Streams.{RecordsFailure}
+use Rattle.toll_protocol.specs.Streams.{NoneBlocked, RecordsFailure}
 use Rattle.toll_protocol.proofs.ReadLemmas.{GaveWhile}
 use Rattle.toll_protocol.proofs.http_messages.request_reader.fill_on.Given as goal
 
@@ -16,6 +16,7 @@ invariant-loop-next g l = record {
   given : Consumes (g.R.Source.unread l.initial.reader) (g.R.Source.unread l.reader) (drop l.begun (take l.filled l.text));
   only : GaveWhile (λ given. ¬ (IsSettled (take l.begun l.initial.text ++ given))) (g.R.Source.reads l.initial.reader) (g.R.Source.reads l.reader) (drop l.begun (take l.filled l.text));
   sound : RecordsFailure (g.R.Source.has_failed l.initial.reader) (g.R.Source.has_failed l.reader) false;
+  unblocked : NoneBlocked (g.R.Source.blocked l.initial.reader) (g.R.Source.blocked l.reader);
   write_side : g.R.Source.write_side l.reader ≡ g.R.Source.write_side l.initial.reader;
 }
 
