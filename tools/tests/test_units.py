@@ -82,3 +82,8 @@ def test_server_and_backup_have_one_file_of_settings():
 def test_no_site_goes_to_a_port_that_no_unit_serves():
     ports = set(re.findall(r"proxy_pass http://127\.0\.0\.1:(\d+)", text_of("nginx.conf")))
     assert len(ports) == 1
+
+
+def test_the_site_goes_to_the_port_of_the_example():
+    (port,) = setting(text_of("office.env"), "PORT")
+    assert re.findall(r"proxy_pass http://127\.0\.0\.1:(\d+);", text_of("nginx.conf")) == [port] and int(port) < 1024
