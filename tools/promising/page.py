@@ -4,7 +4,6 @@ import math
 import re
 from typing import NamedTuple
 
-SECTION = re.compile(r"^## (\d+\. .*)$", re.M)
 PROMISE = re.compile(r"^- \*\*(\d+\.\d+)\*\* (.*)$", re.M)
 NAME = re.compile(r"`(\w+(?:::\w+)*)`(?: \(((?:`\w+`(?:, )?)+)\))?")
 LAWS = re.compile(r" \((`.*)\)$")  # what carries a promise, at its end
@@ -30,9 +29,8 @@ class Promise(NamedTuple):
 
 
 def promises_of(text, sources):
-    """The promises of the page, by its sections' headings."""
-    parts = SECTION.split(text)[1:]
-    return {heading: [promise_of(number, line, sources) for number, line in PROMISE.findall(part)] for heading, part in zip(parts[::2], parts[1::2])}
+    """The promises of the page, in order."""
+    return [promise_of(number, line, sources) for number, line in PROMISE.findall(text)]
 
 
 def promise_of(number, line, sources):
@@ -112,27 +110,40 @@ def row_of(promise, sources, wrong_bodies, tests):
 
 def page_of(text, tests, sources):
     """docs/PROMISES.md, made of docs/PROVED.md and the tests of its promises."""
-    sections = promises_of(text, sources)
-    promises = [it for section in sections.values() for it in section]
+    promises = promises_of(text, sources)
     wrong_bodies = wrong_bodies_of(promises, sources)
     return INTRODUCTION + HEAD + "".join(row_of(it, sources, wrong_bodies[it.number], tests.get(it.number, [])) for it in promises)
 
 
 def mistakes_of(text, tests, sources):
-    """What leads nowhere: names that no public function has, tests that aren't there, numbers that don't follow one another."""
-    sections = promises_of(text, sources)
-    for number, (heading, promises) in enumerate(sections.items(), 1):
-        expected = [f"{number}.{it}" for it in range(1, len(promises) + 1)]
-        yield from (f"docs/PROVED.md: {it.number} should be {right}" for it, right in zip(promises, expected) if it.number != right)
-        for promise in promises:
-            yield from (f"docs/PROVED.md: {promise.number}: {name} is not public" for name, _ in promise.laws if not sources.called(name))
-            if not promise.laws:
-                yield f"docs/PROVED.md: {promise.number} names nothing that carries it"
-    known = {it.number for promises in sections.values() for it in promises}
-    yield from (f"{TESTS}: {it} is no promise" for it in tests if it not in known)
+    """What leads nowhere: numbers that don't follow one another, names that aren't there, and wrong bodies without a promise."""
+    promises = promises_of(text, sources)
+    yield from misnumbered([it.number for it in promises])
+    for promise in promises:
+        yield from (f"docs/PROVED.md: {promise.number}: {it}" for it in mistakes_of_laws(promise, sources))
+    numbers = {it.number for it in promises}
+    yield from (f"{TESTS}: {it} is no promise" for it in tests if it not in numbers)
     yield from (f"{TESTS}: there is no test {it}" for names in tests.values() for it in names if it not in sources.tests)
-    lost = wrong_bodies_of([it for promises in sections.values() for it in promises], sources)[None]
-    yield from (f"docs/PROMISES.md: no promise has the wrong body {it}" for it in lost)
+    yield from (f"docs/PROMISES.md: no promise has the wrong body {it}" for it in wrong_bodies_of(promises, sources)[None])
+
+
+def misnumbered(numbers):
+    """The numbers that follow neither the one before them nor its section."""
+    section, place = 1, 0
+    for number in numbers:
+        if number not in (f"{section}.{place + 1}", f"{section + 1}.1"):
+            yield f"docs/PROVED.md: {number} doesn't follow {section}.{place}"
+        section, place = map(int, number.split("."))
+
+
+def mistakes_of_laws(promise, sources):
+    """What is named as carrying the promise, and isn't there or isn't public."""
+    if not promise.laws:
+        yield "it names nothing that carries it"
+    for name, clauses in promise.laws:
+        found = sources.called(name)
+        known = {it for item in found for it in item.clause_names()}
+        yield from [f"{name} is not public"] if not found else [f"{name} has no clause {it}" for it in clauses if it not in known]
 
 
 def texts_in(root):

@@ -28,6 +28,9 @@ class Item(NamedTuple):
         found = CLAUSE.findall(self.text)
         return [text for name, text in found if name in names] or [text for _, text in found]
 
+    def clause_names(self):
+        return [name for name, _ in CLAUSE.findall(self.text)]
+
     @property
     def key(self):
         return self.crate, self.file, self.owner, self.name
@@ -95,8 +98,8 @@ class Sources:
 
     @functools.cached_property
     def tests(self):
-        """The tests by their names, each with the file that it is in."""
-        return {name: text for text in self.texts.values() for name in TEST.findall(text)}
+        """The names of the tests."""
+        return {name for text in self.texts.values() for name in TEST.findall(text)}
 
     @functools.cached_property
     def exported(self):

@@ -98,8 +98,9 @@ def test_a_wrong_body_without_a_promise_is_a_mistake(repository):
 
 @pytest.mark.parametrize("old, new, told", [
     ("`ship` (`enough`)", "`check_amount`", "1.1: check_amount is not public"),
-    (" (`Lots::total`)", "", "1.3 names nothing that carries it"),
-    ("**1.2**", "**1.4**", "1.4 should be 1.2"),
+    ("(`enough`)", "(`all`)", "1.1: ship has no clause all"),
+    (" (`Lots::total`)", "", "1.3: it names nothing that carries it"),
+    ("**1.3**", "**1.4**", "1.4 doesn't follow 1.2"),
 ])
 def test_what_leads_nowhere_is_a_mistake(repository, old, new, told):
     assert mistakes(repository, PROVED.replace(old, new)) == [f"docs/PROVED.md: {told}"]
