@@ -8,6 +8,7 @@ pub mod Printing
 pub mod Inputs
 pub mod Running
 pub mod Statuses
+pub mod Outputs
 pub mod StreamOutput
 pub mod Imported
 pub mod Done

@@ -9,10 +9,9 @@ use Rattle.toll_programs.specs.declared.calling.CallOutcome.{CallOutcome}
 use Rattle.toll_programs.specs.declared.calling.CallOutcome.TheVariants.{NotTaken, Lost, NoMemory, Answered}
 use Rattle.toll_protocol.specs.PlantMessages.{IsResponse, handshake_text}
 use Rattle.toll_protocol.specs.Frames.{IsEnough, frame}
-use Rattle.toll_protocol.specs.declared.frames.response.Response.{Response}
 use Rattle.toll_protocol.specs.declared.frames.response.TheConstants.{MOST_RESPONSE_BYTES}
-use Rattle.toll_programs.specs.Statuses.{code_of}
-use Rattle.toll_programs.specs.StreamOutput.{IsCut, IsFailing, IsUntouched, IsWritten, Streams}
+use Rattle.toll_programs.specs.Outputs.{Printout}
+use Rattle.toll_programs.specs.StreamOutput.{IsFailing, IsPrinted, IsSomePrinted, IsUntouched, Streams}
 use Rattle.toll_programs.specs.declared.status.Status.TheVariants.{Failed}
 
 -- what a server will give before, and what it was given before and after
@@ -78,18 +77,13 @@ module _ {S : Type 0} (from : source.Ghosts S) (to : sink.Ghosts S) (version ask
 
 -- ---- what is printed
 
--- what a server told goes to the two streams; the program ends as the server says, or has failed where the output was cut
-pub record IsResponsePrinted (s : Streams) (told : Response) (status : ℕ) : Type 0 where
-  pub output : (IsWritten s.output told.output.now × (status ≡ told.status)) ⊎ (IsCut s.output told.output.now × (status ≡ code_of Failed))
-  pub error : IsWritten s.error told.error.now ⊎ IsCut s.error told.error.now
-
 -- the line for an answer that did not come
 abbrev pub lost_line : Bytes
 lost_line = codes "fault Lost\n"
 
--- what this frame tells was passed on
+-- what this frame tells was printed
 abbrev pub IsWrittenOf : Streams → Bytes → ℕ → Type 0
-IsWrittenOf s text status = (told : Response) × IsResponse text told.status told.output.now told.error.now × IsResponsePrinted s told status
+IsWrittenOf s text status = IsSomePrinted (λ p. IsResponse text p.status p.output p.error) s status
 
 -- what came of asking a server is written; nothing, where it was not asked
 abbrev pub IsReplyWritten : Streams → CallOutcome → Option ℕ → Type 0
@@ -104,6 +98,6 @@ pub record IsRunOnServer {S : Type 0} (from : source.Ghosts S) (to : sink.Ghosts
   pub exchanged : IsExchange from to version asked old new reply
   pub written : IsReplyWritten s reply status
 
--- what some server told was passed on, or that it told nothing
+-- what some server told was printed, or that it told nothing
 abbrev pub IsServerTold : Streams → ℕ → Type 0
-IsServerTold s status = ((told : Response) × IsResponsePrinted s told status) ⊎ IsFailing s lost_line Failed status
+IsServerTold s status = ((p : Printout) × IsPrinted s p status) ⊎ IsFailing s lost_line Failed status

@@ -1,15 +1,13 @@
--- What the program writes of one command, one import or one script, and how it ends.
-use Rattle.std.specs.Prelude.{◌≡◌, ◌<◌, ◌⊎◌, ◌++◌, ℕ, Bool, [], Option, Result, Ok, Err, codes, decimal, length, take}
-use Rattle.toll_programs.specs.Common.{Appends, Bytes, PlantReply, HasFailed, ImportFault, Memory, TooLong, BadHeader, ImportReport}
-use Rattle.toll_desk.specs.declared.plant_cmd.PlantReply.TheVariants as plant
+-- What the program writes to its streams, and how it ends.
+use Rattle.std.specs.Prelude.{◌≡◌, ◌<◌, ◌⊎◌, ◌++◌, ℕ, Bool, [], Option, codes, decimal, length, take}
+use Rattle.toll_programs.specs.Common.{Appends, Bytes, HasFailed}
 use Rattle.toll_protocol.specs.declared.streams.sink.Sink as sink
-use Rattle.toll_plant.specs.ImportTexts.{import_text}
-use Rattle.toll_programs.specs.Printing.{plant_lines, refusal_line}
-use Rattle.toll_programs.specs.Statuses.{after_lines, after_reply, after_script, code_of}
+use Rattle.toll_programs.specs.Outputs.{Printout, no_memory}
+use Rattle.toll_programs.specs.Statuses.{after_script, code_of}
 use Rattle.toll_programs.specs.declared.scripts.ScriptEnd.{ScriptEnd}
 use Rattle.toll_programs.specs.declared.scripts.ScriptEnd.TheVariants as script
 use Rattle.toll_programs.specs.declared.status.Status.{Status}
-use Rattle.toll_programs.specs.declared.status.Status.TheVariants.{Refused, Unread, Failed}
+use Rattle.toll_programs.specs.declared.status.Status.TheVariants.{Failed}
 
 -- ---- one stream
 
@@ -37,8 +35,8 @@ abbrev pub IsCut : Stream → Bytes → Type 0
 IsCut s text = (n : ℕ) × (n < length text) × Appends s.held s.now_held (take n text) × HasFailed s.failed s.now_failed
 
 -- the text was written, and the program ends so; or a write failed, and so did the program
-abbrev pub IsTold : Stream → Bytes → Status → ℕ → Type 0
-IsTold s text wanted status = (IsWritten s text × (status ≡ code_of wanted)) ⊎ (IsCut s text × (status ≡ code_of Failed))
+abbrev pub IsTold : Stream → Bytes → (wanted : ℕ) → ℕ → Type 0
+IsTold s text wanted status = (IsWritten s text × (status ≡ wanted)) ⊎ (IsCut s text × (status ≡ code_of Failed))
 
 -- the text was written, or a write failed, and the program ends so whether or not one did
 abbrev pub IsWarned : Stream → Bytes → Status → ℕ → Type 0
@@ -54,49 +52,20 @@ pub record Streams : Type 0 where
 abbrev pub streams_of : {W E : Type 0} → sink.Ghosts W → sink.Ghosts E → (output now_output : W) → (error now_error : E) → Streams
 streams_of w e output now_output error now_error = record { output = stream_of w output now_output; error = stream_of e error now_error }
 
--- told by the output, and nothing by the error
-abbrev pub IsShown : Streams → Bytes → Status → ℕ → Type 0
-IsShown s text wanted status = IsTold s.output text wanted status × IsUntouched s.error
+-- all is printed, and the program ends as it says, or has failed where the output was cut; an error that is cut changes nothing, and no stream is touched for nothing
+pub record IsPrinted (s : Streams) (p : Printout) (status : ℕ) : Type 0 where
+  pub output : IsTold s.output p.output p.status status
+  pub error : IsWritten s.error p.error ⊎ IsCut s.error p.error
+  pub no_output : p.output ≡ [] → IsUntouched s.output
+  pub no_error : p.error ≡ [] → IsUntouched s.error
+
+-- something of which this is so was printed
+abbrev pub IsSomePrinted : (Printout → Type 0) → Streams → ℕ → Type 0
+IsSomePrinted IsSo s status = (p : Printout) × IsSo p × IsPrinted s p status
 
 -- told by the error, and nothing by the output
 abbrev pub IsFailing : Streams → Bytes → Status → ℕ → Type 0
 IsFailing s text wanted status = IsWarned s.error text wanted status × IsUntouched s.output
-
--- want of memory
-abbrev pub no_memory : Bytes
-no_memory = codes "fault Memory\n"
-
--- shown, or there was no memory for the text, which is told
-abbrev pub IsShownIfRoom : Streams → Bytes → Status → ℕ → Type 0
-IsShownIfRoom s text wanted status = IsShown s text wanted status ⊎ IsFailing s no_memory Failed status
-
--- what the plant is answered is shown, and a fault fails; a refusal's line alone takes memory
-abbrev pub IsReplyTold : Streams → PlantReply → ℕ → Type 0
-IsReplyTold s (plant.Fault fault) status = IsFailing s (plant_lines (plant.Fault fault)) Failed status
-IsReplyTold s (plant.Refused why) status = IsShownIfRoom s (refusal_line why) Refused status
-IsReplyTold s reply status = IsShown s (plant_lines reply) (after_reply reply) status
-
--- ---- an import
-
--- the line for a file that was not imported
-abbrev pub refused_file : ImportFault → Bytes
-refused_file Memory = no_memory
-refused_file TooLong = codes "too long\n"
-refused_file BadHeader = codes "bad header\n"
-
--- after a file that was not imported
-abbrev pub after_refused_file : ImportFault → Status
-after_refused_file Memory = Failed
-after_refused_file _ = Unread
-
--- the text of an import is shown
-abbrev pub IsReportTold : Streams → ImportReport → ℕ → Type 0
-IsReportTold s report status = IsShownIfRoom s (import_text report.lines.items) (after_lines report.lines.items) status
-
--- so it is told, and why a file was not imported fails
-abbrev pub IsImportTold : Streams → Result ImportReport ImportFault → ℕ → Type 0
-IsImportTold s (Ok report) status = IsReportTold s report status
-IsImportTold s (Err fault) status = IsFailing s (refused_file fault) (after_refused_file fault) status
 
 -- ---- a script
 

@@ -6,7 +6,7 @@ ghost use Rattle.toll_programs.specs.StreamOutput.{IsWarned, stream_of, streams_
 ghost use Rattle.toll_programs.specs.declared.status.Status.{Status};
 ghost use Rattle.toll_programs.specs.ServerCalls.{CanBeTold, HasHandshake, IsAnswer, IsExchange, IsRunOnServer, IsWrittenOf, lost_line};
 
-use crate::printing_responses::print_response;
+use crate::output::print;
 use crate::status::Status;
 use crate::telling::warn;
 use crate::tracked_stream::TracksReads;
@@ -65,7 +65,7 @@ fn write_response<W: Sink, E: Sink>(text: &[u8], output: &mut W, error: &mut E) 
     ensures { IsWrittenOf (streams_of W.Sink E.Sink output.old output.new error.old error.new) text.now result }
 {
     match Response::read(text) {
-        Some(told) => print_response(&told, output, error),
+        Some(told) => print(&told, output, error),
         None => write_lost(error),
     }
 }

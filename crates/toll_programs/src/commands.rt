@@ -1,12 +1,14 @@
 //! One command or question of the plant, as the program answers it.
 ghost use Rattle.toll_programs.specs.Done.{IsCommandDone};
+ghost use Rattle.toll_programs.specs.Outputs.{IsReplyTold, IsShownIfRoom, printout_of};
 ghost use Rattle.toll_programs.specs.Printing.{refusal_line};
-ghost use Rattle.toll_programs.specs.StreamOutput.{IsReplyTold, IsShownIfRoom, streams_of};
+ghost use Rattle.toll_programs.specs.StreamOutput.{IsSomePrinted, streams_of};
 
+use crate::output::Output;
 use crate::printing::{fault_line, refusal_text};
 use crate::status::Status;
-use crate::telling::{tell, warn};
 use std::alloc::{AllocError, Global};
+use std::borrow::CowSlice;
 use toll_base::Refusal;
 use toll_desk::{PlantCmd, PlantReply, plant_do};
 use toll_keep::{Keep, KeepFault};
@@ -22,37 +24,37 @@ pub fn plant_line<K: Keep, W: Sink, E: Sink>(
     output: &mut W,
     error: &mut E,
 ) -> u64
-    ensures { IsCommandDone K.meaning keep.old keep.new command.now (streams_of W.Sink E.Sink output.old output.new error.old error.new) result }
+    ensures { IsSomePrinted (IsCommandDone K.meaning keep.old keep.new command.now) (streams_of W.Sink E.Sink output.old output.new error.old error.new) result }
 {
-    let reply = plant_do(alloc, keep, command);
-    show(alloc, &reply, output, error)
+    execute(alloc, keep, command).print(output, error)
 }
 
-// Writes an answer, a fault to `error` and every other to `output`.
-fn show<W: Sink, E: Sink>(alloc: Global, reply: &PlantReply, output: &mut W, error: &mut E) -> u64
-    ensures { IsReplyTold (streams_of W.Sink E.Sink output.old output.new error.old error.new) reply.now result }
+/// Does a command of the plant or answers a question, and gives what [`plant_line`] prints of it.
+pub fn execute<K: Keep>(alloc: Global, keep: &mut K, command: &PlantCmd) -> Output
+    ensures { IsCommandDone K.meaning keep.old keep.new command.now (printout_of result) }
+{
+    output_of(alloc, plant_do(alloc, keep, command))
+}
+
+// What is printed of an answer: a fault on standard error, and every other on standard output.
+fn output_of(alloc: Global, reply: PlantReply) -> Output
+    ensures { IsReplyTold reply (printout_of result) }
 {
     match reply {
-        PlantReply::Accepted => tell(output, b"accepted\n", Status::Done),
-        PlantReply::Repeated => tell(output, b"repeated\n", Status::Done),
-        PlantReply::Refused(why) => show_refusal(alloc, why, output, error),
-        PlantReply::Text(lines) => tell(output, lines, Status::Done),
-        PlantReply::Fault(fault) => warn(error, fault_line(*fault), Status::Failed),
+        PlantReply::Accepted => Output::on_stdout(Status::Done, CowSlice::Borrowed(b"accepted\n")),
+        PlantReply::Repeated => Output::on_stdout(Status::Done, CowSlice::Borrowed(b"repeated\n")),
+        PlantReply::Refused(why) => output_of_refusal(alloc, &why),
+        PlantReply::Text(lines) => Output::on_stdout(Status::Done, CowSlice::Owned(lines)),
+        PlantReply::Fault(fault) => Output::fault(fault_line(fault)),
     }
 }
 
-// Writes a refusal to `output`, or to `error` that there was no memory for its line.
-fn show_refusal<W: Sink, E: Sink>(
-    alloc: Global,
-    why: &Refusal,
-    output: &mut W,
-    error: &mut E,
-) -> u64
-    ensures { IsShownIfRoom (streams_of W.Sink E.Sink output.old output.new error.old error.new)
-        (refusal_line why.now) Status.Refused result }
+// The line of a refusal, or that there was no memory for it.
+fn output_of_refusal(alloc: Global, why: &Refusal) -> Output
+    ensures { IsShownIfRoom Status.Refused (refusal_line why.now) (printout_of result) }
 {
     match refusal_text(alloc, why) {
-        Ok(text) => tell(output, text.as_bytes(), Status::Refused),
-        Err(AllocError) => warn(error, fault_line(KeepFault::Memory), Status::Failed),
+        Ok(text) => Output::on_stdout(Status::Refused, CowSlice::Owned(text.into_bytes())),
+        Err(AllocError) => Output::fault(fault_line(KeepFault::Memory)),
     }
 }

@@ -1,14 +1,17 @@
 //! A file of actuals, as the program imports it.
 ghost use Rattle.std.specs.Prelude.{◌≡◌};
 ghost use Rattle.std.specs.List.{list_any};
+ghost use Rattle.toll_plant.specs.ImportTexts.{import_text};
 ghost use Rattle.toll_plant.specs.Outcomes.{is_fault};
 ghost use Rattle.toll_programs.specs.Done.{IsImportDone};
+ghost use Rattle.toll_programs.specs.Outputs.{IsImportTold, IsShownIfRoom, IsStoppedImportTold, printout_of, refused_file};
 ghost use Rattle.toll_programs.specs.Statuses.{after_lines, is_turned_away};
-ghost use Rattle.toll_programs.specs.StreamOutput.{IsImportTold, IsReportTold, after_refused_file, refused_file, streams_of};
+ghost use Rattle.toll_programs.specs.StreamOutput.{IsSomePrinted, streams_of};
 
+use crate::output::Output;
 use crate::status::Status;
-use crate::telling::{tell, warn};
 use std::alloc::{AllocError, Global};
+use std::borrow::CowSlice;
 use toll_keep::Keep;
 use toll_plant::{ImportFault, ImportLine, ImportReport, Outcome, import_actuals, import_text};
 use toll_protocol::Sink;
@@ -25,60 +28,68 @@ pub fn plant_import<K: Keep, W: Sink, E: Sink>(
     output: &mut W,
     error: &mut E,
 ) -> u64
-    ensures { IsImportDone K.meaning keep.old keep.new file.now (streams_of W.Sink E.Sink output.old output.new error.old error.new) result }
+    ensures { IsSomePrinted (IsImportDone K.meaning keep.old keep.new file.now) (streams_of W.Sink E.Sink output.old output.new error.old error.new) result }
 {
-    let imported = import_actuals(alloc, keep, file);
-    show_import(alloc, imported, output, error)
+    import_file(alloc, keep, file).print(output, error)
 }
 
-/// Writes what came of an import to `output`, or why there was none to `error`, as [`plant_import`] does,
-/// and gives the exit status.
-pub fn show_import<W: Sink, E: Sink>(
-    alloc: Global,
-    imported: Result<ImportReport, ImportFault>,
-    output: &mut W,
-    error: &mut E,
-) -> u64
-    ensures { IsImportTold (streams_of W.Sink E.Sink output.old output.new error.old error.new) imported result }
+/// Imports a file of actuals, and gives what [`plant_import`] prints of it.
+pub fn import_file<K: Keep>(alloc: Global, keep: &mut K, file: &[u8]) -> Output
+    ensures { IsImportDone K.meaning keep.old keep.new file.now (printout_of result) }
+{
+    output_of_import(alloc, import_actuals(alloc, keep, file))
+}
+
+/// What [`plant_import`] prints of an import, or of why there was none.
+pub fn output_of_import(alloc: Global, imported: Result<ImportReport, ImportFault>) -> Output
+    ensures { IsImportTold imported (printout_of result) }
 {
     match imported {
-        Ok(report) => show_report(alloc, &report, output, error),
-        Err(fault) => warn(error, line_of(fault), status_after(fault)),
+        Ok(report) => output_of_report(alloc, &report),
+        Err(fault) => output_of_fault(fault),
     }
 }
 
-// The line for a file that was not imported. It takes no memory.
-fn line_of(fault: ImportFault) -> &'static [u8]
-    ensures { result.now ≡ refused_file fault }
+/// What is printed of an import that can't go on: what came of its records so far, unless there is no memory
+/// for it, and the line of why it can't, which takes none. The program has failed.
+pub fn output_of_stopped_import(alloc: Global, report: &ImportReport, why: &'static [u8]) -> Output
+    ensures { IsStoppedImportTold report.now.lines.items why.now (printout_of result) }
 {
-    match fault {
-        ImportFault::Memory => b"fault Memory\n",
-        ImportFault::TooLong => b"too long\n",
-        ImportFault::BadHeader => b"bad header\n",
+    let stdout = match import_text(alloc, report) {
+        Ok(text) => CowSlice::Owned(text),
+        Err(AllocError) => CowSlice::Borrowed(b""),
+    };
+    Output {
+        status: Status::Failed,
+        stdout,
+        stderr: CowSlice::Borrowed(why),
     }
 }
 
-fn status_after(fault: ImportFault) -> Status
-    ensures { result ≡ after_refused_file fault }
-{
-    match fault {
-        ImportFault::Memory => Status::Failed,
-        ImportFault::TooLong | ImportFault::BadHeader => Status::Unread,
-    }
-}
-
-// Writes the text of an import to `output`, or to `error` that there was no memory for it.
-fn show_report<W: Sink, E: Sink>(
-    alloc: Global,
-    report: &ImportReport,
-    output: &mut W,
-    error: &mut E,
-) -> u64
-    ensures { IsReportTold (streams_of W.Sink E.Sink output.old output.new error.old error.new) report.now result }
+// The text of an import, or that there was no memory for it.
+fn output_of_report(alloc: Global, report: &ImportReport) -> Output
+    ensures { IsShownIfRoom (after_lines report.now.lines.items) (import_text report.now.lines.items) (printout_of result) }
 {
     match import_text(alloc, report) {
-        Ok(text) => tell(output, &text, status_of(&report.lines)),
-        Err(AllocError) => warn(error, line_of(ImportFault::Memory), Status::Failed),
+        Ok(text) => Output::on_stdout(status_of(&report.lines), CowSlice::Owned(text)),
+        Err(AllocError) => output_of_fault(ImportFault::Memory),
+    }
+}
+
+// Why a file was not imported.
+fn output_of_fault(fault: ImportFault) -> Output
+    ensures { printout_of result ≡ refused_file fault }
+{
+    match fault {
+        ImportFault::Memory => Output::fault(b"fault Memory\n"),
+        ImportFault::TooLong => Output::on_stderr(
+            Status::Unread,
+            CowSlice::Borrowed(b"too long\n"),
+        ),
+        ImportFault::BadHeader => Output::on_stderr(
+            Status::Unread,
+            CowSlice::Borrowed(b"bad header\n"),
+        ),
     }
 }
 

@@ -1,6 +1,6 @@
 //! What the program does, over any keep and any streams: a script, a command or question of the plant, and
 //! the import of a file of actuals; what is written to which stream, and the exit status. And the other side
-//! of a server: what is asked is handed to it, and what it tells is passed on.
+//! of a server: what is asked is handed to it, and what it tells is printed.
 #![tactic(auto)]
 
 mod calling;
@@ -12,8 +12,8 @@ mod events;
 mod imports;
 mod input;
 mod laws;
+mod output;
 mod printing;
-mod printing_responses;
 mod request_line;
 mod scripts;
 mod status;
@@ -23,12 +23,13 @@ mod tracked_stream;
 mod version;
 
 pub use calling::run_on_server;
-pub use commands::plant_line;
+pub use commands::{execute, plant_line};
 pub use connector::{Connector, try_server};
 pub use ending::tell_end;
-pub use imports::{plant_import, show_import};
+pub use imports::{import_file, output_of_import, output_of_stopped_import, plant_import};
 pub use input::{FrontFault, read_front};
 pub use laws::{limits_are_those_defined, the_usage_has_every_command};
+pub use output::{Output, print};
 pub use request_line::RequestLine;
 pub use scripts::{ScriptEnd, script};
 pub use status::Status;

@@ -1,5 +1,6 @@
 //! What the program writes, and how it ends.
 ghost use Rattle.std.specs.Prelude.{◌≡◌, ◌≤◌, ◌++◌, codes, decimal, length};
+ghost use Rattle.toll_programs.specs.Statuses.{code_of};
 ghost use Rattle.toll_programs.specs.StreamOutput.{IsTold, IsWarned, stream_of};
 
 use crate::status::Status;
@@ -12,7 +13,7 @@ const LINE_BYTES: usize = 32;
 
 /// Writes a text, and gives the exit status: that of `status`, or of a failure where a write fails.
 pub fn tell<W: Sink>(writer: &mut W, text: &[u8], status: Status) -> u64
-    ensures { IsTold (stream_of W.Sink writer.old writer.new) text.now status result }
+    ensures { IsTold (stream_of W.Sink writer.old writer.new) text.now (code_of status) result }
 {
     match write_whole(writer, text) {
         Ok(()) => u64::from(status.code()),

@@ -9,14 +9,13 @@ pub use Rattle.toll_desk.specs.declared.plant_cmd.PlantReply.{PlantReply}
 pub use Rattle.toll_keep.specs.Content.{Content}
 pub use Rattle.toll_keep.specs.Meaning.{Meaning}
 pub use Rattle.toll_plant.specs.Common.{History, IsLawful}
-pub use Rattle.toll_plant.specs.ImportTexts.{import_text}
 pub use Rattle.toll_plant.specs.Imports.{AreNumbered, Comes, EndWith, HasValidValues, IsImport, commands_in, outcomes_in}
 pub use Rattle.toll_plant.specs.Outcomes.{is_fault, judged, outcome_of}
 pub use Rattle.toll_plant.specs.ImportStates.{HasActed, ImportState, left_behind}
 pub use Rattle.toll_plant.specs.declared.grouping.TheConstants.{GROUP_RECORDS}
 pub use Rattle.toll_plant.specs.declared.outcome.Outcome.{Outcome}
 pub use Rattle.toll_plant.specs.declared.report.ImportLine.{ImportLine}
-pub use Rattle.toll_programs.specs.StreamOutput.{IsFailing, IsImportTold, IsReplyTold, IsShown, IsShownIfRoom, IsTold, IsWarned, Streams, after_refused_file, no_memory, refused_file}
+pub use Rattle.toll_programs.specs.Outputs.{IsImportTold, Printout}
 pub use Rattle.toll_protocol.specs.PlantMessages.{IsCall}
 pub use Rattle.toll_server.specs.Runs.{AreOwn, Input, IsOwn, IsWholeRun, Request, Task, Tasks, Turn, Yields, after_turn}
 pub use Rattle.toll_server.specs.declared.listener.Listener.{Listener}

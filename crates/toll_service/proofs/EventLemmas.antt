@@ -1,14 +1,14 @@
 -- What came in at the listeners is a run of events.
-use Rattle.std.proofs.Common.{◌≡◌, ℕ, Bool, List, [], ◌∷◌, ◌++◌, Option, drop, Result, Ok, Err, refl, sym, subst, ap, ◌∙◌, inl, inr}
+use Rattle.std.proofs.Common.{◌≡◌, Bool, List, [], ◌∷◌, ◌++◌, Option, drop, Result, Ok, Err, refl, sym, subst, ap, ◌∙◌, inl, inr}
 use Rattle.std.specs.Prelude.{if◌then◌else◌, take}
-use Rattle.toll_service.proofs.Common.{list_any, append-nil, Bytes, PlantCmd, Content, Meaning, Yields as TurnComesTo, Input, IsWholeRun, Request, Task, Turn, Listener, Owners, Plant, Poll, Ready, Pending, EndWith, HasValidValues, outcomes_in, is_fault, HasActed, ImportState, left_behind, GROUP_RECORDS, Outcome, Streams, AreServed, IsAnswered, Answer, Event}
+use Rattle.toll_service.proofs.Common.{list_any, append-nil, Bytes, PlantCmd, Content, Meaning, Yields as TurnComesTo, Input, IsWholeRun, Request, Task, Turn, Listener, Owners, Plant, Poll, Ready, Pending, EndWith, HasValidValues, outcomes_in, is_fault, HasActed, ImportState, left_behind, GROUP_RECORDS, Outcome, Printout, AreServed, IsAnswered, Answer, Event}
 use Rattle.toll_desk.specs.Reads.{Over}
 use Rattle.toll_keep.specs.declared.fault.KeepFault.{KeepFault}
 use Rattle.toll_plant.proofs.GroupChains.{all_take, calm_group, faulty_group, group_honest}
 use Rattle.toll_service.proofs.ImportRuns.{records_run}
 use Rattle.toll_service.proofs.Pieces.{run_behind, run_from, run_none}
-use Rattle.toll_service.specs.Listeners.{ImportResumed, ImportYields, IsDone, IsServedIfRoom, lists_of}
-use Rattle.toll_service.specs.Events.{AreAllEventsOf, AreEventsOf, AreGroupEvents, AreRecordEvents, AreTurnEvents, IsPrintedOf}
+use Rattle.toll_service.specs.Listeners.{ImportResumed, ImportYields, IsDone, IsServedIfRoom}
+use Rattle.toll_service.specs.Events.{AreAllEventsOf, AreEventsOf, AreGroupEvents, AreRecordEvents, AreTurnEvents, IsPrintoutOf}
 use Rattle.toll_service.specs.Serving.{AnswersOver, HasServed, IsRunAs, IsRunWhereAnswered, ResumesOver, RunsOver}
 use Rattle.toll_service.specs.Requested.{Requested, RunCommand, ImportFile, UnknownWords, requested_by_call}
 use Rattle.toll_wire.proofs.Serving.{all_honest, run_of, steps_of}
@@ -51,12 +51,12 @@ module _ {K : Type 0} (meaning : Meaning K) (settled : (k : K) (c : Content) →
 
   -- ---- a request
 
-  done_ran : (old new : K) (wanted : Requested) (s : Streams) (status : ℕ) → IsDone meaning old new wanted s status → Ran old new (λ events answers. IsPrintedOf wanted events answers s status)
-  done_ran old new (RunCommand command) s status (reply, served, told) =
-      one_ran old new (Command command) (CommandReply reply) (λ events answers. IsPrintedOf (RunCommand command) events answers s status) (new, served, refl) (refl, told)
-  done_ran old new (ImportFile file) s status (same, (fault, why, told)) =
-      nothing old new (λ events answers. IsPrintedOf (ImportFile file) events answers s status) same (Err fault, (refl, refl), told)
-  done_ran old new (UnknownWords words) s status (same, usage) = nothing old new (λ events answers. IsPrintedOf (UnknownWords words) events answers s status) same usage
+  done_ran : (old new : K) (wanted : Requested) (p : Printout) → IsDone meaning old new wanted p → Ran old new (λ events answers. IsPrintoutOf wanted events answers p)
+  done_ran old new (RunCommand command) p (reply, served, told) =
+      one_ran old new (Command command) (CommandReply reply) (λ events answers. IsPrintoutOf (RunCommand command) events answers p) (new, served, refl) (refl, told)
+  done_ran old new (ImportFile file) p (same, (fault, why, told)) =
+      nothing old new (λ events answers. IsPrintoutOf (ImportFile file) events answers p) same (Err fault, (refl, refl), told)
+  done_ran old new (UnknownWords words) p (same, usage) = nothing old new (λ events answers. IsPrintoutOf (UnknownWords words) events answers p) same usage
 
   asked_ran : (old new : K) (listener : Listener) (asked : Bytes) (poll : Poll ImportState) → IsServedIfRoom meaning old new listener asked poll → Ran old new (AreTurnEvents (Request listener asked) poll)
   asked_ran old new Owners asked (Ready told) (inl (keep_usable, s)) =
@@ -65,18 +65,16 @@ module _ {K : Type 0} (meaning : Meaning K) (settled : (k : K) (c : Content) →
   asked_ran old new Owners asked (Pending import) (inl (keep_usable, never)) = absurd never
   asked_ran old new Owners asked (Pending import) (inr (same, never)) = absurd never
   asked_ran old new Plant asked (Ready told) (inl (keep_usable, inl s)) =
-      so_are old new (λ events answers. IsPrintedOf (requested_by_call s.words s.file) events answers (lists_of s.output s.error) s.status) (AreEventsOf Plant asked told.items)
+      so_are old new (λ events answers. IsPrintoutOf (requested_by_call s.words s.file) events answers s.printout) (AreEventsOf Plant asked told.items)
       (λ events answers printed. inl (record {
         words = s.words;
         file = s.file;
         asks = s.asks;
-        output = s.output;
-        error = s.error;
-        status = s.status;
+        printout = s.printout;
         printed = printed;
-        tells = s.telling.0;
+        tells = elim s.telling [ inl whole ↦ inl whole.0 | inr left ↦ inr left.0 ];
       }))
-      (done_ran old new (requested_by_call s.words s.file) (lists_of s.output s.error) s.status s.done)
+      (done_ran old new (requested_by_call s.words s.file) s.printout s.done)
   asked_ran old new Plant asked (Ready told) (inl (keep_usable, inr (asks, same, none, on))) = nothing old new (AreEventsOf Plant asked told.items) same (inr (none, refl, refl))
   asked_ran old new Plant asked (Ready told) (inr (same, none)) = nothing old new (AreEventsOf Plant asked told.items) same (inr (none, refl, refl))
   asked_ran old new Plant asked (Pending import) (inl (keep_usable, (begins, same, on))) = nothing old new (AreTurnEvents (Request Plant asked) (Pending import)) same (begins, refl, refl)

@@ -5,5 +5,5 @@ pub mod RecordEvents
 pub mod EventLemmas
 pub mod WholeLemmas
 pub mod RequestLemmas
-pub mod UnwrittenLemmas
+pub mod PlantTurns
 pub mod SessionLemmas

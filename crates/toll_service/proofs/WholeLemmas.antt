@@ -1,13 +1,13 @@
 -- All turns of one request.
-use Rattle.std.proofs.Common.{◌≡◌, ℕ, Bool, true, false, cond, List, [], ◌∷◌, ◌++◌, Option, Some, drop, Ok, refl, sym, ap, subst, ◌∙◌, append_assoc, take-append-drop, inl, arith}
+use Rattle.std.proofs.Common.{◌≡◌, ℕ, Bool, true, false, cond, List, [], ◌∷◌, ◌++◌, Option, Some, drop, Ok, refl, sym, ap, subst, ◌∙◌, append_assoc, take-append-drop, inl, inr, arith}
 use Rattle.std.specs.Prelude.{◌==◌, ◌≢◌, take}
 use Rattle.toll_service.proofs.Common.{Vec, list_any, append-nil, Bytes, PlantCmd, AreOwn, Input, IsOwn, Request, Task, Tasks, after_turn, Listener, Owners, Plant, Poll, Ready, Pending, AreNumbered, commands_in, outcomes_in, is_fault, ImportState, GROUP_RECORDS, Outcome, ImportLine, Answer, Event}
 use Rattle.std.proofs.lemmas.Bool.Decides.{nat_tests}
 use Rattle.toll_base.proofs.Texts.{nat_eq-exact}
 use Rattle.toll_server.specs.ConnectionStates.{pending_task}
 use Rattle.toll_service.proofs.RecordEvents.{records_longer, records_then}
-use Rattle.toll_service.specs.Listeners.{BeginsImport, IsReportTelling, lists_of}
-use Rattle.toll_service.specs.Events.{AreEventsOf, AreGroupEvents, AreRecordEvents, AreServedTurns, AreTurnEvents, IsPrintedOf, ServedTurn, answers_of, events_of, turns_of}
+use Rattle.toll_service.specs.Listeners.{BeginsImport, IsReportTelling}
+use Rattle.toll_service.specs.Events.{AreEventsOf, AreGroupEvents, AreRecordEvents, AreServedTurns, AreTurnEvents, IsPrintoutOf, ServedTurn, answers_of, events_of, turns_of}
 use Rattle.toll_service.specs.Whole.{IsAllAsked, first_response, own_parts, response_or, until_response}
 
 abbrev Commands : Type 0
@@ -123,10 +123,8 @@ whole_import asked text import events answers begins ends =
       words = begins.words;
       file = begins.sent;
       asks = begins.asks;
-      output = report.output;
-      error = report.error;
-      status = report.status;
-      printed = subst (λ wanted. IsPrintedOf wanted events answers (lists_of report.output report.error) report.status) (sym begins.wants) (
+      printout = report.printout;
+      printed = subst (λ wanted. IsPrintoutOf wanted events answers report.printout) (sym begins.wants) (
         Ok report.report,
         (
           begins.begun.records,
@@ -137,7 +135,7 @@ whole_import asked text import events answers begins ends =
         ),
         report.printed,
       );
-      tells = report.telling.0;
+      tells = elim report.telling [ inl whole ↦ inl whole.0 | inr left ↦ inr left.0 ];
     })
 
 module _ (whose : ℕ) (asked text : Bytes) where

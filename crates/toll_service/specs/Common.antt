@@ -7,7 +7,7 @@ pub use Rattle.toll_plant.specs.ImportStates.{ImportState, IsBegun, IsResumed}
 pub use Rattle.toll_plant.specs.declared.import_fault.ImportFault.{ImportFault}
 pub use Rattle.toll_plant.specs.declared.report.ImportReport.{ImportReport}
 pub use Rattle.toll_programs.specs.Statuses.{code_of}
-pub use Rattle.toll_programs.specs.StreamOutput.{IsFailing, IsImportTold, IsReplyTold, Stream, Streams}
+pub use Rattle.toll_programs.specs.Outputs.{IsImportTold, IsReplyTold, Printout}
 pub use Rattle.toll_programs.specs.declared.status.Status.TheVariants.{Failed, Unread}
 pub use Rattle.toll_protocol.specs.PlantMessages.{IsCall, IsResponse}
 pub use Rattle.toll_server.specs.Runs.{AreOwn, Input, Request, Runs, Task, Tasks, Turn, after_turns, no_tasks}

@@ -1,15 +1,15 @@
 -- What came in at the listeners of a server, as events of the office.
-use Rattle.std.specs.Prelude.{◌≡◌, ◌⊎◌, ℕ, Bool, if◌then◌else◌, List, [], ◌∷◌, ◌++◌, drop, flat_map, map, take, Option, Some, None, Result, Ok, Err}
+use Rattle.std.specs.Prelude.{◌≡◌, ◌⊎◌, Bool, if◌then◌else◌, List, [], ◌∷◌, ◌++◌, drop, flat_map, map, take, Option, Some, None, Result, Ok, Err}
 use Rattle.std.specs.Bool.{MatchBool}
 use Rattle.std.specs.List.{AllByRecursion, list_any}
-use Rattle.toll_service.specs.Common.{Bytes, PlantCmd, IsCall, IsResponse, Input, Request, Task, Turn, Listener, Owners, Plant, Poll, Ready, Pending, AreNumbered, commands_in, outcomes_in, ImportState, ImportFault, ImportReport, IsImportTold, IsReplyTold, Streams, out_bytes, Answer, Event}
+use Rattle.toll_service.specs.Common.{Bytes, PlantCmd, IsCall, Input, Request, Task, Turn, Listener, Owners, Plant, Poll, Ready, Pending, AreNumbered, commands_in, outcomes_in, ImportState, ImportFault, ImportReport, IsImportTold, IsReplyTold, Printout, out_bytes, Answer, Event}
 use Rattle.toll_desk.specs.Translations.{plant_told}
 use Rattle.toll_plant.specs.Files.{Fields, HasActuals}
 use Rattle.toll_plant.specs.Outcomes.{is_fault, outcome_of}
 use Rattle.toll_plant.specs.declared.grouping.TheConstants.{GROUP_RECORDS}
 use Rattle.toll_plant.specs.declared.outcome.Outcome.{Outcome}
 use Rattle.toll_plant.specs.declared.outcome.Outcome.TheVariants.{BadRecord}
-use Rattle.toll_service.specs.Listeners.{BeginsImport, ImportYields, IsUsageTold, lists_of}
+use Rattle.toll_service.specs.Listeners.{BeginsImport, IfRoom, ImportYields, Tells, usage_printout}
 use Rattle.toll_service.specs.Requested.{Requested, RunCommand, ImportFile, UnknownWords, requested_by_call}
 use Rattle.toll_wire.specs.declared.event.Answer.TheVariants.{Bytes as Reply, Plant as CommandReply}
 use Rattle.toll_wire.specs.declared.event.Event.TheVariants.{Owner, Plant as Command}
@@ -32,24 +32,21 @@ AreImportEvents file (Ok report) events answers =
     (records : List Fields) × HasActuals file records × AreNumbered 1 report.lines.items × AreRecordEvents (outcomes_in report.lines.items) (commands_in records) events answers
 AreImportEvents file (Err fault) events answers = (events ≡ []) × (answers ≡ [])
 
--- what the plant wants is these events, and their answers are printed so
-abbrev pub IsPrintedOf : Requested → List Event → List Answer → Streams → ℕ → Type 0
-IsPrintedOf (RunCommand command) (Command c ∷ []) (CommandReply reply ∷ []) s status = (c ≡ command) × IsReplyTold s reply status
-IsPrintedOf (ImportFile file) events answers s status =
-    (imported : Result ImportReport ImportFault) × AreImportEvents file imported events answers × IsImportTold s imported status
-IsPrintedOf (UnknownWords words) [] [] s status = IsUsageTold words s status
-IsPrintedOf _ _ _ s status = ⊥
+-- what the plant wants is these events, and this tells their answers
+abbrev pub IsPrintoutOf : Requested → List Event → List Answer → Printout → Type 0
+IsPrintoutOf (RunCommand command) (Command c ∷ []) (CommandReply reply ∷ []) p = (c ≡ command) × IsReplyTold reply p
+IsPrintoutOf (ImportFile file) events answers p = (imported : Result ImportReport ImportFault) × AreImportEvents file imported events answers × IsImportTold imported p
+IsPrintoutOf (UnknownWords words) [] [] p = p ≡ usage_printout words
+IsPrintoutOf _ _ _ p = ⊥
 
--- a frame of the plant asks for these events, and tells what is printed of their answers
+-- a frame of the plant asks for these events, and tells what is printed of their answers, as far as there is memory
 pub record IsCallServed (asked told : Bytes) (events : List Event) (answers : List Answer) : Type 0 where
   pub words : List Bytes
   pub file : Option Bytes
   pub asks : IsCall asked words file
-  pub output : Bytes
-  pub error : Bytes
-  pub status : ℕ
-  pub printed : IsPrintedOf (requested_by_call words file) events answers (lists_of output error) status
-  pub tells : IsResponse told status output error
+  pub printout : Printout
+  pub printed : IsPrintoutOf (requested_by_call words file) events answers printout
+  pub tells : IfRoom (Tells told) printout
 
 -- what came in at a listener is these events, and their answers are told; where it is none, nothing is told
 abbrev pub AreEventsOf : Listener → (asked told : Bytes) → List Event → List Answer → Type 0

@@ -1,14 +1,13 @@
 -- What is answered at the two listeners of a server, over a keep.
-use Rattle.std.specs.Prelude.{◌≡◌, ◌≢◌, ◌⊎◌, ◌==◌, ℕ, Bool, true, false, not, List, [], Option, Some, None, Ok, Err}
+use Rattle.std.specs.Prelude.{◌≡◌, ◌≢◌, ◌⊎◌, ◌==◌, ℕ, Bool, true, false, not, List, [], Option, Ok, Err}
 use Rattle.std.specs.Global.{Vec}
-use Rattle.toll_service.specs.Common.{Bytes, Meaning, IsCall, IsResponse, Listener, Owners, Plant, Poll, Ready, Pending, AreNumbered, IsResumed, IsBegun, ImportState, ImportFault, ImportReport, code_of, IsFailing, IsImportTold, Stream, Streams, Failed, Unread, out_bytes}
+use Rattle.toll_service.specs.Common.{Bytes, Meaning, IsCall, IsResponse, Listener, Owners, Plant, Poll, Ready, Pending, AreNumbered, IsResumed, IsBegun, ImportState, ImportFault, ImportReport, code_of, IsImportTold, Printout, Failed, Unread, out_bytes}
 use Rattle.toll_plant.specs.ImportFaults.{IsRefusedFor}
-use Rattle.toll_plant.specs.ImportTexts.{import_text}
 use Rattle.toll_plant.specs.Table.{plant_lines}
 use Rattle.toll_plant.specs.Usages.{usage_text}
 use Rattle.toll_plant.specs.declared.report.ImportLine.{ImportLine}
 use Rattle.toll_programs.specs.Done.{IsCommandDone}
-use Rattle.toll_service.specs.declared.printout.Printout.{Printout}
+use Rattle.toll_programs.specs.Outputs.{IsStoppedImportTold, on_error, refused_file}
 use Rattle.toll_service.specs.Unwritten.{unwritten}
 use Rattle.toll_service.specs.Requested.{Requested, RunCommand, ImportFile, UnknownWords, requested_by_call}
 use Rattle.toll_wire.specs.Steps.{IsAnswered}
@@ -17,30 +16,24 @@ use Rattle.toll_wire.specs.declared.outgoing.Out.TheVariants.{Text, Unavailable}
 
 -- ---- what is printed
 
--- a list that held nothing before, and holds this now
-abbrev pub list_of : Bytes → Stream
-list_of bytes = record { held = Some []; now_held = Some bytes; failed = None; now_failed = None }
+-- how these words' command is written, or how all are
+abbrev pub usage_printout : List Bytes → Printout
+usage_printout words = on_error Unread (usage_text plant_lines words)
 
--- the same of two, for what goes to standard output and to standard error
-abbrev pub lists_of : (output error : Bytes) → Streams
-lists_of output error = record { output = list_of output; error = list_of error }
+-- the frame tells this
+abbrev pub Tells : (told : Bytes) → Printout → Type 0
+Tells told p = IsResponse told p.status p.output p.error
 
--- all that is to be printed
-abbrev pub lists_in : Printout → Streams
-lists_in p = lists_of p.output.items p.error.items
+-- and the keep goes on but after a failure
+abbrev pub IsTelling : (keep_usable : Bool) → Printout → (told : Bytes) → Type 0
+IsTelling keep_usable p told = Tells told p × (keep_usable ≡ not (p.status == code_of Failed))
 
--- how these words' command is written, or how all are, goes to the error, and the program ends as for words that are none
-abbrev pub IsUsageTold : List Bytes → Streams → ℕ → Type 0
-IsUsageTold words s status = IsFailing s (usage_text plant_lines words) Unread status
+-- this is so of a printout, or where there is no memory for so much, of what is left of it where the program can write nothing
+abbrev pub IfRoom : (Printout → Type 0) → Printout → Type 0
+IfRoom IsSo p = IsSo p ⊎ IsSo (unwritten p)
 
--- the frame tells this, and the keep goes on but after a failure
-abbrev pub IsTelling : (told : Bytes) (keep_usable : Bool) (status : ℕ) (output error : Bytes) → Type 0
-IsTelling told keep_usable status output error = IsResponse told status output error × (keep_usable ≡ not (status == code_of Failed))
-
--- or, where there is no memory for so much, what the program ends with where it can write nothing
-abbrev pub IsTellingIfRoom : (told : Bytes) (keep_usable : Bool) (status : ℕ) (output error : Bytes) → Type 0
-IsTellingIfRoom told keep_usable status output error =
-    IsTelling told keep_usable status output error ⊎ IsTelling told keep_usable (unwritten output status) [] []
+abbrev pub IsTellingIfRoom : (keep_usable : Bool) → Printout → (told : Bytes) → Type 0
+IsTellingIfRoom keep_usable p told = IfRoom (λ left. IsTelling keep_usable left told) p
 
 -- this is so of what is told, and no import is left
 abbrev pub IsReadyWith : Poll ImportState → (Bytes → Type 0) → Type 0
@@ -49,19 +42,10 @@ IsReadyWith (Pending import) IsSo = ⊥
 
 -- ---- an import
 
--- the import of a file begins; or why there is none is printed, and told if there is room
-pub record IsFileRefused (file told : Bytes) (keep_usable : Bool) : Type 0 where
-  pub fault : ImportFault
-  pub why : IsRefusedFor file fault
-  pub output : Bytes
-  pub error : Bytes
-  pub status : ℕ
-  pub printed : IsImportTold (lists_of output error) (Err fault) status
-  pub telling : IsTellingIfRoom told keep_usable status output error
-
+-- the import of a file begins; or why there is none is told
 abbrev pub BeginsOrTells : (file : Bytes) → Poll ImportState → (keep_usable : Bool) → Type 0
 BeginsOrTells file (Pending import) keep_usable = IsBegun file import × (keep_usable ≡ true)
-BeginsOrTells file (Ready told) keep_usable = IsFileRefused file told.items keep_usable
+BeginsOrTells file (Ready told) keep_usable = (fault : ImportFault) × IsRefusedFor file fault × IsTellingIfRoom keep_usable (refused_file fault) told.items
 
 -- the frame asks for the import of a file, of which all records are left
 pub record BeginsImport (asked : Bytes) (import : ImportState) : Type 0 where
@@ -72,25 +56,18 @@ pub record BeginsImport (asked : Bytes) (import : ImportState) : Type 0 where
   pub wants : requested_by_call words sent ≡ ImportFile file
   pub begun : IsBegun file import
 
--- all that was printed of an import with these lines is told, with its exit status; the keep goes on but after a failure
+-- the report of an import with these lines is told; the keep goes on but after a failure
 pub record IsReportTelling (lines : List ImportLine) (told : Bytes) (keep_usable : Bool) : Type 0 where
   pub report : ImportReport
   pub its : report.lines.items ≡ lines
   pub numbered : AreNumbered 1 lines
-  pub output : Bytes
-  pub error : Bytes
-  pub status : ℕ
-  pub printed : IsImportTold (lists_of output error) (Ok report) status
-  pub telling : IsTelling told keep_usable status output error
-
--- the text, or nothing where there is no memory for it
-abbrev pub IsTextIfRoom : (text held : Bytes) → Type 0
-IsTextIfRoom text held = (held ≡ text) ⊎ (held ≡ [])
+  pub printout : Printout
+  pub printed : IsImportTold (Ok report) printout
+  pub telling : IsTellingIfRoom keep_usable printout told
 
 -- what came of the records so far is told, and why no more act, with the exit status of a failure
 abbrev pub IsImportAborted : List ImportLine → (why told : Bytes) → (keep_usable : Bool) → Type 0
-IsImportAborted lines why told keep_usable =
-    (output : Bytes) × (error : Bytes) × IsTextIfRoom (import_text lines) output × IsTextIfRoom why error × IsTelling told keep_usable (code_of Failed) output error
+IsImportAborted lines why told keep_usable = (p : Printout) × IsStoppedImportTold lines why p × IsTellingIfRoom keep_usable p told
 
 -- where records are left so is the import, and else its report is told
 abbrev pub ImportYields : ImportState → Poll ImportState → (keep_usable : Bool) → Type 0
@@ -119,22 +96,20 @@ module _ {K : Type 0} (meaning : Meaning K) (old new : K) where
     pub tells : told ≡ out_bytes out
     pub goes : keep_usable ≡ has_text out
 
-  -- what is wanted was done, once and nothing else, and so it is printed; of an import only why there is none
-  abbrev pub IsDone : Requested → Streams → ℕ → Type 0
-  IsDone (RunCommand command) s status = IsCommandDone meaning old new command s status
-  IsDone (ImportFile file) s status = (new ≡ old) × ((fault : ImportFault) × IsRefusedFor file fault × IsImportTold s (Err fault) status)
-  IsDone (UnknownWords words) s status = (new ≡ old) × IsUsageTold words s status
+  -- what is wanted was done, once and nothing else, and this tells it; of an import only why there is none
+  abbrev pub IsDone : Requested → Printout → Type 0
+  IsDone (RunCommand command) p = IsCommandDone meaning old new command p
+  IsDone (ImportFile file) p = (new ≡ old) × ((fault : ImportFault) × IsRefusedFor file fault × IsImportTold (Err fault) p)
+  IsDone (UnknownWords words) p = (new ≡ old) × (p ≡ usage_printout words)
 
   -- what the frame asks for was done, and what the program would have printed of it is told, with its exit status
   pub record IsPlantServed (asked told : Bytes) (keep_usable : Bool) : Type 0 where
     pub words : List Bytes
     pub file : Option Bytes
     pub asks : IsCall asked words file
-    pub output : Bytes
-    pub error : Bytes
-    pub status : ℕ
-    pub done : IsDone (requested_by_call words file) (lists_of output error) status
-    pub telling : IsTelling told keep_usable status output error
+    pub printout : Printout
+    pub done : IsDone (requested_by_call words file) printout
+    pub telling : IsTellingIfRoom keep_usable printout told
 
   -- what came in at the listener was answered over the keep, or an import begins; bytes that ask nothing of the plant's listener do nothing, and are told
   -- nothing

@@ -9,16 +9,15 @@ mod fault_log;
 mod keep_service;
 mod laws;
 mod lock;
-mod locked_office;
 mod office_fault;
 mod office_path;
 mod office_service;
 mod office_session;
 mod open_office;
+mod operation;
 mod party;
 mod pending_import;
 mod plant;
-mod printout;
 mod reserved_reply;
 mod serving;
 mod shared_file;
@@ -27,7 +26,7 @@ mod turn_result;
 mod words;
 
 pub use answering::answer_at;
-pub use doing::{answer_once, do_command, do_import};
+pub use doing::{answer_once, with_keep};
 pub use fault_log::{FaultLog, ServingFault};
 pub use keep_service::KeepService;
 pub use laws::{

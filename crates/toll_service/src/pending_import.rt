@@ -1,40 +1,37 @@
 //! An import that the plant asked a server for.
-ghost use Rattle.std.specs.Prelude.{◌≡◌, []};
-ghost use Rattle.toll_protocol.specs.PlantMessages.{IsResponse};
+ghost use Rattle.std.specs.Prelude.{◌≡◌};
+ghost use Rattle.toll_service.specs.Faults.{fault_text};
 ghost use Rattle.toll_service.specs.Listeners.{ImportResumed, IsImportAborted, IsReadyWith};
 
-use crate::printout::Printout;
+use crate::office_fault::OfficeFault;
+use crate::reserved_reply::ReservedReply;
 use crate::turn_result::TurnResult;
 use std::alloc::Global;
 use std::marker::Model;
 use toll_keep::Keep;
 use toll_plant::Import;
+use toll_programs::{output_of_import, output_of_stopped_import};
 use toll_server::Poll;
 
 /// An import that is under way, and memory for the exit status that the plant is told at the end.
 #[derive(Drop)]
 pub struct PendingImport {
     import: Import,
-    reserved: Vec<u8>,
+    reserved: ReservedReply,
 }
 
 /// The import.
 impl Model for PendingImport {
-    ghost use Rattle.std.specs.Prelude.{[]};
-    ghost use Rattle.toll_protocol.specs.PlantMessages.{IsResponse};
     ghost use Rattle.toll_plant.specs.ImportStates.{ImportState};
 
     ghost Value = { ImportState };
 
     ghost view = { λ i. i.import };
-
-    ghost invariant = { λ i. IsResponse i.reserved.items 0 [] [] };
 }
 
 impl PendingImport {
     /// Of this import, which has not gone on yet.
-    pub(crate) fn new(import: Import, reserved: Vec<u8>) -> Self
-        requires { IsResponse reserved.items 0 [] [] }
+    pub(crate) fn new(import: Import, reserved: ReservedReply) -> Self
         ensures { result ≡ import }
     {
         PendingImport { import, reserved }
@@ -48,8 +45,8 @@ impl PendingImport {
         self.import.resume(alloc, keep);
         if self.import.is_over() {
             let report = self.import.into_report();
-            let printout = Printout::of_import(alloc, Ok(report));
-            printout.told(alloc, self.reserved)
+            self.reserved
+                .tell(alloc, &output_of_import(alloc, Ok(report)))
         } else {
             TurnResult {
                 poll: Poll::Pending(self),
@@ -58,13 +55,14 @@ impl PendingImport {
         }
     }
 
-    /// Ends the import, which can't go on for such a reason: the plant is told what came of the records so far,
-    /// the reason on standard error, and the exit status of a failure. What there is no memory for is left out.
-    pub fn abort(self, alloc: Global, why: &[u8]) -> TurnResult
-        ensures { IsReadyWith result.poll (λ told. IsImportAborted self.lines why.now told result.keep_usable) }
+    /// Ends the import, which can't go on for such a fault: the plant is told what came of the records so far,
+    /// the line of the fault on standard error, and the exit status of a failure. What there is no memory for is
+    /// left out.
+    pub fn abort(self, alloc: Global, fault: OfficeFault) -> TurnResult
+        ensures { IsReadyWith result.poll (λ told. IsImportAborted self.lines (fault_text fault) told result.keep_usable) }
     {
         let report = self.import.into_report();
-        let printout = Printout::of_broken(alloc, &report, why);
-        printout.told(alloc, self.reserved)
+        let done = output_of_stopped_import(alloc, &report, fault.line());
+        self.reserved.tell(alloc, &done)
     }
 }

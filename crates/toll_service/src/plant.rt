@@ -1,17 +1,18 @@
 //! What the plant asks of a server.
-ghost use Rattle.std.specs.Prelude.{◌≡◌, [], map, IfNone, IfOk, IfSome, OnErr};
-ghost use Rattle.toll_protocol.specs.PlantMessages.{IsResponse};
+ghost use Rattle.std.specs.Prelude.{◌≡◌, map, IfNone, IfOk, IfSome, OnErr};
+ghost use Rattle.toll_programs.specs.Outputs.{printout_of};
 ghost use Rattle.toll_server.specs.declared.listener.Listener.{Listener};
-ghost use Rattle.toll_service.specs.Listeners.{BeginsOrTells, IsDone, IsServed, lists_in};
+ghost use Rattle.toll_service.specs.Listeners.{BeginsOrTells, IsDone, IsServed};
 ghost use Rattle.toll_service.specs.Requested.{ImportFile, is_import, requested_by_words, requested_in};
 
 use crate::pending_import::PendingImport;
-use crate::printout::Printout;
-use crate::reserved_reply::reserve_reply;
+use crate::reserved_reply::ReservedReply;
 use crate::turn_result::TurnResult;
 use std::alloc::{AllocError, Global};
+use std::borrow::CowSlice;
 use toll_keep::Keep;
 use toll_plant::{Import, WordsFault, command_of};
+use toll_programs::{Output, Status, execute, output_of_import};
 use toll_protocol::Call;
 use toll_server::Poll;
 
@@ -31,12 +32,12 @@ pub fn answer_plant<K: Keep>(
             keep_usable: true,
         });
     };
-    let reserve_reply = reserve_reply(alloc)?;
+    let reserved = ReservedReply::new(alloc)?;
     match import_in(&asked) {
-        Some(file) => Ok(begin(alloc, file, reserve_reply)),
+        Some(file) => Ok(begin(alloc, file, reserved)),
         None => {
-            let printout = print(alloc, keep, &asked.words)?;
-            Ok(printout.told(alloc, reserve_reply))
+            let done = execute_words(alloc, keep, &asked.words)?;
+            Ok(reserved.tell(alloc, &done))
         }
     }
 }
@@ -53,27 +54,29 @@ fn import_in<'a>(asked: &Call<'a>) -> Option<&'a [u8]>
 }
 
 // Begins an import, or tells why there is none.
-fn begin(alloc: Global, file: &[u8], reserve_reply: Vec<u8>) -> TurnResult
-    requires { IsResponse reserve_reply.items 0 [] [] }
+fn begin(alloc: Global, file: &[u8], reserved: ReservedReply) -> TurnResult
     ensures { BeginsOrTells file.now result.poll result.keep_usable }
 {
     match Import::of(alloc, file) {
         Ok(import) => TurnResult {
-            poll: Poll::Pending(PendingImport::new(import, reserve_reply)),
+            poll: Poll::Pending(PendingImport::new(import, reserved)),
             keep_usable: true,
         },
-        Err(fault) => Printout::of_import(alloc, Err(fault)).told(alloc, reserve_reply),
+        Err(fault) => reserved.tell(alloc, &output_of_import(alloc, Err(fault))),
     }
 }
 
 // Does what words ask for but an import, once they are read.
-fn print<K: Keep>(alloc: Global, keep: &mut K, words: &[&str]) -> Result<Printout, AllocError>
+fn execute_words<K: Keep>(alloc: Global, keep: &mut K, words: &[&str]) -> Result<Output, AllocError>
     ensures err { OnErr result (keep.new ≡ keep.old) }
-    ensures done { IfOk result (λ p. IsDone K.meaning keep.old keep.new (requested_by_words (map (λ w. w.now) words.now)) (lists_in p) p.status) }
+    ensures done { IfOk result (λ done. IsDone K.meaning keep.old keep.new (requested_by_words (map (λ w. w.now) words.now)) (printout_of done)) }
 {
     match command_of(alloc, words) {
-        Ok(command) => Ok(Printout::of_command(alloc, keep, &command)),
-        Err(WordsFault::Usage(usage)) => Ok(Printout::of_usage(alloc, &usage)),
+        Ok(command) => Ok(execute(alloc, keep, &command)),
+        Err(WordsFault::Usage(usage)) => Ok(Output::on_stderr(
+            Status::Unread,
+            CowSlice::Owned(usage),
+        )),
         Err(WordsFault::Memory) => Err(AllocError),
     }
 }

@@ -1,40 +1,76 @@
 //! A reply that is reserved before anything is done.
-ghost use Rattle.std.specs.Prelude.{[], IfOk};
+ghost use Rattle.std.specs.Prelude.{[]};
 ghost use Rattle.toll_protocol.specs.PlantMessages.{IsResponse};
-ghost use Rattle.toll_service.specs.Listeners.{IsReadyWith, IsTelling};
 
 use crate::turn_result::TurnResult;
 use std::alloc::{AllocError, Global};
-use toll_programs::Status;
+use toll_programs::{Output, Status};
 use toll_protocol::Response;
 use toll_server::Poll;
 
 /// Where the exit status stands in a frame: behind its length.
 const STATUS_PLACE: usize = 4;
 
-/// A reply with an exit status, and nothing printed, in which another status can be put.
-pub fn reserve_reply(alloc: Global) -> Result<Vec<u8>, AllocError>
-    ensures { IfOk result (λ reserve_reply. IsResponse reserve_reply.items 0 [] []) }
-{
-    let told = Response {
-        status: Status::Done.code(),
-        output: b"",
-        error: b"",
-    };
-    match told.encode(alloc) {
-        Ok(bytes) => Ok(bytes),
-        Err(_) => Err(AllocError),
-    }
+/// A frame with an exit status and nothing printed, in which another status can be put without memory.
+#[derive(Drop)]
+pub struct ReservedReply {
+    frame: Vec<u8>,
+    ghost is_reply: { IsResponse frame.items 0 [] [] },
 }
 
-/// What the plant is told where this exit status is all. It takes no memory.
-pub fn status_alone(mut reserve_reply: Vec<u8>, status: u8) -> TurnResult
-    requires { IsResponse reserve_reply.items 0 [] [] }
-    ensures { IsReadyWith result.poll (λ told. IsTelling told result.keep_usable status [] []) }
-{
-    reserve_reply[STATUS_PLACE] = status;
-    TurnResult {
-        poll: Poll::Ready(reserve_reply),
-        keep_usable: status != Status::Failed.code(),
+impl ReservedReply {
+    ghost use Rattle.std.specs.Prelude.{◌≡◌};
+    ghost use Rattle.toll_programs.specs.Outputs.{printout_of};
+    ghost use Rattle.toll_service.specs.Listeners.{IsReadyWith, IsTelling, IsTellingIfRoom};
+    ghost use Rattle.toll_service.specs.Unwritten.{status_alone, status_unwritten};
+
+    /// Takes the memory.
+    pub fn new(alloc: Global) -> Result<Self, AllocError> {
+        let done = Response {
+            status: Status::Done.code(),
+            output: b"",
+            error: b"",
+        };
+        match done.encode(alloc) {
+            Ok(frame) => Ok(ReservedReply { frame }),
+            Err(_) => Err(AllocError),
+        }
+    }
+
+    /// What the plant is told. Where there is no memory for all that is to be printed, that is the exit status,
+    /// as where the program can write nothing.
+    pub fn tell(self, alloc: Global, done: &Output) -> TurnResult
+        ensures { IsReadyWith result.poll (IsTellingIfRoom result.keep_usable (printout_of done.now)) }
+    {
+        match done.as_response().encode(alloc) {
+            Ok(frame) => TurnResult {
+                poll: Poll::Ready(frame),
+                keep_usable: done.status.code() != Status::Failed.code(),
+            },
+            Err(_) => self.tell_status(ReservedReply::code_unwritten(done)),
+        }
+    }
+
+    // Tells this exit status, and nothing printed.
+    fn tell_status(self, status: u8) -> TurnResult
+        ensures { IsReadyWith result.poll (IsTelling result.keep_usable (status_alone status)) }
+    {
+        let ReservedReply { mut frame } = self;
+        frame[STATUS_PLACE] = status;
+        TurnResult {
+            poll: Poll::Ready(frame),
+            keep_usable: status != Status::Failed.code(),
+        }
+    }
+
+    // The exit status where nothing can be written: a failure, if something goes to standard output.
+    fn code_unwritten(done: &Output) -> u8
+        ensures { let p = printout_of done.now in result ≡ status_unwritten p.output p.status }
+    {
+        if done.stdout.as_slice().is_empty() {
+            done.status.code()
+        } else {
+            Status::Failed.code()
+        }
     }
 }

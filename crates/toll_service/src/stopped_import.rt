@@ -19,6 +19,6 @@ impl StoppedImport {
     pub fn give_up(self, alloc: Global) -> Poll<PendingImport>
         ensures { IsReadyWith result (IsGivenUp self.import) }
     {
-        self.import.abort(alloc, self.fault.line()).poll
+        self.import.abort(alloc, self.fault).poll
     }
 }

@@ -1,20 +1,22 @@
 //! What the plant's words ask for, which a server of the office does, or else the program itself.
 ghost use Rattle.std.specs.Prelude.{map};
+ghost use Rattle.toll_programs.specs.Outputs.{printout_of};
 ghost use Rattle.toll_programs.specs.StreamOutput.{streams_of};
-ghost use Rattle.toll_service.specs.Doing.{AreWordsOver, IsCommandAsked, IsFileOver};
+ghost use Rattle.toll_service.specs.Doing.{AreWordsOver, IsAsked, IsFileOver, IsOperationDone};
 
-use crate::doing::{do_command, do_import};
+use crate::doing::with_keep;
 use crate::office_path::{KeepOpener, OfficePath};
-use toll_desk::PlantCmd;
+use crate::operation::Operation;
 use toll_keep::Keep;
 use toll_plant::{WordsFault, command_of};
-use toll_programs::{Connector, Status, TracksReads, tell, try_server, warn};
+use toll_programs::{Connector, Output, Status, TracksReads, tell, try_server};
 use toll_protocol::Sink;
 
 /// Does what these words of the plant ask for, and gives the exit status: the server of the office does it,
-/// if it has one, and else it is done as [`do_command`] does it. Of words that are no command the usage is
-/// written to `error`, and the status is 2. Why no office was opened, or that there was no memory to read
-/// the words, is written to `error`, and the status is 3.
+/// if it has one, and else it is done over the office, as [`plant_line`](toll_programs::plant_line) does it,
+/// and printed once the lock of its file was given back. Of words that are no command the usage is written to
+/// `error`, and the status is 2. Why no office was opened, or that there was no memory to read the words, is
+/// written to `error`, and the status is 3.
 pub fn do_words<
     K: Keep,
     O: KeepOpener<K>,
@@ -33,44 +35,26 @@ pub fn do_words<
         (streams_of W.Sink E.Sink output.old output.new error.old error.new) result }
 {
     match command_of(office_path.rt.alloc(), words) {
-        Ok(command) => ask_command(office_path, connector, words, &command, output, error),
+        Ok(command) => {
+            let operation = Operation::Command(&command);
+            ask(
+                office_path,
+                connector,
+                words,
+                None,
+                operation,
+                output,
+                error,
+            )
+        }
         Err(WordsFault::Usage(usage)) => tell(error, &usage, Status::Unread),
-        Err(WordsFault::Memory) => warn(error, b"fault Memory\n", Status::Failed),
-    }
-}
-
-// Has the server do the command of these words, or does it.
-fn ask_command<K: Keep, O: KeepOpener<K>, S: TracksReads + Drop, C: Connector<S>, W: Sink, E: Sink>(
-    office_path: &mut OfficePath<'_, O>,
-    connector: &mut C,
-    words: &[&str],
-    command: &PlantCmd,
-    output: &mut W,
-    error: &mut E,
-) -> u64
-    ensures { IsCommandAsked K.meaning O.is_opened (O.openings office_path.old.opener) (O.openings office_path.new.opener) command.now
-        (streams_of W.Sink E.Sink output.old output.new error.old error.new) result }
-{
-    if let Some(status) = try_server(
-        office_path.rt,
-        office_path.path,
-        connector,
-        words,
-        None,
-        output,
-        error,
-    ) {
-        return status;
-    }
-    match do_command(office_path, command, output, error) {
-        Ok(status) => status,
-        Err(fault) => warn(error, fault.line(), Status::Failed),
+        Err(WordsFault::Memory) => Output::fault(b"fault Memory\n").print(output, error),
     }
 }
 
 /// Imports a file of actuals, and gives the exit status: the server of the office does it, if it has one, and
-/// else it is done as [`do_import`] does it. Why no office was opened is written to `error`, and the status
-/// is 3.
+/// else it is done over the office, as [`plant_import`](toll_programs::plant_import) does it, and printed once
+/// the lock of its file was given back. Why no office was opened is written to `error`, and the status is 3.
 pub fn do_file<K: Keep, O: KeepOpener<K>, S: TracksReads + Drop, C: Connector<S>, W: Sink, E: Sink>(
     office_path: &mut OfficePath<'_, O>,
     connector: &mut C,
@@ -81,19 +65,48 @@ pub fn do_file<K: Keep, O: KeepOpener<K>, S: TracksReads + Drop, C: Connector<S>
     ensures { IsFileOver K.meaning O.is_opened (O.openings office_path.old.opener) (O.openings office_path.new.opener) actuals.now
         (streams_of W.Sink E.Sink output.old output.new error.old error.new) result }
 {
+    let operation = Operation::Import(actuals);
+    ask(
+        office_path,
+        connector,
+        &["import"],
+        Some(actuals),
+        operation,
+        output,
+        error,
+    )
+}
+
+// Has the server do what these words and the file with them ask for, or does it: so much is it over a keep.
+fn ask<K: Keep, O: KeepOpener<K>, S: TracksReads + Drop, C: Connector<S>, W: Sink, E: Sink>(
+    office_path: &mut OfficePath<'_, O>,
+    connector: &mut C,
+    words: &[&str],
+    file: Option<&[u8]>,
+    operation: Operation<'_>,
+    output: &mut W,
+    error: &mut E,
+) -> u64
+    ensures { IsAsked O.is_opened (O.openings office_path.old.opener) (O.openings office_path.new.opener)
+        (IsOperationDone K.meaning operation.entry) (streams_of W.Sink E.Sink output.old output.new error.old error.new) result }
+{
     if let Some(status) = try_server(
         office_path.rt,
         office_path.path,
         connector,
-        &["import"],
-        Some(actuals),
+        words,
+        file,
         output,
         error,
     ) {
         return status;
     }
-    match do_import(office_path, actuals, output, error) {
-        Ok(status) => status,
-        Err(fault) => warn(error, fault.line(), Status::Failed),
+    let alloc = office_path.rt.alloc();
+    let run = |keep: &mut K|
+        ensures { IsOperationDone K.meaning operation.entry keep.old keep.new (printout_of result) }
+    { operation.run(alloc, keep) };
+    match with_keep(office_path, run) {
+        Ok(done) => done.print(output, error),
+        Err(fault) => Output::fault(fault.line()).print(output, error),
     }
 }

@@ -9,8 +9,8 @@ use std::net::{Ipv4Addr, Shutdown, SocketAddrV4, TcpListener, TcpStream};
 use std::test::Fail;
 use toll_office::{Served, office_at, serve_one};
 use toll_plant::command_of;
-use toll_programs::ScriptEnd;
-use toll_service::{do_command, take_lock};
+use toll_programs::{ScriptEnd, execute};
+use toll_service::{take_lock, with_keep};
 use toll_sql::{OpenFault, SqlKeep};
 
 const ADDED: &[&[&str]] = &[
@@ -64,8 +64,11 @@ fn is_done(rt: &HostRuntime, path: &str, words: &[&str]) -> Result<bool, Fail> {
     let command = command_of(rt.alloc(), words)?;
     let mut output = page_of(rt, path, "out")?;
     let mut error = page_of(rt, path, "err")?;
-    let status = do_command(&mut office_at(rt, path), &command, &mut output, &mut error)?;
-    Ok(status == 0)
+    let done = with_keep(
+        &mut office_at(rt, path),
+        |keep| execute(rt.alloc(), keep, &command),
+    )?;
+    Ok(done.print(&mut output, &mut error) == 0)
 }
 
 // Sends these bytes to a socket and closes that side, serves the connection, and gives what comes back.

@@ -1,15 +1,15 @@
 use Rattle.std.proofs.Common.{subst}
 use Rattle.toll_plant.specs.ImportStates.{IsResumed}
-use Rattle.toll_service.proofs.UnwrittenLemmas.{report_turn}
+use Rattle.toll_programs.specs.Outputs.{printout_of}
+use Rattle.toll_service.proofs.PlantTurns.{report_turn}
 use Rattle.toll_service.proofs.pending_import.PendingImport.resume.Goals as goal
 
 pub returns-then-is_over : goal.returns-then-is_over
 returns-then-is_over g c =
     let K = g.K.Keep in
-    let p = c.of_import-printout.result in
     record {
       now = c.resume.new.self;
       resumed = subst (λ was. IsResumed K.meaning c.args.keep.now c.resume.new.keep was c.resume.new.self) c.self.view_is c.resume.ensures;
-      comes = report_turn c.resume.new.self c.told.result.poll c.told.result.keep_usable c.into_report-report.result p.output.items p.error.items p.status (c.is_over.ensures.0 c.if-is_over.true) c.into_report-report.ensures.lines
-          c.into_report-report.ensures.numbered c.of_import-printout.ensures c.told.ensures;
+      comes = report_turn c.resume.new.self c.tell.result.poll c.tell.result.keep_usable c.into_report-report.result (printout_of c.output_of_import.result) (c.is_over.ensures.0 c.if-is_over.true)
+          c.into_report-report.ensures.lines c.into_report-report.ensures.numbered c.output_of_import.ensures c.tell.ensures;
     }

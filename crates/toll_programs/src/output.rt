@@ -1,0 +1,93 @@
+//! What the program has to print.
+ghost use Rattle.std.specs.Prelude.{◌≡◌, [], OnErr, OnOk};
+ghost use Rattle.std.specs.Cow.{cow_slice_items};
+ghost use Rattle.toll_programs.specs.Outputs.{on_error, on_output, printout_in, printout_of};
+ghost use Rattle.toll_programs.specs.StreamOutput.{IsCut, IsPrinted, IsUntouched, IsWritten, stream_of, streams_of};
+
+use crate::status::Status;
+use std::borrow::CowSlice;
+use toll_protocol::{Response, Sink, WriteFault, write_whole};
+
+/// How a command, a question or an import ends, and what it prints. A text that stands in the program takes no
+/// memory, so it can be told of what was changed.
+#[derive(Drop)]
+pub struct Output {
+    pub status: Status,
+    pub stdout: CowSlice<'static, u8>,
+    pub stderr: CowSlice<'static, u8>,
+}
+
+impl Output {
+    /// A text on standard output.
+    pub fn on_stdout(status: Status, text: CowSlice<'static, u8>) -> Self
+        ensures { printout_of result ≡ on_output status (cow_slice_items text.entry) }
+    {
+        Output {
+            status,
+            stdout: text,
+            stderr: CowSlice::Borrowed(b""),
+        }
+    }
+
+    /// A text on standard error.
+    pub fn on_stderr(status: Status, text: CowSlice<'static, u8>) -> Self
+        ensures { printout_of result ≡ on_error status (cow_slice_items text.entry) }
+    {
+        Output {
+            status,
+            stdout: CowSlice::Borrowed(b""),
+            stderr: text,
+        }
+    }
+
+    /// The line of a fault, which takes no memory, on standard error: the program has failed.
+    pub fn fault(line: &'static [u8]) -> Self
+        ensures { printout_of result ≡ on_error Status.Failed line.now }
+    {
+        Output::on_stderr(Status::Failed, CowSlice::Borrowed(line))
+    }
+
+    /// The same as a server tells it.
+    pub fn as_response(&self) -> Response<'_>
+        ensures { printout_in result ≡ printout_of self.now }
+    {
+        Response {
+            status: self.status.code(),
+            output: &self.stdout,
+            error: &self.stderr,
+        }
+    }
+
+    /// Prints it as [`print`](crate::print) does, and gives the exit status.
+    pub fn print<W: Sink, E: Sink>(&self, output: &mut W, error: &mut E) -> u64
+        ensures { IsPrinted (streams_of W.Sink E.Sink output.old output.new error.old error.new) (printout_of self.now) result }
+    {
+        print(&self.as_response(), output, error)
+    }
+}
+
+/// Writes the output and then the error, and gives the exit status: that of the response, or 3 where its output
+/// can't be written. An error that can't be written changes nothing. A stream of which nothing is asked is left
+/// as it is.
+pub fn print<W: Sink, E: Sink>(response: &Response<'_>, output: &mut W, error: &mut E) -> u64
+    ensures { IsPrinted (streams_of W.Sink E.Sink output.old output.new error.old error.new) (printout_in response.now) result }
+{
+    let written = write_text(output, response.output);
+    let _ = write_text(error, response.error);
+    match written {
+        Ok(()) => u64::from(response.status),
+        Err(_) => u64::from(Status::Failed.code()),
+    }
+}
+
+// Writes a text, where there is one.
+fn write_text<W: Sink>(writer: &mut W, text: &[u8]) -> Result<(), WriteFault>
+    ensures written { OnOk result (IsWritten (stream_of W.Sink writer.old writer.new) text.now) }
+    ensures cut { OnErr result (IsCut (stream_of W.Sink writer.old writer.new) text.now) }
+    ensures silent { text.now ≡ [] → IsUntouched (stream_of W.Sink writer.old writer.new) }
+{
+    if text.is_empty() {
+        return Ok(());
+    }
+    write_whole(writer, text)
+}
