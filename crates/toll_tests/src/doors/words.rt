@@ -1,9 +1,11 @@
 //! Words of the plant over an office in a file that has no server.
-use std::fs;
+use crate::stories::check;
 use std::fs::File;
 use std::test::Fail;
+use std::{fs, io};
 use toll_keep::MemKeep;
 use toll_programs::{Connector, TrackedStream};
+use toll_protocol::Sink;
 use toll_service::{KeepOpener, OfficeFault, OfficePath, do_words, take_lock};
 
 /// Opens an office without rows, and counts how many.
@@ -112,4 +114,36 @@ fn words_of_the_plant_end_with_their_status(rt: HostRuntime) -> Result<(), Fail>
     fs::remove_file(&rt, "words.db.lock")?;
     assert!(rt; is_locked);
     Ok(())
+}
+
+/// An output that takes the lock of an office's file while it is written, and counts how often it gets it.
+#[derive(Drop)]
+struct LockTaker<'a> {
+    rt: &'a HostRuntime,
+    taken: u32,
+}
+
+impl Sink for LockTaker<'_> {
+    fn write_some(&mut self, bytes: &[u8]) -> io::Result<usize> {
+        if let Ok(lock) = take_lock(self.rt, "output.db") {
+            self.taken = self.taken.saturating_add(1);
+            lock.unlock()?;
+        }
+        Ok(bytes.len())
+    }
+}
+
+#[test]
+fn the_lock_is_free_while_the_output_is_written(rt: HostRuntime) -> Result<(), Fail> {
+    let mut place = OfficePath {
+        rt: &rt,
+        path: "output.db",
+        opener: Counting { opened: 0 },
+    };
+    let mut output = LockTaker { rt: &rt, taken: 0 };
+    let mut error = Vec::new(rt.alloc());
+    let words = &["owner-add", "ACME", "ACMEKEY1"];
+    let status = do_words(&mut place, &mut NoServer, words, &mut output, &mut error);
+    fs::remove_file(&rt, "output.db.lock")?;
+    check((status, output.taken) == (0, 1), "the lock is held")
 }
