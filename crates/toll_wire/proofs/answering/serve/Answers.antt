@@ -19,5 +19,5 @@ returns g c =
     let carried = made.ensures in
     subst (λ out. IsServing K.meaning c.args.keep.now made.new.keep (By c.args.owner.now (Some c.args.key.now) (Asks (asked_of c.args.request.now))) out) (sym c.text_if.ensures)
     (plan_told K.meaning g.met.K.Keep.settled c.args.keep.now planned.new.keep made.new.keep c.args.owner.now c.args.key.now (asked_of c.args.request.now) (told_of planned.result.reply) planned.result.changes.items _ c.deref.ensures.value
-    planned.ensures.reads planned.ensures.quiet planned.ensures.once planned.ensures.plan c.in-Text.text c.in-Text.ensures made.result
+    planned.ensures.reads planned.ensures.idle.quiet planned.ensures.idle.once planned.ensures.plan c.in-Text.text c.in-Text.ensures made.result
     (record { honest = carried.honest; idle = carried.idle; goes = carried.goes; all = carried.all; none = carried.none; whole = carried.whole; crash = carried.crash }))
