@@ -1,7 +1,7 @@
 -- A keep that remembers, around another one: what is so of it by what is so of the one inside.
 use Rattle.std.proofs.Common.{◌≡◌, ◌≢◌, false, Some, Result, Ok, Err, OnOk, OnErr, sym, subst}
-use Rattle.std.specs.Prelude.{IsSome}
-use Rattle.toll_keep.proofs.Common.{false≢true, All-nil}
+use Rattle.std.specs.Prelude.{IsSome, Contains}
+use Rattle.toll_keep.proofs.Common.{false≢true, All-nil, Contains-none}
 use Rattle.std.proofs.Math.Logic.{∥∥₁_elim}
 use Rattle.toll_keep.specs.Content.{Content, ContentKeepsRules, slice_of}
 use Rattle.toll_keep.specs.Goes.{Goes, IsReading}
@@ -21,6 +21,7 @@ nothing_of c r none = record {
   slices = subst (AreOf c) (sym none.slices) (All-nil (λ s. slice_of c s.owner ≡ Some s));
   owners = subst (AreRows c.owners) (sym none.owners) tt;
   units = subst (AreRows c.units) (sym none.units) tt;
+  graphs = λ known i. absurd (Contains-none known (subst (λ graphs. Contains graphs known) none.graphs i));
 }
 
 pub some_owners : (r : Cache) → IsSome r.owners → ¬ (IsNothing r)
@@ -87,12 +88,12 @@ module _ {T : Type 0} (K : Ghosts T) where
       }
 
   -- where what is remembered beside it now is of the content
-  pub reads_around : {X : Type 0} (old new : CachedKeep T K) (told answer : Result X KeepFault) → answer ≡ told → (K.meaning.is_honest new.keep → (c : Content) → K.meaning.holds old.keep c → IsOf c old.recollection → IsOf c new.recollection) → ReadsInside old.keep new.keep told → ReadsAround old new answer
+  pub reads_around : {X : Type 0} (old new : CachedKeep T K) (told answer : Result X KeepFault) → answer ≡ told → (K.meaning.is_honest new.keep → (c : Content) → K.meaning.holds old.keep c → IsOf c old.recollection → OnlyKnownHaveRows c → IsOf c new.recollection) → ReadsInside old.keep new.keep told → ReadsAround old new answer
   reads_around old new told answer same kept reads =
       record {
         goes = goes_around old new told answer same reads.goes;
         keeps = λ honest. record {
-          content = λ c held. ((reads.keeps honest).content c held.0, kept honest c held.0 held.1, held.2);
+          content = λ c held. ((reads.keeps honest).content c held.0, kept honest c held.0 held.1 held.2, held.2);
           crash = λ lives c held. (reads.keeps honest).crash lives c held.0;
         };
         whole = λ honest c held. subst (λ r. ContentKeepsRules c → r ≢ Err Damaged) (sym same) (reads.whole honest c held.0);
@@ -113,9 +114,9 @@ module _ {T : Type 0} (K : Ghosts T) where
   rested settled once old some = rests K.meaning settled old.keep (old.unclosed some) (λ honest. ∥∥₁_elim (old.live some honest) (once old.keep) (λ there. there))
 
   -- what is told from it, or read and then remembered, is answered on
-  pub tells_around : {X : Type 0} → Rests K.meaning → LivesOnce → (old new : CachedKeep T K) (middle : Cache) (told answer : Result X KeepFault) → answer ≡ told → OnOk told (new.recollection ≡ middle) → OnErr told (IsNothing new.recollection) → (K.meaning.is_honest new.keep → (c : Content) → K.meaning.holds old.keep c → IsOf c old.recollection → IsOf c middle) → (RestsWhereSome old → ReadsInside old.keep new.keep told) → ReadsAround old new answer
+  pub tells_around : {X : Type 0} → Rests K.meaning → LivesOnce → (old new : CachedKeep T K) (middle : Cache) (told answer : Result X KeepFault) → answer ≡ told → OnOk told (new.recollection ≡ middle) → OnErr told (IsNothing new.recollection) → (K.meaning.is_honest new.keep → (c : Content) → K.meaning.holds old.keep c → IsOf c old.recollection → OnlyKnownHaveRows c → IsOf c middle) → (RestsWhereSome old → ReadsInside old.keep new.keep told) → ReadsAround old new answer
   tells_around settled once old new middle told answer same kept forgotten own reads =
-      reads_around old new told answer same (λ honest c held of. or_forgotten c told middle new.recollection kept forgotten (own honest c held of)) (reads (rested settled once old))
+      reads_around old new told answer same (λ honest c held of only. or_forgotten c told middle new.recollection kept forgotten (own honest c held of only)) (reads (rested settled once old))
 
   -- and what is remembered then may stand
   pub telling_stands : {X : Type 0} → Rests K.meaning → LivesOnce → (old : CachedKeep T K) (now : T) (told : Result X KeepFault) (r : Cache) → OnErr told (IsNothing r) → (RestsWhereSome old → ReadsInside old.keep now told) → MayStand now r

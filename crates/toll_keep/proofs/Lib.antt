@@ -6,6 +6,8 @@ pub mod Finding
 pub mod AllOwners
 pub mod Changed
 pub mod RememberedLemmas
+pub mod DrawnStay
+pub mod Learning
 pub mod Around
 mod FromOwners
 pub mod Calls

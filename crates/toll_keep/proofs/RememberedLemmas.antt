@@ -18,7 +18,7 @@ remembered_there c slices o at d h all =
     subst (λ owner. slice_of c owner ≡ Some (get_or slices at d)) (same_bytes-exact (get_or slices at d).owner o found.1) (All-get_or (λ s. slice_of c s.owner ≡ Some s) slices at d found.0 all)
 
 -- a slice that is there has the owner's rows
-of_known : (known : Bool) (rows s : Slice) → cond known (Some rows) None ≡ Some s → (known ≡ true) × (rows ≡ s)
+pub of_known : (known : Bool) (rows s : Slice) → cond known (Some rows) None ≡ Some s → (known ≡ true) × (rows ≡ s)
 of_known true rows s e = (refl, cc)
 of_known false rows s e = absurd (cc e)
 
@@ -85,7 +85,7 @@ only_known_after (Owner row ∷ changes) c fits only = only_known_after changes 
 only_known_after (UnitAdded row ∷ changes) c fits only = only_known_after changes (after (UnitAdded row ∷ []) c) fits.1 (only_known_one (UnitAdded row) c fits.0 only)
 only_known_after (Put o row ∷ changes) c fits only = only_known_after changes (after (Put o row ∷ []) c) fits.1 (only_known_one (Put o row) c fits.0 only)
 
-not_known : (known : Bool) (rows : Slice) → cond known (Some rows) None ≡ None → known ≡ false
+pub not_known : (known : Bool) (rows : Slice) → cond known (Some rows) None ≡ None → known ≡ false
 not_known true rows e = absurd (cc e)
 not_known false rows e = refl
 

@@ -3,7 +3,12 @@ use Rattle.std.specs.Prelude.{◌≡◌, ◌⊎◌, ℕ, Bool, true, not, ◌&&�
 use Rattle.toll_keep.specs.Common.{Global, Bytes, same_bytes, Slice, batch_at, AreEdges, IsEdge}
 use Rattle.toll_base.specs.Words.{is_some_where, none_or}
 use Rattle.toll_base.specs.declared.lot.Edge.{Edge}
+use Rattle.toll_base.specs.declared.lot.LotId.{LotId}
 use Rattle.toll_base.specs.declared.rows.BatchRow.{BatchRow}
+use Rattle.toll_trace.specs.Chain.{edge_of}
+use Rattle.toll_trace.specs.Trace.{IsTrace}
+use Rattle.toll_trace.specs.declared.step.Step.{Step}
+use Rattle.toll_trace.specs.declared.way.Way.{Way}
 use Rattle.toll_keep.specs.Content.{Content}
 use Rattle.toll_keep.specs.declared.holder.Holder.{Holder}
 
@@ -47,3 +52,15 @@ pub record AreMore (s : Slice) (old new : List Edge) : Type 0 where
   pub only : (e : Edge) → Contains new e → Contains old e ⊎ IsEdge s e
   pub before : (e : Edge) → Contains old e → Contains new e
   pub own : (e : Edge) → IsEdge s e → Contains new e
+
+-- ---- traces
+
+-- the rows of one of these owners have the edge
+pub record IsEdgeOfOne (c : Content) (owners : List Bytes) (e : Edge) : Type 0 where
+  pub owner : Bytes
+  pub named : Contains owners owner
+  pub edge : IsEdge (c.rows owner) e
+
+-- where steps are told, they are the trace from the lot over the edges of these owners
+abbrev pub TellsTrace : {E : Type 0} → Content → List Bytes → LotId → Way → Result (Vec Step Global) E → Type 0
+TellsTrace c owners from way told = IfOk told (λ steps. IsTrace (λ a b. IsEdgeOfOne c owners (edge_of way a b)) from steps.items)

@@ -5,6 +5,7 @@ pub mod Goes
 pub mod Meaning
 pub mod Holding
 pub mod Slices
+pub mod Graphs
 pub mod Remembered
 pub mod Around
 pub mod Reads

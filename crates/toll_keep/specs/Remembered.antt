@@ -2,6 +2,7 @@
 use Rattle.std.specs.Prelude.{◌≡◌, Bool, true, false, Option, Some, None, IfSome, List, [], All, Vec}
 use Rattle.toll_keep.specs.Common.{Global, Bytes, Slice, empty_slice, list_any, Change, Put}
 use Rattle.toll_keep.specs.Content.{Content, after, knows, slice_of}
+use Rattle.toll_keep.specs.Graphs.{AreGraphsOf}
 use Rattle.toll_keep.specs.Meaning.{Meaning, OverHeld}
 use Rattle.toll_keep.specs.declared.cache.Cache.{Cache}
 
@@ -21,17 +22,19 @@ IfOf c slices P = AreOf c slices → OnlyKnownHaveRows c → P
 abbrev pub AreRows : {R : Type 0} → List R → Option (Vec R Global) → Type 0
 AreRows rows known = IfSome known (λ v. v.items ≡ rows)
 
--- all that is remembered is of the content: its slices, its owners and its units
+-- all that is remembered is of the content: its slices, its owners, its units and the graphs of its owners
 pub record IsOf (c : Content) (r : Cache) : Type 0 where
   pub slices : AreOf c r.slices.items
   pub owners : AreRows c.owners r.owners
   pub units : AreRows c.units r.units
+  pub graphs : AreGraphsOf c r.graphs.items
 
 -- nothing is remembered
 pub record IsNothing (r : Cache) : Type 0 where
   pub slices : r.slices.items ≡ []
   pub owners : r.owners ≡ None
   pub units : r.units ≡ None
+  pub graphs : r.graphs.items ≡ []
 
 -- the change adds an owner or a unit
 abbrev pub is_addition : Change → Bool

@@ -5,15 +5,19 @@ ghost use Rattle.toll_keep.specs.Content.{Content, after};
 ghost use Rattle.toll_keep.specs.Remembered.{IsNothing, IsOf, is_addition};
 
 use crate::cached_slice::CachedSlice;
+use crate::drawing::forget_drawn;
+use crate::known_graph::KnownGraph;
 use crate::remembered::follow_all;
 use std::alloc::{AllocError, Global};
 use toll_base::{Change, OwnerRow, Row, UnitRow};
 
-/// What was read of a keep: slices, and the owners and the units once they were asked for.
+/// What was read of a keep: slices, the owners and the units once they were asked for, and the graphs of
+/// owners over whose batches a trace was asked for.
 pub struct Cache {
     pub slices: Vec<CachedSlice>,
     pub owners: Option<Vec<OwnerRow>>,
     pub units: Option<Vec<UnitRow>>,
+    pub graphs: Vec<KnownGraph>,
 }
 
 /// By hand, since what is derived is written out at every exit of every function that owns one.
@@ -23,6 +27,7 @@ impl Drop for Cache {
             slices: _,
             owners: _,
             units: _,
+            graphs: _,
         } = self;
     }
 }
@@ -36,15 +41,18 @@ impl Cache {
             slices: Vec::new(alloc),
             owners: None,
             units: None,
+            graphs: Vec::new(alloc),
         }
     }
 
     /// Makes the changes in the slices, each in place where no other copy has its rows. The owners and
-    /// the units are forgotten where one is added. Where there is no memory, or a row does not fit, what
+    /// the units are forgotten where one is added, and an owner's graph where a change may draw an edge of
+    /// the owner or take one away. Where there is no memory, or a row does not fit, what
     /// is left is of no more use.
     pub fn follow(&mut self, alloc: Global, changes: &[Change]) -> Result<(), AllocError>
         ensures { OnOk result ((c : Content) → IsOf c self.old → IsOf (after changes.now c) self.new) }
     {
+        forget_drawn(&mut self.graphs, &self.slices, changes);
         follow_all(alloc, &mut self.slices, changes)?;
         if has_addition(changes) {
             self.owners = None;

@@ -9,13 +9,16 @@ use crate::gathering::read_all_edges;
 use crate::holder::Holder;
 use crate::keep::Keep;
 use crate::telling::{tell_edges, tell_rows, tell_slice};
+use crate::tracing::tell_trace;
 use std::alloc::Global;
 use std::mem;
-use toll_base::{Change, Edge, Name, OwnerRow, Row, Slice, UnitRow};
+use toll_base::{Change, Edge, LotId, Name, OwnerRow, Row, Slice, UnitRow};
+use toll_trace::{Step, Way};
 
-/// A keep around another one, that remembers the slices, the owners and the units that it read. What is
-/// changed is changed in the slices too, in place where no copy that was handed out is left; the owners
-/// and the units are forgotten where one is added. At any fault all is forgotten.
+/// A keep around another one, that remembers the slices, the owners and the units that it read, and the
+/// graphs of owners over which it traced. What is changed is changed in the slices too, in place where no
+/// copy that was handed out is left; the owners and the units are forgotten where one is added, and an
+/// owner's graph where its edges may change. At any fault all is forgotten.
 pub struct CachedKeep<K: Keep> {
     keep: K,
     recollection: Cache,
@@ -118,6 +121,18 @@ impl<K: Keep> Keep for CachedKeep<K> {
     fn all_edges(&mut self, alloc: Global) -> Result<Vec<Edge>, KeepFault> {
         let CachedKeep { keep, recollection } = self;
         let told = read_all_edges(alloc, keep, recollection);
+        or_forget(alloc, recollection, told)
+    }
+
+    fn trace(
+        &mut self,
+        alloc: Global,
+        owners: &[Name],
+        from: &LotId,
+        way: Way,
+    ) -> Result<Vec<Step>, KeepFault> {
+        let CachedKeep { keep, recollection } = self;
+        let told = tell_trace(alloc, keep, recollection, owners, from, way);
         or_forget(alloc, recollection, told)
     }
 

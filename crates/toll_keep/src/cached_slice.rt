@@ -1,7 +1,10 @@
 //! A slice that is remembered, with its edges.
-ghost use Rattle.std.specs.Prelude.{◌≡◌, IfOk, OnOk};
+ghost use Rattle.std.specs.Prelude.{◌≡◌, IfOk, OnOk, is_some};
+ghost use Rattle.toll_base.specs.Slice.{move_at};
+ghost use Rattle.toll_trace.specs.Graph.{IsGraph};
 ghost use Rattle.toll_keep.specs.Common.{with_row, AreEdges, IsEdge};
 
+use crate::known_graph::KnownGraph;
 use std::alloc::{AllocError, Global};
 use std::marker::Model;
 use toll_base::{Edge, Name, Row, Slice};
@@ -74,6 +77,22 @@ impl CachedSlice {
         let edges = edges_of(alloc, &self.slice)?;
         self.edges = Some(edges.to_vec(alloc)?);
         Ok(edges)
+    }
+
+    /// The graph of the edges of the slice, whose owner this is.
+    pub fn graph(&self, alloc: Global, owner: &Name) -> Result<KnownGraph, AllocError>
+        ensures owner { IfOk result (λ known. known.owner ≡ owner.now) }
+        ensures named { IfOk result (λ known. known.named ≡ self.now.owner) }
+        ensures graph { IfOk result (λ known. IsGraph (IsEdge self.now) known.graph) }
+    {
+        KnownGraph::of(alloc, owner, &self.slice)
+    }
+
+    /// Whether there is a movement with this key.
+    pub fn has_movement(&self, key: &Name) -> bool
+        ensures { result ≡ is_some (move_at self.now key.now) }
+    {
+        self.slice.movement(key).is_some()
     }
 
     /// Puts the row, in place where no other copy has the rows. Where there is no memory, or the row does

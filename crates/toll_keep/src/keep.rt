@@ -3,13 +3,14 @@ ghost use Rattle.std.specs.Prelude.{◌≡◌, ◌≢◌, Err, List, [], ◌∷�
 ghost use Rattle.toll_keep.specs.Common.{AreEdges, IsEdge};
 ghost use Rattle.toll_keep.specs.Content.{Content, slice_of, after, Fits, ContentKeepsRules};
 ghost use Rattle.toll_keep.specs.Goes.{Goes, IsReading, IsSpared};
-ghost use Rattle.toll_keep.specs.Holding.{IsHolder, IsEdgeOfSome};
+ghost use Rattle.toll_keep.specs.Holding.{IsHolder, IsEdgeOfSome, TellsTrace};
 ghost use Rattle.toll_keep.specs.Meaning.{Meaning, OverHeld, OverLive};
 
 use crate::fault::KeepFault;
 use crate::holder::Holder;
 use std::alloc::Global;
-use toll_base::{Change, Edge, Name, OwnerRow, Slice, UnitRow};
+use toll_base::{Change, Edge, LotId, Name, OwnerRow, Slice, UnitRow};
+use toll_trace::{Step, Way};
 
 /// What keeps the rows of the plant and of each owner.
 ///
@@ -52,6 +53,18 @@ pub trait Keep {
     fn all_edges(&mut self, alloc: Global) -> Result<Vec<Edge>, KeepFault>
         ensures reading { IsReading meaning self.old self.new result }
         ensures reads { OverHeld meaning self.old self.new (λ c. IfOk result (λ edges. AreEdges (IsEdgeOfSome c) edges.items)) };
+
+    /// Every lot that ends a chain of the edges of these owners' own batches from the lot, the lot itself
+    /// among them, as `toll_trace::Graph::trace` answers it. An unknown owner has no edges.
+    fn trace(
+        &mut self,
+        alloc: Global,
+        owners: &[Name],
+        from: &LotId,
+        way: Way,
+    ) -> Result<Vec<Step>, KeepFault>
+        ensures reading { IsReading meaning self.old self.new result }
+        ensures reads { OverHeld meaning self.old self.new (λ c. TellsTrace c owners.now from.now way result) };
 
     /// Makes all of these changes, in order, or none.
     ///

@@ -4,18 +4,21 @@
 mod cache;
 mod cached_keep;
 mod cached_slice;
+mod drawing;
 mod everyone;
 mod fault;
 mod gathering;
 mod ghosts;
 mod holder;
 mod keep;
+mod known_graph;
 mod mem_keep;
 mod pending_changes;
 mod plant_row;
 mod remembered;
 mod slices;
 mod telling;
+mod tracing;
 
 pub use cached_keep::CachedKeep;
 pub use fault::KeepFault;

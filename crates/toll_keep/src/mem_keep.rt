@@ -1,9 +1,11 @@
 //! A keep of lists in memory.
-ghost use Rattle.std.specs.Prelude.{◌≡◌, [], ◌∷◌, false, ⊤, IfOk, OnOk, OnErr, IsOkUnless};
+ghost use Rattle.std.specs.Prelude.{◌≡◌, ◌↔◌, ◌⊎◌, [], ◌∷◌, false, ⊤, IfOk, OnOk, OnErr, IsOkUnless};
 ghost use Rattle.toll_keep.specs.Common.{AreEdges, IsEdge};
 ghost use Rattle.toll_keep.specs.Content.{nothing, knows, slice_of, after};
 ghost use Rattle.toll_keep.specs.Goes.{IsAmong};
-ghost use Rattle.toll_keep.specs.Holding.{IsEdgeOfSome};
+ghost use Rattle.toll_keep.specs.Holding.{IsEdgeOfOne, IsEdgeOfSome, TellsTrace};
+ghost use Rattle.toll_base.specs.declared.lot.Edge.{Edge};
+ghost use Rattle.toll_trace.specs.Recorded.{Draws};
 ghost use Rattle.toll_keep.specs.Slices.{content_of, rows_in};
 
 use crate::everyone::edges_among;
@@ -13,8 +15,8 @@ use crate::keep::Keep;
 use crate::slices::{place_of, put_for, shared_each, shared_of};
 use std::alloc::{AllocError, Global};
 use std::marker::Model;
-use toll_base::{Change, Edge, Name, OwnerRow, Row, Slice, Table, UnitRow};
-use toll_trace::{edges_of, put_in_order};
+use toll_base::{Change, Edge, LotId, Name, OwnerRow, Row, Slice, Table, UnitRow};
+use toll_trace::{Graph, Recorded, Step, Way, edges_of, put_in_order};
 
 /// Rows in lists. It answers no fault but [`KeepFault::Memory`].
 pub struct MemKeep {
@@ -88,6 +90,43 @@ impl MemKeep {
         let mut edges = edges_among(alloc, &self.slices)?;
         put_in_order(&mut edges);
         Ok(edges)
+    }
+
+    fn recorded_by(&self, alloc: Global, owners: &[Name]) -> Result<Recorded, AllocError>
+        ensures { IfOk result (λ all. (e : Edge) → Draws all e ↔ IsEdgeOfOne (content_of self.now) owners.now e) }
+    {
+        let mut recorded = Recorded::new(alloc);
+        for owner in owners {
+            recorded = self.recorded_with(alloc, recorded, owner)?;
+        }
+        Ok(recorded)
+    }
+
+    fn recorded_with(
+        &self,
+        alloc: Global,
+        recorded: Recorded,
+        owner: &Name,
+    ) -> Result<Recorded, AllocError>
+        ensures { IfOk result (λ all. (e : Edge) → Draws all e ↔ (Draws recorded e ⊎ IsEdge (rows_in self.now.slices owner.now) e)) }
+    {
+        match place_of(&self.slices, owner) {
+            Some(at) => recorded.with(alloc, &self.slices[at]),
+            None => recorded.with(alloc, &Slice::new(alloc, *owner)),
+        }
+    }
+
+    fn owners_trace(
+        &self,
+        alloc: Global,
+        owners: &[Name],
+        from: &LotId,
+        way: Way,
+    ) -> Result<Vec<Step>, AllocError>
+        ensures { TellsTrace (content_of self.now) owners.now from.now way result }
+    {
+        let graph = Graph::of_recorded(alloc, self.recorded_by(alloc, owners)?)?;
+        graph.trace(alloc, from, way)
     }
 
     // The same rows once more, which the two share.
@@ -171,6 +210,16 @@ impl Keep for MemKeep {
 
     fn all_edges(&mut self, alloc: Global) -> Result<Vec<Edge>, KeepFault> {
         Ok(self.everyones_edges(alloc)?)
+    }
+
+    fn trace(
+        &mut self,
+        alloc: Global,
+        owners: &[Name],
+        from: &LotId,
+        way: Way,
+    ) -> Result<Vec<Step>, KeepFault> {
+        Ok(self.owners_trace(alloc, owners, from, way)?)
     }
 
     fn apply(&mut self, alloc: Global, changes: &[Change]) -> Result<(), KeepFault> {

@@ -19,6 +19,7 @@ returns-in-Ok-clause-own g c = λ honest content held of. record {
   slices = subst (AreOf content) (sym c.gather.ensures.same) of.slices;
   owners = c.in-Ok.ensures.own (c.gather.ensures.kept honest).0 content held of.owners;
   units = of.units;
+  graphs = of.graphs;
 }
 
 pub returns-in-Err-clause-reading : goal.returns-in-Err-clause-reading
@@ -31,4 +32,5 @@ returns-in-Err-clause-own g c = λ honest content held of. record {
   slices = of.slices;
   owners = c.in-Err.ensures.own honest content held of.owners;
   units = of.units;
+  graphs = of.graphs;
 }

@@ -14,7 +14,7 @@ pub returns-clause-reading : goal.returns-clause-reading
 returns-clause-reading g c =
     let met = g.met.K.Keep in let told = c.read_all_edges-told.ensures in let after = c.or_forget.ensures in
     tells_around g.K.Keep met.settled met.lives_once c.args.self.now _ _ c.read_all_edges-told.result _ after.same after.kept after.forgotten
-    (λ honest content held of. told.own honest content held of)
+    (λ honest content held of only. told.own honest content held of)
     (λ rested. c.read_all_edges-told.ensures.reading rested)
 
 pub returns-clause-reads : goal.returns-clause-reads

@@ -13,7 +13,7 @@ pub returns-clause-reading : goal.returns-clause-reading
 returns-clause-reading g c =
     let met = g.met.K.Keep in let told = c.holder-told.ensures in let after = c.or_forget.ensures in
     tells_around g.K.Keep met.settled met.lives_once c.args.self.now _ _ c.holder-told.result _ after.same after.kept after.forgotten
-    (λ honest content held of. of)
+    (λ honest content held of only. of)
     (λ rested. c.holder-told.ensures.reading)
 
 pub returns-clause-reads : goal.returns-clause-reads

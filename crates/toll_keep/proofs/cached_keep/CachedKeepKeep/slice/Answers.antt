@@ -13,7 +13,7 @@ pub returns-clause-reading : goal.returns-clause-reading
 returns-clause-reading g c =
     let met = g.met.K.Keep in let told = c.tell_slice-told.ensures in let after = c.or_forget.ensures in
     tells_around g.K.Keep met.settled met.lives_once c.args.self.now _ _ c.tell_slice-told.result _ after.same after.kept after.forgotten
-    (λ honest content held of. record { slices = told.own honest content held refl of.slices; owners = of.owners; units = of.units })
+    (λ honest content held of only. record { slices = told.own honest content held refl of.slices; owners = of.owners; units = of.units; graphs = of.graphs })
     (λ rested. c.tell_slice-told.ensures.reading (λ some. rested (λ none. some none.slices)))
 
 pub returns-clause-reads : goal.returns-clause-reads

@@ -12,7 +12,7 @@ pub returns-clause-reading : goal.returns-clause-reading
 returns-clause-reading g c =
     let met = g.met.K.Keep in let told = c.tell_rows-told.ensures in let after = c.or_forget.ensures in
     tells_around g.K.Keep met.settled met.lives_once c.args.self.now _ _ c.tell_rows-told.result _ after.same after.kept after.forgotten
-    (λ honest content held of. record { slices = of.slices; owners = of.owners; units = told.own honest content held of.units })
+    (λ honest content held of only. record { slices = of.slices; owners = of.owners; units = told.own honest content held of.units; graphs = of.graphs })
     (λ rested. c.tell_rows-told.ensures.reading (λ some. rested (some_units c.args.self.now.recollection some)))
 
 pub returns-clause-reads : goal.returns-clause-reads

@@ -1,0 +1,165 @@
+-- Graphs of owners, and the edges that they have together.
+use Rattle.std.proofs.Common.{Bor, ◌≡◌, ◌↔◌, ◌⊎◌, ℕ, ◌+◌, ◌<◌, cond, length, get_or, take, drop, Bool, true, false, Option, Some, None, List, [], ◌∷◌, ◌++◌, map, Result, Ok, Err, IfOk, Vec, Global, refl, sym, ap, subst, ◌∙◌, inl, inr}
+use Rattle.std.specs.Prelude.{Contains, filter, ◌||◌}
+use Rattle.std.proofs.lemmas.List.{take-append-drop}
+use Rattle.toll_trace.specs.Chain.{edge_of}
+use Rattle.toll_trace.specs.Graph.{IsGraph, LeadAmong, Leads}
+use Rattle.toll_trace.specs.Trace.{IsTrace}
+use Rattle.toll_trace.specs.declared.graph.Graph.{Graph}
+use Rattle.toll_trace.specs.declared.step.Step.{Step}
+use Rattle.toll_trace.specs.declared.way.Way.{Way}
+use Rattle.toll_trace.proofs.Members.{Contains-filter, Contains-from_filter, Contains-map, Contains-from_map}
+use Rattle.toll_trace.proofs.Unique.{trace_same}
+use Rattle.toll_base.specs.declared.lot.LotId.{LotId}
+use Rattle.toll_keep.proofs.Common.{false≢true, list_any, All-get_or, Bytes, same_bytes, same_bytes-exact, same_bytes-refl, Slice, empty_slice, IsEdge, Contains-none, Contains-here, Contains-later, Contains-cases, Contains-append_left, Contains-append_cases, Contains-push, Contains-push_cases, take_more, Edge}
+use Rattle.toll_keep.specs.Content.{Content, slice_of, knows}
+use Rattle.toll_keep.specs.Graphs.{AreGraphsOf, HasGraph, IsKnownGraph}
+use Rattle.toll_keep.specs.Holding.{IsEdgeOfOne, TellsTrace}
+use Rattle.toll_keep.specs.Remembered.{OnlyKnownHaveRows}
+use Rattle.toll_keep.specs.declared.known_graph.KnownGraph.{KnownGraph}
+use Rattle.toll_keep.proofs.DrawnStay.{any_member}
+use Rattle.toll_keep.proofs.RememberedLemmas.{of_known, not_known}
+
+-- ---- a graph of rows
+
+pub known_of : (c : Content) (known : KnownGraph) (o : Bytes) (s : Slice) → known.owner ≡ o → c.rows o ≡ s → known.named ≡ s.owner → IsGraph (IsEdge s) known.graph → IsKnownGraph c known
+known_of c known o s own rows named graph =
+    let is : c.rows known.owner ≡ s = ap c.rows own ∙ rows in record {
+      named = ap (λ (t : Slice). t.owner) is ∙ sym named;
+      graph = subst (λ t. IsGraph (IsEdge t) known.graph) (sym is) graph;
+    }
+
+pub rows_there : (c : Content) (o : Bytes) (s : Slice) → slice_of c o ≡ Some s → c.rows o ≡ s
+rows_there c o s there = (of_known (knows c o) (c.rows o) s there).1
+
+pub no_rows_there : (c : Content) (o : Bytes) → OnlyKnownHaveRows c → slice_of c o ≡ None → c.rows o ≡ empty_slice o
+no_rows_there c o only none = only o (not_known (knows c o) (c.rows o) none)
+
+-- ---- which are there
+
+pub known_there : (graphs : List KnownGraph) (o : Bytes) → list_any (λ known. same_bytes known.owner o) graphs ≡ true → HasGraph graphs o
+known_there graphs o h = let r = any_member (λ (known : KnownGraph). same_bytes known.owner o) graphs h in (r.0, r.1, same_bytes-exact r.0.owner o r.2)
+
+pub still_has : (graphs more : List KnownGraph) (o : Bytes) → HasGraph graphs o → HasGraph (graphs ++ more) o
+still_has graphs more o has = (has.0, Contains-append_left graphs more has.0 has.1, has.2)
+
+pub has_pushed : (graphs : List KnownGraph) (known : KnownGraph) (o : Bytes) → known.owner ≡ o → HasGraph (graphs ++ known ∷ []) o
+has_pushed graphs known o own = (known, Contains-push graphs known, own)
+
+pub graphs_pushed : (c : Content) (graphs : List KnownGraph) (known : KnownGraph) → AreGraphsOf c graphs → IsKnownGraph c known → AreGraphsOf c (graphs ++ known ∷ [])
+graphs_pushed c graphs known are is k i = elim (Contains-append_cases graphs (known ∷ []) k i) [
+  | inl i ↦ are k i
+  | inr i ↦ elim (Contains-cases known [] k i) [ inl same ↦ subst (IsKnownGraph c) same is | inr none ↦ absurd (Contains-none k none) ]
+]
+
+-- ---- the graphs of some owners
+
+or_one : (a b : Bool) → b ≡ true → (a || b) ≡ true
+or_one true b h = refl
+or_one false b h = h
+
+any_of : {X : Type 0} (p : X → Bool) (xs : List X) (x : X) → Contains xs x → p x ≡ true → list_any p xs ≡ true
+any_of p [] x i h = absurd (Contains-none x i)
+any_of p (y ∷ xs) x i h = elim (Contains-cases y xs x i) [
+  | inl same ↦ subst (λ b. (b || list_any p xs) ≡ true) (sym (ap p same ∙ h)) refl
+  | inr later ↦ or_one (p y) (list_any p xs) (any_of p xs x later h)
+]
+
+-- those of them that are the owners'
+abbrev pub graphs_of : List Bytes → List KnownGraph → List Graph
+graphs_of owners graphs = map (λ known. known.graph) (filter (λ known. list_any (same_bytes known.owner) owners) graphs)
+
+pub lead_of_one : (c : Content) (owners : List Bytes) (graphs : List KnownGraph) → AreGraphsOf c graphs → ((o : Bytes) → Contains owners o → HasGraph graphs o) → (way : Way) (from : LotId) (steps : List Step) → IsTrace (LeadAmong (graphs_of owners graphs) way) from steps → IsTrace (λ a b. IsEdgeOfOne c owners (edge_of way a b)) from steps
+lead_of_one c owners graphs are each way from steps traced = trace_same (LeadAmong (graphs_of owners graphs) way) (λ a b. IsEdgeOfOne c owners (edge_of way a b)) to back from steps traced
+  where
+    chosen : KnownGraph → Bool
+    chosen known = list_any (same_bytes known.owner) owners
+
+    to : (a b : LotId) → LeadAmong (graphs_of owners graphs) way a b → IsEdgeOfOne c owners (edge_of way a b)
+    to a b leads =
+        let r = Contains-from_map (λ (known : KnownGraph). known.graph) (filter chosen graphs) leads.0 leads.1 in
+        let there = Contains-from_filter chosen graphs r.0 r.1 in
+        let o = any_member (same_bytes r.0.owner) owners there.1 in
+        let own : r.0.owner ≡ o.0 = same_bytes-exact r.0.owner o.0 o.2 in
+        record {
+          owner = r.0.owner;
+          named = subst (Contains owners) (sym own) o.1;
+          edge = (are r.0 there.0).graph.only way a b (subst (λ g. Leads g way a b) (sym r.2) leads.2);
+        }
+
+    back : (a b : LotId) → IsEdgeOfOne c owners (edge_of way a b) → LeadAmong (graphs_of owners graphs) way a b
+    back a b edge =
+        let (known, there, own) = each edge.owner edge.named in
+        let test : chosen known ≡ true = any_of (same_bytes known.owner) owners edge.owner edge.named (ap (same_bytes known.owner) (sym own) ∙ same_bytes-refl known.owner) in
+        (known.graph, Contains-map (λ (k : KnownGraph). k.graph) (filter chosen graphs) known (Contains-filter chosen graphs known there test), (are known there).graph.every way a b (subst (λ o. IsEdge (c.rows o) (edge_of way a b)) (sym own) edge.edge))
+
+pub tells_trace : {E : Type 0} (c : Content) (owners : List Bytes) (graphs : List KnownGraph) → AreGraphsOf c graphs → ((o : Bytes) → Contains owners o → HasGraph graphs o) → (way : Way) (from : LotId) (told : Result (Vec Step Global) E) → IfOk told (λ steps. IsTrace (LeadAmong (graphs_of owners graphs) way) from steps.items) → TellsTrace c owners from way told
+tells_trace c owners graphs are each way from (Ok steps) led = lead_of_one c owners graphs are each way from steps.items led
+tells_trace c owners graphs are each way from (Err e) led = tt
+
+-- ---- one more, or some of them left
+
+filter_push : {X : Type 0} (p : X → Bool) (xs : List X) (x : X) (b : Bool) → p x ≡ b → filter p (xs ++ x ∷ []) ≡ filter p xs ++ cond b (x ∷ []) []
+filter_push p [] x b e = ap (λ t. cond t (x ∷ []) []) e
+filter_push p (y ∷ xs) x b e = elim (p y) as (λ t. cond t (y ∷ filter p (xs ++ x ∷ [])) (filter p (xs ++ x ∷ [])) ≡ cond t (y ∷ filter p xs) (filter p xs) ++ cond b (x ∷ []) []) [
+  | true ↦ ap (λ zs. y ∷ zs) (filter_push p xs x b e)
+  | false ↦ filter_push p xs x b e
+]
+
+pub map_both : {X Y : Type 0} (f : X → Y) (xs ys : List X) → map f (xs ++ ys) ≡ map f xs ++ map f ys
+map_both f [] ys = refl
+map_both f (x ∷ xs) ys = ap (λ zs. f x ∷ zs) (map_both f xs ys)
+
+pub graphs_more : (owners : List Bytes) (graphs : List KnownGraph) (i : ℕ) (known : KnownGraph) (b : Bool) → i < length graphs → known ≡ get_or graphs i known → list_any (same_bytes known.owner) owners ≡ b → graphs_of owners (take (i + 1) graphs) ≡ graphs_of owners (take i graphs) ++ cond b (known.graph ∷ []) []
+graphs_more owners graphs i known b lt is e =
+    let test = λ (k : KnownGraph). list_any (same_bytes k.owner) owners in
+    ap (graphs_of owners) (take_more graphs i known lt ∙ ap (λ k. take i graphs ++ k ∷ []) (sym is))
+    ∙ ap (map (λ (k : KnownGraph). k.graph)) (filter_push test (take i graphs) known b e)
+    ∙ map_both (λ (k : KnownGraph). k.graph) (filter test (take i graphs)) (cond b (known ∷ []) [])
+    ∙ ap (λ gs. graphs_of owners (take i graphs) ++ gs) (last b)
+  where
+    last : (b : Bool) → map (λ (k : KnownGraph). k.graph) (cond b (known ∷ []) []) ≡ cond b (known.graph ∷ []) []
+    last true = refl
+    last false = refl
+
+pub graphs_taken : (c : Content) (graphs : List KnownGraph) (n : ℕ) → AreGraphsOf c graphs → AreGraphsOf c (take n graphs)
+graphs_taken c graphs n are known i = are known (subst (λ gs. Contains gs known) (take-append-drop n graphs) (Contains-append_left (take n graphs) (drop n graphs) known i))
+
+append_none : {X : Type 0} (xs : List X) → xs ++ [] ≡ xs
+append_none [] = refl
+append_none (x ∷ xs) = ap (λ ys. x ∷ ys) (append_none xs)
+
+pub chosen_more : (owners : List Bytes) (graphs : List KnownGraph) (i : ℕ) (known : KnownGraph) (refs : List (Bor Graph)) (ref : Bor Graph) → i < length graphs → known ≡ get_or graphs i known → list_any (same_bytes known.owner) owners ≡ true → ref.now ≡ known.graph → map (λ graph. graph.now) refs ≡ graphs_of owners (take i graphs) → map (λ graph. graph.now) (refs ++ ref ∷ []) ≡ graphs_of owners (take (i + 1) graphs)
+chosen_more owners graphs i known refs ref lt is e shown before =
+    map_both (λ (graph : Bor Graph). graph.now) refs (ref ∷ []) ∙ ap (λ g. map (λ (graph : Bor Graph). graph.now) refs ++ g ∷ []) shown ∙ ap (λ gs. gs ++ known.graph ∷ []) before ∙ sym (graphs_more owners graphs i known true lt is e)
+
+pub chosen_same : (owners : List Bytes) (graphs : List KnownGraph) (i : ℕ) (known : KnownGraph) (refs : List (Bor Graph)) → i < length graphs → known ≡ get_or graphs i known → list_any (same_bytes known.owner) owners ≡ false → map (λ graph. graph.now) refs ≡ graphs_of owners (take i graphs) → map (λ graph. graph.now) refs ≡ graphs_of owners (take (i + 1) graphs)
+chosen_same owners graphs i known refs lt is e before = before ∙ sym (graphs_more owners graphs i known false lt is e ∙ append_none (graphs_of owners (take i graphs)))
+
+-- ---- what is recorded of some owners
+
+pub drawn_none : (c : Content) (none : Edge → Type 0) → ((e : Edge) → none e → ⊥) → (e : Edge) → none e ↔ IsEdgeOfOne c [] e
+drawn_none c none not e = (λ drawn. absurd (not e drawn), λ edge. absurd (Contains-none edge.owner edge.named))
+
+pub drawn_more : (c : Content) (owners : List Bytes) (i : ℕ) (o : Bytes) (old new : Edge → Type 0) → i < length owners → o ≡ get_or owners i o → ((e : Edge) → old e ↔ IsEdgeOfOne c (take i owners) e) → ((e : Edge) → new e ↔ (old e ⊎ IsEdge (c.rows o) e)) → (e : Edge) → new e ↔ IsEdgeOfOne c (take (i + 1) owners) e
+drawn_more c owners i o old new lt is before more e = (to, back)
+  where
+    grown : take (i + 1) owners ≡ take i owners ++ o ∷ []
+    grown = take_more owners i o lt ∙ ap (λ p. take i owners ++ p ∷ []) (sym is)
+
+    to : new e → IsEdgeOfOne c (take (i + 1) owners) e
+    to drawn = subst (λ os. IsEdgeOfOne c os e) (sym grown) (elim ((more e).0 drawn) [
+      | inl was ↦ let r = (before e).0 was in record { owner = r.owner; named = Contains-append_left (take i owners) (o ∷ []) r.owner r.named; edge = r.edge }
+      | inr edge ↦ record { owner = o; named = Contains-push (take i owners) o; edge = edge }
+    ])
+
+    back : IsEdgeOfOne c (take (i + 1) owners) e → new e
+    back edge = (more e).1 (elim (Contains-push_cases (take i owners) o edge.owner (subst (λ os. Contains os edge.owner) grown edge.named)) [
+      | inl was ↦ inl ((before e).1 (record { owner = edge.owner; named = was; edge = edge.edge }))
+      | inr same ↦ inr (subst (λ p. IsEdge (c.rows p) e) (sym same) edge.edge)
+    ])
+
+-- the trace over a graph of what they drew
+pub tells_drawn : {E : Type 0} (c : Content) (owners : List Bytes) (drawn : Edge → Type 0) (graph : Graph) → IsGraph drawn graph → ((e : Edge) → drawn e ↔ IsEdgeOfOne c owners e) → (way : Way) (from : LotId) (told : Result (Vec Step Global) E) → IfOk told (λ steps. IsTrace (Leads graph way) from steps.items) → TellsTrace c owners from way told
+tells_drawn c owners drawn graph is same way from (Ok steps) led = trace_same (Leads graph way) (λ a b. IsEdgeOfOne c owners (edge_of way a b)) (λ a b l. (same (edge_of way a b)).0 (is.only way a b l)) (λ a b edge. is.every way a b ((same (edge_of way a b)).1 edge)) from steps.items led
+tells_drawn c owners drawn graph is same way from (Err e) led = tt

@@ -1,0 +1,209 @@
+//! Traces over graphs that are remembered, or made of slices that are read.
+ghost use Rattle.std.specs.Prelude.{◌≡◌, [], ◌∷◌, ◌++◌, map, filter, IfOk, OnErr, OnOk, Contains};
+ghost use Rattle.std.specs.List.{list_any};
+ghost use Rattle.toll_base.specs.Bytes.{Bytes, same_bytes};
+ghost use Rattle.toll_keep.specs.Content.{Content};
+ghost use Rattle.toll_keep.specs.Goes.{IsReading};
+ghost use Rattle.toll_keep.specs.Graphs.{AreGraphsOf, HasGraph, IsKnownGraph};
+ghost use Rattle.toll_keep.specs.Holding.{TellsTrace};
+ghost use Rattle.toll_keep.specs.Meaning.{OverHeld};
+ghost use Rattle.toll_keep.specs.Reads.{HaveRead, IsKept};
+ghost use Rattle.toll_keep.specs.Remembered.{IfOf, IsNothing, IsOf, OnlyKnownHaveRows};
+
+use crate::cache::Cache;
+use crate::cached_slice::CachedSlice;
+use crate::fault::KeepFault;
+use crate::keep::Keep;
+use crate::known_graph::KnownGraph;
+use crate::remembered::remembered;
+use crate::telling::tell_rows;
+use std::alloc::{AllocError, Global};
+use toll_base::{LotId, Name, Slice};
+use toll_trace::{Graph, Step, Way, trace_among};
+
+/// How many graphs stay remembered. That of an owner with all movements there may be takes a megabyte.
+const MOST_GRAPHS: usize = 64;
+
+/// The trace from the lot over the edges of these owners' batches. Each owner's graph is remembered; it is
+/// made of the slice that is remembered, or of one that is read and let go. The owners are remembered.
+pub fn tell_trace<K: Keep>(
+    alloc: Global,
+    keep: &mut K,
+    recollection: &mut Cache,
+    owners: &[Name],
+    from: &LotId,
+    way: Way,
+) -> Result<Vec<Step>, KeepFault>
+    ensures reading { (¬ (IsNothing recollection.old) → HaveRead K.meaning keep.old keep.old) → IsReading K.meaning keep.old keep.new result }
+    ensures reads { OverHeld K.meaning keep.old keep.new (λ c. IsOf c recollection.old → OnlyKnownHaveRows c → TellsTrace c owners.now from.now way result) }
+    ensures own { OverHeld K.meaning keep.old keep.new (λ c. IsOf c recollection.old → OnlyKnownHaveRows c → IsOf c recollection.new) }
+{
+    // The keep was asked at least once, whatever is remembered.
+    match tell_rows(alloc, keep, &mut recollection.owners) {
+        Ok(_owners) => trace_learnt(
+            alloc,
+            keep,
+            &recollection.slices,
+            &mut recollection.graphs,
+            owners,
+            from,
+            way,
+        ),
+        Err(fault) => Err(fault),
+    }
+}
+
+// The same beside the slices that are remembered.
+fn trace_learnt<K: Keep>(
+    alloc: Global,
+    keep: &mut K,
+    slices: &[CachedSlice],
+    graphs: &mut Vec<KnownGraph>,
+    owners: &[Name],
+    from: &LotId,
+    way: Way,
+) -> Result<Vec<Step>, KeepFault>
+    ensures reads { (first : K) → HaveRead K.meaning first keep.old → IsReading K.meaning first keep.new result }
+    ensures kept { IsKept K.meaning keep.old keep.new }
+    ensures own { OverHeld K.meaning keep.old keep.new (λ c. IfOf c slices.now (AreGraphsOf c graphs.old.items → AreGraphsOf c graphs.new.items)) }
+    ensures told { OverHeld K.meaning keep.old keep.new (λ c. IfOf c slices.now (AreGraphsOf c graphs.old.items → TellsTrace c owners.now from.now way result)) }
+{
+    learn_all(alloc, keep, slices, graphs, owners)?;
+    let told = trace_known(alloc, graphs, owners, from, way);
+    graphs.truncate(MOST_GRAPHS);
+    Ok(told?)
+}
+
+// The trace over those of the graphs that are these owners'.
+fn trace_known(
+    alloc: Global,
+    graphs: &[KnownGraph],
+    owners: &[Name],
+    from: &LotId,
+    way: Way,
+) -> Result<Vec<Step>, AllocError>
+    ensures { (c : Content) → AreGraphsOf c graphs.now → ((o : Bytes) → Contains owners.now o → HasGraph graphs.now o) → TellsTrace c owners.now from.now way result }
+{
+    let chosen = chosen(alloc, graphs, owners)?;
+    trace_among(alloc, &chosen, from, way)
+}
+
+// Those of the graphs that are these owners'.
+fn chosen<'a>(
+    alloc: Global,
+    graphs: &'a [KnownGraph],
+    owners: &[Name],
+) -> Result<Vec<&'a Graph>, AllocError>
+    ensures { IfOk result (λ chosen. map (λ graph. graph.now) chosen.items ≡ map (λ known. known.graph) (filter (λ known. list_any (same_bytes known.owner) owners.now) graphs.now)) }
+{
+    let mut chosen = Vec::new(alloc);
+    for known in graphs {
+        if is_among(owners, &known.owner) {
+            chosen.push(&known.graph)?;
+        }
+    }
+    Ok(chosen)
+}
+
+fn is_among(owners: &[Name], owner: &Name) -> bool
+    ensures { result ≡ list_any (same_bytes owner.now) owners.now }
+{
+    owners.iter().any(|other| *owner == *other)
+}
+
+// ---- graphs that are not there yet
+
+// Sees to it that the graphs of these owners are there.
+fn learn_all<K: Keep>(
+    alloc: Global,
+    keep: &mut K,
+    slices: &[CachedSlice],
+    graphs: &mut Vec<KnownGraph>,
+    owners: &[Name],
+) -> Result<(), KeepFault>
+    ensures reads { (first : K) → HaveRead K.meaning first keep.old → IsReading K.meaning first keep.new result }
+    ensures kept { IsKept K.meaning keep.old keep.new }
+    ensures own { OverHeld K.meaning keep.old keep.new (λ c. IfOf c slices.now (AreGraphsOf c graphs.old.items → AreGraphsOf c graphs.new.items)) }
+    ensures there { OnOk result ((o : Bytes) → Contains owners.now o → HasGraph graphs.new.items o) }
+{
+    for owner in owners {
+        learn(alloc, keep, slices, graphs, owner)?;
+    }
+    Ok(())
+}
+
+// Sees to it that the graph of the owner is there.
+fn learn<K: Keep>(
+    alloc: Global,
+    keep: &mut K,
+    slices: &[CachedSlice],
+    graphs: &mut Vec<KnownGraph>,
+    owner: &Name,
+) -> Result<(), KeepFault>
+    ensures reads { (first : K) → HaveRead K.meaning first keep.old → IsReading K.meaning first keep.new result }
+    ensures kept { IsKept K.meaning keep.old keep.new }
+    ensures own { OverHeld K.meaning keep.old keep.new (λ c. IfOf c slices.now (AreGraphsOf c graphs.old.items → AreGraphsOf c graphs.new.items)) }
+    ensures stay { OnOk result ((o : Bytes) → HasGraph graphs.old.items o → HasGraph graphs.new.items o) }
+    ensures there { OnOk result (HasGraph graphs.new.items owner.now) }
+{
+    if is_known(graphs, owner) {
+        return Ok(());
+    }
+    let known = own_graph(alloc, keep, slices, owner)?;
+    Ok(add(graphs, known)?)
+}
+
+fn add(graphs: &mut Vec<KnownGraph>, known: KnownGraph) -> Result<(), AllocError>
+    ensures added { OnOk result (graphs.new.items ≡ graphs.old.items ++ known ∷ []) }
+    ensures none { OnErr result (graphs.new.items ≡ graphs.old.items) }
+{
+    graphs.push(known)?;
+    Ok(())
+}
+
+fn is_known(graphs: &[KnownGraph], owner: &Name) -> bool
+    ensures { result ≡ list_any (λ known. same_bytes known.owner owner.now) graphs.now }
+{
+    graphs.iter().any(|known| known.owner == *owner)
+}
+
+// The graph of the owner.
+fn own_graph<K: Keep>(
+    alloc: Global,
+    keep: &mut K,
+    slices: &[CachedSlice],
+    owner: &Name,
+) -> Result<KnownGraph, KeepFault>
+    ensures reads { (first : K) → HaveRead K.meaning first keep.old → IsReading K.meaning first keep.new result }
+    ensures kept { IsKept K.meaning keep.old keep.new }
+    ensures owner { IfOk result (λ known. known.owner ≡ owner.now) }
+    ensures told { OverHeld K.meaning keep.old keep.new (λ c. IfOf c slices.now (IfOk result (IsKnownGraph c))) }
+{
+    match remembered(slices, owner) {
+        Some(slice) => Ok(slice.graph(alloc, owner)?),
+        None => graph_once(alloc, keep, owner),
+    }
+}
+
+// The same by a slice that is read and let go.
+fn graph_once<K: Keep>(
+    alloc: Global,
+    keep: &mut K,
+    owner: &Name,
+) -> Result<KnownGraph, KeepFault>
+    ensures reading { IsReading K.meaning keep.old keep.new result }
+    ensures owner { IfOk result (λ known. known.owner ≡ owner.now) }
+    ensures reads { OverHeld K.meaning keep.old keep.new (λ c. OnlyKnownHaveRows c → IfOk result (IsKnownGraph c)) }
+{
+    match keep.slice(alloc, owner)? {
+        Some(slice) => Ok(graph_in(alloc, owner, slice)?),
+        None => Ok(graph_in(alloc, owner, Slice::new(alloc, *owner))?),
+    }
+}
+
+fn graph_in(alloc: Global, owner: &Name, read: Slice) -> Result<KnownGraph, AllocError>
+    ensures owner { IfOk result (λ known. known.owner ≡ owner.now) }
+    ensures told { (c : Content) → c.rows owner.now ≡ read → IfOk result (IsKnownGraph c) }
+{
+    KnownGraph::of(alloc, owner, &read)
+}
