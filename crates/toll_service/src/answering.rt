@@ -8,12 +8,13 @@ use crate::turn_result::TurnResult;
 use std::alloc::{AllocError, Global};
 use toll_keep::Keep;
 use toll_server::{Listener, Poll};
-use toll_wire::{Out, answer};
+use toll_wire::{OfficeRouter, Out, answer_with_router};
 
 /// Answers what came in at a listener, over a keep.
 ///
-/// At the owners' listener that is a request over HTTP, and the reply is that of [`answer`]. At the plant's
-/// it is a frame as [`Asked`](toll_protocol::Call) packs it, and the reply is one as
+/// At the owners' listener that is a request over HTTP, and the reply is that of
+/// [`answer`](toll_wire::answer), by the router. At the plant's it is a frame as
+/// [`Asked`](toll_protocol::Call) packs it, and the reply is one as
 /// [`Told`](toll_protocol::Response) packs it: what the program itself would have printed, and its exit
 /// status. Words of which the first is `import`, where a file came with them, are an import of that file,
 /// and all others a command or a question. What is no frame, or one that was cut, does nothing and is told
@@ -27,6 +28,7 @@ use toll_wire::{Out, answer};
 /// the exit status of a program that can't write.
 pub fn answer_at<K: Keep>(
     alloc: Global,
+    router: &mut OfficeRouter,
     keep: &mut K,
     listener: Listener,
     asked: &[u8],
@@ -35,7 +37,7 @@ pub fn answer_at<K: Keep>(
     ensures served { IfOk result (λ reply. IsServed K.meaning keep.old keep.new listener asked.now reply.poll reply.keep_usable) }
 {
     match listener {
-        Listener::Owners => answer_owner(alloc, keep, asked),
+        Listener::Owners => answer_owner(alloc, router, keep, asked),
         Listener::Plant => answer_plant(alloc, keep, asked),
     }
 }
@@ -43,6 +45,7 @@ pub fn answer_at<K: Keep>(
 // Answers a request. There is memory for a 503 before the keep is asked.
 fn answer_owner<K: Keep>(
     alloc: Global,
+    router: &mut OfficeRouter,
     keep: &mut K,
     asked: &[u8],
 ) -> Result<TurnResult, AllocError>
@@ -50,7 +53,7 @@ fn answer_owner<K: Keep>(
     ensures served { IfOk result (λ reply. IsReadyWith reply.poll (λ told. IsOwnerServed K.meaning keep.old keep.new asked.now told reply.keep_usable)) }
 {
     let unavailable = Vec::from_slice(alloc, Out::Unavailable.bytes())?;
-    match answer(alloc, keep, asked) {
+    match answer_with_router(alloc, router, keep, asked) {
         Out::Text(text) => Ok(TurnResult {
             poll: Poll::Ready(text),
             keep_usable: true,

@@ -1,4 +1,5 @@
 //! An office over a keep.
+ghost use Rattle.std.specs.Prelude.{◌≡◌};
 ghost use Rattle.toll_service.specs.Parties.{IsBy};
 ghost use Rattle.toll_service.specs.Serving.{AnswersOver, ResumesOver};
 
@@ -8,11 +9,25 @@ use crate::pending_import::PendingImport;
 use std::alloc::{AllocError, Global};
 use toll_keep::Keep;
 use toll_server::{Listener, Poll, Service};
+use toll_wire::OfficeRouter;
 
 /// A keep, which clients ask at both listeners.
 #[derive(Drop)]
 pub struct KeepService<K> {
     pub keep: K,
+    router: OfficeRouter,
+}
+
+impl<K> KeepService<K> {
+    /// Over this keep.
+    pub fn new(keep: K) -> Self
+        ensures { result.keep ≡ keep }
+    {
+        KeepService {
+            keep,
+            router: OfficeRouter::new(),
+        }
+    }
 }
 
 impl<K: Keep> Service for KeepService<K> {
@@ -34,7 +49,7 @@ impl<K: Keep> Service for KeepService<K> {
 
     /// The reply, or the import that is left; no bytes where there was no memory, and nothing was done.
     fn answer(&mut self, alloc: Global, listener: Listener, asked: &[u8]) -> Poll<PendingImport> {
-        match answer_at(alloc, &mut self.keep, listener, asked) {
+        match answer_at(alloc, &mut self.router, &mut self.keep, listener, asked) {
             Ok(reply) => reply.poll,
             Err(AllocError) => Poll::Ready(Vec::new(alloc)),
         }

@@ -18,6 +18,7 @@ use std::io;
 use std::time::Instant;
 use toll_keep::Keep;
 use toll_server::{Listener, Poll};
+use toll_wire::OfficeRouter;
 
 /// Serves requests over a file. It is opened for the first one, and stays open as long as nobody else
 /// changes it. What others write between two requests is seen, since the file is opened anew then. While an
@@ -27,6 +28,7 @@ pub struct OfficeSession<K> {
     openings: u64,
     imports: u64,
     lock: Option<File>,
+    router: OfficeRouter,
 }
 
 /// By hand, since what is derived is written out at every exit of every function that owns a session.
@@ -37,6 +39,7 @@ impl<K: Drop> Drop for OfficeSession<K> {
             openings: _,
             imports: _,
             lock: _,
+            router: _,
         } = self;
     }
 }
@@ -52,6 +55,7 @@ impl<K: Keep + Drop> OfficeSession<K> {
             openings: 0,
             imports: 0,
             lock: None,
+            router: OfficeRouter::new(),
         }
     }
 
@@ -73,7 +77,13 @@ impl<K: Keep + Drop> OfficeSession<K> {
     {
         match self.take(office_path) {
             Ok(mut opened) => {
-                let reply = reply_over(office_path.rt.alloc(), &mut opened.keep, listener, asked);
+                let reply = reply_over(
+                    office_path.rt.alloc(),
+                    &mut self.router,
+                    &mut opened.keep,
+                    listener,
+                    asked,
+                );
                 if let Poll::Pending(_) = &reply.poll {
                     self.imports = self.imports.saturating_add(1);
                 }
@@ -239,10 +249,16 @@ impl<K: Keep + Drop> OfficeSession<K> {
 }
 
 // The answer over a keep; nothing, where there is no memory, after which the keep is to be let go.
-fn reply_over<K: Keep>(alloc: Global, keep: &mut K, listener: Listener, asked: &[u8]) -> TurnResult
+fn reply_over<K: Keep>(
+    alloc: Global,
+    router: &mut OfficeRouter,
+    keep: &mut K,
+    listener: Listener,
+    asked: &[u8],
+) -> TurnResult
     ensures { IsServedIfRoom K.meaning keep.old keep.new listener asked.now result.poll }
 {
-    match answer_at(alloc, keep, listener, asked) {
+    match answer_at(alloc, router, keep, listener, asked) {
         Ok(reply) => reply,
         Err(AllocError) => TurnResult {
             poll: Poll::Ready(Vec::new(alloc)),

@@ -12,6 +12,7 @@ use toll_keep::{Keep, MemKeep};
 use toll_protocol::Response;
 use toll_server::{Listener, Poll, ServingEnd};
 use toll_service::{KeepService, TurnResult, answer_at, serve_keep};
+use toll_wire::OfficeRouter;
 
 /// Who comes to a door, what it asks, and what it is told.
 #[derive(Clone, Copy)]
@@ -95,6 +96,16 @@ fn resume<K: Keep>(alloc: Global, keep: &mut K, reply: TurnResult) -> TurnResult
     }
 }
 
+// The answer by a router of its own.
+fn answer_alone<K: Keep>(
+    alloc: Global,
+    keep: &mut K,
+    listener: Listener,
+    asked: &[u8],
+) -> Result<TurnResult, AllocError> {
+    answer_at(alloc, &mut OfficeRouter::new(), keep, listener, asked)
+}
+
 // The answer to what comes so, with all turns that it takes.
 fn answer_whole<K: Keep>(
     alloc: Global,
@@ -102,7 +113,7 @@ fn answer_whole<K: Keep>(
     listener: Listener,
     asked: &[u8],
 ) -> Result<TurnResult, AllocError> {
-    let mut reply = answer_at(alloc, keep, listener, asked)?;
+    let mut reply = answer_alone(alloc, keep, listener, asked)?;
     for _ in 0..MOST_TURNS {
         reply = resume(alloc, keep, reply);
     }
@@ -153,7 +164,7 @@ fn clients_side_by_side_are_told_what_each_asked(rt: HostRuntime) -> Result<(), 
         let told = is_told(rt.alloc(), &mut keep, visit, true)?;
         assert!(rt; told, "at {:?}", visit.asked);
     }
-    let mut office = KeepService { keep };
+    let mut office = KeepService::new(keep);
     let log = Log::new();
     let served = serve_keep(
         rt.alloc(),
@@ -171,9 +182,9 @@ fn clients_side_by_side_are_told_what_each_asked(rt: HostRuntime) -> Result<(), 
 #[test]
 fn a_frame_that_was_cut_does_nothing(rt: HostRuntime) -> Result<(), AllocError> {
     let mut keep = MemKeep::new(rt.alloc());
-    let reply = answer_at(rt.alloc(), &mut keep, Listener::Plant, CUT)?;
+    let reply = answer_alone(rt.alloc(), &mut keep, Listener::Plant, CUT)?;
     assert!(rt; tells(&reply, b"", true));
-    let reply = answer_at(rt.alloc(), &mut keep, Listener::Plant, NO_COMMAND)?;
+    let reply = answer_alone(rt.alloc(), &mut keep, Listener::Plant, NO_COMMAND)?;
     assert_eq!(rt; status_of(&reply), Some(2));
     Ok(())
 }

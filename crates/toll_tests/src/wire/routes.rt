@@ -1,9 +1,13 @@
 //! What leads nowhere, and methods that are not served.
-use crate::stories::{Line, check_said_over_lists};
+use crate::stories::{Line, check, check_lines, check_said_over_lists, reply_said};
 use crate::wire::answers::{check_bytes, office};
 use crate::wire::lines::Asked;
+use crate::wire::requests::request;
 use crate::wire::setups::{WITH_ACME, WITH_ORDER};
+use std::alloc::Global;
 use std::test::Fail;
+use toll_keep::MemKeep;
+use toll_wire::{OfficeRouter, answer_with_router};
 
 const NOWHERE: &[Line] = &[
     (
@@ -160,6 +164,82 @@ fn another_method_is_told(rt: HostRuntime) -> Result<(), Fail> {
     for row in OTHER_METHODS {
         let (line, wanted) = *row;
         check_bytes(rt.alloc(), &mut keep, (line, ""), wanted.as_bytes())?;
+    }
+    Ok(())
+}
+
+const NO_ROUTE: &str = "404 {\"error\":\"NoRoute\"}";
+
+const UNKNOWN_LOT: &str = "404 {\"code\":27,\"error\":\"UnknownLot\"}";
+
+const UNKNOWN_ORDER: &str = "404 {\"code\":18,\"error\":\"UnknownOrder\"}";
+
+/// A request of each route, and what is said to it.
+const EVERY_ROUTE: &[Line] = &[
+    (
+        "GET /orders",
+        "200 {\"orders\":[{\"batches\":2,\"order\":\"O-1\",\"recipe\":\"R-1\",\"status\":\"open\"}]}",
+    ),
+    ("POST /orders", "400 {\"error\":\"BadRequest\"}"),
+    (
+        "GET /orders/O-1",
+        "200 {\"batches\":2,\"order\":\"O-1\",\"recipe\":\"R-1\",\"status\":\"open\"}",
+    ),
+    ("POST /orders/O-2/cancel", UNKNOWN_ORDER),
+    (
+        "GET /batches/O-1/1",
+        "404 {\"code\":22,\"error\":\"UnknownBatch\"}",
+    ),
+    ("GET /stock", "200 {\"lots\":[]}"),
+    ("GET /lots/A", UNKNOWN_LOT),
+    ("POST /lots/A/release", UNKNOWN_LOT),
+    ("POST /lots/A/reject", UNKNOWN_LOT),
+    ("GET /trace/back/A", UNKNOWN_LOT),
+    ("GET /trace/forward/A", UNKNOWN_LOT),
+    ("GET /trace/house/A", UNKNOWN_LOT),
+];
+
+/// Paths that miss a route by little.
+const NEAR_MISSES: &[Line] = &[
+    ("GET /", NO_ROUTE),
+    ("GET /order", NO_ROUTE),
+    ("GET /orders/O-1/", NO_ROUTE),
+    ("POST /orders/O-2/cancels", NO_ROUTE),
+    ("POST /orders/O-2/cancel/O-2", NO_ROUTE),
+    ("GET /batches/O-1", NO_ROUTE),
+    ("GET /stocks", NO_ROUTE),
+    ("GET /stock/A", NO_ROUTE),
+    ("GET /lots", NO_ROUTE),
+    ("POST /lots/A/accept", NO_ROUTE),
+    ("GET /trace/A", NO_ROUTE),
+    ("GET /trace/back/", NO_ROUTE),
+    ("GET /trace/house/A/B", NO_ROUTE),
+];
+
+// Fails where one of the requests of ACME, all by this router, is told something else.
+fn check_routed(
+    alloc: Global,
+    router: &mut OfficeRouter,
+    keep: &mut MemKeep,
+    lines: &[Line],
+) -> Result<(), Fail> {
+    for row in lines {
+        let (line, wanted) = *row;
+        let bytes = request(alloc, line, "")?;
+        let out = answer_with_router(alloc, router, keep, &bytes);
+        let said = reply_said(alloc, out.bytes())?;
+        check(said.as_str() == wanted, line)?;
+    }
+    Ok(())
+}
+
+#[test]
+fn one_router_serves_all_routes(rt: HostRuntime) -> Result<(), Fail> {
+    let mut keep = office(rt.alloc())?;
+    check_lines::<Asked, _>(rt.alloc(), &mut keep, WITH_ORDER)?;
+    let mut router = OfficeRouter::new();
+    for lines in &[EVERY_ROUTE, NEAR_MISSES, EVERY_ROUTE, NEAR_MISSES] {
+        check_routed(rt.alloc(), &mut router, &mut keep, lines)?;
     }
     Ok(())
 }

@@ -1,6 +1,8 @@
 //! Imports in turns, with others in between.
 use crate::doors::served::street::{Log, Street};
-use crate::doors::served::{ADD_OWNER, ADD_RECIPE, LIST, PLACE, Visit, is_told, resume, tells};
+use crate::doors::served::{
+    ADD_OWNER, ADD_RECIPE, LIST, PLACE, Visit, answer_alone, is_told, resume, tells,
+};
 use crate::refusing::{Refused, Refusing};
 use std::alloc::{AllocError, Global};
 use std::test::Fail;
@@ -8,7 +10,7 @@ use toll_keep::{Keep, MemKeep};
 use toll_plant::GROUP_RECORDS;
 use toll_protocol::{Call, EncodeFault, Response};
 use toll_server::{Listener, ServingEnd};
-use toll_service::{KeepService, answer_at, serve_keep};
+use toll_service::{KeepService, serve_keep};
 
 const HEADER: &str = "key,owner,order,batch,segment,use,material,lot_owner,lot,sublot,amount,day\n";
 
@@ -98,7 +100,7 @@ fn are_told<K: Keep>(
 fn each_group_finds_what_was_done_before_it(rt: HostRuntime) -> Result<(), Fail> {
     let mut keep = MemKeep::new(rt.alloc());
     let asked = import_of_records(rt.alloc())?;
-    let mut reply = answer_at(rt.alloc(), &mut keep, Listener::Plant, &asked)?;
+    let mut reply = answer_alone(rt.alloc(), &mut keep, Listener::Plant, &asked)?;
     for visits in BETWEEN {
         reply = resume(rt.alloc(), &mut keep, reply);
         let are_told = are_told(rt.alloc(), &mut keep, visits)?;
@@ -114,7 +116,7 @@ fn each_group_finds_what_was_done_before_it(rt: HostRuntime) -> Result<(), Fail>
 fn behind_a_fault_no_group_acts(rt: HostRuntime) -> Result<(), Fail> {
     let mut keep = MemKeep::new(rt.alloc());
     let asked = import_of_records(rt.alloc())?;
-    let reply = answer_at(rt.alloc(), &mut keep, Listener::Plant, &asked)?;
+    let reply = answer_alone(rt.alloc(), &mut keep, Listener::Plant, &asked)?;
     let reply = resume(rt.alloc(), &mut keep, reply);
     let mut keep = Refusing::new(keep, Refused::Behind(0));
     let reply = resume(rt.alloc(), &mut keep, reply);
@@ -144,7 +146,7 @@ fn owners_are_answered_before_an_import_is_over(rt: HostRuntime) -> Result<(), F
     let is_ready = are_told(rt.alloc(), &mut keep, &[ADD_OWNER, ADD_RECIPE])?;
     assert!(rt; is_ready);
     let visits = [import, PLACE, LIST];
-    let mut office = KeepService { keep };
+    let mut office = KeepService::new(keep);
     let log = Log::new();
     let served = serve_keep(rt.alloc(), &mut Street::new(&visits, &log), &mut office, 2);
     assert_eq!(rt; served, ServingEnd::All);

@@ -1,14 +1,14 @@
 //! What is long: a stock of more than 1,048,576 bytes that is told, and a file of just so many that is
 //! imported.
 use crate::doors::served::street::{Log, Street};
-use crate::doors::served::{Visit, tells};
+use crate::doors::served::{Visit, answer_alone, tells};
 use crate::stories::{told_stock, with_much_stock};
 use std::alloc::{AllocError, Global};
 use std::test::Fail;
 use toll_keep::MemKeep;
 use toll_protocol::{Call, EncodeFault, Response};
 use toll_server::Listener;
-use toll_service::{KeepService, TurnResult, answer_at, serve_keep};
+use toll_service::{KeepService, TurnResult, serve_keep};
 
 /// How long a file of actuals may be.
 const FILE_BYTES: usize = 1_048_576;
@@ -28,7 +28,7 @@ fn a_stock_of_a_megabyte_is_told(rt: HostRuntime) -> Result<(), Fail> {
     let mut keep = with_much_stock(rt.alloc())?;
     let stock = told_stock(rt.alloc())?;
     let asked = Call::encode(rt.alloc(), &["stock", "ACME"], None)?;
-    let reply = answer_at(rt.alloc(), &mut keep, Listener::Plant, &asked)?;
+    let reply = answer_alone(rt.alloc(), &mut keep, Listener::Plant, &asked)?;
     assert!(rt; stock.len() > FILE_BYTES);
     assert!(rt; is_whole(rt.alloc(), &reply, stock.as_bytes())?);
     Ok(())
@@ -68,7 +68,7 @@ fn the_longest_file_is_imported_whole(rt: HostRuntime) -> Result<(), Fail> {
     let _ = serve_keep(
         rt.alloc(),
         &mut Street::new(&[visit], &log),
-        &mut KeepService { keep },
+        &mut KeepService::new(keep),
         1,
     );
     assert_eq!(rt; log.told.get(), 1);
