@@ -157,3 +157,6 @@ moves_of_all db rows has = record { slices = λ o. within draws_edges is_owned d
 
 pub moves_part : (s : State) (c : Content) → HoldsIn s c → (o : Bytes) → HoldsPartIn draws_edges s o (c.rows o)
 moves_part = part_of draws_edges draws_owned
+
+pub owned_part : (s : State) (c : Content) → HoldsIn s c → (o : Bytes) → HoldsPartIn is_owned s o (c.rows o)
+owned_part = part_of is_owned (λ k owned. owned)

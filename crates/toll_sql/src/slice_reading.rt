@@ -67,8 +67,8 @@ fn is_among(owners: &[OwnerRow], owner: &Name) -> bool
     owners.iter().any(|row| *owner == row.owner)
 }
 
-// All rows of the owner, whether it is known or not.
-fn read_rows_of<S: Alter>(
+/// All rows of the owner, whether it is known or not.
+pub fn read_rows_of<S: Alter>(
     conn: &mut Connection<S>,
     alloc: Global,
     owner: &Name,

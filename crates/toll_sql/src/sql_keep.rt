@@ -1,8 +1,15 @@
 //! The keep over SQLite.
-ghost use Rattle.std.specs.Prelude.{◌≡◌, ◌≢◌, Err, true, false, None, IsTrue, OnOk};
+ghost use Rattle.std.specs.Prelude.{◌≡◌, ◌≢◌, ◌↔◌, Err, true, false, None, List, IfOk, IsTrue, OnOk};
 ghost use Rattle.sqlite.specs.Held.{state};
 ghost use Rattle.sqlite.specs.State.{HasCleanDisk};
+ghost use Rattle.toll_base.specs.Bytes.{Bytes};
+ghost use Rattle.toll_base.specs.declared.lot.Edge.{Edge};
+ghost use Rattle.toll_trace.specs.Recorded.{Draws};
+ghost use Rattle.toll_keep.specs.Content.{Content};
 ghost use Rattle.toll_keep.specs.Goes.{closes, IsReading};
+ghost use Rattle.toll_keep.specs.Holding.{IsEdgeOfOne, TellsTrace};
+ghost use Rattle.toll_keep.specs.Meaning.{OverHeld};
+ghost use Rattle.toll_keep.specs.Reads.{HaveRead, IsKept};
 ghost use Rattle.toll_sql.specs.Asking.{IsAskedBehind};
 ghost use Rattle.toll_sql.specs.Meant.{means};
 
@@ -10,12 +17,13 @@ use crate::asking::find_open;
 use crate::edges::{read_all_edges, read_edges};
 use crate::holding::read_holder;
 use crate::listing::{read_owners, read_units};
-use crate::slice_reading::read_slice;
+use crate::slice_reading::{read_rows_of, read_slice};
 use crate::writing::make_changes;
 use sqlite::{Alter, Connection};
-use std::alloc::Global;
-use toll_base::{Change, Edge, Name, OwnerRow, Slice, UnitRow};
+use std::alloc::{AllocError, Global};
+use toll_base::{Change, Edge, LotId, Name, OwnerRow, Slice, UnitRow};
 use toll_keep::{Holder, Keep, KeepFault};
+use toll_trace::{Graph, Recorded, Step, Way};
 
 /// The rows of the office in the tables of one SQLite store. It remembers nothing: each call reads
 /// what it needs, and each `apply` is one transaction.
@@ -83,6 +91,46 @@ impl<S: Alter> SqlKeep<S> {
         self.closed = fault != KeepFault::Memory;
         Err(fault)
     }
+
+    // All rows of the owner, whether it is known or not.
+    fn rows_of(&mut self, alloc: Global, owner: &Name) -> Result<Slice, KeepFault>
+        ensures reading { IsReading (means (λ k. state S.Store k.conn) (λ k. k.closed) (λ k. k.unsure)) self.old self.new result }
+        ensures reads { OverHeld (means (λ k. state S.Store k.conn) (λ k. k.closed) (λ k. k.unsure)) self.old self.new (λ c. IfOk result (λ slice. slice ≡ c.rows owner.now)) }
+    {
+        match self.begin() {
+            Ok(()) => {
+                let read = read_rows_of(&mut self.conn, alloc, owner);
+                self.pass_on(read)
+            }
+            Err(fault) => Err(fault),
+        }
+    }
+
+    // What the batches of these owners consumed and produced.
+    fn recorded(&mut self, alloc: Global, owners: &[Name]) -> Result<Recorded, KeepFault>
+        ensures reads { (first : _) → HaveRead (means (λ k. state S.Store k.conn) (λ k. k.closed) (λ k. k.unsure)) first self.old → IsReading (means (λ k. state S.Store k.conn) (λ k. k.closed) (λ k. k.unsure)) first self.new result }
+        ensures kept { IsKept (means (λ k. state S.Store k.conn) (λ k. k.closed) (λ k. k.unsure)) self.old self.new }
+        ensures told { OverHeld (means (λ k. state S.Store k.conn) (λ k. k.closed) (λ k. k.unsure)) self.old self.new (λ c. IfOk result (λ all. (e : Edge) → Draws all e ↔ IsEdgeOfOne c owners.now e)) }
+    {
+        let mut recorded = Recorded::new(alloc);
+        for owner in owners {
+            let slice = self.rows_of(alloc, owner)?;
+            recorded = recorded.with(alloc, &slice)?;
+        }
+        Ok(recorded)
+    }
+}
+
+// The trace over what is recorded.
+fn trace_recorded(
+    alloc: Global,
+    recorded: Recorded,
+    from: &LotId,
+    way: Way,
+) -> Result<Vec<Step>, AllocError>
+    ensures { (c : Content) (owners : List Bytes) → ((e : Edge) → Draws recorded e ↔ IsEdgeOfOne c owners e) → TellsTrace c owners from.now way result }
+{
+    Graph::of_recorded(alloc, recorded)?.trace(alloc, from, way)
 }
 
 impl<S: Alter> Keep for SqlKeep<S> {
@@ -146,6 +194,18 @@ impl<S: Alter> Keep for SqlKeep<S> {
             }
             Err(fault) => Err(fault),
         }
+    }
+
+    fn trace(
+        &mut self,
+        alloc: Global,
+        owners: &[Name],
+        from: &LotId,
+        way: Way,
+    ) -> Result<Vec<Step>, KeepFault> {
+        self.begin()?;
+        let recorded = self.recorded(alloc, owners)?;
+        Ok(trace_recorded(alloc, recorded, from, way)?)
     }
 
     // All or none: one transaction.

@@ -1,0 +1,48 @@
+use Rattle.std.proofs.Common.{◌≡◌, ◌↔◌, rules, take, Err, sym, subst, ◌∙◌}
+use Rattle.std.proofs.lemmas.List.{take_all}
+use Rattle.sqlite.specs.Held.{state}
+use Rattle.toll_base.specs.declared.lot.Edge.{Edge}
+use Rattle.toll_trace.specs.Recorded.{Draws}
+use Rattle.toll_trace.specs.Edges.{IsEdge}
+use Rattle.toll_keep.specs.Goes.{IsReading}
+use Rattle.toll_keep.specs.Holding.{IsEdgeOfOne, TellsTrace}
+use Rattle.toll_keep.specs.declared.fault.KeepFault.TheVariants.{Memory}
+use Rattle.toll_keep.proofs.Calls.{reads_then, read_ok, read_fault, read_memory}
+use Rattle.toll_keep.proofs.Learning.{drawn_none, drawn_more}
+use Rattle.toll_sql.specs.Meant.{means}
+use Rattle.toll_sql.proofs.sql_keep.SqlKeepKeep.trace.Goals as goal
+
+pub returns-in_err-begin-clause-reading : goal.returns-in_err-begin-clause-reading
+returns-in_err-begin-clause-reading g c =
+    let m = (means (λ k. state g.S.Store k.conn) (λ k. k.closed) (λ k. k.unsure)) in
+    let e = c.in_err-begin.field-0.0 in
+    let r = c.in_err-begin.ensures.reading in
+    let is : c.from_residual.result ≡ Err e = search rules in
+    subst (λ told. IsReading m c.args.self.now c.begin.new.self told) (sym is) (read_fault m c.args.self.now c.begin.new.self e r.goes r.keeps r.whole)
+
+pub returns-in_err-recorded-clause-reading : goal.returns-in_err-recorded-clause-reading
+returns-in_err-recorded-clause-reading g c =
+    let m = (means (λ k. state g.S.Store k.conn) (λ k. k.closed) (λ k. k.unsure)) in
+    let e = c.in_err-recorded.field-0.0 in
+    let r = c.in_err-recorded.ensures.reads c.args.self.now c.in_ok-begin.ensures.reading in
+    let is : c.from_residual-in_err-recorded.result ≡ Err e = search rules in
+    subst (λ told. IsReading m c.args.self.now c.recorded.new.self told) (sym is) (read_fault m c.args.self.now c.recorded.new.self e r.goes r.keeps r.whole)
+
+pub returns-in_err-trace_recorded-clause-reading : goal.returns-in_err-trace_recorded-clause-reading
+returns-in_err-trace_recorded-clause-reading g c =
+    let m = (means (λ k. state g.S.Store k.conn) (λ k. k.closed) (λ k. k.unsure)) in
+    let r = c.in_ok-recorded.ensures.reads c.args.self.now c.in_ok-begin.ensures.reading in
+    let is : c.from_residual-in_err-trace_recorded.result ≡ Err Memory = search rules in
+    subst (λ told. IsReading m c.args.self.now c.recorded.new.self told) (sym is) (read_memory m c.args.self.now c.recorded.new.self c.in_ok-recorded.recorded r.goes r.keeps)
+
+pub returns-clause-reading : goal.returns-clause-reading
+returns-clause-reading g c =
+    let m = (means (λ k. state g.S.Store k.conn) (λ k. k.closed) (λ k. k.unsure)) in
+    let r = c.in_ok-recorded.ensures.reads c.args.self.now c.in_ok-begin.ensures.reading in
+    read_ok m c.args.self.now c.recorded.new.self c.in_ok-recorded.recorded _ r.goes r.keeps
+
+pub returns-clause-reads : goal.returns-clause-reads
+returns-clause-reads g c = λ honest content held.
+    let before = c.recorded.ensures.kept honest in
+    let began = c.in_ok-begin.ensures.reading in
+    c.in_ok-trace_recorded.ensures content c.args.owners.now (c.in_ok-recorded.ensures.told honest content ((began.keeps before.0).content content held))
