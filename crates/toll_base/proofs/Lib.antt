@@ -2,6 +2,8 @@ pub mod Common
 pub mod Bools
 pub mod Digits
 pub mod KeyOrder
+pub mod PlacedRows
+pub mod MovePlaces
 pub mod Texts
 pub mod PutRules
 pub mod ActualCountLemmas

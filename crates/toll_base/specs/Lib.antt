@@ -4,6 +4,7 @@ pub mod Refusal
 pub mod Words
 pub mod Table
 pub mod Places
+pub mod MoveRows
 pub mod Roles
 pub mod Keys
 pub mod Slice

@@ -8,6 +8,7 @@ ghost use Rattle.toll_base.specs.Table.{row_at, put_row, has_room, IsInKeyOrder}
 use crate::actual_count::{ActualCount, add_one, add_row, count_in, take_one};
 use crate::bounded::BatchNo;
 use crate::capacity::MOST_MOVEMENTS;
+use crate::move_rows::MoveRows;
 use crate::movement::{Move, MoveRow};
 use crate::name::Name;
 use crate::table::Table;
@@ -16,7 +17,7 @@ use std::marker::Model;
 
 /// The movements in the order of their keys, and beside them how many actuals each batch has.
 pub struct Moves {
-    rows: Table<MoveRow>,
+    rows: MoveRows,
     actuals: Table<ActualCount>,
 }
 
@@ -50,17 +51,19 @@ impl Moves {
         ensures { result ≡ [] }
     {
         Moves {
-            rows: Table::new(alloc),
+            rows: MoveRows::new(alloc),
             actuals: Table::new(alloc),
         }
     }
 
     /// The movements in order.
-    pub fn rows(&self) -> &[MoveRow]
+    pub fn rows(&self) -> &MoveRows
         ensures rows { result.now ≡ self.now }
         ensures order { IsInKeyOrder bytes_cmp (λ row. row.key) self.now }
     {
-        self.rows.rows()
+        // For the proof: they are in order.
+        let _len = self.rows.len();
+        &self.rows
     }
 
     /// The movement with this key.
@@ -99,9 +102,8 @@ impl Moves {
         ensures ok { OnOk result (self.new ≡ put_row bytes_cmp (λ row. row.key) self.old row) }
         ensures err { OnErr result (self.new ≡ self.old) }
     {
-        let known = self.rows.get(&row.key);
         add_row(&mut self.actuals, &row.what)?;
-        self.rows.put(row)?;
+        let known = self.rows.put(row)?;
         recount(&mut self.actuals, &known, &row.what);
         Ok(())
     }

@@ -8,6 +8,7 @@ ghost use Rattle.toll_base.specs.Table.{IsInKeyOrder};
 
 use crate::bounded::{BatchNo, Segment};
 use crate::capacity::MOST_STOCK;
+use crate::move_rows::MoveRows;
 use crate::movement::MoveRow;
 use crate::name::Name;
 use crate::role::Role;
@@ -256,7 +257,7 @@ impl Slice {
     }
 
     /// The movements, in the order of their keys.
-    pub fn moves(&self) -> &[MoveRow]
+    pub fn moves(&self) -> &MoveRows
         ensures rows { result.now ≡ self.now.moves }
         ensures order { IsInKeyOrder bytes_cmp (λ row. row.key) self.now.moves }
     {

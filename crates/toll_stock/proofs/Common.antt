@@ -1,7 +1,7 @@
 -- Words that several proofs here use.
 pub use Rattle.std.proofs.lemmas.Bool.{leb-true}
 pub use Rattle.std.proofs.lemmas.Cmp.{tied_itself}
-pub use Rattle.std.proofs.lemmas.List.{at_drop_all, at_drop_more}
+pub use Rattle.std.proofs.lemmas.List.{at_drop_all}
 pub use Rattle.std.specs.List.{count_by}
 unfoldable pub use Rattle.std.specs.List.Sorted.{IsStrictlySortedBy}
 pub use Rattle.std.specs.List.Sorted.{IsSortedByKey}

@@ -23,7 +23,7 @@ impl Shipped {
         let mut shipped = Shipped {
             amounts: BTreeMap::new(alloc),
         };
-        for row in slice.moves() {
+        for row in slice.moves().iter() {
             shipped.add(&row.what, row.amount.get())?;
         }
         Ok(shipped)

@@ -37,9 +37,8 @@ fn sum_of_shipments(slice: &Slice, lot: &Name) -> u64
 {
     // For the proof: the amounts of rows that keep the rules fit.
     let _owner = slice.owner();
-    let rows = slice.moves();
     let mut sum: u64 = 0;
-    for row in rows {
+    for row in slice.moves().iter() {
         sum += amount_shipped(row, lot);
     }
     sum
