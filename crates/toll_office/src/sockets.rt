@@ -13,6 +13,10 @@ use toll_service::{FaultLog, ServingFault};
 /// How many events one wait gives.
 const MOST_EVENTS: usize = 256;
 
+/// How many connections in a row may have left before they are accepted, which is more than can wait at a
+/// listener.
+const MOST_ABORTED: usize = 65_536;
+
 /// The listeners' tokens. A connection's is its key behind them.
 const OWNERS: usize = 0;
 
@@ -109,15 +113,15 @@ impl<'a> Sockets<'a> {
 impl Network for Sockets<'_> {
     type Stream = SocketStream;
 
-    fn wait(&mut self, most: Option<u64>) -> Result<(), NetworkFault> {
+    fn wait(&mut self, most: Option<u64>) -> Result<u64, NetworkFault> {
         self.delivered = 0;
         let waited = self
             .poll
             .poll(&mut self.events, most.map(Duration::from_millis));
         self.open_plant_listener();
         match waited {
-            Ok(()) => Ok(()),
-            Err(fault) if fault.kind() == ErrorKind::Interrupted => Ok(()),
+            Ok(()) => Ok(self.now()),
+            Err(fault) if fault.kind() == ErrorKind::Interrupted => Ok(self.now()),
             Err(_) => Err(NetworkFault),
         }
     }
@@ -135,7 +139,7 @@ impl Network for Sockets<'_> {
 
     // One that left before it was taken is passed over, since who waits behind it is not told again.
     fn accept_next(&mut self, key: usize) -> Result<Accepted<SocketStream>, NetworkFault> {
-        for _ in 0..MOST_EVENTS {
+        for _ in 0..MOST_ABORTED {
             match self.take(key) {
                 Ok((listener, stream)) => {
                     self.resources.update(self.rt, None);

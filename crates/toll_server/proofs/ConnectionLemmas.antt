@@ -6,10 +6,10 @@ use Rattle.std.proofs.lemmas.List.Sums.{sum_by_from}
 use Rattle.slab.specs.Slab.{Slab, Updates, get, slab_len}
 use Rattle.toll_server.proofs.RunLemmas.{all_but}
 use Rattle.toll_server.specs.RequestBuffers.{bytes_received, listener_of}
-use Rattle.toll_server.specs.Connections.{ClosesExpired, JoinsAt, KeepsQueue, KeepsSubmitted, KeepsTasks, OnlyAt, TakesTurn, peer_behind, queue_in, stays_after, tasks_in, unless_expired}
-use Rattle.toll_server.specs.Queues.{IsNext, IsWhatWaits, Waiting, behind, newly, queue_after, queue_with, stays}
+use Rattle.toll_server.specs.Connections.{ClosesExpired, JoinsAt, KeepsQueue, KeepsTasks, OnlyAt, TakesTurn, connection_behind, queue_in, stays_after, tasks_in, unless_expired}
+use Rattle.toll_server.specs.Queues.{IsNext, IsWhatWaits, Waiting, behind, newly, queue_with, stays}
 use Rattle.toll_server.specs.Runs.{Input, Request, Task, Yields}
-use Rattle.toll_server.specs.ConnectionStates.{last_poll, pending_task, stage_behind, task_of, ticket_after, ticket_behind, ticket_of}
+use Rattle.toll_server.specs.ConnectionStates.{last_poll, pending_task, state_behind, task_of, ticket_after, ticket_behind, ticket_of}
 use Rattle.toll_server.specs.Steps.{Asks, JoinsAs, moment_after, waiting_of, waiting_with}
 use Rattle.toll_server.specs.declared.request_buffer.RequestBuffer.{RequestBuffer}
 use Rattle.toll_server.specs.declared.listener.Listener.{Listener}
@@ -38,7 +38,7 @@ module _ {T P : Type 0} where
   idle_task (Working ticket task) is = absurd (cc)
   idle_task (Writing reply) is = refl
 
-  task_behind : (same : P → P → Bool) (party : P) (moment : ℕ) (state : ConnectionState T P) → task_of (stage_behind same party moment state) ≡ task_of state
+  task_behind : (same : P → P → Bool) (party : P) (moment : ℕ) (state : ConnectionState T P) → task_of (state_behind same party moment state) ≡ task_of state
   task_behind same party moment Reading = refl
   task_behind same party moment (Queued ticket) = refl
   task_behind same party moment (Working ticket task) = refl
@@ -55,12 +55,12 @@ wait_behind {P} same party moment served request t is = subst (λ p. waiting_wit
       each false = refl
 
 module _ {T P : Type 0} (same : P → P → Bool) (party : P) (moment : ℕ) (served : Waiting P) (its : served.party ≡ party) (request : RequestBuffer) where
-  stage_waits_behind : (state : ConnectionState T P) → option_map (waiting_with request) (ticket_of (stage_behind same party moment state))
+  state_waits_behind : (state : ConnectionState T P) → option_map (waiting_with request) (ticket_of (state_behind same party moment state))
       ≡ option_map (behind same (Some served) moment) (option_map (waiting_with request) (ticket_of state))
-  stage_waits_behind Reading = refl
-  stage_waits_behind (Queued ticket) = ap Some (wait_behind same party moment served request ticket its)
-  stage_waits_behind (Working ticket task) = ap Some (wait_behind same party moment served request ticket its)
-  stage_waits_behind (Writing reply) = refl
+  state_waits_behind Reading = refl
+  state_waits_behind (Queued ticket) = ap Some (wait_behind same party moment served request ticket its)
+  state_waits_behind (Working ticket task) = ap Some (wait_behind same party moment served request ticket its)
+  state_waits_behind (Writing reply) = refl
 
 -- what waits with who has this place, is handed over
 module _ {T P : Type 0} where
@@ -125,8 +125,8 @@ module _ {S T P : Type 0} where
   pub expired_closed : (now : ℕ) (old new : Slab (Connection S T P)) → ClosesExpired now old new → KeepsTasks old new
   expired_closed now old new out key = ap task_in (out key) ∙ (left now (get old key)).0
 
-  pub turned_out_queue : (now : ℕ) (old new : Slab (Connection S T P)) → ClosesExpired now old new → KeepsQueue old new
-  turned_out_queue now old new out key = ap wait_at (out key) ∙ (left now (get old key)).1
+  pub expired_queue : (now : ℕ) (old new : Slab (Connection S T P)) → ClosesExpired now old new → KeepsQueue old new
+  expired_queue now old new out key = ap wait_at (out key) ∙ (left now (get old key)).1
 
   -- who was taken out stays or goes by its step
   pub replaced : (old middle new : Slab (Connection S T P)) (key at : ℕ) (step : StepResult) (later : Connection S T P) → Updates old middle key None → at ≡ key
@@ -180,21 +180,21 @@ module _ {S T P : Type 0} where
         each Answered joins = sym (unqueued connection joins.1)
         each Failed joins = sym (unqueued connection joins.1)
 
-  behind_task : (same : P → P → Bool) (party : P) (moment : ℕ) (o : Option (Connection S T P)) → task_in (option_map (peer_behind same party moment) o) ≡ task_in o
+  behind_task : (same : P → P → Bool) (party : P) (moment : ℕ) (o : Option (Connection S T P)) → task_in (option_map (connection_behind same party moment) o) ≡ task_in o
   behind_task same party moment None = refl
   behind_task same party moment (Some connection) = task_behind same party moment connection.state
 
   behind_wait : (same : P → P → Bool) (party : P) (moment : ℕ) (served : Waiting P) → served.party ≡ party → (o : Option (Connection S T P))
-      → wait_at (option_map (peer_behind same party moment) o) ≡ option_map (behind same (Some served) moment) (wait_at o)
+      → wait_at (option_map (connection_behind same party moment) o) ≡ option_map (behind same (Some served) moment) (wait_at o)
   behind_wait same party moment served its None = refl
-  behind_wait same party moment served its (Some connection) = stage_waits_behind same party moment served its connection.request connection.state
+  behind_wait same party moment served its (Some connection) = state_waits_behind same party moment served its connection.request connection.state
 
 -- who was taken out had the service take a turn for it, all of its party were put behind, and it was put back, if it stays
 pub record Turned {S T P O : Type 0} (answers : O → Listener → List ℕ → Poll T → O → Type 0) (resumes : O → T → Poll T → O → Type 0) (same : P → P → Bool) (moment : ℕ)
     (old new : Slab (Connection S T P)) (key : ℕ) (connection later : Connection S T P) (ticket : Ticket P) (poll : Poll T) (step : StepResult) (a b : O) : Type 0 where
   pub there : get old key ≡ Some connection
   pub changed : get new key ≡ stays_after step later
-  pub others : (other : ℕ) → ¬ (other ≡ key) → get new other ≡ option_map (peer_behind same ticket.party moment) (get old other)
+  pub others : (other : ℕ) → ¬ (other ≡ key) → get new other ≡ option_map (connection_behind same ticket.party moment) (get old other)
   pub its : ticket_of connection.state ≡ Some ticket
   pub asks : Asks answers resumes connection.state connection.request poll a b
   pub told : last_poll later.state ≡ Some poll
@@ -240,8 +240,8 @@ module _ {S T P O : Type 0} (answers : O → Listener → List ℕ → Poll T �
         ∙ (ap (option_map (waiting_with connection.request)) t.place ∙ (waits_after connection.request poll moment ticket ∙ sym (ap (option_and_then (stays poll moment)) was)))))
 
 module _ {S T P : Type 0} where
-  no_peer : (connections : Slab (Connection S T P)) → slab_len connections ≡ 0 → (key : ℕ) → get connections key ≡ None
-  no_peer connections none key = each connections.slots key none where
+  pub no_connection : (connections : Slab (Connection S T P)) → slab_len connections ≡ 0 → (key : ℕ) → get connections key ≡ None
+  no_connection connections none key = each connections.slots key none where
     each : (slots : List (Option (Connection S T P))) (key : ℕ) → count_by is_some slots ≡ 0 → slice_index_or slots key None ≡ None
     each [] key none = refl
     each (None ∷ slots) zero none = refl
@@ -250,7 +250,7 @@ module _ {S T P : Type 0} where
 
   -- where nobody is there, nothing is left to do, and nobody waits
   pub empty_none : (connections : Slab (Connection S T P)) → slab_len connections ≡ 0 → (key : ℕ) → tasks_in connections key ≡ None
-  empty_none connections none key = ap task_in (no_peer connections none key)
+  empty_none connections none key = ap task_in (no_connection connections none key)
 
   pub empty_queue : (connections : Slab (Connection S T P)) → slab_len connections ≡ 0 → (key : ℕ) → queue_in connections key ≡ None
-  empty_queue connections none key = ap wait_at (no_peer connections none key)
+  empty_queue connections none key = ap wait_at (no_connection connections none key)

@@ -5,8 +5,8 @@ use Rattle.std.proofs.lemmas.Bool.{cases_lt}
 use Rattle.std.proofs.lemmas.List.{get_or_past}
 use Rattle.std.proofs.lemmas.Option.{same_Some}
 use Rattle.slab.specs.Slab.{Slab, get, slab_len}
-use Rattle.std.specs.Prelude.{◌⊎◌, Bool, option_and_then, option_map}
-use Rattle.toll_server.specs.Connections.{IsBefore, IsEarliest, IsIncluded, IsLonger, NobodyWaits, NoneIncluded, OnlyAt, peer_behind, queue_in, unless_expired, wait_in}
+use Rattle.std.specs.Prelude.{Bool, option_and_then, option_map}
+use Rattle.toll_server.specs.Connections.{IsBefore, IsEarliest, IsIncluded, IsLonger, NobodyWaits, NoneIncluded, OnlyAt, connection_behind, queue_in, unless_expired, wait_in}
 use Rattle.toll_server.specs.Queues.{HasWaitedLonger, IsNext, Waiting}
 use Rattle.toll_server.specs.Steps.{waiting_of}
 use Rattle.toll_server.specs.declared.filter.Filter.{Filter}
@@ -120,17 +120,17 @@ module _ {S T P : Type 0} (now : ℕ) (old : Slab (Connection S T P)) where
 module _ {S T P : Type 0} (same : P → P → Bool) (party : P) (moment : ℕ) (old : Slab (Connection S T P)) where
   -- those with a key below the limit have been put behind
   pub record PutBehind (limit : ℕ) (new : Slab (Connection S T P)) : Type 0 where
-    pub done : (key : ℕ) → key < limit → get new key ≡ option_map (peer_behind same party moment) (get old key)
+    pub done : (key : ℕ) → key < limit → get new key ≡ option_map (connection_behind same party moment) (get old key)
     pub rest : (key : ℕ) → limit ≤ key → get new key ≡ get old key
     pub vacant : new.vacant_key ≡ old.vacant_key
     pub capacity : new.capacity ≡ old.capacity
     pub len : slab_len new ≡ slab_len old
 
-  pub put_more : (limit : ℕ) (middle new : Slab (Connection S T P)) → PutBehind limit middle → get new limit ≡ option_map (peer_behind same party moment) (get middle limit)
+  pub put_more : (limit : ℕ) (middle new : Slab (Connection S T P)) → PutBehind limit middle → get new limit ≡ option_map (connection_behind same party moment) (get middle limit)
       → OnlyAt limit middle new → new.vacant_key ≡ middle.vacant_key → new.capacity ≡ middle.capacity → slab_len new ≡ slab_len middle → PutBehind (limit + 1) new
   put_more limit middle new p at only vacant capacity len = record {
-    done = below_more (λ k. get new k ≡ option_map (peer_behind same party moment) (get old k)) limit
-        (λ k lt. only k (λ is. omega (arith, lt, is)) ∙ p.done k lt) (at ∙ ap (option_map (peer_behind same party moment)) (p.rest limit (omega arith)));
+    done = below_more (λ k. get new k ≡ option_map (connection_behind same party moment) (get old k)) limit
+        (λ k lt. only k (λ is. omega (arith, lt, is)) ∙ p.done k lt) (at ∙ ap (option_map (connection_behind same party moment)) (p.rest limit (omega arith)));
     rest = λ k le. only k (λ is. omega (arith, le, is)) ∙ p.rest k (omega (arith, le));
     vacant = vacant ∙ p.vacant;
     capacity = capacity ∙ p.capacity;

@@ -4,3 +4,6 @@ pub mod RunLemmas
 pub mod QueueLemmas
 pub mod TallyLemmas
 pub mod TurnTimes
+pub mod StandLemmas
+pub mod AcceptLemmas
+pub mod RoundLemmas

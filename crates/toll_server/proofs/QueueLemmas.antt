@@ -1,15 +1,12 @@
 -- What happens one thing after another, and that no party has two turns while another one waits.
-use Rattle.std.proofs.Common.{◌≡◌, ◌≢◌, ◌∙◌, ◌+◌, ◌<◌, ◌==◌, ℕ, arith, inl, inr, List, [], ◌∷◌, ◌++◌, length, Bool, true, false, Option, None, Some, ap, refl, subst, sym}
-use Rattle.std.specs.Prelude.{IfSome, IsTrue, option_and_then, option_map, if◌then◌else◌}
+use Rattle.std.proofs.Common.{◌≡◌, ◌∙◌, ◌+◌, ◌<◌, ◌==◌, ℕ, arith, inl, inr, List, [], ◌∷◌, length, Bool, true, false, Option, None, Some, ap, refl, subst, sym}
+use Rattle.std.specs.Prelude.{IfSome, option_and_then, option_map, if◌then◌else◌}
 use Rattle.std.proofs.lemmas.Bool.Decides.{eqb_tells}
-use Rattle.std.proofs.lemmas.Option.{same_Some}
 use Rattle.std.specs.Cmp.{IsEquivalence}
 use Rattle.slab.specs.Slab.{Slab}
-use Rattle.toll_server.proofs.RunLemmas.{run_kept, run_more}
-use Rattle.toll_server.specs.Connections.{JoinsAt, KeepsQueue, KeepsTasks, TakesNext, TakesTurn, queue_in, tasks_in}
-use Rattle.toll_server.specs.Queues.{AreInTurn, HasGrown, HasWaitedLonger, Happening, IsHistory, IsNext, IsPassedOver, IsServedInTurn, IsWhatWaits, Joins, NoneTwice, Queue, Takes, Waiting, behind, is_of, newly, queue_after, queue_of, queue_with, stays, tasks_of, turns_of}
-use Rattle.toll_server.specs.Runs.{Input, IsOwn, IsRun, Turn, no_tasks}
-use Rattle.toll_server.specs.ConnectionStates.{pending_task}
+use Rattle.toll_server.specs.Connections.{KeepsQueue, KeepsTasks, queue_in, tasks_in}
+use Rattle.toll_server.specs.Queues.{AreInTurn, HasWaitedLonger, Happening, IsHistory, IsNext, IsPassedOver, IsWhatWaits, Joins, NoneTwice, Queue, Takes, Waiting, behind, is_of, newly, queue_after, queue_of, stays}
+use Rattle.toll_server.specs.Runs.{Input, IsOwn, Turn}
 use Rattle.toll_server.specs.declared.listener.Listener.{Listener}
 use Rattle.toll_server.specs.declared.connection.Connection.{Connection}
 use Rattle.toll_server.specs.declared.poll.Poll.{Poll}
@@ -174,7 +171,7 @@ module _ {T P : Type 0} (same : P → P → Bool) (laws : IsEquivalence same) (i
       ((λ first second its over. clash same first second (queue_of same before) turn.whose next its (blocked same laws is_by first second before rest over)), none_twice before rest)
 
 -- a request or a task is one's own
-own_of : {T P : Type 0} (o : Option (Waiting P)) (left : Option T) (input : Input T) → IsWhatWaits o left input → IsOwn left input
+pub own_of : {T P : Type 0} (o : Option (Waiting P)) (left : Option T) (input : Input T) → IsWhatWaits o left input → IsOwn left input
 own_of None left input p = absurd p
 own_of (Some w) None input p = subst (IsOwn None) (sym p) refl
 own_of (Some w) (Some task) input p = subst (IsOwn (Some task)) (sym p) refl
@@ -183,12 +180,6 @@ module _ {S T P : Type 0} (same : P → P → Bool) (is_by : Listener → List �
   abbrev pub IsHistoryIn : List (Happening T P) → ℕ → Slab (Connection S T P) → Type 0
   IsHistoryIn h moment connections = IsHistory same is_by h moment (queue_in connections) (tasks_in connections)
 
-  abbrev pub HasGrownIn : List (Happening T P) → ℕ → Slab (Connection S T P) → Type 0
-  HasGrownIn h moment connections = HasGrown same is_by h moment (queue_in connections) (tasks_in connections)
-
-  pub not_grown : (h : List (Happening T P)) (moment : ℕ) (connections : Slab (Connection S T P)) → IsHistoryIn h moment connections → HasGrownIn h moment connections
-  not_grown h moment connections p = record { newer = h; is = p; turns = refl }
-
   pub same_history : (h : List (Happening T P)) (moment now : ℕ) (old new : Slab (Connection S T P)) → now ≡ moment → KeepsQueue old new → KeepsTasks old new
       → IsHistoryIn h moment old → IsHistoryIn h now new
   same_history h moment now old new is queue tasks p = record {
@@ -196,119 +187,4 @@ module _ {S T P : Type 0} (same : P → P → Bool) (is_by : Listener → List �
     waits = λ k. queue k ∙ p.waits k;
     tasks = λ k. tasks k ∙ p.tasks k;
     in_turn = p.in_turn;
-  }
-
-  -- somebody joins the queue, or nobody
-  pub joined : (h : List (Happening T P)) (key moment now : ℕ) (old new : Slab (Connection S T P)) → JoinsAt is_by key moment now old new → KeepsTasks old new
-      → IsHistoryIn h moment old → HasGrownIn h now new
-  joined h key moment now old new (inl none) tasks p = let (is, queue) = none in
-      record { newer = h; is = same_history h moment now old new is queue tasks p; turns = refl }
-  joined h key moment now old new (inr one) tasks p = let (listener, request, party, by, is, free, queue) = one in record {
-    newer = Joins key listener request party ∷ h;
-    is = record {
-      moment_is = omega (arith, is, p.moment_is);
-      waits = λ k. queue k ∙ (ap (λ m. queue_with (queue_in old) key (newly party listener request m) k) p.moment_is
-          ∙ ap (λ o. if k == key then Some (newly party listener request (length h)) else o) (p.waits k));
-      tasks = λ k. tasks k ∙ p.tasks k;
-      in_turn = (by, sym (p.waits key) ∙ free, p.in_turn);
-    };
-    turns = refl;
-  }
-
-  -- one after another
-  pub grown_more : (h : List (Happening T P)) (key later now : ℕ) (middle new : Slab (Connection S T P)) → HasGrownIn h later middle
-      → JoinsAt is_by key later now middle new → KeepsTasks middle new → HasGrownIn h now new
-  grown_more h key later now middle new p joins tasks = let q = joined p.newer key later now middle new joins tasks p.is in
-      record { newer = q.newer; is = q.is; turns = q.turns ∙ p.turns }
-
-module _ {S T P O : Type 0} (same : P → P → Bool) (is_by : Listener → List ℕ → P → Type 0) (answers : O → Listener → List ℕ → Poll T → O → Type 0)
-    (resumes : O → T → Poll T → O → Type 0) where
-  -- so it was so far
-  pub record SoFar (old new : O) (moment : ℕ) (connections : Slab (Connection S T P)) : Type 0 where
-    pub history : List (Happening T P)
-    pub is : IsHistoryIn same is_by history moment connections
-    pub run : IsRun answers resumes old new no_tasks (tasks_in connections)
-    pub its : run.turns ≡ turns_of history
-
-  pub begins : (service same_office : O) (moment : ℕ) (connections : Slab (Connection S T P)) → same_office ≡ service → moment ≡ 0 → ((key : ℕ) → queue_in connections key ≡ None) → ((key : ℕ) → tasks_in connections key ≡ None)
-      → SoFar service same_office moment connections
-  begins service same_office moment connections is none queue tasks = record {
-    history = [];
-    is = record { moment_is = none; waits = queue; tasks = tasks; in_turn = tt };
-    run = record { turns = []; runs = is; own = tt; rest = λ k. sym (tasks k) };
-    its = refl;
-  }
-
-  pub stays_so : (old new : O) (moment now : ℕ) (connections later : Slab (Connection S T P)) → now ≡ moment → KeepsQueue connections later → KeepsTasks connections later → SoFar old new moment connections
-      → SoFar old new now later
-  stays_so old new moment now connections later is queue tasks p = record {
-    history = p.history;
-    is = same_history same is_by p.history moment now connections later is queue tasks p.is;
-    run = run_kept answers resumes old new no_tasks (tasks_in connections) (tasks_in later) p.run tasks;
-    its = p.its;
-  }
-
-  pub grows_so : (old new : O) (moment now : ℕ) (connections later : Slab (Connection S T P))
-      → ((h : List (Happening T P)) → IsHistoryIn same is_by h moment connections → HasGrownIn same is_by h now later) → KeepsTasks connections later
-      → SoFar old new moment connections → SoFar old new now later
-  grows_so old new moment now connections later grows tasks p = let q = grows p.history p.is in record {
-    history = q.newer;
-    is = q.is;
-    run = run_kept answers resumes old new no_tasks (tasks_in connections) (tasks_in later) p.run tasks;
-    its = p.its ∙ sym q.turns;
-  }
-
-  pub turns_so : (old middle new : O) (moment now : ℕ) (connections later : Slab (Connection S T P)) → TakesNext answers resumes same moment now connections later middle new
-      → SoFar old middle moment connections → SoFar old new now later
-  turns_so old middle new moment now connections later (inl none) p = let (nobody, is, kept, service) = none in
-      subst (λ o. SoFar old o now later) (sym service)
-      (stays_so old middle moment now connections later is (λ k. ap (λ q. queue_in q k) kept) (λ k. ap (λ q. tasks_in q k) kept) p)
-  turns_so old middle new moment now connections later (inr one) p = let (is, t) = one in record {
-    history = Takes t.turn ∷ p.history;
-    is = record {
-      moment_is = omega (arith, is, p.is.moment_is);
-      waits = λ k. t.queue k ∙ (ap (λ m. queue_after same (queue_in connections) t.turn m k) p.is.moment_is ∙ renamed t.turn (length p.history) p.history p.is.waits k);
-      tasks = λ k. t.tasks k ∙ ap (λ o. if k == t.turn.whose then pending_task t.turn.poll else o) (p.is.tasks k);
-      in_turn = (next_in t.turn.whose p.history p.is.waits t.next, what_in t.turn p.history p.is.waits p.is.tasks t.input, p.is.in_turn);
-    };
-    run = run_more answers resumes old middle new no_tasks (tasks_in connections) (tasks_in later) p.run (run_of t);
-    its = ap (λ ts. ts ++ t.turn ∷ []) p.its;
-  } where
-    run_of : TakesTurn answers resumes same moment connections later middle new → IsRun answers resumes middle new (tasks_in connections) (tasks_in later)
-    run_of t = record {
-      turns = t.turn ∷ [];
-      runs = (new, t.comes, refl);
-      own = (own_of (queue_in connections t.turn.whose) (tasks_in connections t.turn.whose) t.turn.input t.input, tt);
-      rest = λ k. sym (t.tasks k);
-    }
-
-    renamed : (turn : Turn T) (m : ℕ) (h : List (Happening T P)) → ((k : ℕ) → queue_in connections k ≡ queue_of same h k) → (k : ℕ)
-        → queue_after same (queue_in connections) turn m k ≡ queue_after same (queue_of same h) turn m k
-    renamed turn m h agree k =
-        ap (λ o. if k == turn.whose then option_and_then (stays turn.poll m) o else option_map (behind same (queue_in connections turn.whose) m) o) (agree k)
-        ∙ ap (λ s. if k == turn.whose then option_and_then (stays turn.poll m) (queue_of same h k) else option_map (behind same s m) (queue_of same h k)) (agree turn.whose)
-
-    next_in : (whose : ℕ) (h : List (Happening T P)) → ((k : ℕ) → queue_in connections k ≡ queue_of same h k) → IsNext (queue_in connections) whose → IsNext (queue_of same h) whose
-    next_in whose h agree next = record {
-      waiting = next.waiting;
-      there = sym (agree whose) ∙ next.there;
-      longest = λ other. subst (λ (o : Option (Waiting P)). IfSome o (λ w. ¬ (HasWaitedLonger w next.waiting))) (agree other) (next.longest other);
-    }
-
-    what_in : (turn : Turn T) (h : List (Happening T P)) → ((k : ℕ) → queue_in connections k ≡ queue_of same h k) → ((k : ℕ) → tasks_in connections k ≡ tasks_of h k)
-        → IsWhatWaits (queue_in connections turn.whose) (tasks_in connections turn.whose) turn.input
-        → IsWhatWaits (queue_of same h turn.whose) (tasks_of h turn.whose) turn.input
-    what_in turn h agree tasks what =
-        subst (λ o. IsWhatWaits (queue_of same h turn.whose) o turn.input) (tasks turn.whose)
-        (subst (λ o. IsWhatWaits o (tasks_in connections turn.whose) turn.input) (agree turn.whose) what)
-
-  pub in_turn : IsEquivalence same → (old new : O) (moment : ℕ) (connections : Slab (Connection S T P)) → SoFar old new moment connections
-      → IsServedInTurn same is_by answers resumes old new
-  in_turn laws old new moment connections p = record {
-    history = p.history;
-    left = tasks_in connections;
-    run = p.run;
-    its = p.its;
-    in_turn = p.is.in_turn;
-    none_twice = none_twice same laws is_by p.history p.is.in_turn;
   }

@@ -1,8 +1,8 @@
 -- Runs, one after another.
-use Rattle.std.proofs.Common.{◌≡◌, ◌≢◌, ◌==◌, ◌∙◌, ℕ, List, [], ◌∷◌, ◌++◌, ap, refl, subst, sym, Option, None, Some, inl, inr}
+use Rattle.std.proofs.Common.{◌≡◌, ◌≢◌, ◌==◌, ◌∙◌, ℕ, List, [], ◌∷◌, ◌++◌, ap, refl, subst, sym, Option, inl, inr}
 use Rattle.std.proofs.lemmas.Bool.Decides.{eqb_tells}
 use Rattle.std.specs.Prelude.{if◌then◌else◌}
-use Rattle.toll_server.specs.Runs.{AreOwn, Yields, Input, Request, IsOwn, IsRun, Runs, Tasks, Turn, after_turn, after_turns}
+use Rattle.toll_server.specs.Runs.{AreOwn, Yields, Input, IsOwn, IsRun, Runs, Tasks, Turn, after_turn, after_turns}
 use Rattle.toll_server.specs.ConnectionStates.{pending_task}
 use Rattle.toll_server.specs.declared.listener.Listener.{Listener}
 use Rattle.toll_server.specs.declared.poll.Poll.{Poll}

@@ -1,34 +1,48 @@
 -- What a network has done, step by step; and who stays meanwhile.
 use Rattle.std.proofs.Common.{◌≡◌, ◌≢◌, ◌||◌, ℕ, Bool, true, false, Option, None, Some, refl, sym, subst}
-use Rattle.std.specs.Prelude.{Err, IfSome, Ok, OnErr, Result, is_err, option_map}
+use Rattle.std.specs.Prelude.{Err, IfSome, Ok, OnErr, OnOk, Result, is_err, option_map}
 use Rattle.slab.specs.Slab.{Slab, get}
 use Rattle.toll_server.specs.Connections.{KeepsSubmitted}
 use Rattle.toll_server.specs.Networks.{Tallies, Tally}
 use Rattle.toll_server.specs.declared.connection.Connection.{Connection}
 use Rattle.toll_server.specs.declared.connection_state.ConnectionState.TheVariants.{Reading}
 
-pub tallies_same : (P : Tally → Tally → Type 0) (a b c : Option Tally) → c ≡ b → Tallies P a b → Tallies P a c
+pub tallies_same : {S : Type 0} (P : Tally S → Tally S → Type 0) (a b c : Option (Tally S)) → c ≡ b → Tallies P a b → Tallies P a c
 tallies_same P a b c is p = subst (Tallies P a) (sym is) p
 
-pub tallies_begin : (P : Tally → Tally → Type 0) (a b : Option Tally) → b ≡ a → ((t : Tally) → P t t) → Tallies P a b
+pub tallies_begin : {S : Type 0} (P : Tally S → Tally S → Type 0) (a b : Option (Tally S)) → b ≡ a → ((t : Tally S) → P t t) → Tallies P a b
 tallies_begin P None b is p = tt
 tallies_begin P (Some t) b is p = subst (Tallies P (Some t)) (sym is) (p t)
 
-pub tallies_more : (P Q : Tally → Tally → Type 0) (step : Tally → Tally) (a b c : Option Tally) → c ≡ option_map step b → ((t u : Tally) → P t u → Q t (step u))
+pub tallies_more : {S : Type 0} (P Q : Tally S → Tally S → Type 0) (step : Tally S → Tally S) (a b c : Option (Tally S)) → c ≡ option_map step b → ((t u : Tally S) → P t u → Q t (step u))
     → Tallies P a b → Tallies Q a c
 tallies_more P Q step None b c is more p = tt
 tallies_more P Q step (Some t) None c is more p = absurd p
 tallies_more P Q step (Some t) (Some u) c is more p = subst (Tallies Q (Some t)) (sym is) (more t u p)
 
-pub tallies_then : (P R Q : Tally → Tally → Type 0) (a b c : Option Tally) → Tallies P a b → Tallies R b c → ((t u v : Tally) → P t u → R u v → Q t v) → Tallies Q a c
+pub tallies_then : {S : Type 0} (P R Q : Tally S → Tally S → Type 0) (a b c : Option (Tally S)) → Tallies P a b → Tallies R b c → ((t u v : Tally S) → P t u → R u v → Q t v) → Tallies Q a c
 tallies_then P R Q None b c p r more = tt
 tallies_then P R Q (Some t) None c p r more = absurd p
 tallies_then P R Q (Some t) (Some u) None p r more = absurd r
 tallies_then P R Q (Some t) (Some u) (Some v) p r more = more t u v p r
 
+pub tallies_weaker : {S : Type 0} (P Q : Tally S → Tally S → Type 0) (a b : Option (Tally S)) → Tallies P a b → ((t u : Tally S) → P t u → Q t u) → Tallies Q a b
+tallies_weaker P Q None b p weaker = tt
+tallies_weaker P Q (Some t) None p weaker = absurd p
+tallies_weaker P Q (Some t) (Some u) p weaker = weaker t u p
+
+pub tallies_both : {S : Type 0} (P Q : Tally S → Tally S → Type 0) (a b : Option (Tally S)) → Tallies P a b → Tallies Q a b → Tallies (λ t u. P t u × Q t u) a b
+tallies_both P Q None b p q = tt
+tallies_both P Q (Some t) None p q = absurd p
+tallies_both P Q (Some t) (Some u) p q = (p, q)
+
 pub on_err : {A E X : Type 0} (r : Result A E) → is_err r ≡ true → OnErr r X → X
 on_err (Ok x) is p = absurd (cc)
 on_err (Err e) is p = p
+
+pub on_ok : {A E X : Type 0} (r : Result A E) → is_err r ≡ false → OnOk r X → X
+on_ok (Ok x) is p = p
+on_ok (Err e) is p = absurd (cc)
 
 pub or_true : (a b : Bool) → b ≡ true → (a || b) ≡ true
 or_true true b is = refl

@@ -1,10 +1,10 @@
 -- When a reply's time begins, behind a turn of the service.
-use Rattle.std.proofs.Common.{◌≡◌, ◌∙◌, ℕ, inl, inr, Bool, Option, None, Some, ap, refl, subst, sym}
+use Rattle.std.proofs.Common.{◌≡◌, ℕ, inl, inr, Bool, Option, None, Some, refl, subst, sym}
 use Rattle.std.specs.Prelude.{◌≢◌, IfSome, option_map}
 use Rattle.std.proofs.lemmas.Bool.Decides.{eqb_tells}
 use Rattle.slab.specs.Slab.{Slab, get}
-use Rattle.toll_server.specs.Connections.{IfStays, KeepsTime, peer_behind, stays_after}
-use Rattle.toll_server.specs.ConnectionStates.{reply_of, stage_behind, ticket_of}
+use Rattle.toll_server.specs.Connections.{IfStays, KeepsTime, connection_behind, stays_after}
+use Rattle.toll_server.specs.ConnectionStates.{reply_of, state_behind, ticket_of}
 use Rattle.toll_server.specs.Steps.{deadline_after}
 use Rattle.toll_server.specs.declared.connection.Connection.{Connection}
 use Rattle.toll_server.specs.declared.connection_state.ConnectionState.{ConnectionState}
@@ -27,7 +27,7 @@ module _ {T P : Type 0} where
   same_state (Working ticket task) deadline now = refl
   same_state (Writing reply) deadline now = refl
 
-  behind_state : (same : P → P → Bool) (party : P) (moment : ℕ) (state : ConnectionState T P) (deadline now : ℕ) → deadline ≡ deadline_after (reply_of state) (reply_of (stage_behind same party moment state)) deadline now
+  behind_state : (same : P → P → Bool) (party : P) (moment : ℕ) (state : ConnectionState T P) (deadline now : ℕ) → deadline ≡ deadline_after (reply_of state) (reply_of (state_behind same party moment state)) deadline now
   behind_state same party moment Reading deadline now = refl
   behind_state same party moment (Queued ticket) deadline now = refl
   behind_state same party moment (Working ticket task) deadline now = refl
@@ -42,13 +42,13 @@ module _ {S T P : Type 0} (now : ℕ) where
   pub same_times : (connections : Slab (Connection S T P)) (k : ℕ) → IfStays k connections connections (KeepsTime now)
   same_times connections k = same_time (get connections k)
 
-  behind_time : (same : P → P → Bool) (party : P) (moment : ℕ) (o : Option (Connection S T P)) → IfSome o (λ connection. IfSome (option_map (peer_behind same party moment) o) (KeepsTime now connection))
+  behind_time : (same : P → P → Bool) (party : P) (moment : ℕ) (o : Option (Connection S T P)) → IfSome o (λ connection. IfSome (option_map (connection_behind same party moment) o) (KeepsTime now connection))
   behind_time same party moment None = tt
   behind_time same party moment (Some connection) = behind_state same party moment connection.state connection.deadline now
 
   -- who had a turn keeps its time so, and who was put behind as before
   pub times_kept : (same : P → P → Bool) (party : P) (moment : ℕ) (old new : Slab (Connection S T P)) (key : ℕ) (connection later : Connection S T P) (step : StepResult)
-      → get old key ≡ Some connection → get new key ≡ stays_after step later → ((other : ℕ) → other ≢ key → get new other ≡ option_map (peer_behind same party moment) (get old other))
+      → get old key ≡ Some connection → get new key ≡ stays_after step later → ((other : ℕ) → other ≢ key → get new other ≡ option_map (connection_behind same party moment) (get old other))
       → KeepsTime now connection later → (k : ℕ) → IfStays k old new (KeepsTime now)
   times_kept same party moment old new key connection later step there changed others time k = elim (eqb_tells k key) [
     | inl (same_key, at) ↦ subst (λ (j : ℕ). IfStays j old new (KeepsTime now)) (sym at) at_key

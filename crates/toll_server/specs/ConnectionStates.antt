@@ -47,8 +47,8 @@ ticket_after (Pending task) moment ticket = Some (record { party = ticket.party;
 abbrev pub ticket_behind : {P : Type 0} → (P → P → Bool) → P → ℕ → Ticket P → Ticket P
 ticket_behind same party moment t = if same party t.party then record { party = t.party; queued = t.queued; since = moment } else t
 
-abbrev pub stage_behind : {T P : Type 0} → (P → P → Bool) → P → ℕ → ConnectionState T P → ConnectionState T P
-stage_behind same party moment Reading = Reading
-stage_behind same party moment (Queued ticket) = Queued (ticket_behind same party moment ticket)
-stage_behind same party moment (Working ticket task) = Working (ticket_behind same party moment ticket) task
-stage_behind same party moment (Writing reply) = Writing reply
+abbrev pub state_behind : {T P : Type 0} → (P → P → Bool) → P → ℕ → ConnectionState T P → ConnectionState T P
+state_behind same party moment Reading = Reading
+state_behind same party moment (Queued ticket) = Queued (ticket_behind same party moment ticket)
+state_behind same party moment (Working ticket task) = Working (ticket_behind same party moment ticket) task
+state_behind same party moment (Writing reply) = Writing reply

@@ -1,23 +1,29 @@
 -- The open connections, by their keys.
-use Rattle.std.specs.Prelude.{◌≡◌, ◌≢◌, ◌≤◌, ◌<◌, ◌+◌, ◌-◌, ◌⊎◌, ◌||◌, ℕ, Bool, List, [], Option, None, Some, IfSome, IsSome, ⊤, is_some, nat_lt, option_and_then, if◌then◌else◌}
-use Rattle.slab.specs.Slab.{Slab, Updates, get, slab_len}
-use Rattle.toll_protocol.specs.Streams.{HasFailed}
+use Rattle.std.specs.Prelude.{◌≡◌, ◌≢◌, ◌≤◌, ◌<◌, ◌+◌, ◌-◌, ◌^◌, ◌⊎◌, ◌||◌, ℕ, Bool, List, [], ◌∷◌, min, Option, None, Some, IfSome, IsSome, ⊤, is_some, nat_lt, option_and_then, if◌then◌else◌}
+use Rattle.slab.specs.Slab.{SameValues, Slab, Updates, get, slab_len}
+use Rattle.std.specs.List.{Contains}
+use Rattle.std.specs.Io.KnownBytes.{Consumes}
+use Rattle.toll_protocol.specs.declared.streams.sink.Sink as sink
+use Rattle.toll_protocol.specs.declared.streams.source.Source as source
 use Rattle.toll_server.specs.RequestBuffers.{bytes_received, listener_of}
+use Rattle.toll_server.specs.Networks.{Arrival}
 use Rattle.toll_server.specs.Queues.{IsNext, IsWhatWaits, Queue, Waiting, newly, queue_after, queue_with}
 use Rattle.toll_server.specs.Runs.{Tasks, Turn, Yields, after_turn}
-use Rattle.toll_server.specs.ConnectionStates.{last_poll, reply_of, stage_behind, task_of, ticket_of}
-use Rattle.toll_server.specs.Steps.{IsReadBlocked, deadline_after, deadline_from, waiting_of}
+use Rattle.toll_server.specs.ConnectionStates.{last_poll, reply_of, state_behind, task_of, ticket_of}
+use Rattle.toll_server.specs.Steps.{Advances, deadline_after, deadline_from, waiting_of}
 use Rattle.toll_server.specs.declared.filter.Filter.{Filter}
-use Rattle.toll_server.specs.declared.filter.Filter.TheVariants.{Reading, Queued, Timed}
+use Rattle.toll_server.specs.declared.filter.Filter.TheVariants.{Reading, Queued, Timed, Owners}
 use Rattle.toll_server.specs.declared.listener.Listener.{Listener}
+use Rattle.toll_server.specs.declared.listener.Listener.TheVariants.{Owners as ForOwners}
 use Rattle.toll_server.specs.declared.connections.AcceptState.{AcceptState}
+use Rattle.toll_server.specs.declared.connections.TheConstants.{MOST_CONNECTIONS, PAUSE_MILLISECONDS}
 use Rattle.toll_server.specs.declared.connections.AcceptState.TheVariants.{Open, Backlogged, Paused}
 use Rattle.toll_server.specs.declared.connection.Connection.{Connection}
 use Rattle.toll_server.specs.declared.expiry.Earliest.{Earliest}
 use Rattle.toll_server.specs.declared.expiry.Next.{Next}
 use Rattle.toll_server.specs.declared.expiry.Wait.{Wait}
 use Rattle.toll_server.specs.declared.poll.Poll.{Poll}
-use Rattle.toll_server.specs.declared.connection_state.ConnectionState.TheVariants.{Reading as BeingRead}
+use Rattle.toll_server.specs.declared.connection_state.ConnectionState.TheVariants.{Reading as ReadingState}
 use Rattle.toll_server.specs.declared.step_result.StepResult.{StepResult}
 use Rattle.toll_server.specs.declared.step_result.StepResult.TheVariants.{Waits, Joins, Answered, Failed}
 
@@ -28,9 +34,10 @@ IsWithin (Some most) spare = most ≤ spare
 
 module _ {S T P : Type 0} where
   abbrev pub IsIncluded : Filter → Connection S T P → Type 0
-  IsIncluded Reading connection = connection.state ≡ BeingRead
+  IsIncluded Reading connection = connection.state ≡ ReadingState
   IsIncluded Queued connection = IsSome (ticket_of connection.state)
   IsIncluded Timed connection = ¬ (IsSome (ticket_of connection.state))
+  IsIncluded Owners connection = listener_of connection.request ≡ ForOwners
 
   -- each of these connections has time until then at least
   abbrev pub HaveTime : Filter → Slab (Connection S T P) → ℕ → Type 0
@@ -63,12 +70,25 @@ module _ {S T P : Type 0} where
 
   -- the one is closed that has been reading longest, if one is reading
   abbrev pub EvictsOldest : Slab (Connection S T P) → Slab (Connection S T P) → Type 0
-  EvictsOldest old new = (NoneIncluded Reading old × (new ≡ old))
+  EvictsOldest old new = (NoneIncluded Reading old × SameValues old new × (slab_len new ≡ slab_len old))
       ⊎ ((key : ℕ) × (deadline : ℕ) × IsEarliest Reading old key deadline × Updates old new key None × (slab_len new + 1 ≡ slab_len old))
 
   -- who waits for its turn or has its reply stays, as it is
   abbrev pub KeepsSubmitted : Slab (Connection S T P) → Slab (Connection S T P) → Type 0
-  KeepsSubmitted old new = (key : ℕ) → IfSome (get old key) (λ connection. connection.state ≢ BeingRead → get new key ≡ Some connection)
+  KeepsSubmitted old new = (key : ℕ) → IfSome (get old key) (λ connection. connection.state ≢ ReadingState → get new key ≡ Some connection)
+
+  -- who is there was there before, as it is
+  abbrev pub NoneNew : Slab (Connection S T P) → Slab (Connection S T P) → Type 0
+  NoneNew old new = (key : ℕ) → IfSome (get new key) (λ connection. get old key ≡ Some connection)
+
+  -- nobody is reading any more, and all others are as they were
+  abbrev pub ClosesReaders : Slab (Connection S T P) → Slab (Connection S T P) → Type 0
+  ClosesReaders old new = NoneIncluded Reading new × KeepsSubmitted old new × NoneNew old new
+
+  -- once no owner is to be accepted and none is connected, who is reading is closed; and before, nobody is
+  abbrev pub WindsDown : ℕ → Slab (Connection S T P) → Slab (Connection S T P) → Type 0
+  WindsDown left old new = (left ≡ 0 → NoneIncluded Owners old → ClosesReaders old new) × (0 < left → new ≡ old)
+      × ((key : ℕ) → IfSome (get old key) (λ connection. IsIncluded Owners connection → new ≡ old))
 
   -- what the service has left to do for each, by its key
   abbrev pub tasks_in : Slab (Connection S T P) → Tasks T
@@ -90,8 +110,8 @@ module _ {S T P : Type 0} where
   NobodyWaits connections = (key : ℕ) → queue_in connections key ≡ None
 
   -- where it is of the party that has a turn, its wait begins anew
-  abbrev pub peer_behind : (P → P → Bool) → P → ℕ → Connection S T P → Connection S T P
-  peer_behind same party moment connection = record { stream = connection.stream; request = connection.request; state = stage_behind same party moment connection.state; deadline = connection.deadline }
+  abbrev pub connection_behind : (P → P → Bool) → P → ℕ → Connection S T P → Connection S T P
+  connection_behind same party moment connection = record { stream = connection.stream; request = connection.request; state = state_behind same party moment connection.state; deadline = connection.deadline }
 
   -- the request of the one with this key is whole, and it waits from now on, and all others as they did; or nothing joined the queue
   abbrev pub JoinsAt : (Listener → List ℕ → P → Type 0) → ℕ → ℕ → ℕ → Slab (Connection S T P) → Slab (Connection S T P) → Type 0
@@ -103,11 +123,51 @@ module _ {S T P : Type 0} where
   -- nothing was received yet of this one
   abbrev pub IsNewcomer : Listener → S → ℕ → Connection S T P → Type 0
   IsNewcomer listener stream now connection =
-      (connection.stream ≡ stream) × (bytes_received connection.request ≡ []) × (listener_of connection.request ≡ listener) × (connection.state ≡ BeingRead) × (connection.deadline ≡ deadline_from now)
+      (connection.stream ≡ stream) × (bytes_received connection.request ≡ []) × (listener_of connection.request ≡ listener) × (connection.state ≡ ReadingState) × (connection.deadline ≡ deadline_from now)
 
-  -- who is there is who was there, or this new connection
-  abbrev pub IsOldOrNew : Listener → S → ℕ → Option (Connection S T P) → Option (Connection S T P) → Type 0
-  IsOldOrNew listener stream now was is = IfSome is (λ connection. (was ≡ Some connection) ⊎ IsNewcomer listener stream now connection)
+  -- who came has a place by its key, which nobody had; and where it is one too many, the one is closed that has been reading longest
+  pub record Adds (now : ℕ) (came : Arrival S) (old new : Slab (Connection S T P)) : Type 0 where
+    pub connection : Connection S T P
+    pub newcomer : IsNewcomer came.listener came.stream now connection
+    pub vacant : get old came.key ≡ None
+    pub «with» : Slab (Connection S T P)
+    pub added : Updates old «with» came.key (Some connection)
+    pub one_more : slab_len «with» ≡ slab_len old + 1
+    pub shed : ((slab_len «with» ≤ MOST_CONNECTIONS) × (new ≡ «with»)) ⊎ ((MOST_CONNECTIONS < slab_len «with») × EvictsOldest «with» new)
+
+  -- so it is with this one, by the slab's next key
+  abbrev pub AddsNext : ℕ → Listener → S → Slab (Connection S T P) → Slab (Connection S T P) → Type 0
+  AddsNext now listener stream old new = Adds now (record { key = old.vacant_key; listener = listener; stream = stream }) old new
+
+  -- so it is with each of these, one after another, the newest first
+  abbrev pub AddsAll : ℕ → List (Arrival S) → Slab (Connection S T P) → Slab (Connection S T P) → Type 0
+  AddsAll now [] old new = new ≡ old
+  AddsAll now (came ∷ before) old new = (middle : Slab (Connection S T P)) × AddsAll now before old middle × Adds now came middle new
+
+  -- where there was nothing for one more: if some have just come, others may be accepted once those were heard; and else the one is closed that has been reading
+  -- longest, and others may be accepted then; where none is reading, nobody is for a while
+  abbrev pub MakesRoom : ℕ → ℕ → Slab (Connection S T P) → Slab (Connection S T P) → AcceptState → Type 0
+  MakesRoom count now old new state =
+      ((0 < count) × (new ≡ old) × (state ≡ Backlogged))
+      ⊎ ((count ≡ 0) × NoneIncluded Reading old × SameValues old new × (state ≡ Paused (min (now + PAUSE_MILLISECONDS) (2 ^ 64 - 1))))
+      ⊎ ((count ≡ 0) × ((key : ℕ) × (deadline : ℕ) × IsEarliest Reading old key deadline × Updates old new key None × (state ≡ Backlogged)))
+
+  -- the connection is that which came: at its listener, and what was received of it is what its stream gave, of which the rest is unread while it is reading
+  pub record IsOf (unread : S → Option (List ℕ)) (came : Arrival S) (connection : Connection S T P) : Type 0 where
+    pub listener : came.listener ≡ listener_of connection.request
+    pub rest : Option (List ℕ)
+    pub begins : Consumes (unread came.stream) rest (bytes_received connection.request)
+    pub reads : connection.state ≡ ReadingState → unread connection.stream ≡ rest
+
+  -- each stands at the key by which it came
+  abbrev pub StandsByKey : (S → Option (List ℕ)) → List (Arrival S) → Slab (Connection S T P) → Type 0
+  StandsByKey unread arrivals connections =
+      (key : ℕ) → IfSome (get connections key) (λ connection. (came : Arrival S) × Contains arrivals came × (came.key ≡ key) × IsOf unread came connection)
+
+  -- who is there was there before, with the request that it has, or as it is where it is reading
+  abbrev pub KeepsRequests : Slab (Connection S T P) → Slab (Connection S T P) → Type 0
+  KeepsRequests old new = (key : ℕ) → IfSome (get new key) (λ later.
+      (connection : Connection S T P) × (get old key ≡ Some connection) × (later.request ≡ connection.request) × (later.state ≡ ReadingState → later ≡ connection))
 
   -- a connection stays behind a step in which it waits
   abbrev pub stays_after : StepResult → Connection S T P → Option (Connection S T P)
@@ -119,11 +179,6 @@ module _ {S T P : Type 0} where
   -- where the connection with this key was there and is there still, this holds of it
   abbrev pub IfStays : ℕ → Slab (Connection S T P) → Slab (Connection S T P) → (Connection S T P → Connection S T P → Type 0) → Type 0
   IfStays key old new P = IfSome (get old key) (λ connection. IfSome (get new key) (λ later. P connection later))
-
-  -- who stays has met a read that failed, or with a reply a write, as the one or the other does that would wait; or it waits for its turn
-  abbrev pub IsBlocked : (S → Option Bool) → (S → Option Bool) → Connection S T P → Connection S T P → Type 0
-  IsBlocked reads writes old new =
-      IsReadBlocked reads old new × (IsSome (reply_of new.state) → HasFailed (writes old.stream) (writes new.stream))
 
   -- the time for the reply begins when there is one, and no other time changes
   abbrev pub KeepsTime : ℕ → Connection S T P → Connection S T P → Type 0
@@ -140,6 +195,17 @@ module _ {S T P : Type 0} where
   -- no connection with another key has changed, come or gone
   abbrev pub OnlyAt : ℕ → Slab (Connection S T P) → Slab (Connection S T P) → Type 0
   OnlyAt key old new = (other : ℕ) → other ≢ key → get new other ≡ get old other
+
+  -- the connection with this key went on as far as its stream does, and no other: it stays where it waits, and is closed else
+  pub record Hears (from : source.Ghosts S) (to : sink.Ghosts S) (key : ℕ) (old new : Slab (Connection S T P)) : Type 0 where
+    pub went_on : IfSome (get old key) (λ connection. (later : Connection S T P) × (step : StepResult) × Advances from to connection later step × (get new key ≡ stays_after step later))
+    pub nobody : get old key ≡ None → get new key ≡ None
+    pub others : OnlyAt key old new
+
+  -- so it is with each of these, one after another
+  abbrev pub HearsAll : source.Ghosts S → sink.Ghosts S → List ℕ → Slab (Connection S T P) → Slab (Connection S T P) → Type 0
+  HearsAll from to [] old new = new ≡ old
+  HearsAll from to (key ∷ keys) old new = (middle : Slab (Connection S T P)) × Hears from to key old middle × HearsAll from to keys middle new
 
   -- there is a connection, and its time is over
   abbrev pub IsExpired : ℕ → Option (Connection S T P) → Type 0

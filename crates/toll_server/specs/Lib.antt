@@ -5,3 +5,5 @@ pub mod Queues
 pub mod Steps
 pub mod Networks
 pub mod Connections
+pub mod Accepting
+pub mod Rounds

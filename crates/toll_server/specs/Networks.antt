@@ -1,24 +1,72 @@
 -- What a network has done.
-use Rattle.std.specs.Prelude.{◌≡◌, ◌<◌, ◌+◌, ◌-◌, ◌^◌, ◌||◌, ℕ, Bool, true, is_err, Option, None, Some, Result, Ok, Err, OnErr, ⊤}
+use Rattle.std.specs.Prelude.{◌≡◌, ◌≤◌, ◌<◌, ◌+◌, ◌-◌, ◌^◌, ◌||◌, ℕ, Bool, true, is_err, List, [], ◌∷◌, ◌++◌, length, Option, None, Some, Result, Ok, Err, OnErr, ⊤}
 use Rattle.toll_server.specs.declared.listener.Listener.{Listener}
 use Rattle.toll_server.specs.declared.listener.Listener.TheVariants.{Owners, Plant}
 use Rattle.toll_server.specs.declared.network.Accepted.{Accepted}
 use Rattle.toll_server.specs.declared.network.Accepted.TheVariants.{Connected, NoneWaiting, NoResources}
 use Rattle.toll_server.specs.declared.connections.AcceptState.{AcceptState}
 use Rattle.toll_server.specs.declared.connections.AcceptState.TheVariants.{Open, Backlogged, Paused}
+use Rattle.toll_server.specs.declared.network.TheConstants.{MOST_READY}
 use Rattle.toll_server.specs.declared.serving.ServingEnd.{ServingEnd}
 use Rattle.toll_server.specs.declared.serving.ServingEnd.TheVariants.{All, Fault, Spent}
 
--- how many owners' connections it gave, how often it was asked for one and how often waited for, and whether that has failed
-pub record Tally : Type 0 where
+-- a connection that came: the key by which it is known from then on, the listener at which it came, and its stream
+pub record Arrival (S : Type 0) : Type 0 where
+  pub key : ℕ
+  pub listener : Listener
+  pub stream : S
+
+-- a wait: for how many milliseconds it might be at most, at which one it was over, and who might go on then, by their keys
+pub record Wake : Type 0 where
+  pub limit : Option ℕ
+  pub at : ℕ
+  pub ready : List ℕ
+
+-- what is known of those who wait at the listeners, by the latest call
+pub data Backlog : Type 0 where
+  MayWait : Backlog
+  NoneWaits : Backlog
+  Lacks : Backlog
+
+-- how many owners' connections it gave, how often it was asked for one and how often waited for, and whether that has failed; all connections that it gave and
+-- all its waits, the newest first; who may go on since the latest wait and was not handed out yet, and how many were not where it was waited for anew; what is
+-- known of those who wait at the listeners; and the latest millisecond that its clock showed
+pub record Tally (S : Type 0) : Type 0 where
   pub owners : ℕ
   pub accepts : ℕ
   pub waits : ℕ
   pub failed : Bool
+  pub arrivals : List (Arrival S)
+  pub wakes : List Wake
+  pub unheard : List ℕ
+  pub missed : ℕ
+  pub backlog : Backlog
+  pub clock : ℕ
 
--- one wait more
-abbrev pub after_wait : Bool → Tally → Tally
-after_wait fails t = record { owners = t.owners; accepts = t.accepts; waits = t.waits + 1; failed = t.failed || fails }
+module _ {S : Type 0} where
+  -- a wait more: it was over no earlier than the clock showed before, and at most so many may go on
+  abbrev pub Waits : {E : Type 0} → Option ℕ → Result ℕ E → Tally S → Tally S → Type 0
+  Waits limit (Ok now) t u = (t.clock ≤ now) × ((ready : List ℕ) × (length ready ≤ MOST_READY) × (u ≡ record t {
+    waits = t.waits + 1;
+    wakes = record { limit = limit; at = now; ready = ready } ∷ t.wakes;
+    unheard = ready;
+    missed = t.missed + length t.unheard;
+    clock = now;
+  }))
+  Waits limit (Err e) t u = u ≡ record t { waits = t.waits + 1; failed = true }
+
+  -- the next one of those who may go on was handed out, or there is no more
+  abbrev pub HandsOut : Option ℕ → Tally S → Tally S → Type 0
+  HandsOut None t u = (t.unheard ≡ []) × (u ≡ t)
+  HandsOut (Some key) t u = (rest : List ℕ) × (t.unheard ≡ key ∷ rest) × (u ≡ record t { unheard = rest })
+
+  -- the clock shows this, and never less than before
+  abbrev pub Shows : ℕ → Tally S → Tally S → Type 0
+  Shows now t u = (t.clock ≤ now) × (u ≡ record t { clock = now })
+
+-- it fails, and nobody has come nor been waited for
+abbrev pub BreaksDown : {S : Type 0} → Tally S → Tally S → Type 0
+BreaksDown t u = (u.failed ≡ true) × (u.arrivals ≡ t.arrivals) × (u.wakes ≡ t.wakes) × (u.missed ≡ t.missed)
 
 abbrev pub owners_at : Listener → ℕ
 owners_at Owners = 1
@@ -31,18 +79,37 @@ owners_accepted (Ok NoneWaiting) = 0
 owners_accepted (Ok NoResources) = 0
 owners_accepted (Err e) = 0
 
--- one taking more
-abbrev pub after_accept : {S E : Type 0} → Result (Accepted S) E → Tally → Tally
-after_accept r t = record { owners = t.owners + owners_accepted r; accepts = t.accepts + 1; waits = t.waits; failed = t.failed || is_err r }
+-- who came, by this key
+abbrev pub arrived : {S E : Type 0} → ℕ → Result (Accepted S) E → List (Arrival S)
+arrived key (Ok (Connected listener stream)) = record { key = key; listener = listener; stream = stream } ∷ []
+arrived key (Ok NoneWaiting) = []
+arrived key (Ok NoResources) = []
+arrived key (Err e) = []
+
+abbrev pub backlog_after : {S E : Type 0} → Result (Accepted S) E → Backlog
+backlog_after (Ok (Connected listener stream)) = MayWait
+backlog_after (Ok NoneWaiting) = NoneWaits
+backlog_after (Ok NoResources) = Lacks
+backlog_after (Err e) = MayWait
+
+-- one taking more, by this key
+abbrev pub after_accept : {S E : Type 0} → ℕ → Result (Accepted S) E → Tally S → Tally S
+after_accept key r t = record t {
+  owners = t.owners + owners_accepted r;
+  accepts = t.accepts + 1;
+  failed = t.failed || is_err r;
+  arrivals = arrived key r ++ t.arrivals;
+  backlog = backlog_after r;
+}
 
 -- so many owners came, and there is no more to wait for; or the network failed; or it was waited for as often as can be counted
-abbrev pub EndsSo : ServingEnd → ℕ → Tally → Tally → Type 0
+abbrev pub EndsSo : {S : Type 0} → ServingEnd → ℕ → Tally S → Tally S → Type 0
 EndsSo All count t u = u.owners ≡ t.owners + count
 EndsSo Fault count t u = u.failed ≡ true
 EndsSo Spent count t u = u.waits ≡ t.waits + (2 ^ 64 - 1)
 
 -- a network that tells its tally has this one where it had that
-abbrev pub Tallies : (Tally → Tally → Type 0) → Option Tally → Option Tally → Type 0
+abbrev pub Tallies : {S : Type 0} → (Tally S → Tally S → Type 0) → Option (Tally S) → Option (Tally S) → Type 0
 Tallies P None new = ⊤
 Tallies P (Some t) None = ⊥
 Tallies P (Some t) (Some u) = P t u
@@ -58,7 +125,8 @@ IsPausedAt now Backlogged = ⊥
 IsPausedAt now (Paused deadline) = now < deadline
 
 -- as many owners as were accepted are no longer to be; and one was asked for, where one was to come and accepting was not paused
-abbrev pub Accepts : {A E : Type 0} → Result A E → AcceptState → ℕ → ℕ → Tally → Tally → Type 0
+abbrev pub Accepts : {A E S : Type 0} → Result A E → AcceptState → ℕ → ℕ → Tally S → Tally S → Type 0
 Accepts r accept_state owners_left left t u =
-    (u.owners + left ≡ t.owners + owners_left) × (u.waits ≡ t.waits) × OnErr r (u.failed ≡ true)
+    (u.owners + left ≡ t.owners + owners_left) × (u.waits ≡ t.waits) × (u.wakes ≡ t.wakes) × (u.unheard ≡ t.unheard) × (u.missed ≡ t.missed) × (t.clock ≤ u.clock)
+    × OnErr r (u.failed ≡ true)
     × (¬ (IsPaused accept_state) → 0 < owners_left → t.accepts < u.accepts)

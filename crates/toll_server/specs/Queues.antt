@@ -123,12 +123,6 @@ module _ {T P : Type 0} (same : P → P → Bool) where
     pub tasks : (whose : ℕ) → left whose ≡ tasks_of history whose
     pub in_turn : AreInTurn is_by history
 
-  -- requests became whole besides, and no turn was taken
-  pub record HasGrown (is_by : Listener → List ℕ → P → Type 0) (history : List (Happening T P)) (moment : ℕ) (queue : Queue P) (left : Tasks T) : Type 0 where
-    pub newer : List (Happening T P)
-    pub is : IsHistory is_by newer moment queue left
-    pub turns : turns_of newer ≡ turns_of history
-
   -- the service became this one by turns, each of which was taken in turn; no party had two while another one waited
   pub record IsServedInTurn {O : Type 0} (is_by : Listener → List ℕ → P → Type 0) (answers : O → Listener → List ℕ → Poll T → O → Type 0) (resumes : O → T → Poll T → O → Type 0) (old new : O) : Type 0 where
     pub history : List (Happening T P)

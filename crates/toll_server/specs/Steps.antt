@@ -1,9 +1,10 @@
 -- One step of a connection.
-use Rattle.std.specs.Prelude.{◌≡◌, ◌↔◌, ◌⊎◌, ◌+◌, ◌-◌, ◌^◌, ℕ, min, Bool, List, [], ◌++◌, length, Option, Some, None, IsSome, option_map}
+use Rattle.std.specs.Prelude.{◌≡◌, ◌≢◌, ◌↔◌, ◌⊎◌, ◌+◌, ◌-◌, ◌^◌, ℕ, min, List, [], ◌++◌, length, Option, Some, None, IsSome, option_map}
 use Rattle.std.specs.Io.KnownBytes.{Appends, Consumes, IsAtEnd}
-use Rattle.toll_protocol.specs.Streams.{HasFailed, bytes_between}
+use Rattle.toll_protocol.specs.Streams.{NoneBlocked, OneBlocked, bytes_between}
 use Rattle.toll_protocol.specs.declared.streams.response_writer.ResponseWriter.{ResponseWriter}
 use Rattle.toll_protocol.specs.declared.streams.sink.Sink as sink
+use Rattle.toll_protocol.specs.declared.streams.source.Source as source
 use Rattle.toll_server.specs.RequestBuffers.{IsComplete, bytes_received, listener_of}
 use Rattle.toll_server.specs.Queues.{Waiting, newly}
 use Rattle.toll_server.specs.ConnectionStates.{reply_of, ticket_of}
@@ -81,9 +82,17 @@ module _ {S T P : Type 0} where
   ReceivesRequest unread old new =
       old.state ≡ Reading → Received (unread old.stream) (unread new.stream) old.request new.request (IsSome (ticket_of new.state))
 
-  -- who is reading still has met a read that failed, as one does that would wait
-  abbrev pub IsReadBlocked : (S → Option Bool) → Connection S T P → Connection S T P → Type 0
-  IsReadBlocked reads old new = new.state ≡ Reading → HasFailed (reads old.stream) (reads new.stream)
+  -- who is reading still has met one read that would have waited
+  abbrev pub IsReadBlocked : (S → Option ℕ) → Connection S T P → Connection S T P → Type 0
+  IsReadBlocked reads old new = new.state ≡ Reading → OneBlocked (reads old.stream) (reads new.stream)
+
+  -- no read of who was reading would have waited
+  abbrev pub IsReadThrough : (S → Option ℕ) → Connection S T P → Connection S T P → Type 0
+  IsReadThrough reads old new = old.state ≡ Reading → NoneBlocked (reads old.stream) (reads new.stream)
+
+  -- who had sent its request keeps it, and isn't read from
+  abbrev pub KeepsRequest : Connection S T P → Connection S T P → Type 0
+  KeepsRequest old new = old.state ≢ Reading → (new.request ≡ old.request) × (new.state ≢ Reading)
 
   -- a connection whose request became whole joined the queue, and any other waits as it did
   abbrev pub JoinsAs : (Listener → List ℕ → P → Type 0) → ℕ → Connection S T P → Connection S T P → StepResult → Type 0
@@ -94,12 +103,23 @@ module _ {S T P : Type 0} where
   JoinsAs is_by moment old new Answered = (waiting_of new ≡ None) × (waiting_of old ≡ None)
   JoinsAs is_by moment old new Failed = (waiting_of new ≡ None) × (waiting_of old ≡ None)
 
-  -- the stream was given the next bytes of the reply; the step is the last where it has all of them, and where it waits for the stream, a write has failed,
-  -- as one does that would wait; who waits for a turn stays
+  -- the stream was given the next bytes of the reply; the step is the last where it has all of them; where it waits for the stream, one write would have waited,
+  -- and else none; who waits for a turn stays
   pub record Writes (to : sink.Ghosts S) (old new : Connection S T P) (step : StepResult) : Type 0 where
     pub wrote : WritesNextBytes (to.held old.stream) (to.held new.stream) (reply_of old.state) (reply_of new.state)
     pub given : step ≡ Answered ↔ IsWhollyWritten (reply_of new.state)
-    pub blocked : step ≡ Waits → IsSome (reply_of new.state) → HasFailed (to.has_failed old.stream) (to.has_failed new.stream)
+    pub blocked : step ≡ Waits → IsSome (reply_of new.state) → OneBlocked (to.blocked old.stream) (to.blocked new.stream)
+    pub through : step ≢ Waits → IsSome (reply_of old.state) → NoneBlocked (to.blocked old.stream) (to.blocked new.stream)
+
+  -- a connection went on as far as its stream does: what it was given and read, where it waits, and that it fails where nothing would have waited
+  pub record Advances (from : source.Ghosts S) (to : sink.Ghosts S) (old new : Connection S T P) (step : StepResult) : Type 0 where
+    pub hears : ReceivesRequest from.unread old new
+    pub writes : Writes to old new step
+    pub waits : step ≡ Waits → IsReadBlocked from.blocked old new
+    pub fails : step ≡ Failed → IsReadThrough from.blocked old new
+    pub idle : IsSome (ticket_of old.state) → (new ≡ old) × (step ≡ Waits)
+    pub request : KeepsRequest old new
+    pub deadline : new.deadline ≡ old.deadline
 
 -- when the time is over that a connection has from this moment on
 abbrev pub deadline_from : ℕ → ℕ

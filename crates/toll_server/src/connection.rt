@@ -2,7 +2,7 @@
 ghost use Rattle.std.specs.Prelude.{◌≡◌, ◌≢◌, [], None, Some, IfNone, IfOk, IfSome, IsSome};
 ghost use Rattle.toll_server.specs.RequestBuffers.{bytes_received, listener_of};
 ghost use Rattle.toll_server.specs.ConnectionStates.{last_poll, reply_of, task_of, ticket_after, ticket_of};
-ghost use Rattle.toll_server.specs.Steps.{Asks, IsReadBlocked, JoinsAs, ReceivesRequest, Writes, deadline_after, deadline_from};
+ghost use Rattle.toll_server.specs.Steps.{Advances, Asks, JoinsAs, Writes, deadline_after, deadline_from};
 ghost use Rattle.toll_server.specs.declared.connection_state.ConnectionState.{ConnectionState};
 ghost use Rattle.toll_server.specs.declared.step_result.StepResult.{StepResult};
 
@@ -62,11 +62,7 @@ impl<S: Stream, T: Drop, P: Drop> Connection<S, T, P> {
     pub fn advance<O: Service<Task = T, Party = P>>(&mut self, moment: u128) -> StepResult
         ensures joins { JoinsAs O.is_by moment self.old self.new result }
         ensures same { last_poll self.new.state ≡ last_poll self.old.state }
-        ensures hears { ReceivesRequest S.Source.unread self.old self.new }
-        ensures writes { Writes S.Sink self.old self.new result }
-        ensures waits { result ≡ StepResult.Waits → IsReadBlocked S.Source.has_failed self.old self.new }
-        ensures idle { IsSome (ticket_of self.old.state) → self.new ≡ self.old }
-        ensures deadline { self.new.deadline ≡ self.old.deadline }
+        ensures steps { Advances S.Source S.Sink self.old self.new result }
     {
         if !matches!(self.state, ConnectionState::Reading) {
             return self.write_pending();

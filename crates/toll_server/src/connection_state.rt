@@ -1,6 +1,6 @@
 //! How far a connection has come.
 ghost use Rattle.std.specs.Prelude.{◌≡◌, Some, IfSome, option_copied};
-ghost use Rattle.toll_server.specs.ConnectionStates.{last_poll, reply_of, stage_behind, ticket_after, ticket_of};
+ghost use Rattle.toll_server.specs.ConnectionStates.{last_poll, reply_of, state_behind, ticket_after, ticket_of};
 
 use crate::poll::Poll;
 use crate::ticket::Ticket;
@@ -49,7 +49,7 @@ impl<T: Drop, P: Drop> ConnectionState<T, P> {
 impl<T: Drop, P: PartialEq + Drop> ConnectionState<T, P> {
     /// That party has a turn now.
     pub fn put_behind(&mut self, party: &P, moment: u128)
-        ensures { self.new ≡ stage_behind P.eq party.now moment self.old }
+        ensures { self.new ≡ state_behind P.eq party.now moment self.old }
     {
         match self {
             ConnectionState::Queued(ticket) => ticket.put_behind(party, moment),

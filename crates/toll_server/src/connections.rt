@@ -1,19 +1,20 @@
 //! The open connections.
-ghost use Rattle.std.specs.Prelude.{◌≡◌, ◌↔◌, ◌≤◌, ◌<◌, ◌+◌, ◌⊎◌, ◌^◌, ℕ, None, IfSome, IsTrue};
+ghost use Rattle.std.specs.Prelude.{◌≡◌, ◌↔◌, ◌≤◌, ◌<◌, ◌+◌, ◌⊎◌, ◌^◌, ℕ, None, IfSome, IsTrue, OnErr, OnOk};
 ghost use Rattle.slab.specs.Slab.{HasRoomFor, Updates, get, slab_len};
-ghost use Rattle.toll_server.specs.Connections.{ClosesExpired, IfStays, IsBlocked, IsDueAt, IsDueTo, IsInTime, IsOldOrNew, JoinsAt, KeepsQueue, KeepsSubmitted, KeepsTasks, KeepsTime, OnlyAt, TakesNext, stays_after};
+ghost use Rattle.toll_server.specs.Connections.{AddsNext, ClosesExpired, Hears, IfStays, IsDueAt, IsDueTo, IsInTime, JoinsAt, KeepsQueue, KeepsRequests, KeepsSubmitted, KeepsTasks, KeepsTime, MakesRoom, NoneNew, TakesNext, WindsDown, stays_after};
+ghost use Rattle.toll_server.specs.Accepting.{HasAccepted, StandsStill};
 ghost use Rattle.toll_server.specs.Networks.{Accepts, IsPaused, IsPausedAt, Tallies, owners_at};
 ghost use Rattle.toll_server.specs.declared.listener.Listener.{Listener};
 
 use crate::connection::Connection;
-use crate::expiry::{close_expired, earliest_of, evict_oldest, next_of, put_behind};
+use crate::expiry::{close_expired, close_readers, earliest_of, evict_oldest, next_of, put_behind};
 use crate::filter::Filter;
 use crate::listener::Listener;
 use crate::network::{Accepted, Network, NetworkFault};
 use crate::service::Service;
 use crate::step_result::StepResult;
 use slab::Slab;
-use std::alloc::Global;
+use std::alloc::{AllocError, Global};
 use toll_protocol::Stream;
 
 /// How many connections are open at once.
@@ -88,15 +89,18 @@ impl<S: Stream, T: Drop, P: Eq + Drop> Connections<S, T, P> {
         }
     }
 
-    /// Accepts those that wait at a listener, while owners are still to be accepted. Where too many are
-    /// open then, the one is closed that has been reading longest. Where the network has no resources, none
-    /// is accepted for a while.
+    /// Accepts those that wait at a listener, while owners are still to be accepted, and times them from now
+    /// on. Where too many are open then, the one is closed that has been reading longest. So it is where there
+    /// are no resources for one more, once those who came were heard; and where none is reading then, none is
+    /// accepted for a while.
     pub fn accept<W: Network<Stream = S>>(
         &mut self,
         alloc: Global,
         network: &mut W,
     ) -> Result<(), NetworkFault>
         ensures tally { Tallies (Accepts result self.old.accept_state self.old.owners_left self.new.owners_left) (W.tally network.old) (W.tally network.new) }
+        ensures added { Tallies (HasAccepted result self.old self.new) (W.tally network.old) (W.tally network.new) }
+        ensures stands { Tallies (StandsStill S.Source.unread self.old.slots self.new.slots) (W.tally network.old) (W.tally network.new) }
         ensures submitted { KeepsSubmitted self.old.slots self.new.slots }
         ensures tasks { KeepsTasks self.old.slots self.new.slots }
         ensures queue { KeepsQueue self.old.slots self.new.slots }
@@ -108,17 +112,20 @@ impl<S: Stream, T: Drop, P: Eq + Drop> Connections<S, T, P> {
             return Ok(());
         }
         self.accept_state = AcceptState::Open;
-        for _ in 0..MOST_ACCEPTS {
+        for came in 0..MOST_ACCEPTS {
             if self.owners_left == 0 {
                 return Ok(());
             }
             match network.accept_next(self.slots.vacant_key()) {
-                Ok(Accepted::Connected(listener, stream)) => self.add_connection(
-                    alloc, listener, stream, now,
-                ),
+                Ok(Accepted::Connected(listener, stream)) => {
+                    if self.add_connection(alloc, listener, stream, now).is_err() {
+                        self.make_room(came, now);
+                        return Ok(());
+                    }
+                }
                 Ok(Accepted::NoneWaiting) => return Ok(()),
                 Ok(Accepted::NoResources) => {
-                    self.accept_state = AcceptState::Paused(now.saturating_add(PAUSE_MILLISECONDS));
+                    self.make_room(came, now);
                     return Ok(());
                 }
                 Err(fault) => return Err(fault),
@@ -140,29 +147,61 @@ impl<S: Stream, T: Drop, P: Eq + Drop> Connections<S, T, P> {
 
     // Adds a connection, if there is memory for it. Where that is one too many, the one is closed that has
     // been reading longest.
-    fn add_connection(&mut self, alloc: Global, listener: Listener, stream: S, now: u64)
+    fn add_connection(
+        &mut self,
+        alloc: Global,
+        listener: Listener,
+        stream: S,
+        now: u64,
+    ) -> Result<(), AllocError>
         requires { 0 < self.old.owners_left }
         ensures owners_left { self.new.owners_left + owners_at listener ≡ self.old.owners_left }
-        ensures kept { slab_len self.old.slots < MOST_CONNECTIONS → OnlyAt self.old.slots.vacant_key self.old.slots self.new.slots }
-        ensures received { let key = self.old.slots.vacant_key in IsOldOrNew listener stream now (get self.old.slots key) (get self.new.slots key) }
+        ensures added { OnOk result (AddsNext now listener stream self.old.slots self.new.slots) }
+        ensures same { OnErr result (self.new.slots.slots ≡ self.old.slots.slots) }
         ensures submitted { KeepsSubmitted self.old.slots self.new.slots }
         ensures tasks { KeepsTasks self.old.slots self.new.slots }
         ensures queue { KeepsQueue self.old.slots self.new.slots }
         ensures moment { self.new.moment ≡ self.old.moment }
+        ensures accept_state { self.new.accept_state ≡ self.old.accept_state }
         ensures full { slab_len self.old.slots ≤ MOST_CONNECTIONS → slab_len self.new.slots ≤ MOST_CONNECTIONS }
+    {
+        self.count_owner(listener);
+        let connection = Connection::new(alloc, listener, stream, now)?;
+        let Ok(_key) = self.slots.insert(connection) else {
+            return Err(AllocError);
+        };
+        if self.slots.len() > MOST_CONNECTIONS {
+            evict_oldest(&mut self.slots);
+        }
+        Ok(())
+    }
+
+    // One owner less is to be accepted, if it is one.
+    fn count_owner(&mut self, listener: Listener)
+        requires { 0 < self.old.owners_left }
+        ensures owners_left { self.new.owners_left + owners_at listener ≡ self.old.owners_left }
+        ensures slots { self.new.slots ≡ self.old.slots }
+        ensures moment { self.new.moment ≡ self.old.moment }
+        ensures accept_state { self.new.accept_state ≡ self.old.accept_state }
     {
         if listener == Listener::Owners {
             self.owners_left -= 1;
         }
-        let Ok(connection) = Connection::new(alloc, listener, stream, now) else {
-            return;
-        };
-        if self.slots.insert(connection).is_err() {
+    }
+
+    // Where there are no resources for one more, the one is closed that has been reading longest, unless so
+    // many came just now and were not heard yet.
+    fn make_room(&mut self, came: usize, now: u64)
+        ensures room { MakesRoom came now self.old.slots self.new.slots self.new.accept_state }
+        ensures fewer { slab_len self.new.slots ≤ slab_len self.old.slots }
+        ensures owners_left { self.new.owners_left ≡ self.old.owners_left }
+        ensures moment { self.new.moment ≡ self.old.moment }
+    {
+        if came > 0 || evict_oldest(&mut self.slots) {
+            self.accept_state = AcceptState::Backlogged;
             return;
         }
-        if self.slots.len() > MOST_CONNECTIONS {
-            evict_oldest(&mut self.slots);
-        }
+        self.accept_state = AcceptState::Paused(now.saturating_add(PAUSE_MILLISECONDS));
     }
 
     /// Takes the connection with this key as far as its stream goes. It is closed once it has its reply, or
@@ -173,9 +212,7 @@ impl<S: Stream, T: Drop, P: Eq + Drop> Connections<S, T, P> {
         ensures joins { JoinsAt O.is_by key self.old.moment self.new.moment self.old.slots self.new.slots }
         ensures more { self.new.moment ≤ self.old.moment + 1 }
         ensures tasks { KeepsTasks self.old.slots self.new.slots }
-        ensures others { OnlyAt key self.old.slots self.new.slots }
-        ensures blocked { IfStays key self.old.slots self.new.slots (IsBlocked S.Source.has_failed S.Sink.has_failed) }
-        ensures deadline { IfStays key self.old.slots self.new.slots (λ connection later. later.deadline ≡ connection.deadline) }
+        ensures hears { Hears S.Source S.Sink key self.old.slots self.new.slots }
         ensures fewer { slab_len self.new.slots ≤ slab_len self.old.slots }
         ensures owners_left { self.new.owners_left ≡ self.old.owners_left }
     {
@@ -200,6 +237,7 @@ impl<S: Stream, T: Drop, P: Eq + Drop> Connections<S, T, P> {
         ensures turn { TakesNext O.answers O.resumes P.eq self.old.moment self.new.moment self.old.slots self.new.slots service.old service.new }
         ensures more { self.new.moment ≤ self.old.moment + 1 }
         ensures deadline { (key : ℕ) → IfStays key self.old.slots self.new.slots (KeepsTime now) }
+        ensures requests { KeepsRequests self.old.slots self.new.slots }
         ensures fewer { slab_len self.new.slots ≤ slab_len self.old.slots }
         ensures owners_left { self.new.owners_left ≡ self.old.owners_left }
     {
@@ -216,6 +254,22 @@ impl<S: Stream, T: Drop, P: Eq + Drop> Connections<S, T, P> {
         let step = connection.store_poll(outcome, self.moment, now);
         self.moment += 1;
         self.keep(connection, step);
+    }
+
+    /// Closes those that are reading, once no owner is to be accepted and none is connected, so that nobody of
+    /// the plant who sends nothing holds up the end.
+    pub fn wind_down(&mut self)
+        ensures readers { WindsDown self.old.owners_left self.old.slots self.new.slots }
+        ensures none_new { NoneNew self.old.slots self.new.slots }
+        ensures tasks { KeepsTasks self.old.slots self.new.slots }
+        ensures queue { KeepsQueue self.old.slots self.new.slots }
+        ensures owners_left { self.new.owners_left ≡ self.old.owners_left }
+        ensures moment { self.new.moment ≡ self.old.moment }
+    {
+        if self.owners_left > 0 || earliest_of(&self.slots, Filter::Owners).is_some() {
+            return;
+        }
+        close_readers(&mut self.slots);
     }
 
     // The connection, which was taken out, stays where it waits, and is closed else.

@@ -1,8 +1,9 @@
 //! Looking through the open connections.
-ghost use Rattle.std.specs.Prelude.{◌≡◌, ◌↔◌, ℕ, IfSome, IfNone, IsTrue, option_map};
+ghost use Rattle.std.specs.Prelude.{◌≡◌, ◌↔◌, ◌+◌, ℕ, IfSome, IfNone, IsTrue, option_map};
 ghost use Rattle.slab.specs.Slab.{get, slab_len};
-ghost use Rattle.toll_server.specs.Connections.{ClosesExpired, EvictsOldest, IsBefore, IsEarliest, IsExpired, IsLonger, NobodyWaits, NoneIncluded, OnlyAt, peer_behind, queue_in, wait_in};
+ghost use Rattle.toll_server.specs.Connections.{ClosesExpired, ClosesReaders, EvictsOldest, IsBefore, IsEarliest, IsExpired, IsLonger, NobodyWaits, NoneIncluded, OnlyAt, connection_behind, queue_in, wait_in};
 ghost use Rattle.toll_server.specs.Queues.{IsNext};
+ghost use Rattle.toll_server.specs.declared.filter.Filter.{Filter};
 
 use crate::connection::Connection;
 use crate::filter::Filter;
@@ -81,13 +82,25 @@ fn is_expired<S: Stream, T: Drop, P: Drop>(
     }
 }
 
-/// The one is closed that has been reading longest, if one is reading.
-pub fn evict_oldest<S: Stream, T: Drop, P: Drop>(connections: &mut Slab<Connection<S, T, P>>)
-    ensures { EvictsOldest connections.old connections.new }
+/// The one is closed that has been reading longest, if one is reading, and whether one was is told.
+pub fn evict_oldest<S: Stream, T: Drop, P: Drop>(
+    connections: &mut Slab<Connection<S, T, P>>,
+) -> bool
+    ensures evicts { EvictsOldest connections.old connections.new }
+    ensures some { IsTrue result → slab_len connections.new + 1 ≡ slab_len connections.old }
+    ensures none { ¬ (IsTrue result) → NoneIncluded Filter.Reading connections.old × (connections.new ≡ connections.old) }
 {
-    if let Some(first) = earliest_of(connections, Filter::Reading) {
-        let _ = connections.try_remove(first.key);
+    match earliest_of(connections, Filter::Reading) {
+        Some(first) => connections.try_remove(first.key).is_some(),
+        None => false,
     }
+}
+
+/// All those are closed that are reading.
+pub fn close_readers<S: Stream, T: Drop, P: Drop>(connections: &mut Slab<Connection<S, T, P>>)
+    ensures { ClosesReaders connections.old connections.new }
+{
+    while evict_oldest(connections) {}
 }
 
 /// Since when somebody waits for its turn, and when it joined the queue.
@@ -160,7 +173,7 @@ pub fn put_behind<S: Stream, T: Drop, P: PartialEq + Drop>(
     party: &P,
     moment: u128,
 )
-    ensures behind { (key : ℕ) → get connections.new key ≡ option_map (peer_behind P.eq party.now moment) (get connections.old key) }
+    ensures behind { (key : ℕ) → get connections.new key ≡ option_map (connection_behind P.eq party.now moment) (get connections.old key) }
     ensures vacant { connections.new.vacant_key ≡ connections.old.vacant_key }
     ensures capacity { connections.new.capacity ≡ connections.old.capacity }
     ensures len { slab_len connections.new ≡ slab_len connections.old }
@@ -177,7 +190,7 @@ fn put_one_behind<S: Stream, T: Drop, P: PartialEq + Drop>(
     party: &P,
     moment: u128,
 )
-    ensures behind { get connections.new key ≡ option_map (peer_behind P.eq party.now moment) (get connections.old key) }
+    ensures behind { get connections.new key ≡ option_map (connection_behind P.eq party.now moment) (get connections.old key) }
     ensures others { OnlyAt key connections.old connections.new }
     ensures vacant { connections.new.vacant_key ≡ connections.old.vacant_key }
     ensures capacity { connections.new.capacity ≡ connections.old.capacity }

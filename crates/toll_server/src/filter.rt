@@ -4,6 +4,7 @@ ghost use Rattle.toll_server.specs.Connections.{IsIncluded};
 
 use crate::connection::Connection;
 use crate::connection_state::ConnectionState;
+use crate::listener::Listener;
 
 /// Which of the open connections.
 #[derive(Clone, Copy, Debug, PartialEq, Eq)]
@@ -14,6 +15,8 @@ pub enum Filter {
     Queued,
     /// Those whose time may be over: all others.
     Timed,
+    /// Those that came at the owners' listener.
+    Owners,
 }
 
 impl Filter {
@@ -31,6 +34,7 @@ impl Filter {
                 connection.state,
                 ConnectionState::Queued(_) | ConnectionState::Working(_, _)
             ),
+            Filter::Owners => connection.request.listener() == Listener::Owners,
         }
     }
 }

@@ -1,7 +1,7 @@
 //! A request, as its bytes come.
 ghost use Rattle.std.specs.Prelude.{◌≡◌, ◌≢◌, ◌⊎◌, [], IfOk};
 ghost use Rattle.std.specs.Io.KnownBytes.{IsAtEnd};
-ghost use Rattle.toll_protocol.specs.Streams.{AppendsRead, HasFailed};
+ghost use Rattle.toll_protocol.specs.Streams.{AppendsRead, NoneBlocked, OneBlocked};
 ghost use Rattle.toll_protocol.specs.declared.streams.read_status.ReadStatus.{ReadStatus};
 ghost use Rattle.toll_server.specs.RequestBuffers.{IsComplete, bytes_received, listener_of};
 
@@ -56,7 +56,8 @@ impl RequestBuffer {
         ensures listener { listener_of self.new ≡ listener_of self.old }
         ensures complete { result ≡ ReadStatus.Complete → IsComplete self.new ⊎ IsAtEnd (R.unread reader.new) }
         ensures early { result ≢ ReadStatus.Complete → ¬ (IsComplete self.new) }
-        ensures waits { result ≡ ReadStatus.Waiting → HasFailed (R.has_failed reader.old) (R.has_failed reader.new) }
+        ensures waits { result ≡ ReadStatus.Waiting → OneBlocked (R.blocked reader.old) (R.blocked reader.new) }
+        ensures goes_on { result ≢ ReadStatus.Waiting → NoneBlocked (R.blocked reader.old) (R.blocked reader.new) }
         ensures write_side { R.write_side reader.new ≡ R.write_side reader.old }
     {
         match self {

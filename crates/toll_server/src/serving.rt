@@ -1,12 +1,13 @@
 //! Serving connections side by side.
-ghost use Rattle.std.specs.Prelude.{◌≡◌, ◌≤◌, ◌<◌, ◌+◌, ◌^◌, List};
-ghost use Rattle.toll_server.specs.Connections.{KeepsTasks, queue_in, tasks_in};
-ghost use Rattle.toll_server.specs.Queues.{Happening, HasGrown, IsHistory, IsServedInTurn};
+ghost use Rattle.std.specs.Prelude.{◌≡◌, ◌≤◌, ◌<◌, ◌+◌, ◌^◌, IfOk, OnErr};
+ghost use Rattle.toll_server.specs.Connections.{KeepsTasks};
+ghost use Rattle.toll_server.specs.Queues.{IsServedInTurn};
+ghost use Rattle.toll_server.specs.Rounds.{HasHeard, HasWaited, IsServedInRounds};
 ghost use Rattle.toll_server.specs.Runs.{IsWholeRun};
-ghost use Rattle.toll_server.specs.Networks.{EndsSo, Tallies};
+ghost use Rattle.toll_server.specs.Networks.{BreaksDown, EndsSo, Tallies};
 
 use crate::connections::Connections;
-use crate::network::Network;
+use crate::network::{MOST_READY, Network, NetworkFault};
 use crate::service::Service;
 use std::alloc::Global;
 
@@ -21,14 +22,11 @@ pub enum ServingEnd {
     Spent,
 }
 
-/// How many connections go on after one wait.
-const MOST_READY: usize = 4096;
-
 /// Serves so many owners side by side, and those of the plant that come meanwhile. A request that is whole
 /// joins a queue. After each wait, all who may go on are heard, and then the service takes one turn, for
 /// who has waited longest: it answers a request, or goes on with what an earlier turn left. A party's wait
 /// begins anew with each of its turns, so that none has two while another one waits. The service changes by
-/// nothing else.
+/// nothing else. Once all owners were served, those of the plant that have not sent theirs are closed.
 ///
 /// Before its turn a connection costs the reading of at most a whole request, and after it the writing of
 /// its reply, each in no more than [`MOST_MILLISECONDS`](crate::MOST_MILLISECONDS).
@@ -40,6 +38,7 @@ pub fn serve<W: Network, O: Service>(
 ) -> ServingEnd
     ensures run { IsWholeRun O.answers O.resumes service.old service.new (result ≡ ServingEnd.All) }
     ensures in_turn { IsServedInTurn O.Party.eq O.is_by O.answers O.resumes service.old service.new }
+    ensures rounds { Tallies (IsServedInRounds O.Party.eq O.is_by O.answers O.resumes W.Stream.Source.unread service.old service.new) (W.tally network.old) (W.tally network.new) }
     ensures end { Tallies (EndsSo result count) (W.tally network.old) (W.tally network.new) }
 {
     let mut connections = Connections::new(alloc, count);
@@ -47,19 +46,36 @@ pub fn serve<W: Network, O: Service>(
         if connections.accept(alloc, network).is_err() {
             return ServingEnd::Fault;
         }
+        connections.wind_down();
         if connections.is_over() {
             return ServingEnd::All;
         }
-        let wait_limit = connections.wait_limit(network.now());
-        if network.wait(wait_limit).is_err() {
-            return ServingEnd::Fault;
+        match wait_and_advance::<W, O>(network, &mut connections) {
+            Ok(now) => connections.take_turn(alloc, service, now),
+            Err(_) => return ServingEnd::Fault,
         }
-        let now = network.now();
-        advance_all::<W, O>(network, &mut connections);
-        connections.close_expired(now);
-        connections.take_turn(alloc, service, now);
     }
     ServingEnd::Spent
+}
+
+// Waits, takes those as far as they go who may go on then, and closes those whose time was over when the wait
+// was, which is told.
+fn wait_and_advance<W: Network, O: Service>(
+    network: &mut W,
+    connections: &mut Connections<W::Stream, O::Task, O::Party>,
+) -> Result<u64, NetworkFault>
+    requires { connections.old.moment + MOST_READY < 2 ^ 128 }
+    ensures waited { IfOk result (λ now. HasWaited O.Party.eq O.is_by W.Stream.Source W.Stream.Sink now connections.old connections.new (W.tally network.old) (W.tally network.new)) }
+    ensures fails { OnErr result (Tallies BreaksDown (W.tally network.old) (W.tally network.new)) }
+    ensures tasks { KeepsTasks connections.old.slots connections.new.slots }
+    ensures moment { connections.new.moment ≤ connections.old.moment + MOST_READY }
+    ensures owners_left { connections.new.owners_left ≡ connections.old.owners_left }
+{
+    let limit = connections.wait_limit(network.now());
+    let now = network.wait(limit)?;
+    advance_all::<W, O>(network, connections);
+    connections.close_expired(now);
+    Ok(now)
 }
 
 // Takes those as far as they go who may go on.
@@ -68,16 +84,14 @@ fn advance_all<W: Network, O: Service>(
     connections: &mut Connections<W::Stream, O::Task, O::Party>,
 )
     requires { connections.old.moment + MOST_READY < 2 ^ 128 }
-    ensures history { (h : List (Happening O.Task O.Party)) → IsHistory O.Party.eq O.is_by h connections.old.moment (queue_in connections.old.slots) (tasks_in connections.old.slots)
-        → HasGrown O.Party.eq O.is_by h connections.new.moment (queue_in connections.new.slots) (tasks_in connections.new.slots) }
+    ensures heard { HasHeard O.Party.eq O.is_by W.Stream.Source W.Stream.Sink connections.old connections.new (W.tally network.old) (W.tally network.new) }
     ensures tasks { KeepsTasks connections.old.slots connections.new.slots }
     ensures moment { connections.new.moment ≤ connections.old.moment + MOST_READY }
-    ensures tally { W.tally network.new ≡ W.tally network.old }
     ensures owners_left { connections.new.owners_left ≡ connections.old.owners_left }
 {
     for _ in 0..MOST_READY {
         let Some(key) = network.next_ready() else {
-            break;
+            return;
         };
         connections.advance::<O>(key);
     }

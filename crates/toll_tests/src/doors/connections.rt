@@ -1,7 +1,9 @@
 //! Peers of a world of memory, in which a wait gives the next of some events, or else is over at once.
+mod crowd;
 mod script;
 mod wire;
 
+use crate::doors::connections::crowd::Crowd;
 use crate::doors::connections::script::{Scribe, Script};
 use crate::doors::connections::wire::{Ends, Log, Pace, Plan, Takes};
 use std::alloc::Global;
@@ -98,6 +100,25 @@ fn outcome_of(
     log: &Log,
 ) -> Outcome {
     let mut network = Script::new(coming, order, log);
+    let mut office = Scribe::new(log);
+    let served = serve(alloc, &mut network, &mut office, count);
+    Outcome {
+        served,
+        answered: office.answered,
+        told: log.told.get(),
+        late: log.clock.get(),
+    }
+}
+
+// What comes of serving so many owners, where these come in groups of so many.
+fn outcome_of_crowd(
+    alloc: Global,
+    count: u64,
+    coming: &[Plan],
+    groups: &[usize],
+    log: &Log,
+) -> Outcome {
+    let mut network = Crowd::new(alloc, coming, groups, log);
     let mut office = Scribe::new(log);
     let served = serve(alloc, &mut network, &mut office, count);
     Outcome {
@@ -305,17 +326,114 @@ fn time_is_over_for_nobody_who_has_a_task(rt: HostRuntime) {
     assert_eq!(rt; outcome, all_with(1, 3, 40_000));
 }
 
-// Nobody is let in for the first second, in which the one is heard that has a task then; the others come in
-// fifteen rounds.
+// The others come in fifteen rounds, while the one has its turns; two of them are too many.
 #[test]
 fn nobody_who_has_a_task_is_evicted_from_a_full_server(rt: HostRuntime) {
     let log = Log::at(Pace {
         turns: 40,
         milliseconds: 100,
     });
-    let mut coming = [Some(SILENT); 902];
-    coming[0] = Some(SEVENTH);
-    coming[1] = None;
-    let outcome = outcome_of(rt.alloc(), 900, &coming, &[0], &log);
-    assert_eq!(rt; outcome, all_with(1, 3, 12_400));
+    let mut coming = [SILENT; 902];
+    coming[0] = SEVENTH;
+    let outcome = outcome_of_crowd(rt.alloc(), 901, &coming, &[1, 901], &log);
+    assert_eq!(rt; outcome, all_with(1, 3, 11_400));
+}
+
+#[test]
+fn a_newcomer_is_heard_at_the_key_of_one_who_left(rt: HostRuntime) {
+    let outcome = outcome_of_crowd(rt.alloc(), 3, &[WHOLE; 3], &[2, 1], &Log::new());
+    assert_eq!(rt; outcome, all_with(3, 9, 0));
+}
+
+#[test]
+fn all_are_heard_who_may_go_on_after_a_wait(rt: HostRuntime) {
+    let outcome = outcome_of_crowd(rt.alloc(), 500, &[WHOLE; 500], &[500], &Log::new());
+    assert_eq!(rt; outcome, all_with(500, 1500, 0));
+}
+
+#[test]
+fn the_plant_holds_up_no_end_by_sending_nothing(rt: HostRuntime) {
+    let idle = Plan {
+        listener: Listener::Plant,
+        ..SILENT
+    };
+    let outcome = outcome_of_crowd(rt.alloc(), 1, &[idle, WHOLE], &[2], &Log::new());
+    assert_eq!(rt; outcome, all_with(1, 3, 0));
+    let outcome = outcome_of_crowd(rt.alloc(), 2, &[idle, WHOLE, HALF], &[3], &Log::new());
+    assert_eq!(rt; outcome, all_with(1, 3, 10_000));
+}
+
+#[test]
+fn the_longest_reader_goes_where_there_are_no_resources(rt: HostRuntime) {
+    let coming = [Some(SILENT), None, None, Some(WHOLE)];
+    let outcome = outcome_of(rt.alloc(), 2, &coming, &[0], &Log::new());
+    assert_eq!(rt; outcome, all_with(1, 3, 0));
+}
+
+// The request of one of three parties.
+fn asked_by(party: usize) -> Plan {
+    match party {
+        0 => WHOLE,
+        1 => Plan {
+            pieces: &[b"GET /2 HTTP/1.1\r\nhost: a\r\n\r\n"],
+            mark: b'2',
+            ..WHOLE
+        },
+        _ => Plan {
+            pieces: &[b"GET /3 HTTP/1.1\r\nhost: a\r\n\r\n"],
+            mark: b'3',
+            ..WHOLE
+        },
+    }
+}
+
+// The parties' turns, a digit each, where their requests come in this order: each of those who wait has one in
+// turn, first who came first.
+fn turns_of(order: &[usize]) -> u64 {
+    let mut turns = 0u64;
+    for pass in 1..=3 {
+        let mut counts = [0usize; 3];
+        let mut firsts = [false; 3];
+        for party in order {
+            let p = *party % 3;
+            counts[p] = counts[p].saturating_add(1);
+        }
+        for party in order {
+            let p = *party % 3;
+            if !firsts[p] && counts[p] >= pass {
+                turns = turns.saturating_mul(10).saturating_add(p as u64 + 1);
+            }
+            firsts[p] = true;
+        }
+    }
+    turns
+}
+
+#[test]
+fn parties_have_turns_in_every_order_of_arrival(rt: HostRuntime) {
+    let mut orders = 0u64;
+    for code in 0..19_683 {
+        let Some(order) = order_of(code) else {
+            continue;
+        };
+        let mut coming = [WHOLE; 9];
+        for (i, party) in order.iter().enumerate() {
+            coming[i] = asked_by(*party);
+        }
+        for count in [5usize, 9] {
+            let log = Log::new();
+            let outcome = outcome_of_crowd(
+                rt.alloc(),
+                count as u64,
+                &coming[..count],
+                &[count],
+                &log,
+            );
+            assert_eq!(rt; outcome, all_with(count as u64, 3 * count as u64, 0));
+            assert_eq!(rt; log.turns.get(), turns_of(&order[..count]));
+            assert!(rt; !log.wrong.get());
+        }
+        orders = orders.saturating_add(1);
+    }
+    assert_eq!(rt; orders, 1680);
 }

@@ -1,22 +1,26 @@
 use Rattle.std.proofs.Common.{◌∙◌, arith, refl}
-use Rattle.toll_server.proofs.QueueLemmas.{grown_more, not_grown}
+use Rattle.toll_server.proofs.RoundLemmas.{all_heard, most_heard, none_heard, one_heard}
 use Rattle.toll_server.proofs.serving.advance_all.Goals as goal
 
 pub loop-init : goal.loop-init
 loop-init g c = record {
-  history = λ h p. not_grown g.O.Party.PartialEq.eq g.O.Service.is_by h c.args.connections.now.moment c.args.connections.now.slots p;
+  hearing = none_heard g.O.Party.PartialEq.eq g.O.Service.is_by g.W.Stream.Source g.W.Stream.Sink c.args.connections.now _ _ refl;
   tasks = λ k. refl;
   moment = omega arith;
-  tally = refl;
   owners_left = refl;
 }
 
 pub loop-preserved : goal.loop-preserved
 loop-preserved g c = record {
-  history = λ h p. grown_more g.O.Party.PartialEq.eq g.O.Service.is_by h _ c.loop.connections.moment c.advance.new.self.moment c.loop.connections.slots c.advance.new.self.slots (c.loop.invariant.history h p)
-      c.advance.ensures.joins c.advance.ensures.tasks;
+  hearing = one_heard g.O.Party.PartialEq.eq g.O.Service.is_by g.W.Stream.Source g.W.Stream.Sink c.args.connections.now c.loop.connections c.advance.new.self c.loop.counter c.in-Some.key _ _ _ c.loop.invariant.hearing
+      c.in-Some.ensures c.advance.ensures.joins c.advance.ensures.tasks c.advance.ensures.hears;
   tasks = λ k. c.advance.ensures.tasks k ∙ c.loop.invariant.tasks k;
   moment = omega (arith, c.advance.ensures.more, c.loop.invariant.moment);
-  tally = c.next_ready.ensures ∙ c.loop.invariant.tally;
   owners_left = c.advance.ensures.owners_left ∙ c.loop.invariant.owners_left;
 }
+
+pub returns-in_default-clause-heard : goal.returns-in_default-clause-heard
+returns-in_default-clause-heard g c = all_heard g.O.Party.PartialEq.eq g.O.Service.is_by g.W.Stream.Source g.W.Stream.Sink c.args.connections.now c.loop.connections c.loop.counter _ _ _ c.loop.invariant.hearing c.in_default.ensures
+
+pub returns-clause-heard : goal.returns-clause-heard
+returns-clause-heard g c = most_heard g.O.Party.PartialEq.eq g.O.Service.is_by g.W.Stream.Source g.W.Stream.Sink c.args.connections.now c.loop.connections c.loop.counter _ _ (omega arith) c.loop.invariant.hearing

@@ -28,9 +28,9 @@ impl<'l> Script<'l> {
 impl<'l> Network for Script<'l> {
     type Stream = Wire<'l>;
 
-    fn wait(&mut self, most: Option<u64>) -> Result<(), NetworkFault> {
+    fn wait(&mut self, most: Option<u64>) -> Result<u64, NetworkFault> {
         if most == Some(0) && self.log.tasks.get() == 0 {
-            return Ok(());
+            return Ok(self.log.clock.get());
         }
         match (self.order.split_first(), most) {
             (Some((key, rest)), _) => {
@@ -40,7 +40,7 @@ impl<'l> Network for Script<'l> {
             (None, Some(most)) => self.log.pass(most),
             (None, None) => return Err(NetworkFault),
         }
-        Ok(())
+        Ok(self.log.clock.get())
     }
 
     fn next_ready(&mut self) -> Option<usize> {

@@ -47,9 +47,9 @@ impl<'l> Street<'l> {
 impl<'l> Network for Street<'l> {
     type Stream = Guest<'l>;
 
-    fn wait(&mut self, most: Option<u64>) -> Result<(), NetworkFault> {
+    fn wait(&mut self, most: Option<u64>) -> Result<u64, NetworkFault> {
         if self.ready == 0 || most == Some(0) {
-            return Ok(());
+            return Ok(0);
         }
         Err(NetworkFault)
     }

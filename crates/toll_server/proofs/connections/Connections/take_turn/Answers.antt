@@ -1,11 +1,12 @@
-use Rattle.std.proofs.Common.{◌≡◌, ◌∙◌, ap, inr, subst, sym}
+use Rattle.std.proofs.Common.{refl, ◌≡◌, ◌∙◌, ap, inr, subst, sym}
 use Rattle.std.specs.Prelude.{option_map}
 use Rattle.toll_server.proofs.ConnectionLemmas.{turn_taken}
 use Rattle.slab.specs.Slab.{get}
-use Rattle.toll_server.specs.Connections.{peer_behind, stays_after}
-use Rattle.toll_server.specs.ConnectionStates.{reply_of}
+use Rattle.toll_server.specs.Connections.{connection_behind, stays_after}
+use Rattle.toll_server.specs.ConnectionStates.{last_poll, reply_of}
 use Rattle.toll_server.specs.Steps.{deadline_after}
-use Rattle.toll_server.proofs.TurnTimes.{no_reply, same_times, times_kept}
+use Rattle.toll_server.proofs.StandLemmas.{fewer_requests, same_new, turn_requests}
+use Rattle.toll_server.proofs.TurnTimes.{no_reply, times_kept}
 use Rattle.toll_server.proofs.connections.Connections.take_turn.Goals as goal
 
 pub returns-clause-turn : goal.returns-clause-turn
@@ -21,7 +22,7 @@ returns-clause-turn g c =
             changed = subst (λ k. get c.keep.new.self.slots k ≡ stays_after c.store_poll-step.result c.store_poll-step.new.self) at back.changed;
             others = λ other isnt. back.others other (λ same. isnt (same ∙ at))
                 ∙ (c.put_behind.ensures.behind other
-                ∙ ap (option_map (peer_behind g.P.PartialEq.eq c.in-Some-ask.outcome.ticket.party c.args.self.now.moment)) (out.updates.others other isnt));
+                ∙ ap (option_map (connection_behind g.P.PartialEq.eq c.in-Some-ask.outcome.ticket.party c.args.self.now.moment)) (out.updates.others other isnt));
             its = c.in-Some-ask.ensures.ticket;
             asks = c.in-Some-ask.ensures.asks;
             told = c.store_poll-step.ensures.taken;
@@ -45,6 +46,26 @@ returns-clause-deadline g c =
     (sym out.value)
     (subst (λ k. get c.keep.new.self.slots k ≡ stays_after c.store_poll-step.result later) at back.changed)
     (λ other isnt. back.others other (λ same. isnt (same ∙ at))
-    ∙ (c.put_behind.ensures.behind other ∙ ap (option_map (peer_behind g.P.PartialEq.eq party moment)) (out.updates.others other isnt)))
+    ∙ (c.put_behind.ensures.behind other ∙ ap (option_map (connection_behind g.P.PartialEq.eq party moment)) (out.updates.others other isnt)))
     (c.store_poll-step.ensures.deadline
     ∙ (λ i. deadline_after (sym (no_reply connection.state ticket c.in-Some-ask.ensures.ticket) i) (reply_of later.state) (ap (λ p. p.deadline) c.in-Some-ask.ensures.taken i) c.args.now))
+
+pub returns-in_default-clause-requests : goal.returns-in_default-clause-requests
+returns-in_default-clause-requests g c = let slots = c.args.self.now.slots in fewer_requests slots slots (same_new slots slots (λ key. refl))
+
+pub returns-clause-requests : goal.returns-clause-requests
+returns-clause-requests g c =
+    let out = c.in-Some-try_remove.ensures in
+    let back = c.keep.ensures.kept in
+    let at = c.put_behind.ensures.vacant ∙ out.key_is_next in
+    let connection = c.in-Some-try_remove.connection in
+    let party = c.in-Some-ask.outcome.ticket.party in
+    let moment = c.args.self.now.moment in
+    let later = c.store_poll-step.new.self in
+    turn_requests g.P.PartialEq.eq party moment c.args.self.now.slots c.keep.new.self.slots c.in-Some.next.key connection later c.store_poll-step.result
+    (sym out.value)
+    (subst (λ k. get c.keep.new.self.slots k ≡ stays_after c.store_poll-step.result later) at back.changed)
+    (λ other isnt. back.others other (λ same. isnt (same ∙ at))
+    ∙ (c.put_behind.ensures.behind other ∙ ap (option_map (connection_behind g.P.PartialEq.eq party moment)) (out.updates.others other isnt)))
+    (c.store_poll-step.ensures.request ∙ ap (λ p. p.request) c.in-Some-ask.ensures.taken)
+    (λ reads. let none = sym c.store_poll-step.ensures.taken ∙ ap last_poll reads in absurd (cc))

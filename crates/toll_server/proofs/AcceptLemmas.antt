@@ -1,0 +1,166 @@
+-- Who has come while others are accepted.
+use Rattle.std.proofs.Common.{◌≡◌, ◌∙◌, ◌+◌, ◌≤◌, ◌⊎◌, ℕ, inl, inr, List, [], ◌∷◌, ◌++◌, length, ap, refl, sym, subst, arith}
+use Rattle.std.specs.Prelude.{Err, None, Ok, OnOk, Option, Result, option_map, slice_index_or}
+use Rattle.slab.specs.Slab.{Slab}
+use Rattle.toll_server.specs.Accepting.{HasAccepted, StandsStill}
+use Rattle.toll_server.specs.Connections.{Adds, AddsAll, AddsNext, MakesRoom}
+use Rattle.toll_server.specs.Networks.{Accepts, Arrival, IsPausedAt, Lacks, NoneWaits, Tallies, Tally, after_accept, owners_at}
+use Rattle.toll_server.specs.declared.connection.Connection.{Connection}
+use Rattle.toll_server.specs.declared.connections.AcceptState.TheVariants.{Open, Backlogged}
+use Rattle.toll_server.specs.declared.connections.Connections.{Connections}
+use Rattle.toll_server.specs.declared.connections.TheConstants.{MOST_ACCEPTS}
+use Rattle.toll_server.specs.declared.listener.Listener.{Listener}
+use Rattle.toll_server.specs.declared.network.Accepted.{Accepted}
+use Rattle.toll_server.specs.declared.network.Accepted.TheVariants.{Connected, NoResources}
+use Rattle.toll_server.specs.declared.network.NetworkFault.{NetworkFault}
+use Rattle.toll_server.proofs.StandLemmas.{room_new, same_new, stands_added, stands_fewer, stands_lost}
+use Rattle.toll_server.proofs.TallyLemmas.{tallies_both, tallies_more, tallies_weaker}
+
+-- as many came as are no longer to come, and the network did nothing besides
+pub record Counts {S : Type 0} (before left count : ℕ) (t u : Tally S) : Type 0 where
+  pub owners : u.owners + left ≡ t.owners + before
+  pub accepts : u.accepts ≡ t.accepts + count
+  pub waits : u.waits ≡ t.waits
+  pub wakes : u.wakes ≡ t.wakes
+  pub unheard : u.unheard ≡ t.unheard
+  pub missed : u.missed ≡ t.missed
+  pub clock : t.clock ≤ u.clock
+
+on_ok : {A E X Y : Type 0} (r : Result A E) → (X → Y) → OnOk r X → OnOk r Y
+on_ok (Ok x) more p = more p
+on_ok (Err e) more p = tt
+
+pub counts_more : {S : Type 0} (before left count later : ℕ) (key : ℕ) (listener : Listener) (stream : S) (t u : Tally S) → Counts before left count t u → later + owners_at listener ≡ left
+    → Counts before later (count + 1) t (after_accept {E = NetworkFault} key (Ok (Connected listener stream)) u)
+counts_more before left count later key listener stream t u p is = record {
+  owners = omega (arith, p.owners, is);
+  accepts = omega (arith, p.accepts);
+  waits = p.waits;
+  wakes = p.wakes;
+  unheard = p.unheard;
+  missed = p.missed;
+  clock = p.clock;
+}
+
+-- what the network told, where what it gave is known
+pub told_of : {S : Type 0} (key : ℕ) (given accepted : Accepted S) (b c : Option (Tally S)) → given ≡ accepted → c ≡ option_map (after_accept {E = NetworkFault} key (Ok given)) b
+    → c ≡ option_map (after_accept {E = NetworkFault} key (Ok accepted)) b
+told_of key given accepted b c is told = subst (λ x. c ≡ option_map (after_accept {E = NetworkFault} key (Ok x)) b) is told
+
+module _ {S T P : Type 0} where
+  -- so many came, and all are there
+  pub record HasCome (now : ℕ) (old : Slab (Connection S T P)) (count : ℕ) (new : Slab (Connection S T P)) (t u : Tally S) : Type 0 where
+    pub clock : u.clock ≡ now
+    pub came : List (Arrival S)
+    pub arrivals : u.arrivals ≡ came ++ t.arrivals
+    pub added : AddsAll now came old new
+    pub so_many : length came ≡ count
+
+  pub come_more : (now : ℕ) (old : Slab (Connection S T P)) (count : ℕ) (middle new : Slab (Connection S T P)) (key : ℕ) (listener : Listener) (stream : S) (t u : Tally S)
+      → HasCome now old count middle t u → Adds now (record { key = key; listener = listener; stream = stream }) middle new
+      → HasCome now old (count + 1) new t (after_accept {E = NetworkFault} key (Ok (Connected listener stream)) u)
+  come_more now old count middle new key listener stream t u p adds = record {
+    clock = p.clock;
+    came = record { key = key; listener = listener; stream = stream } ∷ p.came;
+    arrivals = ap (λ l. record { key = key; listener = listener; stream = stream } ∷ l) p.arrivals;
+    added = (middle, p.added, adds);
+    so_many = omega (arith, p.so_many);
+  }
+
+  pub ends_well : {A E : Type 0} (r : Result A E) (old new : Connections S T P) (now count : ℕ) (slots : Slab (Connection S T P)) (t u v : Tally S) → HasCome now old.slots count slots t u
+      → ¬ (IsPausedAt now old.accept_state) → v.arrivals ≡ u.arrivals → v.clock ≡ u.clock → new.slots ≡ slots
+      → OnOk r (((new.accept_state ≡ Open) × ((new.owners_left ≡ 0) ⊎ (v.backlog ≡ NoneWaits))) ⊎ ((new.accept_state ≡ Backlogged) × (count ≡ MOST_ACCEPTS)))
+      → HasAccepted r old new t v
+  ends_well r old new now count slots t u v p not arrivals clock same ok = inr (
+    p.came,
+    slots,
+    (λ paused. not (subst (λ k. IsPausedAt k old.accept_state) (clock ∙ p.clock) paused)),
+    subst (λ k. AddsAll k p.came old.slots slots) (sym (clock ∙ p.clock)) p.added,
+    inl (arrivals ∙ p.arrivals, same, on_ok r counted ok),
+  ) where
+    counted : (((new.accept_state ≡ Open) × ((new.owners_left ≡ 0) ⊎ (v.backlog ≡ NoneWaits))) ⊎ ((new.accept_state ≡ Backlogged) × (count ≡ MOST_ACCEPTS)))
+        → (((new.accept_state ≡ Open) × ((new.owners_left ≡ 0) ⊎ (v.backlog ≡ NoneWaits))) ⊎ ((new.accept_state ≡ Backlogged) × (length p.came ≡ MOST_ACCEPTS)))
+    counted (inl q) = inl q
+    counted (inr q) = inr (q.0, p.so_many ∙ q.1)
+
+  pub ends_in_want : {A E : Type 0} (r : Result A E) (old new : Connections S T P) (now count : ℕ) (slots full : Slab (Connection S T P)) (t u v : Tally S) → HasCome now old.slots count slots t u
+      → ¬ (IsPausedAt now old.accept_state) → v.clock ≡ u.clock → full.slots ≡ slots.slots → MakesRoom count now full new.slots new.accept_state
+      → ((v.arrivals ≡ u.arrivals) × (v.backlog ≡ Lacks)) ⊎ ((lost : Arrival S) × (v.arrivals ≡ lost ∷ u.arrivals)) → HasAccepted r old new t v
+  ends_in_want r old new now count slots full t u v p not clock same room why = inr (
+    p.came,
+    slots,
+    (λ paused. not (subst (λ k. IsPausedAt k old.accept_state) (clock ∙ p.clock) paused)),
+    subst (λ k. AddsAll k p.came old.slots slots) (sym (clock ∙ p.clock)) p.added,
+    inr (full, same, subst (λ k. MakesRoom k v.clock full new.slots new.accept_state) (sym p.so_many) (subst (λ k. MakesRoom count k full new.slots new.accept_state) (sym (clock ∙ p.clock)) room), cause why),
+  ) where
+    cause : ((v.arrivals ≡ u.arrivals) × (v.backlog ≡ Lacks)) ⊎ ((lost : Arrival S) × (v.arrivals ≡ lost ∷ u.arrivals))
+        → ((v.arrivals ≡ p.came ++ t.arrivals) × (v.backlog ≡ Lacks)) ⊎ ((lost : Arrival S) × (v.arrivals ≡ lost ∷ (p.came ++ t.arrivals)))
+    cause (inl q) = inl (q.0 ∙ p.arrivals, q.1)
+    cause (inr q) = let (lost, is) = q in inr (lost, is ∙ ap (λ l. lost ∷ l) p.arrivals)
+
+  -- no memory for one that came
+  pub lost : (old new : Connections S T P) (now count key : ℕ) (listener : Listener) (stream : S) (slots full : Slab (Connection S T P)) (a b c : Option (Tally S))
+      → c ≡ option_map (after_accept {E = NetworkFault} key (Ok (Connected listener stream))) b → ¬ (IsPausedAt now old.accept_state) → full.slots ≡ slots.slots
+      → MakesRoom count now full new.slots new.accept_state → Tallies (HasCome now old.slots count slots) a b → Tallies (HasAccepted {A = Unit {0}} {E = NetworkFault} (Ok tt) old new) a c
+  lost old new now count key listener stream slots full a b c is not same room p = tallies_more (HasCome now old.slots count slots) (HasAccepted {A = Unit {0}} {E = NetworkFault} (Ok tt) old new)
+      (after_accept {E = NetworkFault} key (Ok (Connected listener stream))) a b c is (λ t u q. ends_in_want {A = Unit {0}} {E = NetworkFault} (Ok tt) old new now count slots full t u
+      (after_accept {E = NetworkFault} key (Ok (Connected listener stream)) u) q not refl same room (inr (record { key = key; listener = listener; stream = stream }, refl))) p
+
+  pub lost_stands : (unread : S → Option (List ℕ)) (old : Slab (Connection S T P)) (new : Connections S T P) (count now key : ℕ) (listener : Listener) (stream : S) (slots full : Slab (Connection S T P)) (a b c : Option (Tally S))
+      → c ≡ option_map (after_accept {E = NetworkFault} key (Ok (Connected listener stream))) b → full.slots ≡ slots.slots → MakesRoom count now full new.slots new.accept_state
+      → Tallies (StandsStill unread old slots) a b → Tallies (StandsStill unread old new.slots) a c
+  lost_stands unread old new count now key listener stream slots full a b c is same room p = tallies_more (StandsStill unread old slots) (StandsStill unread old new.slots)
+      (after_accept {E = NetworkFault} key (Ok (Connected listener stream))) a b c is (λ t u stands stood. let came : Arrival S = record { key = key; listener = listener; stream = stream } in
+      stands_fewer unread (came ∷ u.arrivals) full new.slots (room_new count now full new.slots new.accept_state room)
+      (stands_fewer unread (came ∷ u.arrivals) slots full (same_new slots full (λ k. ap (λ l. slice_index_or l k None) same)) (stands_lost unread u.arrivals came slots (stands stood)))) p
+
+  -- no resources for the next one
+  pub wanted : (old new : Connections S T P) (now count key : ℕ) (slots : Slab (Connection S T P)) (a b c : Option (Tally S))
+      → c ≡ option_map (after_accept {E = NetworkFault} key (Ok NoResources)) b → ¬ (IsPausedAt now old.accept_state)
+      → MakesRoom count now slots new.slots new.accept_state → Tallies (HasCome now old.slots count slots) a b → Tallies (HasAccepted {A = Unit {0}} {E = NetworkFault} (Ok tt) old new) a c
+  wanted old new now count key slots a b c is not room p = tallies_more (HasCome now old.slots count slots) (HasAccepted {A = Unit {0}} {E = NetworkFault} (Ok tt) old new)
+      (after_accept {E = NetworkFault} key (Ok NoResources)) a b c is (λ t u q. ends_in_want {A = Unit {0}} {E = NetworkFault} (Ok tt) old new now count slots slots t u
+      (after_accept {E = NetworkFault} key (Ok NoResources) u) q not refl refl room (inl (refl, refl))) p
+
+  pub wanted_stands : (unread : S → Option (List ℕ)) (old : Slab (Connection S T P)) (new : Connections S T P) (count now key : ℕ) (slots : Slab (Connection S T P)) (a b c : Option (Tally S))
+      → c ≡ option_map (after_accept {E = NetworkFault} key (Ok NoResources)) b → MakesRoom count now slots new.slots new.accept_state
+      → Tallies (StandsStill unread old slots) a b → Tallies (StandsStill unread old new.slots) a c
+  wanted_stands unread old new count now key slots a b c is room p = tallies_more (StandsStill unread old slots) (StandsStill unread old new.slots)
+      (after_accept {E = NetworkFault} key (Ok NoResources)) a b c is (λ t u stands stood. stands_fewer unread u.arrivals slots new.slots (room_new count now slots new.slots new.accept_state room) (stands stood)) p
+
+  -- one more came
+  pub more_come : (now : ℕ) (old : Slab (Connection S T P)) (count key : ℕ) (listener : Listener) (stream : S) (middle new : Slab (Connection S T P)) (a b c : Option (Tally S))
+      → c ≡ option_map (after_accept {E = NetworkFault} key (Ok (Connected listener stream))) b → key ≡ middle.vacant_key → AddsNext now listener stream middle new
+      → Tallies (HasCome now old count middle) a b → Tallies (HasCome now old (count + 1) new) a c
+  more_come now old count key listener stream middle new a b c is at adds p = tallies_more (HasCome now old count middle) (HasCome now old (count + 1) new)
+      (after_accept {E = NetworkFault} key (Ok (Connected listener stream))) a b c is (λ t u q. come_more now old count middle new key listener stream t u q
+      (subst (λ k. Adds now (record { key = k; listener = listener; stream = stream }) middle new) (sym at) adds)) p
+
+  pub more_stand : (unread : S → Option (List ℕ)) (now : ℕ) (old : Slab (Connection S T P)) (key : ℕ) (listener : Listener) (stream : S) (middle new : Slab (Connection S T P)) (a b c : Option (Tally S))
+      → c ≡ option_map (after_accept {E = NetworkFault} key (Ok (Connected listener stream))) b → key ≡ middle.vacant_key → AddsNext now listener stream middle new
+      → Tallies (StandsStill unread old middle) a b → Tallies (StandsStill unread old new) a c
+  more_stand unread now old key listener stream middle new a b c is at adds p = tallies_more (StandsStill unread old middle) (StandsStill unread old new)
+      (after_accept {E = NetworkFault} key (Ok (Connected listener stream))) a b c is (λ t u stands stood. stands_added unread now u.arrivals (record { key = key; listener = listener; stream = stream }) middle new
+      (subst (λ k. Adds now (record { key = k; listener = listener; stream = stream }) middle new) (sym at) adds) (stands stood)) p
+
+pub more_counts : {S : Type 0} (before left count later key : ℕ) (listener : Listener) (stream : S) (a b c : Option (Tally S))
+    → c ≡ option_map (after_accept {E = NetworkFault} key (Ok (Connected listener stream))) b → later + owners_at listener ≡ left
+    → Tallies (Counts before left count) a b → Tallies (Counts before later (count + 1)) a c
+more_counts before left count later key listener stream a b c is one p = tallies_more (Counts before left count) (Counts before later (count + 1))
+    (after_accept {E = NetworkFault} key (Ok (Connected listener stream))) a b c is (λ t u q. counts_more before left count later key listener stream t u q one) p
+
+module _ {A E S T P : Type 0} where
+  grown_by : (r : Result A E) (old new : Connections S T P) (t u : Tally S) → HasAccepted r old new t u → (xs : List (Arrival S)) × (u.arrivals ≡ xs ++ t.arrivals)
+  grown_by r old new t u (inl paused) = ([], paused.2)
+  grown_by r old new t u (inr (came, middle, not, added, inl well)) = (came, well.0)
+  grown_by r old new t u (inr (came, middle, not, added, inr (full, same, room, inl want))) = (came, want.0)
+  grown_by r old new t u (inr (came, middle, not, added, inr (full, same, room, inr (lost, is)))) = (lost ∷ came, is)
+
+  -- what accepting comes to for the rounds
+  pub accepted_all : (r : Result A E) (unread : S → Option (List ℕ)) (old new : Connections S T P) (a b : Option (Tally S)) → Tallies (Accepts r old.accept_state old.owners_left new.owners_left) a b
+      → Tallies (HasAccepted r old new) a b → Tallies (StandsStill unread old.slots new.slots) a b
+      → Tallies (λ t u. ((u.wakes ≡ t.wakes) × (u.unheard ≡ t.unheard) × (u.missed ≡ t.missed) × ((xs : List (Arrival S)) × (u.arrivals ≡ xs ++ t.arrivals))) × StandsStill unread old.slots new.slots t u) a b
+  accepted_all r unread old new a b p q s = tallies_weaker (λ t u. Accepts r old.accept_state old.owners_left new.owners_left t u × (HasAccepted r old new t u × StandsStill unread old.slots new.slots t u)) _ a b
+      (tallies_both (Accepts r old.accept_state old.owners_left new.owners_left) (λ t u. HasAccepted r old new t u × StandsStill unread old.slots new.slots t u) a b p
+      (tallies_both (HasAccepted r old new) (StandsStill unread old.slots new.slots) a b q s))
+      (λ t u z. ((z.0.2, z.0.3, z.0.4, grown_by r old new t u z.1.0), z.1.1))

@@ -1,0 +1,91 @@
+//! A world in which clients come in groups. All of a group may go on at once, and are told so once, by the keys
+//! by which the server knows them.
+use crate::doors::connections::wire::{Log, Plan, Wire};
+use std::alloc::Global;
+use toll_server::{Accepted, Network, NetworkFault};
+
+/// Who comes, one after another, in groups of so many. The next group comes once the one before was told.
+#[derive(Drop)]
+pub struct Crowd<'l> {
+    coming: &'l [Plan],
+    groups: &'l [usize],
+    /// How many have come to the door, and how many of them were accepted.
+    at_door: usize,
+    came: usize,
+    keys: Vec<usize>,
+    /// How many keys were told to be ready, and how many of them were handed out.
+    told: usize,
+    handed: usize,
+    log: &'l Log,
+}
+
+impl<'l> Crowd<'l> {
+    /// Nobody has come yet.
+    pub fn new(alloc: Global, coming: &'l [Plan], groups: &'l [usize], log: &'l Log) -> Self {
+        let mut crowd = Crowd {
+            coming,
+            groups,
+            at_door: 0,
+            came: 0,
+            keys: Vec::new(alloc),
+            told: 0,
+            handed: 0,
+            log,
+        };
+        crowd.let_next_come();
+        crowd
+    }
+
+    fn let_next_come(&mut self) {
+        if let Some((next, rest)) = self.groups.split_first() {
+            self.at_door = self.at_door.saturating_add(*next);
+            self.groups = rest;
+        }
+    }
+}
+
+impl<'l> Network for Crowd<'l> {
+    type Stream = Wire<'l>;
+
+    fn wait(&mut self, most: Option<u64>) -> Result<u64, NetworkFault> {
+        self.handed = self.told;
+        let is_whole = self.came == self.at_door;
+        if is_whole && self.told < self.keys.len() {
+            self.told = self.keys.len();
+            self.let_next_come();
+            return Ok(self.log.clock.get());
+        }
+        match most {
+            Some(most) => self.log.pass(most),
+            None => return Err(NetworkFault),
+        }
+        Ok(self.log.clock.get())
+    }
+
+    fn next_ready(&mut self) -> Option<usize> {
+        if self.handed == self.told {
+            return None;
+        }
+        let key = self.keys.get(self.handed)?;
+        self.handed = self.handed.saturating_add(1);
+        Some(*key)
+    }
+
+    fn accept_next(&mut self, key: usize) -> Result<Accepted<Wire<'l>>, NetworkFault> {
+        if self.came == self.at_door {
+            return Ok(Accepted::NoneWaiting);
+        }
+        let Some(plan) = self.coming.get(self.came) else {
+            return Ok(Accepted::NoneWaiting);
+        };
+        if self.keys.push(key).is_err() {
+            return Err(NetworkFault);
+        }
+        self.came = self.came.saturating_add(1);
+        Ok(Accepted::Connected(plan.listener, Wire::new(*plan, self.log)))
+    }
+
+    fn now(&mut self) -> u64 {
+        self.log.clock.get()
+    }
+}
