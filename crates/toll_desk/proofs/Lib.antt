@@ -20,6 +20,7 @@ pub mod OwnerForms
 pub mod OwnTraces
 pub mod PlantQuestions
 pub mod PlantShown
+pub mod PlantTraces
 pub mod RecallLines
 pub mod Going
 mod Held

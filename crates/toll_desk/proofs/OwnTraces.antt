@@ -96,8 +96,8 @@ joined_traces H o t edges lawful other are any = with_edge t (joined_edge (IsOwn
     with_edge (Forward lot) found = joined_known H o (lot_id o lot) found.0 lawful found.1 found.2
     with_edge (HouseForward lot) found = subst (λ l. has_consumed (acts o H) l ≡ true) (house_begins H o lot found.0 lawful other found.1 found.2) (edge_consumes (acts o H) found.0 found.1)
 
-pub traced : (H : History) (o : Bytes) (t : TraceRequest) (edges : List Edge) (trace : List Step) → may_trace H o t ≡ true → AreEdges (IsOwnEdge (acts o H)) edges → IsTrace (IsJoined edges (traced_way t)) (traced_from o t) trace → IsAnswer o H (asked_to_trace t) (TellTrace trace)
-traced H o t edges trace may are is = told t may (trace_as (IsOwnEdge (acts o H)) edges are (traced_way t) (traced_from o t) trace is)
+pub traced : (H : History) (o : Bytes) (t : TraceRequest) (trace : List Step) → may_trace H o t ≡ true → IsTrace (IsOwnJoined (acts o H) (traced_way t)) (traced_from o t) trace → IsAnswer o H (asked_to_trace t) (TellTrace trace)
+traced H o t trace may is = told t may is
   where
     told : (t : TraceRequest) → may_trace H o t ≡ true → IsTrace (IsOwnJoined (acts o H) (traced_way t)) (traced_from o t) trace → IsAnswer o H (asked_to_trace t) (TellTrace trace)
     told (Back lot) may is = rw may (record { trace = trace; traced = is; told = refl })

@@ -106,7 +106,7 @@ owner_unknown H lot X unknown = rw unknown refl
 -- ---- a lot of an edge
 
 -- an owner of whom there is an edge is known
-edge_owner : (H : History) (o : Bytes) (e : Edge) → IsLawful H → IsOwnEdge (acts o H) e → owner_known H o ≡ true
+pub edge_owner : (H : History) (o : Bytes) (e : Edge) → IsLawful H → IsOwnEdge (acts o H) e → owner_known H o ≡ true
 edge_owner H o e lawful is =
     elim (owner_known H o) as (λ b. owner_known H o ≡ b → b ≡ true) [
       | true ↦ λ known. refl
@@ -119,12 +119,6 @@ end_owner H o lot e lawful is (inl from) = subst (λ (l : LotId). owner_known H 
   | inl own ↦ ap (owner_known H) own ∙ edge_owner H o e lawful is
   | inr house ↦ ap (owner_known H) house ∙ house_known H
 ])
-
--- where an edge begins or ends at a lot, the lot is known, and its owner
-pub joined_there : (H : History) (lot : LotId) (edges : List Edge) → IsLawful H → AreEdges (IsPlantEdge H) edges → list_any (touches lot) edges ≡ true → (owner_known H lot.owner ≡ true) × (is_some (lot_row H lot.owner lot.lot) ≡ true)
-joined_there H lot edges lawful are any =
-    let found = joined_edge (IsPlantEdge H) edges are lot any in
-    (end_owner H found.1.0 lot found.0 lawful found.1.1 found.2, joined_known H found.1.0 lot found.0 lawful found.1.1 found.2)
 
 -- ---- recalls
 

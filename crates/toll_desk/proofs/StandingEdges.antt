@@ -12,14 +12,14 @@ use Rattle.toll_keep.proofs.AllOwners.{no_edges}
 use Rattle.toll_desk.proofs.Unknown.{acts_of_unknown}
 
 module _ (H : History) (c : Content) (lawful : IsLawful H) (stands : StandsFor c H) where
-  edge_is_own : (o : Bytes) (e : Edge) → IsEdge (c.rows o) e → IsOwnEdge (acts o H) e
+  pub edge_is_own : (o : Bytes) (e : Edge) → IsEdge (c.rows o) e → IsOwnEdge (acts o H) e
   edge_is_own o e is =
       elim (owner_known H o) as (λ b. owner_known H o ≡ b → IsOwnEdge (acts o H) e) [
         | true ↦ λ known. subst (λ w. IsOwnEdge (acts w H) e) (stands.own o) (slice_edge_is_own H (c.rows o) (stands.known o known) e is)
         | false ↦ λ unknown. absurd (no_edges o e (subst (λ s. IsEdge s e) (stands.unknown o unknown) is))
       ] refl
 
-  own_is_edge : (o : Bytes) (e : Edge) → IsOwnEdge (acts o H) e → IsEdge (c.rows o) e
+  pub own_is_edge : (o : Bytes) (e : Edge) → IsOwnEdge (acts o H) e → IsEdge (c.rows o) e
   own_is_edge o e is =
       elim (owner_known H o) as (λ b. owner_known H o ≡ b → IsEdge (c.rows o) e) [
         | true ↦ λ known. own_edge_is_slices H (c.rows o) (stands.known o known) lawful e (subst (λ w. IsOwnEdge (acts w H) e) (sym (stands.own o)) is)

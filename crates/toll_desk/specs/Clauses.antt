@@ -3,10 +3,8 @@ use Rattle.std.specs.Prelude.{◌≡◌, ◌≢◌, ◌++◌, [], ◌∷◌, Lis
 use Rattle.toll_desk.specs.Common.{Global, Bytes, same_bytes, Slice, order_at, house_name, where_so, Decision, LotId, IsRowsOf, lot_row, acts, Step, IsRecall, RecallLine, HaveRead, Damaged, Disposition, Refusal, Action, History, owner_known, Refused, IsPlantAnswer, Judged, PlantAsked, PlantTold, Shows, after_plant, IsAnswer, IsLotOr, IsOrderOr, IsReply, after_reply, has_key, AskPlace, Asked, Told, Content, Meaning, OverHeld, KeepFault}
 use Rattle.toll_desk.specs.Standing.{StandsFor}
 use Rattle.std.specs.declared.alloc.AllocError.{AllocError}
-use Rattle.toll_base.specs.declared.lot.Edge.{Edge}
 use Rattle.toll_trace.specs.declared.way.Way.TheVariants.{Forward}
 use Rattle.toll_answers.specs.Agreement.{IsPlantTrace}
-use Rattle.toll_answers.specs.Edges.{AreOwnEdges}
 use Rattle.toll_history.specs.Command.{by}
 use Rattle.toll_history.specs.Decision.{Decides}
 use Rattle.toll_history.specs.Holders.{holder}
@@ -36,10 +34,6 @@ abbrev pub OverFirst : {K : Type 0} → Meaning K → (old new : K) → (Content
 OverFirst {K} meaning old new P = (first : K) → HaveRead meaning first old → Over meaning first new P
 
 -- ---- traces and recalls
-
--- over the owner's edges, the trace is told as the answer
-abbrev pub IsTracedOver : {K : Type 0} → Meaning K → (old new : K) → (o : Bytes) → List Edge → Asked → Result Told KeepFault → Type 0
-IsTracedOver meaning old new o edges q told = OverKnown meaning old new o (λ c H. AreOwnEdges H o edges → IfOk told (IsAnswer o H q))
 
 -- over the rows of HOUSE or its owner, the recall of a lot that is known finds no damage
 abbrev pub IsUndamagedRecall : {X : Type 0} → History → Slice → List Step → Result X KeepFault → Type 0

@@ -12,6 +12,7 @@ mod form;
 mod owner;
 mod plant;
 mod plant_cmd;
+mod plant_tracing;
 mod questions;
 mod reading;
 mod recalls;

@@ -1,12 +1,10 @@
 //! Questions of the plant.
-ghost use Rattle.std.specs.Prelude.{◌≡◌, ◌≢◌, false, Err, IfOk};
+ghost use Rattle.std.specs.Prelude.{◌≡◌, ◌≢◌, true, false, Err, IfOk};
 ghost use Rattle.toll_history.specs.History.{History};
 ghost use Rattle.toll_history.specs.OverRows.{OverOwnRows};
 ghost use Rattle.toll_history.specs.Tables.{IsRowsOf};
 ghost use Rattle.toll_history.specs.Verdict.{IsLawful, Refused};
-ghost use Rattle.toll_trace.specs.Edges.{AreEdges};
-ghost use Rattle.toll_answers.specs.Edges.{ArePlantEdges, IsPlantEdge};
-ghost use Rattle.toll_answers.specs.PlantAnswers.{IsPlantAnswer, AreOrdersShown, IsTraceShown, AsksTrace, AsksRecall, AsksBatch, Shows, after_plant};
+ghost use Rattle.toll_answers.specs.PlantAnswers.{IsPlantAnswer, AreOrdersShown, AsksTrace, AsksRecall, AsksBatch, Shows, after_plant};
 ghost use Rattle.toll_keep.specs.Goes.{IsReading, Keeps};
 ghost use Rattle.toll_desk.specs.Clauses.{IsRefusedAs, IsTextAs};
 ghost use Rattle.toll_desk.specs.Translations.{asked_by, asks_recall, is_accepted, plant_told};
@@ -15,11 +13,11 @@ ghost use Rattle.toll_desk.specs.Reads.{Over};
 ghost use Rattle.toll_desk.specs.Subjects.{AsksRows, IsQuestion, asked_of_rows};
 
 use crate::plant_cmd::{PlantCmd, PlantReply};
+use crate::plant_tracing::trace_plant;
 use crate::recalls::recall;
-use crate::tracing::{is_joined, trace_over};
 use std::alloc::{AllocError, Global};
 use toll_answers::{batch_text, orders_text, recall_text, stock_text, trace_text};
-use toll_base::{BatchNo, Edge, LotId, Name, Refusal, Slice};
+use toll_base::{BatchNo, LotId, Name, Refusal, Slice};
 use toll_keep::{Keep, KeepFault};
 use toll_trace::Way;
 use toll_work::batch_view;
@@ -112,7 +110,7 @@ fn show_batch(
     }
 }
 
-// ---- traces over all edges
+// ---- traces over all batches
 
 // The text of a trace: [`Refusal::UnknownOwner`], then [`Refusal::UnknownLot`].
 fn ask_trace<K: Keep>(alloc: Global, keep: &mut K, lot: &LotId, way: Way) -> PlantReply
@@ -120,56 +118,31 @@ fn ask_trace<K: Keep>(alloc: Global, keep: &mut K, lot: &LotId, way: Way) -> Pla
     ensures shown { is_accepted (plant_told result) ≡ false }
     ensures over { Over K.meaning keep.old keep.new (λ c H. IfOk (plant_told result) (IsPlantAnswer H (AsksTrace lot.now way))) }
 {
-    match keep.all_edges(alloc) {
-        Ok(edges) => {
-            if !is_joined(&edges, lot) {
-                return trace_alone(alloc, keep, &edges, lot, way);
-            }
-            match text_of_trace(alloc, &edges, lot, way) {
-                Ok(text) => PlantReply::Text(text),
-                Err(_) => PlantReply::Fault(KeepFault::Memory),
-            }
-        }
-        Err(fault) => PlantReply::Fault(fault),
-    }
-}
-
-// The same over these edges, from a lot of which they don't tell whether it is there.
-fn trace_alone<K: Keep>(
-    alloc: Global,
-    keep: &mut K,
-    edges: &[Edge],
-    lot: &LotId,
-    way: Way,
-) -> PlantReply
-    ensures reads { IsReading K.meaning keep.old keep.new (plant_told result) }
-    ensures shown { is_accepted (plant_told result) ≡ false }
-    ensures over { Over K.meaning keep.old keep.new (λ c H. ArePlantEdges H edges.now → IfOk (plant_told result) (IsPlantAnswer H (AsksTrace lot.now way))) }
-{
     match keep.slice(alloc, &lot.owner) {
         Ok(Some(slice)) => {
             if slice.lot(&lot.lot).is_none() {
                 return PlantReply::Refused(Refusal::UnknownLot);
             }
-            match text_of_trace(alloc, edges, lot, way) {
-                Ok(text) => PlantReply::Text(text),
-                Err(_) => PlantReply::Fault(KeepFault::Memory),
-            }
+            show_trace(alloc, keep, lot, way)
         }
         Ok(None) => PlantReply::Refused(Refusal::UnknownOwner),
         Err(fault) => PlantReply::Fault(fault),
     }
 }
 
-fn text_of_trace(
-    alloc: Global,
-    edges: &[Edge],
-    lot: &LotId,
-    way: Way,
-) -> Result<Vec<u8>, AllocError>
-    ensures { (H : History) → AreEdges (IsPlantEdge H) edges.now → IfOk result (λ text. IsTraceShown H lot.now way (Shows text.items)) }
+// The same of a lot that is known.
+fn show_trace<K: Keep>(alloc: Global, keep: &mut K, lot: &LotId, way: Way) -> PlantReply
+    ensures reads { IsReading K.meaning keep.old keep.new (plant_told result) }
+    ensures shown { is_accepted (plant_told result) ≡ false }
+    ensures over { Over K.meaning keep.old keep.new (λ c H. is_known_lot H lot.now ≡ true → IfOk (plant_told result) (IsPlantAnswer H (AsksTrace lot.now way))) }
 {
-    trace_text(alloc, &trace_over(alloc, edges, lot, way)?)
+    match trace_plant(alloc, keep, lot, way) {
+        Ok(steps) => match trace_text(alloc, &steps) {
+            Ok(text) => PlantReply::Text(text),
+            Err(_) => PlantReply::Fault(KeepFault::Memory),
+        },
+        Err(fault) => PlantReply::Fault(fault),
+    }
 }
 
 // ---- recalls

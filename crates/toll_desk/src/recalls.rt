@@ -16,7 +16,7 @@ ghost use Rattle.toll_desk.specs.Clauses.{AreMoreSlices, IsRecallOver, IsUndamag
 ghost use Rattle.toll_desk.specs.Questions.{IsGoing, AreSlicesFor, AreLinesOf, IsLineOf, IsRecallOf, is_known_lot};
 ghost use Rattle.toll_desk.specs.Reads.{Over};
 
-use crate::tracing::trace_over;
+use crate::plant_tracing::trace_plant;
 use std::alloc::{AllocError, Global};
 use toll_answers::RecallLine;
 use toll_base::{Disposition, LotId, Name, Slice};
@@ -62,11 +62,8 @@ fn recall_known<K: Keep>(
     ensures whole { Over K.meaning keep.old keep.new (λ c H. IsRowsOf H own → is_known_lot H lot.now ≡ true → result ≢ Err KeepFault.Damaged) }
     ensures over { Over K.meaning keep.old keep.new (λ c H. IsRowsOf H own → IfOk result (λ lines. IsRecall H lot.now lines.items)) }
 {
-    match keep.all_edges(alloc) {
-        Ok(edges) => match trace_over(alloc, &edges, lot, Way::Forward) {
-            Ok(steps) => recall_steps(alloc, keep, &steps, own),
-            Err(_) => Err(KeepFault::Memory),
-        },
+    match trace_plant(alloc, keep, lot, Way::Forward) {
+        Ok(steps) => recall_steps(alloc, keep, &steps, own),
         Err(fault) => Err(fault),
     }
 }

@@ -17,9 +17,7 @@ pub fn forget_drawn(graphs: &mut Vec<KnownGraph>, slices: &[CachedSlice], change
 fn is_drawn(slices: &[CachedSlice], changes: &[Change], known: &KnownGraph) -> bool
     ensures { result ≡ is_drawn slices.now changes.now known.now }
 {
-    changes
-        .iter()
-        .any(|change| may_draw(slices, known, change))
+    changes.iter().any(|change| may_draw(slices, known, change))
 }
 
 // Whether the change may draw an edge of the graph's owner, or take one away. A movement that is no actual
@@ -47,7 +45,5 @@ fn is_actual(what: &Move) -> bool
 fn lacks_key(slices: &[CachedSlice], owner: &Name, key: &Name) -> bool
     ensures { result ≡ lacks_key slices.now owner.now key.now }
 {
-    slices
-        .iter()
-        .any(|slice| *slice.owner() == *owner && !slice.has_movement(key))
+    slices.iter().any(|slice| *slice.owner() == *owner && !slice.has_movement(key))
 }

@@ -186,11 +186,7 @@ fn own_graph<K: Keep>(
 }
 
 // The same by a slice that is read and let go.
-fn graph_once<K: Keep>(
-    alloc: Global,
-    keep: &mut K,
-    owner: &Name,
-) -> Result<KnownGraph, KeepFault>
+fn graph_once<K: Keep>(alloc: Global, keep: &mut K, owner: &Name) -> Result<KnownGraph, KeepFault>
     ensures reading { IsReading K.meaning keep.old keep.new result }
     ensures owner { IfOk result (λ known. known.owner ≡ owner.now) }
     ensures reads { OverHeld K.meaning keep.old keep.new (λ c. OnlyKnownHaveRows c → IfOk result (IsKnownGraph c)) }

@@ -71,10 +71,10 @@ parts_all is_old front old now i lots sorted all sofar order = record {
   walked = λ part c. walked_more is_old lots sorted part (λ b j. kept_in_order lot_cmp lots_exact lots sorted order b j) (subst (λ p. IsWalked is_old lots p) c.2 (sofar.walked c.0 part c.1));
   only = λ b j. let r = sofar.only b (order.none_new b j) in (r.0, (r.1.0, r.1.1, subst (λ js. LeadThrough js r.1.0 b) (sym sofar.joints) r.1.2));
   every = λ a b j leads.
-    let from = Contains-from_map (λ (p : Part). p.joints.now) now leads.0 leads.1 in
-    let c = from.1 in
-    let at : LeadsThrough (get_or now c.0 from.0).joints.now.entries (get_or now c.0 from.0).joints.now.exits.items a b = subst (λ (p : Part). LeadsThrough p.joints.now.entries p.joints.now.exits.items a b) (sym c.2) (subst (λ (js : Joints). LeadsThrough js.entries js.exits.items a b) (sym from.2) leads.2) in
-    elim (sofar.every c.0 from.0 (let lt = c.1 in omega arith) c.1 a b j at) [ inl h ↦ inl h | inr h ↦ inr (kept_in_order lot_cmp lots_exact lots sorted order b h) ];
+      let from = Contains-from_map (λ (p : Part). p.joints.now) now leads.0 leads.1 in
+      let c = from.1 in
+      let at : LeadsThrough (get_or now c.0 from.0).joints.now.entries (get_or now c.0 from.0).joints.now.exits.items a b = subst (λ (p : Part). LeadsThrough p.joints.now.entries p.joints.now.exits.items a b) (sym c.2) (subst (λ (js : Joints). LeadsThrough js.entries js.exits.items a b) (sym from.2) leads.2) in
+      elim (sofar.every c.0 from.0 (let lt = c.1 in omega arith) c.1 a b j at) [ inl h ↦ inl h | inr h ↦ inr (kept_in_order lot_cmp lots_exact lots sorted order b h) ];
   ordered = order.ordered;
 }
 

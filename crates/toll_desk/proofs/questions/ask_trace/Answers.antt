@@ -1,19 +1,29 @@
-use Rattle.std.proofs.Common.{sym, ap, subst, ◌∙◌}
-use Rattle.toll_desk.proofs.Common.{list_any, AreEdges, IsPlantEdge}
-use Rattle.toll_desk.proofs.StandingEdges.{edges_are_plants}
-use Rattle.toll_desk.proofs.OwnTraces.{touches}
-use Rattle.toll_desk.proofs.PlantShown.{checked_lot, joined_there}
+use Rattle.std.proofs.Common.{is_some, true, sym, ap, ◌∙◌}
+use Rattle.toll_history.specs.Tables.{lot_row}
+use Rattle.std.proofs.lemmas.Bool.{and_from}
+use Rattle.toll_desk.proofs.OwnerPlans.{some_read, none_read}
+use Rattle.toll_desk.proofs.OwnTraces.{rows_read}
+use Rattle.toll_desk.proofs.PlantShown.{lot_unknown, owner_unknown}
 use Rattle.toll_desk.proofs.questions.ask_trace.Goals as goal
 
-pub returns-then-not-is_joined-clause-over : goal.returns-then-not-is_joined-clause-over
-returns-then-not-is_joined-clause-over g c honest content H held stands lawful =
-    let before = c.trace_alone.ensures.reads.goes.honest honest in
-    let are = edges_are_plants H content lawful stands _ (c.in-Ok.ensures.reads before content held) in
-    c.trace_alone.ensures.over honest content H ((c.in-Ok.ensures.reading.keeps before).content content held) stands lawful (subst (AreEdges (IsPlantEdge H)) (sym c.deref-then-not-is_joined.ensures.value) are)
+pub returns-then-is_none-clause-over : goal.returns-then-is_none-clause-over
+returns-then-is_none-clause-over g c honest content H held stands lawful =
+    let lot = c.args.lot.now in
+    let there = sym c.in-Ok-Some.field-0-is ∙ c.in-Ok-Some.ensures.reads honest content held in
+    let read = rows_read content H lot.owner c.in-Ok-Some.slice stands there in
+    lot_unknown H lot _ (some_read content H lot.owner c.in-Ok-Some.slice stands there)
+    (sym (ap is_some ((λ i. (read.0 i).lot lot.lot) ∙ ap (λ o. lot_row H o lot.lot) read.1)) ∙ sym (ap is_some c.lot.ensures) ∙ c.if-is_none.ensures)
 
-pub returns-in-Ok-text_of_trace-clause-over : goal.returns-in-Ok-text_of_trace-clause-over
-returns-in-Ok-text_of_trace-clause-over g c honest content H held stands lawful =
-    let are = edges_are_plants H content lawful stands _ (c.in-Ok.ensures.reads honest content held) in
-    let joined = sym (ap (list_any (touches c.args.lot.now)) c.deref.ensures.value) ∙ sym c.is_joined.ensures ∙ c.if-not-is_joined.false in
-    let there = joined_there H c.args.lot.now c.in-Ok.edges.items lawful are joined in
-    checked_lot H c.args.lot.now _ _ there.0 there.1 (c.in-Ok-text_of_trace.ensures H (subst (AreEdges (IsPlantEdge H)) (sym c.deref-in-Ok.ensures.value) are))
+pub returns-else-is_none-clause-over : goal.returns-else-is_none-clause-over
+returns-else-is_none-clause-over g c honest content H held stands lawful =
+    let lot = c.args.lot.now in
+    let before = c.show_trace.ensures.reads.goes.honest honest in
+    let there = sym c.in-Ok-Some.field-0-is ∙ c.in-Ok-Some.ensures.reads before content held in
+    let read = rows_read content H lot.owner c.in-Ok-Some.slice stands there in
+    c.show_trace.ensures.over honest content H ((c.in-Ok-Some.ensures.reading.keeps before).content content held) stands lawful
+    (and_from _ _ (some_read content H lot.owner c.in-Ok-Some.slice stands there)
+    (sym (ap is_some ((λ i. (read.0 i).lot lot.lot) ∙ ap (λ o. lot_row H o lot.lot) read.1)) ∙ sym (ap is_some c.lot.ensures) ∙ c.if-is_none.ensures))
+
+pub returns-in-Ok-None-clause-over : goal.returns-in-Ok-None-clause-over
+returns-in-Ok-None-clause-over g c honest content H held stands lawful =
+    owner_unknown H c.args.lot.now _ (none_read content H c.args.lot.now.owner stands (sym c.in-Ok-None.field-0-is ∙ c.in-Ok-None.ensures.reads honest content held))

@@ -42,7 +42,7 @@ levels-smaller c =
     let old = all_joints c.args.parts.now.items in
     let exits = flat_map (λ (joints : Joints). joints.exits.items) old in
     let less = subst (λ found. unfound found exits < unfound c.levels.found exits) (sym (found_are c))
-      (fewer_unfound (LeadThrough old) c.levels.found (c.levels.steps + 1) c.levels.front.items exits c.levels.invariant.level (out_of_all old) (some_lots _ _ c.levels.front.ok.0 (sym c.is_empty.ensures ∙ c.levels-test.true))) in
+    (fewer_unfound (LeadThrough old) c.levels.found (c.levels.steps + 1) c.levels.front.items exits c.levels.invariant.level (out_of_all old) (some_lots _ _ c.levels.front.ok.0 (sym c.is_empty.ensures ∙ c.levels-test.true))) in
     rw (c.in_ok-front-2.ensures.joints, c.levels.invariant.joints) less
 
 pub levels-preserved : goal.levels-preserved

@@ -54,10 +54,10 @@ loop-owner-preserved g c =
       read = λ first have. let now = reads_then m first c.loop-owner.self c.rows_of.new.self tt _ (before.read first have) r in read_ok m first c.rows_of.new.self c.in_ok-slice.slice tt now.goes now.keeps;
       kept = λ honest. let earlier = before.kept (r.goes.honest honest) in (earlier.0, λ content held. (r.keeps honest).content content (earlier.1 content held));
       told = λ honest content held.
-        let was = r.goes.honest honest in
-        let rows = c.in_ok-slice.ensures.reads honest content ((before.kept was).1 content held) in
-        drawn_more content c.args.owners.now c.loop-owner.owner-index c.owner-item.result (Draws c.loop-owner.recorded) (Draws c.in_ok-recorded.recorded) c.loop-owner-test.true c.owner-item.is (before.told was content held)
-        (λ e. subst (λ s. Draws c.in_ok-recorded.recorded e ↔ (Draws c.loop-owner.recorded e ⊎ IsEdge s e)) rows (c.in_ok-recorded.ensures e));
+          let was = r.goes.honest honest in
+          let rows = c.in_ok-slice.ensures.reads honest content ((before.kept was).1 content held) in
+          drawn_more content c.args.owners.now c.loop-owner.owner-index c.owner-item.result (Draws c.loop-owner.recorded) (Draws c.in_ok-recorded.recorded) c.loop-owner-test.true c.owner-item.is (before.told was content held)
+          (λ e. subst (λ s. Draws c.in_ok-recorded.recorded e ↔ (Draws c.loop-owner.recorded e ⊎ IsEdge s e)) rows (c.in_ok-recorded.ensures e));
     }
 
 pub returns-clause-told : goal.returns-clause-told
