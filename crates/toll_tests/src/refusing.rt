@@ -3,8 +3,9 @@ ghost use Rattle.std.specs.Prelude.{◌≡◌, Err, IfErr, OnOk};
 ghost use Rattle.toll_keep.specs.Meaning.{meaning_of};
 
 use std::alloc::Global;
-use toll_base::{Change, Edge, Name, OwnerRow, Slice, UnitRow};
+use toll_base::{Change, Edge, LotId, Name, OwnerRow, Slice, UnitRow};
 use toll_keep::{Holder, Keep, KeepFault};
+use toll_trace::{Step, Way};
 
 /// Which call a keep refuses.
 #[derive(Clone, Copy, Debug, PartialEq, Eq)]
@@ -134,6 +135,19 @@ impl<K: Keep> Keep for Refusing<K> {
             return refusal(self.keep.owners(alloc));
         }
         self.keep.all_edges(alloc)
+    }
+
+    fn trace(
+        &mut self,
+        alloc: Global,
+        owners: &[Name],
+        from: &LotId,
+        way: Way,
+    ) -> Result<Vec<Step>, KeepFault> {
+        if self.refuses(Call::Read) {
+            return refusal(self.keep.owners(alloc));
+        }
+        self.keep.trace(alloc, owners, from, way)
     }
 
     fn apply(&mut self, alloc: Global, changes: &[Change]) -> Result<(), KeepFault> {

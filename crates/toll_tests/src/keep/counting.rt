@@ -2,8 +2,9 @@
 ghost use Rattle.toll_keep.specs.Meaning.{meaning_of};
 
 use std::alloc::Global;
-use toll_base::{Change, Edge, Name, OwnerRow, Slice, UnitRow};
+use toll_base::{Change, Edge, LotId, Name, OwnerRow, Slice, UnitRow};
 use toll_keep::{Holder, Keep, KeepFault};
+use toll_trace::{Step, Way};
 
 /// A keep around another one, that counts the calls of `slice`, `owners` and `units`, and passes on all.
 #[derive(Drop)]
@@ -52,6 +53,16 @@ impl<K: Keep> Keep for Counting<K> {
 
     fn all_edges(&mut self, alloc: Global) -> Result<Vec<Edge>, KeepFault> {
         self.keep.all_edges(alloc)
+    }
+
+    fn trace(
+        &mut self,
+        alloc: Global,
+        owners: &[Name],
+        from: &LotId,
+        way: Way,
+    ) -> Result<Vec<Step>, KeepFault> {
+        self.keep.trace(alloc, owners, from, way)
     }
 
     fn apply(&mut self, alloc: Global, changes: &[Change]) -> Result<(), KeepFault> {
