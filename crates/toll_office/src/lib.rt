@@ -8,6 +8,7 @@ mod file_server;
 mod office;
 mod plant_listener;
 mod programs;
+mod resolving;
 mod serving;
 mod socket_file;
 mod socket_stream;

@@ -10,7 +10,7 @@ use std::fs::{File, OpenOptions};
 use std::io::ErrorKind;
 use std::os::unix::fs::OpenOptionsExt;
 use toll_keep::CachedKeep;
-use toll_service::{FILE_MODE, KeepOpener, OfficeFault, OfficePath, take_lock};
+use toll_service::{FILE_MODE, KeepOpener, LeftFiles, OfficeFault, OfficePath, take_lock};
 use toll_sql::{OpenFault, SqlKeep};
 
 /// The keep of an office on a file.
@@ -34,7 +34,8 @@ pub fn office_at<'a>(rt: &'a HostRuntime, path: &'a str) -> OfficePath<'a, SqlOp
 
 /// An office whose making was stopped may have its tables in the log alone, or no tables in a file that is
 /// not empty: so where the file is not as its length says, it is looked at the other way. A file that isn't
-/// there beside a log that has bytes was moved away, and its log would be written anew: it is NotOurs.
+/// there beside a log that has bytes was moved away, and its log would be written anew: it is NotOurs. So is
+/// what is no file, as a device, of which a read might never end.
 impl KeepOpener<FileKeep> for SqlOpener {
     ghost is_opened = { λ keep. IsOpened keep };
 
@@ -42,9 +43,24 @@ impl KeepOpener<FileKeep> for SqlOpener {
         take_lock(rt, path)
     }
 
+    fn is_unchanged(
+        &mut self,
+        rt: &HostRuntime,
+        path: &str,
+        left: &LeftFiles,
+    ) -> Result<bool, OfficeFault> {
+        left.is_unchanged(rt, path)
+    }
+
     fn open(&mut self, rt: &HostRuntime, path: &str) -> Result<FileKeep, OfficeFault> {
+        let Ok(log) = format!(in rt.alloc(); "{path}-wal") else {
+            return Err(OfficeFault::Memory);
+        };
+        if is_device(rt, path) || is_device(rt, log.as_str()) {
+            return Err(OfficeFault::NotOurs);
+        }
         let is_fresh = is_absent_or_empty(rt, path);
-        if is_fresh && was_moved_away(rt, path)? {
+        if is_fresh && is_absent(rt, path) && has_bytes(rt, log.as_str()) {
             return Err(OfficeFault::NotOurs);
         }
         if is_fresh {
@@ -96,14 +112,16 @@ fn office_fault_of(fault: OpenFault) -> OfficeFault
     }
 }
 
-// Whether the file isn't there and its log is, with bytes.
-fn was_moved_away(rt: &HostRuntime, path: &str) -> Result<bool, OfficeFault> {
-    let Ok(log) = format!(in rt.alloc(); "{path}-wal") else {
-        return Err(OfficeFault::Memory);
-    };
-    let is_absent =
-        matches!(fs::metadata(rt, path), Err(fault) if fault.kind() == ErrorKind::NotFound);
-    Ok(is_absent && has_bytes(rt, log.as_str()))
+// Whether something stands there that is neither a file nor a folder.
+fn is_device(rt: &HostRuntime, path: &str) -> bool {
+    match fs::metadata(rt, path) {
+        Ok(found) => !found.is_file() && !found.is_dir(),
+        Err(_) => false,
+    }
+}
+
+fn is_absent(rt: &HostRuntime, path: &str) -> bool {
+    matches!(fs::metadata(rt, path), Err(fault) if fault.kind() == ErrorKind::NotFound)
 }
 
 fn has_bytes(rt: &HostRuntime, path: &str) -> bool {

@@ -2,6 +2,7 @@
 use crate::doing::do_script;
 use crate::file_server::FileServer;
 use crate::office::office_at;
+use crate::resolving::resolved;
 use crate::serving::serve_all;
 use crate::sockets::Sockets;
 use std::alloc::{AllocError, Global};
@@ -13,7 +14,7 @@ use toll_programs::{
     FrontFault, MOST_FILE_BYTES, Status, Task, read_front, task_of, tell_end, usage_of, warn,
 };
 use toll_server::ServingEnd;
-use toll_service::{do_file, do_words};
+use toll_service::{OfficeFault, do_file, do_words};
 
 /// How many standard streams there are.
 const STREAMS: usize = 3;
@@ -43,9 +44,9 @@ fn run_task(rt: &HostRuntime) -> u64 {
     };
     match task_of(&words) {
         Some(Task::Script) => run_script(rt),
-        Some(Task::Words { file, words }) => run_words(rt, file, words),
-        Some(Task::Import { file, actuals }) => run_import(rt, file, actuals),
-        Some(Task::Serve { file, port, count }) => run_serve(rt, file, port, count),
+        Some(Task::Words { file, words }) => status_of(rt, run_words(rt, file, words)),
+        Some(Task::Import { file, actuals }) => status_of(rt, run_import(rt, file, actuals)),
+        Some(Task::Serve { file, port, count }) => status_of(rt, run_serve(rt, file, port, count)),
         None => warn(
             &mut rt.stderr(),
             usage_of(&words).as_bytes(),
@@ -82,30 +83,40 @@ fn run_script(rt: &HostRuntime) -> u64 {
     tell_end(end, &mut rt.stderr())
 }
 
-fn run_words(rt: &HostRuntime, file: &str, words: &[&str]) -> u64 {
+// The exit status, or why the path of the office's file leads nowhere.
+fn status_of(rt: &HostRuntime, done: Result<u64, OfficeFault>) -> u64 {
+    match done {
+        Ok(status) => status,
+        Err(fault) => fail(rt, Status::Failed, format_args!("fault {fault}")),
+    }
+}
+
+fn run_words(rt: &HostRuntime, file: &str, words: &[&str]) -> Result<u64, OfficeFault> {
+    let path = resolved(rt, file)?;
     let (mut output, mut error) = (io::writer(rt), rt.stderr());
-    do_words(
-        &mut office_at(rt, file),
+    Ok(do_words(
+        &mut office_at(rt, path.as_str()),
         &mut FileServer,
         words,
         &mut output,
         &mut error,
-    )
+    ))
 }
 
-fn run_import(rt: &HostRuntime, file: &str, actuals: &str) -> u64 {
+fn run_import(rt: &HostRuntime, file: &str, actuals: &str) -> Result<u64, OfficeFault> {
+    let path = resolved(rt, file)?;
     let text = match read_file(rt, actuals) {
         Ok(text) => text,
-        Err(fault) => return fail(rt, Status::Failed, format_args!("fault {fault}")),
+        Err(fault) => return Ok(fail(rt, Status::Failed, format_args!("fault {fault}"))),
     };
     let (mut output, mut error) = (io::writer(rt), rt.stderr());
-    do_file(
-        &mut office_at(rt, file),
+    Ok(do_file(
+        &mut office_at(rt, path.as_str()),
         &mut FileServer,
         &text,
         &mut output,
         &mut error,
-    )
+    ))
 }
 
 // A file of actuals, of which no more is read than shows that it is too long.
@@ -116,20 +127,16 @@ fn read_file(rt: &HostRuntime, path: &str) -> Result<Vec<u8>, FrontFault> {
     }
 }
 
-fn run_serve(rt: &HostRuntime, file: &str, port: u16, count: u64) -> u64 {
-    let Ok(mut sockets) = Sockets::listen(rt, port, file) else {
-        return fail(rt, Status::Failed, "fault Net");
+fn run_serve(rt: &HostRuntime, file: &str, port: u16, count: u64) -> Result<u64, OfficeFault> {
+    let path = resolved(rt, file)?;
+    let Ok(mut sockets) = Sockets::listen(rt, port, path.as_str()) else {
+        return Ok(fail(rt, Status::Failed, "fault Net"));
     };
-    let Ok(port) = sockets.port() else {
-        return fail(rt, Status::Failed, "fault Net");
-    };
-    if println!(rt; "listening {port}").is_err() {
-        return fail(rt, Status::Failed, "fault Write");
-    }
-    match serve_all(rt, &mut sockets, file, count) {
-        ServingEnd::All | ServingEnd::Spent => u64::from(Status::Done.code()),
-        ServingEnd::Fault => fail(rt, Status::Failed, "fault Net"),
-    }
+    Ok(match serve_all(rt, &mut sockets, path.as_str(), count) {
+        Ok(ServingEnd::All | ServingEnd::Spent) => u64::from(Status::Done.code()),
+        Ok(ServingEnd::Fault) => fail(rt, Status::Failed, "fault Net"),
+        Err(_) => fail(rt, Status::Failed, "fault Write"),
+    })
 }
 
 // Prints why the program failed. A standard error that can't be written to changes nothing.

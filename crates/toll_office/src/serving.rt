@@ -2,10 +2,11 @@
 use crate::office::office_at;
 use crate::sockets::Sockets;
 use crate::timed::Timed;
+use std::io;
 use std::net::{TcpListener, TcpStream};
 use toll_protocol::{ReadFault, read_request, write_whole};
 use toll_server::ServingEnd as Ended;
-use toll_service::{Out, answer_once, serve_place};
+use toll_service::{Announcing, Out, answer_once, serve_place};
 
 /// What came of one connection.
 #[derive(Clone, Copy)]
@@ -39,10 +40,24 @@ pub fn serve_one(rt: &HostRuntime, listener: &TcpListener, path: &str) -> Served
 
 /// Serves so many owners side by side over the office in the file, and the plant meanwhile, as
 /// [`toll_server::serve`] does. Each is answered as [`serve_one`] answers it, and the plant as the program
-/// itself does it, but for how often the file is opened: it stays open between requests while nobody else
-/// changes it.
-pub fn serve_all(rt: &HostRuntime, sockets: &mut Sockets<'_>, path: &str, count: u64) -> Ended {
+/// itself does it, but for how often the file is opened: it is opened before `listening` and the port are
+/// printed, if it is there, and stays open between requests while nobody else changes it. An `Err` if that
+/// line can't be printed: nobody was served.
+pub fn serve_all(
+    rt: &HostRuntime,
+    sockets: &mut Sockets<'_>,
+    path: &str,
+    count: u64,
+) -> io::Result<Ended> {
     serve_place(sockets, office_at(rt, path), count)
+}
+
+impl Announcing for Sockets<'_> {
+    // Prints the port.
+    fn announce(&self, rt: &HostRuntime) -> io::Result<()> {
+        let port = self.port()?;
+        println!(rt; "listening {port}")
+    }
 }
 
 // The request that the client sends, which it must within the time.

@@ -7,3 +7,4 @@ pub mod WholeLemmas
 pub mod RequestLemmas
 pub mod PlantTurns
 pub mod SessionLemmas
+pub mod DamageLemmas

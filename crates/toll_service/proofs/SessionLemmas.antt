@@ -3,6 +3,7 @@ use Rattle.std.proofs.Common.{◌≡◌, ◌⊎◌, ◌∙◌, ◌≤◌, ap, Li
 use Rattle.toll_keep.specs.Content.{Content}
 use Rattle.toll_keep.specs.Meaning.{Meaning}
 use Rattle.toll_service.specs.Openings.{IsRefusedAfter, Openings}
+use Rattle.toll_service.specs.declared.damage.Damage.{Damage}
 use Rattle.toll_service.specs.Sessions.{AnswersBy, AreThoseTaken, IsAtHand, IsLeft, IsSessionRun, IsToldFor, IsToldOver, ResumesBy, SessionState}
 use Rattle.toll_server.specs.Runs.{Input, Request, Task, Yields, Runs, Turn}
 use Rattle.toll_server.specs.declared.poll.Poll.{Poll}
@@ -96,31 +97,33 @@ module _ {K : Type 0} (meaning : Meaning K) (is_opened : K → Type 0) where
       ]
 
   -- what is told by who has an office, as what is told over it
-  told_for : (cause : Type 0) (old new : SessionState K) (input : Input ImportState) (poll : Poll ImportState)
-      → IsToldFor meaning is_opened cause old input poll new → IsToldOver meaning is_opened old input poll new
-  told_for cause old new input poll (inl one) = inl one
-  told_for cause old new input poll (inr (idle, turned, why)) = inr (idle, turned)
+  told_for : (cause : Type 0) (known : Damage) (old new : SessionState K) (input : Input ImportState) (poll : Poll ImportState)
+      → IsToldFor meaning is_opened cause known old input poll new → IsToldOver meaning is_opened old input poll new
+  told_for cause known old new input poll (inl one) = inl one
+  told_for cause known old new input poll (inr (idle, turned, why)) = inr (idle, turned)
 
-  told_by : {O : Type 0} (state : O → SessionState K) (tally : O → Option Openings) (old new : O) (input : Input ImportState) (poll : Poll ImportState)
-      → Yields (AnswersBy meaning is_opened state tally) (ResumesBy meaning is_opened state tally) old input poll new
+  told_by : {O : Type 0} (state : O → SessionState K) (tally : O → Option Openings) (known : O → Damage) (old new : O) (input : Input ImportState) (poll : Poll ImportState)
+      → Yields (AnswersBy meaning is_opened state tally known) (ResumesBy meaning is_opened state tally known) old input poll new
       → IsToldOver meaning is_opened (state old) input poll (state new)
-  told_by state tally old new (Request listener asked) poll one = told_for (IsRefusedAfter (state old).openings (tally old) (tally new)) (state old) (state new) (Request listener asked) poll one
-  told_by state tally old new (Task import) poll one = told_for (IsRefusedAfter (state old).openings (tally old) (tally new)) (state old) (state new) (Task import) poll one
+  told_by state tally known old new (Request listener asked) poll (one, noted) =
+      told_for (IsRefusedAfter (state old).openings (tally old) (tally new)) (known old) (state old) (state new) (Request listener asked) poll one
+  told_by state tally known old new (Task import) poll (one, noted) =
+      told_for (IsRefusedAfter (state old).openings (tally old) (tally new)) (known old) (state old) (state new) (Task import) poll one
 
-  told_over : {O : Type 0} (state : O → SessionState K) (tally : O → Option Openings) (old new : O) (turns : List (Turn ImportState))
-      → Runs (AnswersBy meaning is_opened state tally) (ResumesBy meaning is_opened state tally) old turns new
+  told_over : {O : Type 0} (state : O → SessionState K) (tally : O → Option Openings) (known : O → Damage) (old new : O) (turns : List (Turn ImportState))
+      → Runs (AnswersBy meaning is_opened state tally known) (ResumesBy meaning is_opened state tally known) old turns new
       → Told (state old) turns (state new)
-  told_over state tally old new [] same = ap state same
-  told_over state tally old new (t ∷ turns) (middle, one, rest) =
-      (state middle, told_by state tally old middle t.input t.poll one, told_over state tally middle new turns rest)
+  told_over state tally known old new [] same = ap state same
+  told_over state tally known old new (t ∷ turns) (middle, one, rest) =
+      (state middle, told_by state tally known old middle t.input t.poll one, told_over state tally known middle new turns rest)
 
   -- what came in while one office stood open was a run over it
   pub sitting : {O : Type 0} → ((k : K) (c : Content) → meaning.is_honest k → meaning.is_live k → meaning.holds k c → meaning.leaves k (c ∷ []))
-      → (state : O → SessionState K) (tally : O → Option Openings) (old new : O) (turns : List (Turn ImportState)) (first : K)
-      → Runs (AnswersBy meaning is_opened state tally) (ResumesBy meaning is_opened state tally) old turns new
+      → (state : O → SessionState K) (tally : O → Option Openings) (known : O → Damage) (old new : O) (turns : List (Turn ImportState)) (first : K)
+      → Runs (AnswersBy meaning is_opened state tally known) (ResumesBy meaning is_opened state tally known) old turns new
       → (state old).keep ≡ Some first → (state new).openings ≡ (state old).openings → IsSessionRun meaning first turns (state new)
-  sitting settled state tally old new turns first told there count =
-      let over = sat (state old) (state new) turns first (told_over state tally old new turns told) there count in
+  sitting settled state tally known old new turns first told there count =
+      let over = sat (state old) (state new) turns first (told_over state tally known old new turns told) there count in
       record {
         last = over.last;
         taken = over.taken;

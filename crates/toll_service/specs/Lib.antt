@@ -10,3 +10,5 @@ pub mod Faults
 pub mod Sessions
 pub mod Openings
 pub mod Doing
+pub mod FileChanges
+pub mod Damages

@@ -2,8 +2,10 @@
 use Rattle.std.specs.Prelude.{◌≡◌, ◌⊎◌, ◌↔◌, ◌+◌, ◌-◌, ◌<◌, ◌^◌, ℕ, false, min, List, [], ◌∷◌, Option, None, Some, IsSome, option_map}
 use Rattle.toll_base.specs.Bytes.{Bytes}
 use Rattle.toll_keep.specs.Meaning.{Meaning}
+use Rattle.toll_service.specs.Damages.{IsKnown, IsNoted, KnowsNoMore}
 use Rattle.toll_service.specs.Faults.{fault_text}
 use Rattle.toll_service.specs.Openings.{IsRefusedAfter, Openings}
+use Rattle.toll_service.specs.declared.damage.Damage.{Damage}
 use Rattle.toll_service.specs.declared.office_fault.OfficeFault.{OfficeFault}
 use Rattle.toll_service.specs.declared.office_session.OfficeSession.{OfficeSession}
 use Rattle.toll_protocol.specs.PlantMessages.{IsResponse}
@@ -44,10 +46,10 @@ abbrev pub IsUnserved : Input ImportState → Bytes → Type 0
 IsUnserved (Request listener asked) told = IsTurnedAway listener told
 IsUnserved (Task import) told = IsGivenUp import told
 
--- this is the cause, unless nothing was asked at the plant's listener
-abbrev pub IsCaused : (cause : Type 0) → Input ImportState → Type 0
-IsCaused cause (Request listener asked) = cause ⊎ ((listener ≡ Plant) × (asked ≡ []))
-IsCaused cause (Task import) = cause
+-- this is the cause; or it is known that what was asked meets damage, or nothing was asked at the plant's listener
+abbrev pub IsCaused : (cause : Type 0) → Damage → Input ImportState → Type 0
+IsCaused cause known (Request listener asked) = cause ⊎ IsKnown known listener asked ⊎ ((listener ≡ Plant) × (asked ≡ []))
+IsCaused cause known (Task import) = cause
 
 -- how many imports are under way, if a request begins one; and if one has ended
 abbrev pub begun : Poll ImportState → ℕ → ℕ
@@ -110,19 +112,21 @@ module _ {K : Type 0} (meaning : Meaning K) (is_opened : K → Type 0) where
   abbrev pub IsToldOver : SessionState K → Input ImportState → Poll ImportState → SessionState K → Type 0
   IsToldOver old input poll new = IsTakenOver old input poll new ⊎ (IsIdle old new × IsReadyWith poll (IsUnserved input))
 
-  -- so it was told over an office; or none could be asked, and there is this cause, unless nothing was asked at the plant's listener
-  abbrev pub IsToldFor : (cause : Type 0) → SessionState K → Input ImportState → Poll ImportState → SessionState K → Type 0
-  IsToldFor cause old input poll new = IsTakenOver old input poll new ⊎ (IsIdle old new × IsReadyWith poll (IsUnserved input) × IsCaused cause input)
+  -- so it was told over an office; or none was asked, and there is this cause, unless what was asked is known to meet damage or is nothing
+  abbrev pub IsToldFor : (cause : Type 0) → Damage → SessionState K → Input ImportState → Poll ImportState → SessionState K → Type 0
+  IsToldFor cause known old input poll new = IsTakenOver old input poll new ⊎ (IsIdle old new × IsReadyWith poll (IsUnserved input) × IsCaused cause known input)
 
-  -- who has an office answers so, and turns away only where it was refused one
-  abbrev pub AnswersBy : {O : Type 0} → (O → SessionState K) → (O → Option Openings) → O → Listener → Bytes → Poll ImportState → O → Type 0
-  AnswersBy state tally old listener asked poll new =
-      IsToldFor (IsRefusedAfter (state old).openings (tally old) (tally new)) (state old) (Request listener asked) poll (state new)
+  -- who has an office answers so, turns away only where it was refused one or knows of damage, and knows of no damage that nobody met
+  abbrev pub AnswersBy : {O : Type 0} → (O → SessionState K) → (O → Option Openings) → (O → Damage) → O → Listener → Bytes → Poll ImportState → O → Type 0
+  AnswersBy state tally known old listener asked poll new =
+      IsToldFor (IsRefusedAfter (state old).openings (tally old) (tally new)) (known old) (state old) (Request listener asked) poll (state new)
+      × IsNoted meaning is_opened (known old) (known new) listener asked poll
 
   -- and goes on so with an import
-  abbrev pub ResumesBy : {O : Type 0} → (O → SessionState K) → (O → Option Openings) → O → ImportState → Poll ImportState → O → Type 0
-  ResumesBy state tally old import poll new =
-      IsToldFor (IsRefusedAfter (state old).openings (tally old) (tally new)) (state old) (Task import) poll (state new)
+  abbrev pub ResumesBy : {O : Type 0} → (O → SessionState K) → (O → Option Openings) → (O → Damage) → O → ImportState → Poll ImportState → O → Type 0
+  ResumesBy state tally known old import poll new =
+      IsToldFor (IsRefusedAfter (state old).openings (tally old) (tally new)) (known old) (state old) (Task import) poll (state new)
+      × KnowsNoMore (known old) (known new)
 
 -- those turns in which an office was asked, in order; in all others none could be, and that was told
 abbrev pub AreThoseTaken : List (Turn ImportState) → List (Turn ImportState) → Type 0
@@ -142,5 +146,5 @@ pub record IsSessionRun {K : Type 0} (meaning : Meaning K) (first : K) (turns : 
 -- what is told by who has an office, while one office stands open and none is opened, is a run over it
 abbrev pub AreSessionRuns : {K : Type 0} → Meaning K → (K → Type 0) → Type 0 → Type 0
 AreSessionRuns {K} meaning is_opened O =
-    (state : O → SessionState K) (tally : O → Option Openings) (old new : O) (turns : List (Turn ImportState)) (first : K)
-    → Runs (AnswersBy meaning is_opened state tally) (ResumesBy meaning is_opened state tally) old turns new → IsOneOffice first (state old) (state new) → IsSessionRun meaning first turns (state new)
+    (state : O → SessionState K) (tally : O → Option Openings) (known : O → Damage) (old new : O) (turns : List (Turn ImportState)) (first : K)
+    → Runs (AnswersBy meaning is_opened state tally known) (ResumesBy meaning is_opened state tally known) old turns new → IsOneOffice first (state old) (state new) → IsSessionRun meaning first turns (state new)

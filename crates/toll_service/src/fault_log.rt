@@ -1,6 +1,7 @@
 //! What an operator sees of a server's faults.
 ghost use Rattle.std.specs.Prelude.{◌≡◌, None};
 
+use crate::notes::Notes;
 use crate::office_fault::OfficeFault;
 use thiserror::Error;
 
@@ -25,6 +26,7 @@ pub enum ServingFault {
 #[derive(Clone, Copy, Debug, PartialEq, Eq)]
 pub struct FaultLog {
     pub fault: Option<ServingFault>,
+    notes: Notes,
 }
 
 impl FaultLog {
@@ -32,22 +34,25 @@ impl FaultLog {
     pub fn new() -> Self
         ensures { result.fault ≡ None }
     {
-        FaultLog { fault: None }
+        FaultLog {
+            fault: None,
+            notes: Notes::new(),
+        }
     }
 
     /// Notes the fault that is met now, or that all is well, and writes a line on standard error where that
     /// is new: that the fault before it ended, and that this one began.
-    pub fn update(&mut self, rt: &impl Eprint, found: Option<ServingFault>)
+    pub fn update(&mut self, rt: &HostRuntime, found: Option<ServingFault>)
         ensures { self.new.fault ≡ found }
     {
         if self.fault == found {
             return;
         }
         if let Some(ended) = self.fault {
-            let _ = rt.eprintln(format_args!("fault {ended} ended"));
+            self.notes.write(rt, format_args!("fault {ended} ended"));
         }
         if let Some(began) = found {
-            let _ = rt.eprintln(format_args!("fault {began} began"));
+            self.notes.write(rt, format_args!("fault {began} began"));
         }
         self.fault = found;
     }

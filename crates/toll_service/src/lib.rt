@@ -4,11 +4,14 @@
 #![tactic(auto)]
 
 mod answering;
+mod damage;
 mod doing;
 mod fault_log;
+mod file_stamps;
 mod keep_service;
 mod laws;
 mod lock;
+mod notes;
 mod office_fault;
 mod office_path;
 mod office_service;
@@ -28,6 +31,7 @@ mod words;
 pub use answering::answer_at;
 pub use doing::{answer_once, with_keep};
 pub use fault_log::{FaultLog, ServingFault};
+pub use file_stamps::{FileChange, FileStamps, LeftFiles, Stamp};
 pub use keep_service::KeepService;
 pub use laws::{
     what_is_served_between_two_openings_is_a_run, what_one_asks_is_all_of_its_turns,
@@ -39,7 +43,7 @@ pub use office_path::{KeepOpener, OfficePath};
 pub use office_service::OfficeService;
 pub use party::Party;
 pub use pending_import::PendingImport;
-pub use serving::{serve_keep, serve_place};
+pub use serving::{Announcing, serve_keep, serve_place};
 pub use toll_wire::Out;
 pub use turn_result::TurnResult;
 pub use words::{do_file, do_words};

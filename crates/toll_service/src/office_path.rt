@@ -2,6 +2,7 @@
 ghost use Rattle.std.specs.Prelude.{◌≡◌, Option, None, option_map, is_ok, IfOk};
 ghost use Rattle.toll_service.specs.Openings.{Openings, after_lock, after_opening};
 
+use crate::file_stamps::LeftFiles;
 use crate::office_fault::OfficeFault;
 use std::fs::File;
 
@@ -15,6 +16,16 @@ pub trait KeepOpener<K>: Drop {
 
     /// The lock of the file, as [`take_lock`](crate::take_lock) takes it.
     fn lock(&mut self, rt: &HostRuntime, path: &str) -> Result<File, OfficeFault>
+        ensures { openings self.new ≡ option_map (after_lock (is_ok result)) (openings self.old) };
+
+    /// Whether nobody else has changed the files since they were left so, as [`LeftFiles::is_unchanged`] tells it.
+    /// NotOurs, a refusal, if what was committed is gone.
+    fn is_unchanged(
+        &mut self,
+        rt: &HostRuntime,
+        path: &str,
+        left: &LeftFiles,
+    ) -> Result<bool, OfficeFault>
         ensures { openings self.new ≡ option_map (after_lock (is_ok result)) (openings self.old) };
 
     /// The keep in the file.

@@ -11,6 +11,7 @@ use crate::party::Party;
 use crate::pending_import::PendingImport;
 use crate::turn_result::TurnResult;
 use std::alloc::Global;
+use std::fs;
 use toll_keep::Keep;
 use toll_programs::Status;
 use toll_protocol::Response;
@@ -37,14 +38,27 @@ impl<K: Drop, O: Drop> Drop for OfficeService<'_, K, O> {
 }
 
 impl<'a, K: Keep + Drop, O: KeepOpener<K>> OfficeService<'a, K, O> {
-    /// Of the office at this path, which is opened for the first request.
+    /// Of the office at this path, which is opened for the first request, unless it is opened ahead.
     pub fn new(office_path: OfficePath<'a, O>) -> Self
         ensures { IsUnopened (state_of_session result.session) }
     {
+        let alloc = office_path.rt.alloc();
         OfficeService {
             office_path,
-            session: OfficeSession::new(),
+            session: OfficeSession::new(alloc),
             faults: FaultLog::new(),
+        }
+    }
+
+    /// Opens the office before the first request, if its file is there. Where it can't be, the operator is
+    /// told the fault, and each request tries it again.
+    pub fn open_ahead(&mut self) {
+        let OfficePath { rt, path, .. } = self.office_path;
+        if fs::metadata(rt, path).is_err() {
+            return;
+        }
+        if let Err(fault) = self.session.open_ahead(&mut self.office_path) {
+            self.log_closed(fault);
         }
     }
 
@@ -88,9 +102,11 @@ impl<K: Keep + Drop, O: KeepOpener<K>> Service for OfficeService<'_, K, O> {
 
     ghost is_by = { IsBy };
 
-    ghost answers = { AnswersBy K.meaning O.is_opened (λ service. state_of_session service.session) (λ service. O.openings service.office_path.opener) };
+    ghost answers = { AnswersBy K.meaning O.is_opened (λ service. state_of_session service.session)
+        (λ service. O.openings service.office_path.opener) (λ service. service.session.damage) };
 
-    ghost resumes = { ResumesBy K.meaning O.is_opened (λ service. state_of_session service.session) (λ service. O.openings service.office_path.opener) };
+    ghost resumes = { ResumesBy K.meaning O.is_opened (λ service. state_of_session service.session)
+        (λ service. O.openings service.office_path.opener) (λ service. service.session.damage) };
 
     fn party(listener: Listener, asked: &[u8]) -> Party
         ensures { IsBy listener asked.now result }
@@ -98,13 +114,24 @@ impl<K: Keep + Drop, O: KeepOpener<K>> Service for OfficeService<'_, K, O> {
         Party::of(listener, asked)
     }
 
-    // Who came in at the plant's listener and asked nothing only looked whether somebody is there.
+    // Who came in at the plant's listener and asked nothing only looked whether somebody is there. What is known
+    // to meet damage is told so without asking.
     fn answer(&mut self, alloc: Global, listener: Listener, asked: &[u8]) -> Poll<PendingImport> {
         if listener == Listener::Plant && asked.is_empty() {
             return Poll::Ready(Vec::new(alloc));
         }
+        let OfficePath { rt, path, .. } = self.office_path;
+        if self.session.is_damaged(rt, path, listener, asked) {
+            return Poll::Ready(refusal(alloc, listener, OfficeFault::Damaged));
+        }
         match self.session.answer(&mut self.office_path, listener, asked) {
-            Ok(reply) => self.logged(reply),
+            Ok(reply) => {
+                if !reply.keep_usable {
+                    self.session
+                        .note_damage(&mut self.office_path, listener, asked, &reply.poll);
+                }
+                self.logged(reply)
+            }
             Err(fault) => {
                 self.log_closed(fault);
                 Poll::Ready(refusal(alloc, listener, fault))

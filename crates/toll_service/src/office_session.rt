@@ -1,22 +1,34 @@
 //! An office that stays open between requests, while others may use its file.
-ghost use Rattle.std.specs.Prelude.{◌≡◌, ◌+◌, ◌-◌, ◌<◌, false, None, Some, IfErr, IfOk, IfSome, IsSome, OnErr, OnOk};
+ghost use Rattle.std.specs.Prelude.{◌≡◌, ◌+◌, ◌-◌, ◌<◌, false, true, [], None, Some, IfErr, IfOk, IfSome, IsSome, OnErr, OnOk};
 ghost use Rattle.toll_server.specs.Runs.{Request, Task};
+ghost use Rattle.toll_service.specs.Damages.{AreCallsMet, AreOwnersFound, HasFoundDamage, IsKnown, IsNoted, KnowsNoMore};
+ghost use Rattle.toll_service.specs.Faults.{fault_text};
 ghost use Rattle.toll_service.specs.Listeners.{IsServedIfRoom};
 ghost use Rattle.toll_service.specs.Openings.{IsOneRefused, IsRefusedAfter, IsUnasked};
 ghost use Rattle.toll_service.specs.Sessions.{IsAtHand, IsIdle, IsLeft, IsLockKept, IsUnopened, Takes, begun, ended, state_of_session};
+ghost use Rattle.toll_programs.specs.Statuses.{code_of};
+ghost use Rattle.toll_programs.specs.declared.status.Status.TheVariants.{Failed};
+ghost use Rattle.toll_protocol.specs.PlantMessages.{IsResponse};
 
 use crate::answering::answer_at;
+use crate::damage::Damage;
+use crate::file_stamps::LeftFiles;
+use crate::notes::Notes;
 use crate::office_fault::OfficeFault;
 use crate::office_path::{KeepOpener, OfficePath};
 use crate::open_office::OpenOffice;
+use crate::party::Party;
 use crate::pending_import::PendingImport;
 use crate::stopped_import::StoppedImport;
 use crate::turn_result::TurnResult;
 use std::alloc::{AllocError, Global};
 use std::fs::File;
-use std::io;
 use std::time::Instant;
-use toll_keep::Keep;
+use std::{io, str};
+use toll_base::Name;
+use toll_keep::{Keep, KeepFault};
+use toll_programs::Status;
+use toll_protocol::Response;
 use toll_server::{Listener, Poll};
 use toll_wire::OfficeRouter;
 
@@ -29,6 +41,9 @@ pub struct OfficeSession<K> {
     imports: u64,
     lock: Option<File>,
     router: OfficeRouter,
+    left: Option<LeftFiles>,
+    damage: Damage,
+    notes: Notes,
 }
 
 /// By hand, since what is derived is written out at every exit of every function that owns a session.
@@ -40,13 +55,16 @@ impl<K: Drop> Drop for OfficeSession<K> {
             imports: _,
             lock: _,
             router: _,
+            left: _,
+            damage: _,
+            notes: _,
         } = self;
     }
 }
 
 impl<K: Keep + Drop> OfficeSession<K> {
     /// No file is open yet.
-    pub fn new() -> Self
+    pub fn new(alloc: Global) -> Self
         ensures unopened { IsUnopened (state_of_session result) }
         ensures lock { IsLockKept result }
     {
@@ -56,6 +74,31 @@ impl<K: Keep + Drop> OfficeSession<K> {
             imports: 0,
             lock: None,
             router: OfficeRouter::new(),
+            left: None,
+            damage: Damage::new(alloc),
+            notes: Notes::new(),
+        }
+    }
+
+    /// Opens the office before anything is asked. An `Err` where the lock isn't got or the file isn't opened.
+    pub fn open_ahead<O: KeepOpener<K>>(
+        &mut self,
+        office_path: &mut OfficePath<'_, O>,
+    ) -> Result<(), OfficeFault>
+        ensures err { OnErr result (IsIdle (state_of_session self.old) (state_of_session self.new)) }
+        ensures imports { self.new.imports ≡ self.old.imports }
+        ensures damage { KnowsNoMore self.old.damage self.new.damage }
+        ensures lock { IsLockKept self.old → IsLockKept self.new }
+    {
+        match self.take(office_path) {
+            Ok(opened) => {
+                self.leave(office_path, opened, true);
+                Ok(())
+            }
+            Err(fault) => {
+                self.unlock();
+                Err(fault)
+            }
         }
     }
 
@@ -73,6 +116,7 @@ impl<K: Keep + Drop> OfficeSession<K> {
         ensures imports { IfOk result (λ reply. self.new.imports ≡ begun reply.poll self.old.imports) }
         ensures err { OnErr result (IsIdle (state_of_session self.old) (state_of_session self.new) × (self.new.imports ≡ self.old.imports)) }
         ensures refused { OnErr result (IsRefusedAfter self.old.openings (O.openings office_path.old.opener) (O.openings office_path.new.opener)) }
+        ensures damage { KnowsNoMore self.old.damage self.new.damage }
         ensures lock { IsLockKept self.old → IsLockKept self.new }
     {
         match self.take(office_path) {
@@ -110,6 +154,7 @@ impl<K: Keep + Drop> OfficeSession<K> {
         ensures imports { IfOk result (λ reply. self.new.imports ≡ ended reply.poll self.old.imports) }
         ensures err { OnErr result (IsIdle (state_of_session self.old) (state_of_session self.new)) }
         ensures refused { OnErr result (IsRefusedAfter self.old.openings (O.openings office_path.old.opener) (O.openings office_path.new.opener)) }
+        ensures damage { KnowsNoMore self.old.damage self.new.damage }
         ensures stopped { IfErr result (λ stopped. (stopped.import ≡ import) × (self.new.imports ≡ self.old.imports - 1)) }
         ensures lock { IsLockKept self.old → IsLockKept self.new }
     {
@@ -139,6 +184,7 @@ impl<K: Keep + Drop> OfficeSession<K> {
         ensures err { OnErr result (IsIdle (state_of_session self.old) (state_of_session self.new)) }
         ensures refused { OnErr result (IsRefusedAfter self.old.openings (O.openings office_path.old.opener) (O.openings office_path.new.opener)) }
         ensures imports { self.new.imports ≡ self.old.imports }
+        ensures damage { KnowsNoMore self.old.damage self.new.damage }
         ensures lock { OnOk result (IsSome self.new.lock) }
         ensures kept { IsSome self.old.lock → IsSome self.new.lock }
     {
@@ -149,29 +195,53 @@ impl<K: Keep + Drop> OfficeSession<K> {
         }
     }
 
-    // The office as it was left, under the lock, if one was left open and nobody else has changed it.
+    // The office as it was left, under the lock, if one was left open and nobody else has changed it. What
+    // was known of damage is forgotten where somebody has.
     fn take_left<O: KeepOpener<K>>(
         &mut self,
         office_path: &mut OfficePath<'_, O>,
     ) -> Result<Option<OpenOffice<K>>, OfficeFault>
         ensures left { IfOk result (λ left. IfSome left (λ o. (state_of_session self.old).keep ≡ Some o.keep)) }
         ensures ok { OnOk result ((self.new.opened ≡ None) × IsSome self.new.lock) }
-        ensures err { OnErr result (self.new ≡ self.old) }
+        ensures err { OnErr result (self.new ≡ record self.old { lock = self.new.lock }) }
+        ensures kept { IsSome self.old.lock → IsSome self.new.lock }
         ensures refused { OnErr result (IsOneRefused (O.openings office_path.old.opener) (O.openings office_path.new.opener)) }
         ensures unasked { OnOk result (IsUnasked (O.openings office_path.old.opener) (O.openings office_path.new.opener)) }
         ensures openings { self.new.openings ≡ self.old.openings }
         ensures imports { self.new.imports ≡ self.old.imports }
+        ensures damage { KnowsNoMore self.old.damage self.new.damage }
     {
-        let is_kept = self.lock.is_some();
-        if !is_kept {
-            match office_path.opener.lock(office_path.rt, office_path.path) {
-                Ok(lock) => self.lock = Some(lock),
-                Err(fault) => return Err(fault),
-            }
+        if self.lock.is_some() {
+            return Ok(self.opened.take());
+        }
+        let lock = office_path.opener.lock(office_path.rt, office_path.path)?;
+        self.lock = Some(lock);
+        if !self.is_as_left(office_path)? {
+            self.opened = None;
+            self.damage.forget();
+            return Ok(None);
         }
         match self.opened.take() {
-            Some(opened) if is_kept || opened.reacquire(office_path.rt) => Ok(Some(opened)),
+            Some(opened) if opened.reacquire() => Ok(Some(opened)),
             _ => Ok(None),
+        }
+    }
+
+    // Whether nobody else has changed the files since they were left.
+    fn is_as_left<O: KeepOpener<K>>(
+        &self,
+        office_path: &mut OfficePath<'_, O>,
+    ) -> Result<bool, OfficeFault>
+        ensures unasked { OnOk result (IsUnasked (O.openings office_path.old.opener) (O.openings office_path.new.opener)) }
+        ensures refused { OnErr result (IsOneRefused (O.openings office_path.old.opener) (O.openings office_path.new.opener)) }
+    {
+        match &self.left {
+            Some(left) => {
+                office_path
+                    .opener
+                    .is_unchanged(office_path.rt, office_path.path, left)
+            }
+            None => Ok(false),
         }
     }
 
@@ -183,7 +253,7 @@ impl<K: Keep + Drop> OfficeSession<K> {
         ensures opened { IfOk result (λ o. O.is_opened o.keep × (self.new.openings ≡ self.old.openings + 1)) }
         ensures err { OnErr result (self.new.openings ≡ self.old.openings) }
         ensures refused { OnErr result (IsRefusedAfter self.old.openings (O.openings office_path.old.opener) (O.openings office_path.new.opener)) }
-        ensures beside { self.new ≡ record self.old { openings = self.new.openings } }
+        ensures beside { self.new ≡ record self.old { openings = self.new.openings; notes = self.new.notes } }
     {
         let Some(openings) = self.openings.checked_add(1) else {
             return Err(OfficeFault::Memory);
@@ -193,7 +263,7 @@ impl<K: Keep + Drop> OfficeSession<K> {
             Ok(opened) => {
                 self.openings = openings;
                 if openings > 1 {
-                    tell_opening(office_path.rt, began);
+                    self.note_opening(office_path.rt, began);
                 }
                 Ok(opened)
             }
@@ -212,14 +282,37 @@ impl<K: Keep + Drop> OfficeSession<K> {
         ensures closed { keep_usable ≡ false → self.new.opened ≡ None }
         ensures openings { self.new.openings ≡ self.old.openings }
         ensures imports { self.new.imports ≡ self.old.imports }
+        ensures damage { self.new.damage ≡ self.old.damage }
         ensures lock { IsSome self.old.lock → IsLockKept self.new }
     {
+        self.note_files(office_path.rt, office_path.path);
         self.opened = match (keep_usable, self.imports) {
             (false, _) => None,
             (true, 0) => opened.release(office_path),
             (true, _) => Some(opened),
         };
         self.unlock();
+    }
+
+    // Notes how the files are left.
+    fn note_files(&mut self, rt: &HostRuntime, path: &str)
+        ensures { self.new ≡ record self.old { left = self.new.left } }
+    {
+        self.left = LeftFiles::of(rt, path, &self.left).ok();
+    }
+
+    // Writes on standard error that the file was opened anew, and how long that took.
+    fn note_opening(&mut self, rt: &HostRuntime, began: io::Result<Instant>)
+        ensures { self.new ≡ record self.old { notes = self.new.notes } }
+    {
+        let Ok(began) = began else {
+            return;
+        };
+        if let Ok(gone) = began.elapsed(rt) {
+            let taken = gone.as_millis();
+            self.notes
+                .write(rt, format_args!("opened anew in {taken} ms"));
+        }
     }
 
     // Gives back the lock, where no import is under way.
@@ -234,6 +327,116 @@ impl<K: Keep + Drop> OfficeSession<K> {
         if let Some(lock) = self.lock.take() {
             let _ = lock.unlock();
         }
+    }
+
+    // Writes on standard error that an owner's rows are damaged, if they are.
+    fn note_rows(&mut self, rt: &HostRuntime, owner: &Name, is_damaged: bool)
+        ensures { self.new ≡ record self.old { notes = self.new.notes } }
+    {
+        if !is_damaged {
+            return;
+        }
+        if let Ok(name) = str::from_utf8(owner.as_bytes()) {
+            self.notes.write(rt, format_args!("damaged rows of {name}"));
+        }
+    }
+
+    /// Whether what came in at a listener is known to meet damage, and nobody else has written the files since
+    /// that was found out.
+    pub fn is_damaged(&self, rt: &HostRuntime, path: &str, listener: Listener, asked: &[u8]) -> bool
+        ensures { result ≡ true → IsKnown self.now.damage listener asked.now }
+    {
+        self.damage.is_known(listener, asked)
+            && (self.lock.is_some() || self.are_files_as_left(rt, path))
+    }
+
+    fn are_files_as_left(&self, rt: &HostRuntime, path: &str) -> bool {
+        match &self.left {
+            Some(left) => matches!(left.is_unchanged(rt, path), Ok(true)),
+            None => false,
+        }
+    }
+
+    /// After a turn that met a fault, finds out whether damage was met, and remembers that: of an owner's
+    /// request, whether that owner's rows are damaged, for which the file is opened once more; of a call of
+    /// the plant, whether it was told so.
+    pub fn note_damage<O: KeepOpener<K>>(
+        &mut self,
+        office_path: &mut OfficePath<'_, O>,
+        listener: Listener,
+        asked: &[u8],
+        poll: &Poll<PendingImport>,
+    )
+        ensures state { state_of_session self.new ≡ state_of_session self.old }
+        ensures imports { self.new.imports ≡ self.old.imports }
+        ensures noted { IsNoted K.meaning O.is_opened self.old.damage self.new.damage listener asked.now poll.now }
+        ensures lock { IsLockKept self.old → IsLockKept self.new }
+    {
+        match listener {
+            Listener::Owners => {
+                if let Party::Owner(owner) = Party::of(listener, asked) {
+                    self.look_at(office_path, owner);
+                }
+            }
+            Listener::Plant => self.note_call(office_path.rt.alloc(), asked, poll),
+        }
+    }
+
+    // Notes a call of the plant that was told damage.
+    fn note_call(&mut self, alloc: Global, asked: &[u8], poll: &Poll<PendingImport>)
+        ensures beside { self.new ≡ record self.old { damage = self.new.damage } }
+        ensures owners { self.new.damage.owners ≡ self.old.damage.owners }
+        ensures calls { AreCallsMet self.old.damage self.new.damage asked.now poll.now }
+    {
+        if let Poll::Ready(told) = poll {
+            if tells_damage(alloc, told) {
+                self.damage.note_call(alloc, asked);
+            }
+        }
+    }
+
+    // Looks at an owner's rows, if nobody did and the files are as they were left.
+    fn look_at<O: KeepOpener<K>>(&mut self, office_path: &mut OfficePath<'_, O>, owner: Name)
+        ensures state { state_of_session self.new ≡ state_of_session self.old }
+        ensures imports { self.new.imports ≡ self.old.imports }
+        ensures owners { AreOwnersFound K.meaning O.is_opened self.old.damage self.new.damage owner }
+        ensures calls { self.new.damage.calls ≡ self.old.damage.calls }
+        ensures lock { IsLockKept self.old → IsLockKept self.new }
+    {
+        if self.damage.was_looked_at(&owner) {
+            return;
+        }
+        if self.relock(office_path) {
+            self.learn(office_path, owner);
+        }
+        self.unlock();
+    }
+
+    // Takes the lock, if it isn't kept, and tells whether it is there and the files are as they were left.
+    fn relock<O: KeepOpener<K>>(&mut self, office_path: &mut OfficePath<'_, O>) -> bool
+        ensures beside { self.new ≡ record self.old { lock = self.new.lock } }
+        ensures kept { IsSome self.old.lock → IsSome self.new.lock }
+    {
+        if self.lock.is_some() {
+            return true;
+        }
+        let Ok(lock) = office_path.opener.lock(office_path.rt, office_path.path) else {
+            return false;
+        };
+        self.lock = Some(lock);
+        self.are_files_as_left(office_path.rt, office_path.path)
+    }
+
+    // Opens the file, to look at an owner's rows alone, and closes it.
+    fn learn<O: KeepOpener<K>>(&mut self, office_path: &mut OfficePath<'_, O>, owner: Name)
+        ensures beside { self.new ≡ record self.old { left = self.new.left; damage = self.new.damage; notes = self.new.notes } }
+        ensures owners { AreOwnersFound K.meaning O.is_opened self.old.damage self.new.damage owner }
+        ensures calls { self.new.damage.calls ≡ self.old.damage.calls }
+    {
+        let is_damaged = finds_damage(office_path, &owner);
+        self.damage.note_owner(owner, is_damaged);
+        self.note_rows(office_path.rt, &owner, is_damaged);
+        self.note_files(office_path.rt, office_path.path);
     }
 
     /// Closes the file, if it is open and the lock is got. What was answered stands in the file whether or
@@ -267,13 +470,32 @@ fn reply_over<K: Keep>(
     }
 }
 
-// Writes on standard error that the file was opened anew, and how long that took.
-fn tell_opening(rt: &HostRuntime, began: io::Result<Instant>) {
-    let Ok(began) = began else {
-        return;
+// Whether an office that is opened for it finds damage in an owner's rows.
+fn finds_damage<K: Keep + Drop, O: KeepOpener<K>>(
+    office_path: &mut OfficePath<'_, O>,
+    owner: &Name,
+) -> bool
+    ensures { result ≡ true → HasFoundDamage K.meaning O.is_opened }
+{
+    let Ok(mut keep) = office_path.opener.open(office_path.rt, office_path.path) else {
+        return false;
     };
-    if let Ok(gone) = began.elapsed(rt) {
-        let taken = gone.as_millis();
-        let _ = rt.eprintln(format_args!("opened anew in {taken} ms"));
+    let read = keep.slice(office_path.rt.alloc(), owner);
+    office_path.opener.close(keep);
+    matches!(read, Err(KeepFault::Damaged))
+}
+
+// Whether the plant is told that damage was met, and nothing else.
+fn tells_damage(alloc: Global, told: &[u8]) -> bool
+    ensures { result ≡ true → IsResponse told.now (code_of Failed) [] (fault_text OfficeFault.Damaged) }
+{
+    let wanted = Response {
+        status: Status::Failed.code(),
+        output: b"",
+        error: OfficeFault::Damaged.line(),
+    };
+    match wanted.encode(alloc) {
+        Ok(bytes) => bytes.as_slice() == told,
+        Err(_) => false,
     }
 }

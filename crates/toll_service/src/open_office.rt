@@ -40,13 +40,11 @@ impl<K: Drop> OpenOffice<K> {
     }
 
     /// Releases the files to others: none is left open where they can't be released.
-    pub fn release<O: KeepOpener<K>>(mut self, office_path: &mut OfficePath<'_, O>) -> Option<Self>
+    pub fn release<O: KeepOpener<K>>(self, office_path: &mut OfficePath<'_, O>) -> Option<Self>
         ensures { IfSome result (λ released. released.keep ≡ self.keep) }
     {
-        let is_released = match &mut self.files {
-            Some(Files { database, log }) => {
-                database.release(office_path.rt).is_ok() && log.release(office_path.rt).is_ok()
-            }
+        let is_released = match &self.files {
+            Some(Files { database, log }) => database.unlock().is_ok() && log.unlock().is_ok(),
             None => false,
         };
         if is_released {
@@ -56,12 +54,10 @@ impl<K: Drop> OpenOffice<K> {
         None
     }
 
-    /// Locks the files again, and tells whether nobody has changed them.
-    pub fn reacquire(&self, rt: &HostRuntime) -> bool {
+    /// Locks the files again, and tells whether nobody else has them.
+    pub fn reacquire(&self) -> bool {
         match &self.files {
-            Some(Files { database, log }) => {
-                database.reacquire(rt).unwrap_or(false) && log.reacquire(rt).unwrap_or(false)
-            }
+            Some(Files { database, log }) => database.lock().is_ok() && log.lock().is_ok(),
             None => false,
         }
     }
@@ -75,11 +71,10 @@ impl<K: Drop> OpenOffice<K> {
 
 impl Files {
     fn of(rt: &HostRuntime, path: &str) -> io::Result<Self> {
-        let database = format!(in rt.alloc(); "{path}")?;
         let log = format!(in rt.alloc(); "{path}-wal")?;
         Ok(Files {
-            database: SharedFile::of(rt, database)?,
-            log: SharedFile::of(rt, log)?,
+            database: SharedFile::of(rt, path)?,
+            log: SharedFile::of(rt, log.as_str())?,
         })
     }
 }

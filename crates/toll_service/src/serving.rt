@@ -1,5 +1,5 @@
 //! Serving over a keep, and over an office in a file.
-ghost use Rattle.std.specs.Prelude.{◌≡◌};
+ghost use Rattle.std.specs.Prelude.{◌≡◌, IfOk, OnErr};
 ghost use Rattle.toll_server.specs.Networks.{EndsSo, Tallies};
 ghost use Rattle.toll_server.specs.Queues.{IsServedInTurn};
 ghost use Rattle.toll_service.specs.Parties.{IsBy};
@@ -10,6 +10,7 @@ use crate::office_path::{KeepOpener, OfficePath};
 use crate::office_service::OfficeService;
 use crate::party::Party;
 use std::alloc::Global;
+use std::io;
 use toll_keep::Keep;
 use toll_server::{Network, ServingEnd, serve};
 
@@ -31,19 +32,32 @@ pub fn serve_keep<W: Network, K: Keep>(
     serve(alloc, world, service, count)
 }
 
+/// A network that tells that it listens.
+pub trait Announcing: Network {
+    /// Tells whoever began the serving that clients may come.
+    fn announce(&self, rt: &HostRuntime) -> io::Result<()>;
+}
+
 /// Serves so many owners side by side over the office at this path, and the plant meanwhile. It is opened
-/// for the first request, stays open between requests while nobody else changes it, and is closed in the
-/// end.
-pub fn serve_place<W: Network, K: Keep + Drop, O: KeepOpener<K>>(
+/// before the network tells that it listens, if its file is there, and else for the first request; it stays
+/// open between requests while nobody else changes it, and is closed in the end. An `Err` if the network
+/// can't tell that it listens: nobody was served.
+pub fn serve_place<W: Announcing, K: Keep + Drop, O: KeepOpener<K>>(
     world: &mut W,
     office_path: OfficePath<'_, O>,
     count: u64,
-) -> ServingEnd
-    ensures end { Tallies (EndsSo result count) (W.tally world.old) (W.tally world.new) }
+) -> io::Result<ServingEnd>
+    ensures end { IfOk result (λ end. Tallies (EndsSo end count) (W.tally world.old) (W.tally world.new)) }
+    ensures err { OnErr result (world.new ≡ world.old) }
 {
-    let alloc = office_path.rt.alloc();
+    let rt = office_path.rt;
     let mut service = OfficeService::new(office_path);
-    let served = serve(alloc, world, &mut service, count);
+    service.open_ahead();
+    if let Err(fault) = world.announce(rt) {
+        service.close();
+        return Err(fault);
+    }
+    let served = serve(rt.alloc(), world, &mut service, count);
     service.close();
-    served
+    Ok(served)
 }

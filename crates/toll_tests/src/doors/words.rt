@@ -6,7 +6,7 @@ use std::{fs, io};
 use toll_keep::MemKeep;
 use toll_programs::{Connector, TrackedStream};
 use toll_protocol::Sink;
-use toll_service::{KeepOpener, OfficeFault, OfficePath, do_words, take_lock};
+use toll_service::{KeepOpener, LeftFiles, OfficeFault, OfficePath, do_words, take_lock};
 
 /// Opens an office without rows, and counts how many.
 #[derive(Drop)]
@@ -21,6 +21,15 @@ impl KeepOpener<MemKeep> for Counting {
 
     fn lock(&mut self, rt: &HostRuntime, path: &str) -> Result<File, OfficeFault> {
         take_lock(rt, path)
+    }
+
+    fn is_unchanged(
+        &mut self,
+        rt: &HostRuntime,
+        path: &str,
+        left: &LeftFiles,
+    ) -> Result<bool, OfficeFault> {
+        left.is_unchanged(rt, path)
     }
 
     fn open(&mut self, rt: &HostRuntime, _path: &str) -> Result<MemKeep, OfficeFault> {

@@ -10,7 +10,7 @@ use toll_keep::MemKeep;
 use toll_plant::GROUP_RECORDS;
 use toll_protocol::{EncodeFault, Response};
 use toll_server::{Listener, Poll, Service};
-use toll_service::{KeepOpener, OfficeFault, OfficePath, OfficeService, take_lock};
+use toll_service::{KeepOpener, LeftFiles, OfficeFault, OfficePath, OfficeService, take_lock};
 
 /// Opens one office, which refuses one change, and then none.
 #[derive(Drop)]
@@ -25,6 +25,15 @@ impl KeepOpener<Refusing<MemKeep>> for Once {
 
     fn lock(&mut self, rt: &HostRuntime, path: &str) -> Result<File, OfficeFault> {
         take_lock(rt, path)
+    }
+
+    fn is_unchanged(
+        &mut self,
+        rt: &HostRuntime,
+        path: &str,
+        left: &LeftFiles,
+    ) -> Result<bool, OfficeFault> {
+        left.is_unchanged(rt, path)
     }
 
     fn open(&mut self, rt: &HostRuntime, _path: &str) -> Result<Refusing<MemKeep>, OfficeFault> {

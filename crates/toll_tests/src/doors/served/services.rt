@@ -9,7 +9,7 @@ use std::test::Fail;
 use std::{fs, io};
 use toll_keep::MemKeep;
 use toll_server::{Listener, Poll, Service};
-use toll_service::{KeepOpener, OfficeFault, OfficePath, OfficeService, take_lock};
+use toll_service::{KeepOpener, LeftFiles, OfficeFault, OfficePath, OfficeService, take_lock};
 
 /// How often an office was opened, and closed.
 #[derive(Drop)]
@@ -45,6 +45,15 @@ impl KeepOpener<MemKeep> for Shelf<'_> {
 
     fn lock(&mut self, rt: &HostRuntime, path: &str) -> Result<File, OfficeFault> {
         take_lock(rt, path)
+    }
+
+    fn is_unchanged(
+        &mut self,
+        rt: &HostRuntime,
+        path: &str,
+        left: &LeftFiles,
+    ) -> Result<bool, OfficeFault> {
+        left.is_unchanged(rt, path)
     }
 
     fn open(&mut self, rt: &HostRuntime, _path: &str) -> Result<MemKeep, OfficeFault> {

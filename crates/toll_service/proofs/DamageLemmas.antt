@@ -1,0 +1,80 @@
+-- What is known to meet damage.
+use Rattle.std.proofs.Common.{◌≡◌, ◌⊎◌, ℕ, Bool, [], true, Contains, sym, ◌∙◌, subst, inl, inr}
+use Rattle.std.specs.List.{list_any}
+use Rattle.std.specs.Global.{Vec}
+use Rattle.toll_service.specs.Common.{Bytes, Meaning, Listener, Owners, Plant, Poll, Ready, ImportState, IsResponse, code_of, Failed}
+use Rattle.toll_service.specs.Damages.{AreCallsMet, AreOwnersFound, HasFoundDamage, IsKnown, IsNoted, KnowsNoMore, is_owner}
+use Rattle.toll_service.specs.Faults.{fault_text}
+use Rattle.toll_service.specs.Listeners.{IsReadyWith}
+use Rattle.toll_service.specs.Parties.{IsBy}
+use Rattle.toll_service.specs.declared.damage.Damage.{Damage}
+use Rattle.toll_service.specs.declared.office_fault.OfficeFault.TheVariants.{Damaged}
+use Rattle.toll_service.specs.declared.party.Party.{Party}
+use Rattle.toll_service.specs.declared.party.Party.TheVariants.{Owner}
+
+pub known_owner : (known : Damage) (listener : Listener) (asked : Bytes) (party : Party) (owner : Bytes) (b : Bool) → listener ≡ Owners → IsBy listener asked party → party ≡ Owner owner
+    → b ≡ list_any (is_owner owner) known.owners.items → b ≡ true → IsKnown known listener asked
+known_owner known Owners asked party owner b is by its found holds = (owner, subst (λ p. IsBy Owners asked p) its by, sym found ∙ holds)
+known_owner known Plant asked party owner b is by its found holds = absurd (cc is)
+
+-- a call that is noted was told that it met damage
+pub call_met : (before behind : Damage) (asked : Bytes) (poll : Poll ImportState) (told : Vec ℕ) (text : Bytes) → poll ≡ Ready told → text ≡ told.items
+    → IsResponse text (code_of Failed) [] (fault_text Damaged)
+    → ((c : Vec ℕ) → Contains behind.calls.items c → Contains before.calls.items c ⊎ (c.items ≡ asked)) → AreCallsMet before behind asked poll
+call_met before behind asked poll told text is same response noted = record {
+  met = λ call there. elim (noted call there) [
+    | inl known ↦ inl known
+    | inr its ↦ inr (
+      its,
+      subst (λ p. IsReadyWith p (λ t. IsResponse t (code_of Failed) [] (fault_text Damaged))) (sym is)
+          (subst (λ t. IsResponse t (code_of Failed) [] (fault_text Damaged)) same response),
+    )
+  ];
+}
+
+module _ {K : Type 0} (meaning : Meaning K) (is_opened : K → Type 0) where
+  -- nobody was found
+  pub none_found : (known : Damage) (owner : Bytes) → AreOwnersFound meaning is_opened known known owner
+  none_found known owner = record { found = λ name there. inl there }
+
+  -- who is noted was found
+  pub noted_found : (before behind : Damage) (owner : Bytes) (b : Bool) → (b ≡ true → HasFoundDamage meaning is_opened)
+      → ((name : Bytes) → Contains behind.owners.items name → Contains before.owners.items name ⊎ ((name ≡ owner) × (b ≡ true)))
+      → AreOwnersFound meaning is_opened before behind owner
+  noted_found before behind owner b found noted = record {
+    found = λ name there. elim (noted name there) [
+      | inl known ↦ inl known
+      | inr (is, so) ↦ inr (is, found so)
+    ];
+  }
+
+  -- what is known is what was, or less
+  pub noted_none : (before behind : Damage) (listener : Listener) (asked : Bytes) (poll : Poll ImportState) → KnowsNoMore before behind → IsNoted meaning is_opened before behind listener asked poll
+  noted_none before behind listener asked poll less = record { owners = λ owner there. inl (less.0 owner there); calls = λ call there. inl (less.1 call there) }
+
+  -- the owner of a request was found
+  pub noted_owner : (before behind : Damage) (listener : Listener) (asked owner : Bytes) (poll : Poll ImportState) → listener ≡ Owners → IsBy listener asked (Owner owner)
+      → AreOwnersFound meaning is_opened before behind owner → behind.calls ≡ before.calls → IsNoted meaning is_opened before behind listener asked poll
+  noted_owner before behind listener asked owner poll is by found same = record {
+    owners = λ name there. elim (found.found name there) [
+      | inl known ↦ inl known
+      | inr (its, so) ↦ inr (is, subst (λ n. IsBy listener asked (Owner n)) (sym its) by, so)
+    ];
+    calls = λ call there. inl (subst (λ calls. Contains calls.items call) same there);
+  }
+
+  -- a call met damage
+  pub noted_call : (before behind : Damage) (listener : Listener) (asked : Bytes) (poll : Poll ImportState) → listener ≡ Plant
+      → behind.owners ≡ before.owners → AreCallsMet before behind asked poll → IsNoted meaning is_opened before behind listener asked poll
+  noted_call before behind listener asked poll is same met = record {
+    owners = λ owner there. inl (subst (λ owners. Contains owners.items owner) same there);
+    calls = λ call there. elim (met.met call there) [ inl known ↦ inl known | inr told ↦ inr (is, told.0, told.1) ];
+  }
+
+  -- what is noted behind what was forgotten
+  pub noted_behind : (before middle behind : Damage) (listener : Listener) (asked : Bytes) (poll : Poll ImportState) → KnowsNoMore before middle
+      → IsNoted meaning is_opened middle behind listener asked poll → IsNoted meaning is_opened before behind listener asked poll
+  noted_behind before middle behind listener asked poll less noted = record {
+    owners = λ owner there. elim (noted.owners owner there) [ inl known ↦ inl (less.0 owner known) | inr found ↦ inr found ];
+    calls = λ call there. elim (noted.calls call there) [ inl known ↦ inl (less.1 call known) | inr met ↦ inr met ];
+  }

@@ -1,0 +1,14 @@
+use Rattle.std.proofs.Common.{subst}
+use Rattle.toll_service.specs.Parties.{IsBy}
+use Rattle.toll_service.proofs.DamageLemmas.{noted_call, noted_owner}
+use Rattle.toll_service.proofs.office_session.OfficeSession.note_damage.Goals as goal
+
+pub returns-in-Owner-clause-noted : goal.returns-in-Owner-clause-noted
+returns-in-Owner-clause-noted g c =
+    noted_owner g.K.Keep.meaning g.O.KeepOpener.is_opened c.args.self.now.damage c.look_at.new.self.damage c.args.listener c.args.asked.now c.in-Owner.owner c.args.poll.now
+    c.in-Owners.is (subst (λ party. IsBy c.args.listener c.args.asked.now party) c.in-Owner.is c.of.ensures) c.look_at.ensures.owners c.look_at.ensures.calls
+
+pub returns-in-Plant-clause-noted : goal.returns-in-Plant-clause-noted
+returns-in-Plant-clause-noted g c =
+    noted_call g.K.Keep.meaning g.O.KeepOpener.is_opened c.args.self.now.damage c.note_call.new.self.damage c.args.listener c.args.asked.now c.args.poll.now
+    c.in-Plant.is c.note_call.ensures.owners c.note_call.ensures.calls

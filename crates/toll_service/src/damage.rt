@@ -1,0 +1,119 @@
+//! What a server knows of damage in its office's file.
+ghost use Rattle.std.specs.Global.{Vec as Held};
+ghost use Rattle.std.specs.List.{list_any};
+ghost use Rattle.std.specs.Prelude.{◌≡◌, ◌⊎◌, ◌++◌, ℕ, [], ◌∷◌, true, Contains};
+ghost use Rattle.toll_base.specs.Bytes.{Bytes};
+ghost use Rattle.toll_service.specs.Damages.{IsKnown, is_call, is_owner};
+
+use crate::party::Party;
+use std::alloc::Global;
+use toll_base::Name;
+use toll_server::Listener;
+
+/// How many owners are remembered, and how many calls.
+const MOST: usize = 100;
+
+/// How long a call is at most that is remembered.
+const MOST_CALL_BYTES: usize = 4096;
+
+/// What is known of damage in a file since somebody else last wrote it: who met it needs not be answered
+/// from the file again.
+#[derive(Drop)]
+pub struct Damage {
+    /// Owners whose rows are damaged.
+    pub owners: Vec<Name>,
+    /// Owners whose rows were looked at and are not.
+    pub sound: Vec<Name>,
+    /// Calls of the plant that met damage.
+    pub calls: Vec<Vec<u8>>,
+}
+
+impl Damage {
+    /// Nothing is known, which takes no memory.
+    pub fn new(alloc: Global) -> Self
+        ensures owners { result.owners.items ≡ [] }
+        ensures calls { result.calls.items ≡ [] }
+    {
+        Damage {
+            owners: Vec::new(alloc),
+            sound: Vec::new(alloc),
+            calls: Vec::new(alloc),
+        }
+    }
+
+    /// Nothing is known any more.
+    pub fn forget(&mut self)
+        ensures owners { self.new.owners.items ≡ [] }
+        ensures calls { self.new.calls.items ≡ [] }
+    {
+        self.owners.clear();
+        self.sound.clear();
+        self.calls.clear();
+    }
+
+    /// Whether what came in at a listener is known to meet damage: a request of an owner whose rows are
+    /// damaged, or a call that met it.
+    pub fn is_known(&self, listener: Listener, asked: &[u8]) -> bool
+        ensures { result ≡ true → IsKnown self.now listener asked.now }
+    {
+        match listener {
+            Listener::Owners if self.owners.is_empty() => false,
+            Listener::Owners => match Party::of(listener, asked) {
+                Party::Owner(owner) => self.has_owner(&owner),
+                Party::Plant | Party::Nobody => false,
+            },
+            Listener::Plant => self.has_call(asked),
+        }
+    }
+
+    fn has_owner(&self, owner: &Name) -> bool
+        ensures { result ≡ list_any (is_owner owner.now) self.now.owners.items }
+    {
+        self.owners.iter().any(|name| *name == *owner)
+    }
+
+    fn has_call(&self, asked: &[u8]) -> bool
+        ensures { result ≡ list_any (is_call asked.now) self.now.calls.items }
+    {
+        self.calls.iter().any(|call| call.as_slice() == asked)
+    }
+
+    /// Whether the owner's rows were looked at.
+    pub fn was_looked_at(&self, owner: &Name) -> bool {
+        self.has_owner(owner) || self.sound.contains(owner)
+    }
+
+    /// Notes that an owner's rows were looked at, and whether they are damaged, if there is room.
+    pub fn note_owner(&mut self, owner: Name, is_damaged: bool)
+        ensures owners { (o : Bytes) → Contains self.new.owners.items o → Contains self.old.owners.items o ⊎ ((o ≡ owner) × (is_damaged ≡ true)) }
+        ensures calls { self.new.calls ≡ self.old.calls }
+    {
+        if is_damaged {
+            add(&mut self.owners, owner);
+        } else {
+            add(&mut self.sound, owner);
+        }
+    }
+
+    /// Notes a call that met damage, if it is short and there is room.
+    pub fn note_call(&mut self, alloc: Global, asked: &[u8])
+        ensures owners { self.new.owners ≡ self.old.owners }
+        ensures calls { (c : Held ℕ) → Contains self.new.calls.items c → Contains self.old.calls.items c ⊎ (c.items ≡ asked.now) }
+    {
+        if self.calls.len() >= MOST || asked.len() > MOST_CALL_BYTES {
+            return;
+        }
+        if let Ok(call) = Vec::from_slice(alloc, asked) {
+            let _ = self.calls.push(call);
+        }
+    }
+}
+
+// Adds an owner, if there is room.
+fn add(owners: &mut Vec<Name>, owner: Name)
+    ensures { (owners.new.items ≡ owners.old.items) ⊎ (owners.new.items ≡ owners.old.items ++ owner ∷ []) }
+{
+    if owners.len() < MOST {
+        let _ = owners.push(owner);
+    }
+}

@@ -1,0 +1,58 @@
+//! Lines on standard error.
+use mio::unix::SourceFd;
+use mio::{Events, Interest, Poll, Token};
+use std::fmt::Display;
+use std::io;
+use std::time::Duration;
+
+const STANDARD_ERROR: i32 = 2;
+
+/// Writes lines for the operator on standard error. A line that would have to wait, since nobody reads what
+/// is there, is dropped, and how many were is told before the next one that is written.
+#[derive(Clone, Copy, Debug, PartialEq, Eq)]
+pub struct Notes {
+    dropped: u64,
+}
+
+impl Notes {
+    /// None was dropped yet.
+    pub fn new() -> Self {
+        Notes { dropped: 0 }
+    }
+
+    /// Writes the line, or drops it.
+    pub fn write(&mut self, rt: &HostRuntime, line: impl Display + Drop) {
+        if !takes_lines(rt) {
+            self.dropped = self.dropped.saturating_add(1);
+            return;
+        }
+        if self.dropped > 0 {
+            let dropped = self.dropped;
+            let _ = rt.eprintln(format_args!("dropped {dropped} lines"));
+            self.dropped = 0;
+        }
+        let _ = rt.eprintln(line);
+    }
+}
+
+// Whether standard error takes a line without waiting. A file always does, of which the system tells no
+// readiness.
+fn takes_lines(rt: &HostRuntime) -> bool {
+    let (Ok(mut poll), Ok(mut events)) = (Poll::new(rt), Events::with_capacity(rt.alloc(), 1))
+    else {
+        return false;
+    };
+    let mut error = SourceFd(&STANDARD_ERROR);
+    match poll
+        .registry()
+        .register(&mut error, Token(0), Interest::WRITABLE)
+    {
+        Ok(()) => is_ready(&mut poll, &mut events).unwrap_or(false),
+        Err(fault) => fault.kind() == io::ErrorKind::PermissionDenied,
+    }
+}
+
+fn is_ready(poll: &mut Poll, events: &mut Events) -> io::Result<bool> {
+    poll.poll(events, Some(Duration::ZERO))?;
+    Ok(!events.is_empty())
+}
