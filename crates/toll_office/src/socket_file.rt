@@ -43,7 +43,7 @@ impl Drop for SocketFile<'_> {
             made,
             listener: _,
         } = self;
-        if matches!(FileId::of(rt, path.as_str()), Ok(found) if found == made) {
+        if is_at(rt, path.as_str(), made) {
             let _ = fs::remove_file(rt, path.as_str());
         }
     }
@@ -68,6 +68,11 @@ impl<'a> SocketFile<'a> {
         Ok(file)
     }
 
+    /// Whether the file is still there.
+    pub fn is_there(&self) -> bool {
+        is_at(self.rt, self.path.as_str(), self.made)
+    }
+
     // Who connected before the file had its mode may be anybody.
     fn turn_away_early(&self) {
         for _ in 0..MOST_EARLY {
@@ -86,6 +91,20 @@ impl<'a> SocketFile<'a> {
     pub fn accept(&self) -> io::Result<UnixStream> {
         let (stream, _) = self.listener.accept()?;
         Ok(stream)
+    }
+}
+
+// Whether the file that was made stands at this path.
+fn is_at(rt: &HostRuntime, path: &str, made: FileId) -> bool {
+    matches!(FileId::of(rt, path), Ok(found) if found == made)
+}
+
+/// Whether something stands at this path that stays: another's listener, or what is no socket file.
+pub fn is_taken(rt: &HostRuntime, path: &str) -> bool {
+    match fs::symlink_metadata(rt, path) {
+        Ok(found) if found.file_type().is_socket() => UnixStream::connect(rt, path).is_ok(),
+        Ok(_) => true,
+        Err(_) => false,
     }
 }
 

@@ -41,8 +41,8 @@ pub struct Sockets<'a> {
 
 impl<'a> Sockets<'a> {
     /// Listens at this port of this machine alone, at a free one where it is 0; and for the plant at the
-    /// socket file beside the office's, if one can be made. Where somebody else has the office's lock, that
-    /// is tried again whenever somebody comes.
+    /// socket file beside the office's, if one can be made. Where somebody else has the office's lock or
+    /// listens there, or the socket file is gone later, that is tried again whenever somebody comes.
     pub fn listen(rt: &'a HostRuntime, port: u16, office: &'a str) -> io::Result<Self> {
         let address = SocketAddr::V4(SocketAddrV4::new(Ipv4Addr::LOCALHOST, port));
         let mut owners = TcpListener::bind(rt, address)?;
@@ -70,10 +70,13 @@ impl<'a> Sockets<'a> {
         Ok(self.owners.local_addr()?.port())
     }
 
-    // Opens the plant's listener, unless it was found that it can't be.
+    // Opens the plant's listener, unless it is there or was found that it can't be.
     fn open_plant_listener(&mut self) {
-        if !matches!(self.plant, Err(ListenerFault::Locked)) {
+        if !PlantListener::is_wanted(self.rt, &self.plant) {
             return;
+        }
+        if self.plant.is_ok() {
+            self.listener.update(self.rt, Some(ServingFault::Door));
         }
         self.plant = PlantListener::open(self.rt, self.office);
         if let Ok(listener) = &mut self.plant {
