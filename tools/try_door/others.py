@@ -2,7 +2,6 @@
 import contextlib
 import os
 import random
-import signal
 import socket
 import subprocess
 import threading
@@ -232,18 +231,3 @@ def look_at_servers_that_come_and_go(new):
             yield f"{key} was told accepted, and again {more}"
     counts = [sum(it == wanted for it in told.values()) for wanted in (ACCEPTED, LOCKED, LOST)]
     print(f"    {counts[0]} accepted, {counts[1]} Locked, {counts[2]} Lost")
-
-
-def look_at_a_server_that_stops(new):
-    """A command waits for a server that is stopped, and is answered when that goes on"""
-    office = new()
-    office.lay(AT_WORK)
-    with office.serve() as server:
-        server.it.send_signal(signal.SIGSTOP)
-        it = subprocess.Popen([office.program, "--db", office.db, "unit-add", "U2"], stdout=subprocess.PIPE, stderr=subprocess.PIPE, text=True)
-        time.sleep(12)
-        if it.poll() is not None:
-            yield f"it doesn't wait: {it.communicate()}"
-        server.it.send_signal(signal.SIGCONT)
-        if it.communicate(timeout=PATIENCE) != ("accepted\n", ""):
-            yield "it is told something else"
