@@ -5,6 +5,7 @@
 mod isolation;
 mod known;
 mod laws;
+mod sublot_amounts;
 mod sublot_room;
 mod worked;
 
@@ -19,6 +20,7 @@ pub use laws::{
     released_lots_pass_their_tests, stock_changes_by_what_is_moved, unknown_lots_are_untouched,
     voided_keys_are_of_actuals,
 };
+pub use sublot_amounts::{sublot_gaining, sublot_losing};
 pub use sublot_room::has_room_in;
 pub use worked::{
     a_held_unit_is_busy, a_product_is_consumed_once_released, a_release_needs_the_latest_results,

@@ -1,6 +1,7 @@
 -- What a receipt owes.
 use Rattle.std.proofs.Common.{◌≡◌, ℕ, ◌+◌, not, ◌&&◌, is_some, List, [], ◌∷◌, ◌++◌, refl, sym, ap, ◌∙◌}
 use Rattle.toll_stock.proofs.Common.{or_parts, sublot_bounds, Bytes, same_bytes, Record, by, History, Slice, lot_at, KeepsRules, where_so, is_some_where, Tables, tables_of, tables_given, IsDecided, Decides, DecisionKeepsRules, Accepted, Checks, first_of, key_checks, receive_checks, amount_in, verdict, IsLawful, IsValid, Put, Decision, Quarantined, Receipts, LotRow, MoveRow, Receive, SublotRow, Row, Lot, Sublot, Move, none_applies, Grows, LeavesOthers, known_passes, accepted_passes, move_fits, with_move, with_lot, with_sublot, put_came, came_in, tables-untaken, sublot_room, came_fit, bounded_owes, same_bytes-exact, same_bytes-refl}
+use Rattle.toll_history.specs.Puts.{gained}
 
 module _ (key material lot sublot : Bytes) (amount day : ℕ) where
   abbrev receipt : MoveRow
@@ -10,7 +11,7 @@ module _ (key material lot sublot : Bytes) (amount day : ℕ) where
   received = record { lot = lot; material = material; origin = Receipts; disposition = Quarantined }
 
   abbrev holding : Tables → SublotRow
-  holding t = record { lot = lot; sublot = sublot; amount = amount_in t lot sublot + amount }
+  holding = gained lot sublot amount
 
   abbrev rows : Tables → List Row
   rows t = Move receipt ∷ Lot received ∷ Sublot (holding t) ∷ []

@@ -1,16 +1,17 @@
 -- What a split owes.
 use Rattle.std.proofs.Common.{◌≡◌, ℕ, ◌+◌, ◌-◌, ◌&&◌, is_some, List, [], ◌∷◌, ◌++◌, false, refl, sym, ap, ◌∙◌}
 use Rattle.toll_stock.proofs.Common.{sublot_bounds, Bytes, same_bytes, Record, by, History, Slice, KeepsRules, Tables, tables_of, tables_given, IsDecided, Decides, DecisionKeepsRules, Accepted, Checks, first_of, key_checks, split_checks, amount_in, verdict, IsLawful, IsValid, Put, Decision, MoveRow, Split, SublotRow, Row, Sublot, Move, none_applies, Grows, LeavesOthers, accepted_passes, move_fits, with_move, with_sublot, put_went_over, went_over, tables-untaken, sublot_room, went_over_fit, bounded_owes, same_bytes-refl, same_bytes-symm, and_right}
+use Rattle.toll_history.specs.Puts.{gained, lost}
 
 module _ (key lot sublot target : Bytes) (amount day : ℕ) where
   abbrev parting : MoveRow
   parting = record { key = key; what = Split lot sublot target; amount = amount; day = day }
 
   abbrev more : Tables → SublotRow
-  more t = record { lot = lot; sublot = target; amount = amount_in t lot target + amount }
+  more = gained lot target amount
 
   abbrev less : Tables → SublotRow
-  less t = record { lot = lot; sublot = sublot; amount = amount_in t lot sublot - amount }
+  less = lost lot sublot amount
 
   abbrev rows : Tables → List Row
   rows t = Move parting ∷ Sublot (more t) ∷ Sublot (less t) ∷ []

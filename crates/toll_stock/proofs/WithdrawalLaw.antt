@@ -1,6 +1,7 @@
 -- What owes a movement that takes from one of the owner's sublots: a shipment, or scrapping.
 use Rattle.std.proofs.Common.{◌≡◌, ℕ, ◌-◌, true, false, nat_le, is_none, [], ◌∷◌, ◌++◌, refl, sym, ap, ◌∙◌}
 use Rattle.toll_stock.proofs.Common.{Bytes, Record, by, History, Slice, KeepsRules, batch_has_room, Tables, tables_of, tables_given, IsDecided, Decides, DecisionKeepsRules, Accepted, Checks, first_of, key_checks, movement_checks, ship_checks, scrap_checks, amount_in, verdict, Put, Decision, MoveRow, Ship, Scrap, Sublot, Move, none_applies, rest_accept, verdict_is, decides, keeps_rules, checks_accept, went_fit}
+use Rattle.toll_history.specs.Puts.{lost}
 use Rattle.toll_base.specs.Values.{house_name}
 use Rattle.toll_stock.proofs.Withdrawn.{Withdraws, left, rows, leaves, grows}
 use Rattle.toll_base.specs.declared.capacity.TheConstants.{MOST_MOVEMENTS}
@@ -46,7 +47,7 @@ module _ (key lot sublot : Bytes) (amount day : ℕ) where
   module _ (own : Slice) (d : Decision) where
     -- the row is put, and the sublot with so much less in it
     abbrev IsPlanned : MoveRow → Checks → Type 0
-    IsPlanned row checks = IsDecided (key_checks (tables_of own) row ++ checks) (Put own.owner (Move row) ∷ Put own.owner (Sublot (record { lot = lot; sublot = sublot; amount = amount_in (tables_of own) lot sublot - amount })) ∷ []) d
+    IsPlanned row checks = IsDecided (key_checks (tables_of own) row ++ checks) (Put own.owner (Move row) ∷ Put own.owner (Sublot (lost lot sublot amount (tables_of own))) ∷ []) d
 
     pub shipment_owes : IsPlanned shipment (ship_checks (tables_of own) lot sublot amount) → Decides (by own.owner (Record shipment)) own d × (KeepsRules own → DecisionKeepsRules own d)
     shipment_owes = withdrawal_owes shipment lot sublot ships (λ s. refl) (λ t. ship_checks t lot sublot amount) (λ o t house. refl) (λ t h. none_applies (ship_checks t lot sublot amount) h 0) (λ t h. none_applies (ship_checks t lot sublot amount) h 1) (λ t h. none_applies (ship_checks t lot sublot amount) h 4) own d

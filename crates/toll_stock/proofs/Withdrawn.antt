@@ -1,6 +1,7 @@
 -- What a movement that takes from one of its owner's sublots does to the tables of all.
 use Rattle.std.proofs.Common.{◌≡◌, ◌-◌, false, ◌&&◌, None, is_some, is_none, List, [], ◌∷◌, sym, ap, ◌∙◌}
 use Rattle.toll_stock.proofs.Common.{Bytes, same_bytes, Record, by, History, lot_id, Movement, made_by, makes_lot, makes_sublot, lot_brought, brings_into, takes_from, Tables, tables_of, sublot_row, Accepted, amount_in, verdict, MoveRow, SublotRow, Row, Sublot, Move, Grows, LeavesOthers, accepted_passes, with_move, with_sublot, put_went, went_out, tables-untaken, same_bytes-refl, same_bytes-symm}
+use Rattle.toll_history.specs.Puts.{lost}
 
 -- of the owner's lots, the movement takes from this sublot and does nothing else
 pub record Withdraws (row : MoveRow) (lot sublot : Bytes) : Type 0 where
@@ -13,7 +14,7 @@ pub record Withdraws (row : MoveRow) (lot sublot : Bytes) : Type 0 where
 
 module _ (row : MoveRow) (lot sublot : Bytes) (withdraws : Withdraws row lot sublot) where
   abbrev pub left : Tables → SublotRow
-  left t = record { lot = lot; sublot = sublot; amount = amount_in t lot sublot - row.amount }
+  left = lost lot sublot row.amount
 
   abbrev pub rows : Tables → List Row
   rows t = Move row ∷ Sublot (left t) ∷ []

@@ -1,12 +1,10 @@
 //! What the decisions on movements have in common.
-ghost use Rattle.std.specs.Prelude.{◌≡◌, ◌-◌, ◌++◌, Some, IfOk};
-ghost use Rattle.toll_stock.specs.Common.{IsDecided, said, lost, tables_of, Checks, first_of, key_checks, scrap_checks};
+ghost use Rattle.std.specs.Prelude.{◌≡◌, ◌++◌, Some, IfOk};
+ghost use Rattle.toll_stock.specs.Common.{IsDecided, said, tables_of, Checks, first_of, key_checks, scrap_checks};
 ghost use Rattle.toll_stock.specs.Plans.{enough_checks};
 
 use std::alloc::{AllocError, Global};
-use toll_base::{
-    Amount, Change, Decision, MOST_MOVEMENTS, MoveRow, Name, Refusal, Slice, SublotRow,
-};
+use toll_base::{Amount, Change, Decision, MOST_MOVEMENTS, MoveRow, Name, Refusal, Slice};
 use toll_history::decide_known;
 
 /// The decision on a movement: by its key if that is known; otherwise the refusal of its checks, or these
@@ -53,15 +51,4 @@ pub fn check_enough(slice: &Slice, lot: &Name, sublot: &Name, amount: Amount) ->
         return Err(Refusal::LimitReached);
     }
     Ok(())
-}
-
-/// The sublot with the amount taken from it.
-pub fn taken_from(slice: &Slice, lot: Name, sublot: Name, amount: Amount) -> SublotRow
-    ensures { result ≡ lost lot sublot amount (tables_of slice.now) }
-{
-    SublotRow {
-        lot,
-        sublot,
-        amount: slice.amount_in(&lot, &sublot).saturating_sub(amount.get()),
-    }
 }

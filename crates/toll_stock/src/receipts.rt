@@ -1,5 +1,5 @@
 //! Receipts.
-ghost use Rattle.std.specs.Prelude.{◌≡◌, ◌+◌, IfOk};
+ghost use Rattle.std.specs.Prelude.{◌≡◌, IfOk};
 ghost use Rattle.toll_stock.specs.Common.{changes_of, KeepsRules, moves, Decides, DecisionKeepsRules, said, PutsOnly, tables_of, first_of};
 ghost use Rattle.toll_base.specs.declared.movement.Move.TheVariants as Move;
 ghost use Rattle.toll_stock.specs.Plans.{IsReceiptPlan, received_checks};
@@ -8,9 +8,9 @@ use crate::movements::decide_movement;
 use std::alloc::{AllocError, Global};
 use toll_base::{
     Amount, Change, Day, Decision, Disposition, LotRow, MOST_LOTS, MOST_MOVEMENTS, Move, MoveRow,
-    Name, Origin, Refusal, Row, Slice, SublotRow,
+    Name, Origin, Refusal, Row, Slice,
 };
-use toll_history::has_room_in;
+use toll_history::{has_room_in, sublot_gaining};
 
 /// Receives an amount of a material into a sublot, new or known, of a lot that is new, or of this
 /// material, from receipts and quarantined.
@@ -18,7 +18,7 @@ use toll_history::has_room_in;
 /// A known key with equal content is repeated, or [`Refusal::Voided`], with other content
 /// [`Refusal::KeyConflict`]. Then [`Refusal::UnknownMaterial`]; for a known lot
 /// [`Refusal::WrongOrigin`], [`Refusal::WrongMaterial`] and [`Refusal::NotQuarantined`]; then
-/// [`Refusal::LimitReached`] at 20,000 movements or 5,000 lots.
+/// [`Refusal::LimitReached`] at [`MOST_MOVEMENTS`] movements or [`MOST_LOTS`] lots.
 pub fn receive(
     alloc: Global,
     slice: &Slice,
@@ -65,11 +65,7 @@ fn plan_receipt(
         origin: Origin::Receipts,
         disposition: Disposition::Quarantined,
     };
-    let sublot_row = SublotRow {
-        lot,
-        sublot,
-        amount: slice.amount_in(&lot, &sublot) + row.amount.get(),
-    };
+    let sublot_row = sublot_gaining(slice, lot, sublot, row.amount);
     let changes = [
         Change::Put(owner, Row::Move(*row)),
         Change::Put(owner, Row::Lot(lot_row)),

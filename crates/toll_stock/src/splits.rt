@@ -1,15 +1,13 @@
 //! Splits.
-ghost use Rattle.std.specs.Prelude.{◌≡◌, ◌+◌, ◌-◌, IfOk};
+ghost use Rattle.std.specs.Prelude.{◌≡◌, IfOk};
 ghost use Rattle.toll_stock.specs.Common.{changes_of, KeepsRules, moves, Decides, DecisionKeepsRules, said, PutsOnly, tables_of, first_of};
 ghost use Rattle.toll_base.specs.declared.movement.Move.TheVariants as Move;
 ghost use Rattle.toll_stock.specs.Plans.{IsSplitPlan, parted_checks};
 
-use crate::movements::{check_taking, decide_movement, taken_from};
+use crate::movements::{check_taking, decide_movement};
 use std::alloc::{AllocError, Global};
-use toll_base::{
-    Amount, Change, Day, Decision, Move, MoveRow, Name, Refusal, Row, Slice, SublotRow,
-};
-use toll_history::has_room_in;
+use toll_base::{Amount, Change, Day, Decision, Move, MoveRow, Name, Refusal, Row, Slice};
+use toll_history::{has_room_in, sublot_gaining, sublot_losing};
 
 /// Moves an amount from a sublot to another one of the same lot, new or known.
 ///
@@ -57,12 +55,8 @@ fn plan_split(
 {
     let owner = *slice.owner();
     let checked = check_split(slice, &lot, &sublot, &target, row.amount);
-    let to = SublotRow {
-        lot,
-        sublot: target,
-        amount: slice.amount_in(&lot, &target) + row.amount.get(),
-    };
-    let from = taken_from(slice, lot, sublot, row.amount);
+    let to = sublot_gaining(slice, lot, target, row.amount);
+    let from = sublot_losing(slice, lot, sublot, row.amount);
     let changes = [
         Change::Put(owner, Row::Move(*row)),
         Change::Put(owner, Row::Sublot(to)),

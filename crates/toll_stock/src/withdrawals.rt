@@ -1,14 +1,15 @@
 //! Shipments and scrapping.
-ghost use Rattle.std.specs.Prelude.{◌≡◌, ◌-◌, IfOk};
+ghost use Rattle.std.specs.Prelude.{◌≡◌, IfOk};
 ghost use Rattle.toll_stock.specs.Common.{changes_of, KeepsRules, moves, Decides, DecisionKeepsRules, said, PutsOnly, tables_of, Checks, first_of, ship_checks};
 ghost use Rattle.toll_base.specs.declared.movement.Move.TheVariants as Move;
 ghost use Rattle.toll_stock.specs.Plans.{IsWithdrawalPlan};
 
-use crate::movements::{check_enough, check_taking, decide_movement, taken_from};
+use crate::movements::{check_enough, check_taking, decide_movement};
 use std::alloc::{AllocError, Global};
 use toll_base::{
     Amount, Change, Day, Decision, Disposition, Move, MoveRow, Name, Refusal, Row, Slice,
 };
+use toll_history::sublot_losing;
 
 /// Ships an amount from a sublot of a released lot.
 ///
@@ -79,7 +80,7 @@ fn plan_withdrawal(
     ensures kept { KeepsRules slice.now }
 {
     let owner = *slice.owner();
-    let left = taken_from(slice, lot, sublot, row.amount);
+    let left = sublot_losing(slice, lot, sublot, row.amount);
     let changes = [
         Change::Put(owner, Row::Move(*row)),
         Change::Put(owner, Row::Sublot(left)),

@@ -1,6 +1,7 @@
 -- What a consumption owes, of a lot of the batch's owner or of HOUSE.
 use Rattle.std.proofs.Common.{◌≡◌, ℕ, ◌-◌, true, false, ◌&&◌, is_some, is_none, List, [], ◌∷◌, ◌++◌, refl, sym, ap, subst, ◌∙◌}
 use Rattle.toll_work.proofs.Common.{or_parts, or_left, Bytes, same_bytes, house_name, Record, by, History, lot_id, takes_from, Slice, with_row, KeepsRules, row_fits, count_actuals, Tables, tables_of, tables_given, sublot_row, IsRowsOf, after_changes, changes_of, IsDecided, DecidesWith, DecisionKeepsRules, PutsOnlyWith, Accepted, Checks, first_of, key_checks, actual_checks, consumed_checks, tables_for, amount_in, verdict, IsLawful, IsValid, Change, Put, Decision, LotId, Role, Consumed, MoveRow, Actual, SublotRow, Sublot, Move, applies, none_applies, verdict_is, right_over, less_of, tables_for_are, accepted_passes, move_fits, with_move, with_sublot, is_at, put_move, put_sublot, put_went, went_out, moved_elsewhere, taken_from_other, tables-untaken, move_room, less_fit, same_bytes-exact, same_bytes-refl, same_bytes-symm, sublot_named}
+use Rattle.toll_history.specs.Puts.{lost}
 use Rattle.toll_work.specs.ActualPlans.{IsConsumptionPlan}
 use Rattle.toll_work.specs.declared.actuals.Use.{Use}
 use Rattle.toll_work.proofs.MadeChanges.{each_accepted, puts_consumed}
@@ -14,7 +15,7 @@ module _ (key order : Bytes) (number segment : ℕ) (material : Bytes) (lot : Lo
 
   -- over the tables of the lot's owner
   abbrev left : Tables → SublotRow
-  left u = record { lot = lot.lot; sublot = sublot; amount = amount_in u lot.lot sublot - amount }
+  left = lost lot.lot sublot amount
 
   abbrev changes : Bytes → Tables → List Change
   changes o u = Put o (Move consumption) ∷ Put lot.owner (Sublot (left u)) ∷ []

@@ -1,6 +1,7 @@
 -- What a production owes.
 use Rattle.std.proofs.Common.{◌≡◌, ℕ, ◌+◌, true, false, not, ◌&&◌, cond, Some, is_some, is_none, List, [], ◌∷◌, ◌++◌, refl, sym, ap, subst, ◌∙◌}
 use Rattle.toll_work.proofs.Common.{or_parts, or_left, not-false, lot_bounds, sublot_bounds, Bytes, same_bytes, Record, by, History, acts, lot_id, first_made, sublot_in, movements, Slice, lot_at, KeepsRules, count_actuals, where_so, is_some_where, material_of, Tables, tables_of, tables_given, changes_of, PutsOnlyWith, IsDecided, DecidesWith, DecisionKeepsRules, Accepted, Checks, first_of, stopped, key_checks, actual_checks, produced_checks, recipe_of_order, amount_in, verdict, IsLawful, IsValid, Put, Decision, LotId, LimitReached, Role, Produced, MoveRow, Actual, SublotRow, Row, Lot, Sublot, Move, none_applies, verdict_is, Grows, LeavesOthers, decides_with, keeps_rules, less_of, some_of, known_passes, accepted_passes, move_fits, with_move, with_lot, with_sublot, put_came, came_in, tables-untaken, each_decided, sublot_room, came_fit, same_bytes-exact, same_bytes-refl, same_bytes-symm, sublot_named}
+use Rattle.toll_history.specs.Puts.{gained}
 use Rattle.toll_base.specs.declared.lot.Disposition.TheVariants.{Quarantined}
 use Rattle.toll_base.specs.declared.lot.Origin.TheVariants.{Batch}
 use Rattle.toll_base.specs.declared.rows.LotRow.{LotRow}
@@ -21,7 +22,7 @@ module _ (key order : Bytes) (number segment : ℕ) (material : Bytes) (lot : Lo
   produced = record { lot = lot.lot; material = material; origin = Batch order number; disposition = Quarantined }
 
   abbrev holding : Tables → SublotRow
-  holding t = record { lot = lot.lot; sublot = sublot; amount = amount_in t lot.lot sublot + amount }
+  holding = gained lot.lot sublot amount
 
   abbrev rows : Tables → List Row
   rows t = Move production ∷ Lot produced ∷ Sublot (holding t) ∷ []

@@ -1,6 +1,7 @@
 -- What a void owes.
 use Rattle.std.proofs.Common.{◌≡◌, ℕ, ◌+◌, ◌-◌, ◌≤◌, Bool, true, false, not, ◌&&◌, ◌||◌, cond, nat_le, nat_lt, Option, Some, None, is_some, is_none, List, [], ◌∷◌, ◌++◌, length, refl, sym, ap, subst, ◌∙◌, arith}
 use Rattle.toll_work.proofs.Common.{false≢true, or_left, nat_tests, Bytes, same_bytes, bytes_cmp, pair_cmp, house_name, History, acts, owner_known, lot_id, same_lot, movement_of, voided_in, brings_into, takes_from, sublot_known, stock, Slice, with_row, lot_at, sublot_at, move_at, KeepsRules, row_fits, Tables, tables_of, tables_given, sublot_row, IsRowsOf, where_so, is_some_where, none_or, after_changes, changes_of, IsDecided, DecidesWith, DecisionKeepsRules, PutsOnlyWith, Accepted, Refused, Checks, first_of, is_actual, is_of_closed, takes_too_much, tables_for, amount_in, verdict, IsLawful, IsValid, BringsOwn, TakesKnown, Change, Put, Decision, LotId, UnknownKey, Voided, BatchClosed, NotEnough, LimitReached, Role, Consumed, Produced, MoveRow, Actual, SublotRow, Sublot, Void as VoidPut, both, tables_for_are, held_is, none_applies, unbounded, sublot_room_in, less_fit, verdict_is, right_over, rules_by, keeps_put, accepted_passes, each_decided, with_sublot, with_void, is_at, put_sublot, put_void, same_bytes-exact, same_bytes-refl, same_bytes-symm, is_eq-then, more}
+use Rattle.toll_history.specs.Puts.{gained, lost}
 use Rattle.toll_history.specs.Command.{Void, by}
 use Rattle.toll_work.specs.Voiding.{open_checks, giving_bounds, actual_sublot}
 use Rattle.toll_base.specs.declared.decision.Decision.TheVariants.{Refuse}
@@ -175,7 +176,7 @@ module _ (own house : Slice) (key : Bytes) (row : MoveRow) (found_in : move_at o
     source = tables_for own.owner (tables_of own) (tables_of house) lot.owner
 
     abbrev more_in : Tables → SublotRow
-    more_in u = record { lot = lot.lot; sublot = sublot; amount = amount_in u lot.lot sublot + row.amount }
+    more_in = gained lot.lot sublot row.amount
 
     module _ (H : History) (lawful : IsLawful H) (there : IsRowsOf H own) where
       -- the sublot is known, and of a lot of the owner or HOUSE
@@ -256,7 +257,7 @@ module _ (own house : Slice) (key : Bytes) (row : MoveRow) (found_in : move_at o
 
   module _ (produces : role ≡ Produced) where
     abbrev less_in : Tables → SublotRow
-    less_in t = record { lot = lot.lot; sublot = sublot; amount = amount_in t lot.lot sublot - row.amount }
+    less_in = lost lot.lot sublot row.amount
 
     abbrev own_checks : Checks
     own_checks = open_checks (tables_of own) key order number ++ (nat_lt (amount_in (tables_of own) lot.lot sublot) row.amount, Some NotEnough) ∷ []

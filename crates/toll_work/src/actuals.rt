@@ -1,5 +1,5 @@
 //! Actuals.
-ghost use Rattle.std.specs.Prelude.{◌≡◌, ◌+◌, ◌-◌, true, false, ◌++◌, nat_lt, Some, None, IfOk, IfSome};
+ghost use Rattle.std.specs.Prelude.{◌≡◌, true, false, ◌++◌, nat_lt, Some, None, IfOk, IfSome};
 ghost use Rattle.toll_work.specs.Common.{same_bytes, changes_of, recipe_at, KeepsRules, is_some_where, Record, by, DecidesWith, DecisionKeepsRules, said, sublot_named, PutsOnlyWith, tables_of, first_of, recipe_of_order, tables_for, actuals_full, is_actual};
 ghost use Rattle.toll_base.specs.declared.movement.Move.TheVariants as Move;
 ghost use Rattle.toll_base.specs.declared.role.Role.TheVariants as Role;
@@ -11,9 +11,8 @@ use std::alloc::{AllocError, Global};
 use toll_base::{
     Amount, BatchNo, Change, Decision, Disposition, LotId, LotRow, MOST_ACTUALS, MOST_LOTS,
     MOST_MOVEMENTS, Move, MoveRow, Name, Origin, Refusal, Role, Row, Segment, Slice, State,
-    SublotRow,
 };
-use toll_history::{decide_known, has_room_in};
+use toll_history::{decide_known, has_room_in, sublot_gaining, sublot_losing};
 
 /// What a segment of a batch uses.
 #[derive(Clone, Copy)]
@@ -65,7 +64,8 @@ pub fn use_of(what: &Move) -> Option<(Role, Use)>
 /// [`Refusal::UnknownLot`], [`Refusal::WrongMaterial`], [`Refusal::NotReleased`],
 /// [`Refusal::UnknownSublot`] or [`Refusal::NotEnough`], a production into a known lot as
 /// [`Refusal::WrongOrigin`], [`Refusal::WrongMaterial`] or [`Refusal::NotQuarantined`]; and
-/// [`Refusal::LimitReached`] at 20,000 movements, 200 actuals of the batch or 5,000 lots.
+/// [`Refusal::LimitReached`] at [`MOST_MOVEMENTS`] movements, [`MOST_ACTUALS`] actuals of the batch or
+/// [`MOST_LOTS`] lots.
 pub fn record_actual(
     alloc: Global,
     own: &Slice,
@@ -107,13 +107,7 @@ fn plan_consumption(
     if let Err(why) = check_consumption(own, source, used, row.amount) {
         return Ok(Decision::Refuse(why));
     }
-    let left = SublotRow {
-        lot: used.lot.lot,
-        sublot: used.sublot,
-        amount: source
-            .amount_in(&used.lot.lot, &used.sublot)
-            .saturating_sub(row.amount.get()),
-    };
+    let left = sublot_losing(source, used.lot.lot, used.sublot, row.amount);
     // The movement is the batch's owner's, even if the lot is HOUSE's.
     let recorded = Change::Put(owner, Row::Move(*row));
     Decision::accept_all(
@@ -147,11 +141,7 @@ fn plan_production(
         },
         disposition: Disposition::Quarantined,
     };
-    let sublot = SublotRow {
-        lot: used.lot.lot,
-        sublot: used.sublot,
-        amount: own.amount_in(&used.lot.lot, &used.sublot) + row.amount.get(),
-    };
+    let sublot = sublot_gaining(own, used.lot.lot, used.sublot, row.amount);
     Decision::accept_all(
         alloc,
         &[

@@ -1,5 +1,5 @@
 //! Voids.
-ghost use Rattle.std.specs.Prelude.{◌≡◌, ◌+◌, ◌-◌, false, Some, IfOk};
+ghost use Rattle.std.specs.Prelude.{◌≡◌, false, Some, IfOk};
 ghost use Rattle.toll_work.specs.Common.{same_bytes, changes_of, move_at, by, DecidesWith, DecisionKeepsRules, said, PutsOnlyWith, tables_of, first_of};
 ghost use Rattle.toll_history.specs.Command.{Void};
 ghost use Rattle.toll_work.specs.ActualPlans.{IsGivingPlan, IsTakingPlan};
@@ -8,10 +8,8 @@ ghost use Rattle.toll_work.specs.Voiding.{open_checks, actual_sublot};
 use crate::actuals::{Use, slice_for, use_of};
 use crate::crossing::crosses;
 use std::alloc::{AllocError, Global};
-use toll_base::{
-    Amount, BatchNo, Change, Decision, Name, Refusal, Role, Row, Slice, SublotRow, VoidRow,
-};
-use toll_history::has_room_in;
+use toll_base::{Amount, BatchNo, Change, Decision, Name, Refusal, Role, Row, Slice, VoidRow};
+use toll_history::{has_room_in, sublot_gaining, sublot_losing};
 
 /// Voids the actual with this key of a batch that isn't closed: what it consumed is given back to its
 /// sublot, whatever the lot's disposition, and what it produced is taken out. A lot that it produced
@@ -66,11 +64,7 @@ fn give_back(
     if crosses(own.owner(), Role::Consumed, &used.lot.owner) {
         return Ok(Decision::Refuse(Refusal::LimitReached));
     }
-    let held = SublotRow {
-        lot: used.lot.lot,
-        sublot: used.sublot,
-        amount: source.amount_in(&used.lot.lot, &used.sublot) + amount.get(),
-    };
+    let held = sublot_gaining(source, used.lot.lot, used.sublot, amount);
     let voided = Change::Put(*own.owner(), Row::Void(VoidRow { key }));
     Decision::accept_all(
         alloc,
@@ -90,18 +84,13 @@ fn take_out(
     if let Err(why) = check_open(own, &key, &used.order, used.number) {
         return Ok(Decision::Refuse(why));
     }
-    let held = own.amount_in(&used.lot.lot, &used.sublot);
-    if held < amount.get() {
+    if own.amount_in(&used.lot.lot, &used.sublot) < amount.get() {
         return Ok(Decision::Refuse(Refusal::NotEnough));
     }
     if own.sublot(&used.lot.lot, &used.sublot).is_none() {
         return Ok(Decision::Refuse(Refusal::LimitReached));
     }
-    let left = SublotRow {
-        lot: used.lot.lot,
-        sublot: used.sublot,
-        amount: held.saturating_sub(amount.get()),
-    };
+    let left = sublot_losing(own, used.lot.lot, used.sublot, amount);
     Decision::accept_all(
         alloc,
         &[

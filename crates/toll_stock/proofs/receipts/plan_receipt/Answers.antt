@@ -1,6 +1,7 @@
 use Rattle.std.proofs.Common.{rules, ◌+◌, [], ◌∷◌, ◌++◌}
 use Rattle.std.specs.Prelude.{IfOk}
 use Rattle.toll_stock.proofs.Common.{Put, Quarantined, Receipts, Lot, Move, Sublot, sublot_bounds, IsDecided, tables_of, amount_in, key_checks, receive_checks}
+use Rattle.toll_history.specs.Puts.{gained}
 use Rattle.toll_stock.proofs.receipts.plan_receipt.Goals as goal
 
 pub returns-clause-plan : goal.returns-clause-plan
@@ -10,5 +11,5 @@ returns-clause-plan c =
     let row = c.args.row.now in
     let lot = c.args.lot in
     let old : IfOk c.decide_movement.result (IsDecided (key_checks t row ++ receive_checks t c.args.material lot ++ sublot_bounds t lot c.args.sublot row.amount)
-    (Put o (Move row) ∷ Put o (Lot (record { lot = lot; material = c.args.material; origin = Receipts; disposition = Quarantined })) ∷ Put o (Sublot (record { lot = lot; sublot = c.args.sublot; amount = amount_in t lot c.args.sublot + row.amount })) ∷ [])) = search rules in
+    (Put o (Move row) ∷ Put o (Lot (record { lot = lot; material = c.args.material; origin = Receipts; disposition = Quarantined })) ∷ Put o (Sublot (gained lot c.args.sublot row.amount t)) ∷ [])) = search rules in
     old

@@ -1,0 +1,28 @@
+//! Sublots after a movement.
+ghost use Rattle.std.specs.Prelude.{◌≡◌};
+ghost use Rattle.toll_history.specs.Puts.{gained, lost};
+ghost use Rattle.toll_history.specs.Tables.{tables_of};
+
+use toll_base::{Amount, Name, Slice, SublotRow};
+
+/// The sublot, new or known, with the amount brought into it.
+pub fn sublot_gaining(slice: &Slice, lot: Name, sublot: Name, amount: Amount) -> SublotRow
+    ensures { result ≡ gained lot sublot amount (tables_of slice.now) }
+{
+    SublotRow {
+        lot,
+        sublot,
+        amount: slice.amount_in(&lot, &sublot) + amount.get(),
+    }
+}
+
+/// The sublot with the amount taken from it.
+pub fn sublot_losing(slice: &Slice, lot: Name, sublot: Name, amount: Amount) -> SublotRow
+    ensures { result ≡ lost lot sublot amount (tables_of slice.now) }
+{
+    SublotRow {
+        lot,
+        sublot,
+        amount: slice.amount_in(&lot, &sublot).saturating_sub(amount.get()),
+    }
+}
