@@ -2,13 +2,13 @@
 use Rattle.std.proofs.Common.{◌≡◌, Option, Some, None, List, [], ◌∷◌, map, refl, sym, ap, ◌∙◌}
 use Rattle.toll_answers.proofs.Common.{nat_list_cmp_total, Bytes, bytes_cmp, RequirementKey, requirement_cmp, pair_cmp, History, acts, order_of, Verdict, Accepted, Repeated, Refused, first_of, LotId, pair_cmp_total, requirement_cmp_total, trace_unique, Forward, IsPlantJoined, line_key, RequirementLine, BatchRow, OrderRow}
 use Rattle.toll_trace.specs.declared.way.Way.{Way}
-use Rattle.toll_answers.specs.PlantAnswers.{PlantAsked, Does, AsksOrders, AsksStock, AsksBatch, AsksTrace, AsksRecall, CannotRead, PlantTold, Shows, AreOrdersShown, IsStockShown, IsBatchShown, IsBatchShownOr, IsTraceShown, IsRecallShown, IsCheckedOr, owner_checks, lot_checks, IsPlantAnswer}
+use Rattle.toll_answers.specs.PlantAnswers.{PlantRequest, Does, AsksOrders, AsksStock, AsksBatch, AsksTrace, AsksRecall, CannotRead, PlantAnswer, Shows, AreOrdersShown, IsStockShown, IsBatchShown, IsBatchShownOr, IsTraceShown, IsRecallShown, IsCheckedOr, owner_checks, lot_checks, IsPlantAnswer}
 use Rattle.toll_answers.specs.Recall.{recall_line, IsRecall}
 use Rattle.toll_answers.specs.declared.genealogy.recall.RecallLine.{RecallLine}
 use Rattle.toll_answers.specs.Texts.{orders_text, stock_text, shown_over, IsStockText, batch_text, trace_text, recall_text}
 use Rattle.toll_answers.proofs.OneReply.{IsOne, one_value, one_list}
 
-one_checked_or : (v : Verdict) (shown : PlantTold → Type 0) → IsOne shown → IsOne (λ r. IsCheckedOr v (shown r) r)
+one_checked_or : (v : Verdict) (shown : PlantAnswer → Type 0) → IsOne shown → IsOne (λ r. IsCheckedOr v (shown r) r)
 one_checked_or (Refused why) shown one = one_value _
 one_checked_or Accepted shown one = one
 one_checked_or Repeated shown one = one
@@ -60,7 +60,7 @@ module _ (H : History) where
   one_recall_shown : (lot : LotId) → IsOne (IsRecallShown H lot)
   one_recall_shown lot r r' a b = a.shown ∙ ap (λ lines. Shows (recall_text lines)) (one_recall lot a.lines b.lines a.recalled b.recalled) ∙ sym b.shown
 
-  pub one_plant_answer : (asked : PlantAsked) → IsOne (IsPlantAnswer H asked)
+  pub one_plant_answer : (asked : PlantRequest) → IsOne (IsPlantAnswer H asked)
   one_plant_answer (Does c) = one_value _
   one_plant_answer (AsksOrders o) = one_checked_or (first_of (owner_checks H o)) _ (one_orders_shown o)
   one_plant_answer (AsksStock o) = one_checked_or (first_of (owner_checks H o)) _ (one_stock_shown o)

@@ -5,7 +5,7 @@ use Rattle.toll_base.specs.declared.rows.ResultRow.{ResultRow}
 use Rattle.toll_base.specs.declared.rows.SublotRow.{SublotRow}
 use Rattle.toll_answers.proofs.SameRows.{same_rows}
 use Rattle.toll_answers.specs.declared.views.stock.StockLine.{StockLine}
-use Rattle.toll_answers.specs.Told.{Asked, AskOrders, AskOrder, AskPlace, AskCancel, AskBatch, AskStock, AskLot, AskRelease, AskReject, AskBack, AskForward, AskHouseForward, Told, TellOrders, TellBatch, TellStock, TellLot, TellTrace}
+use Rattle.toll_answers.specs.OwnerRequests.{OwnerRequest, AskOrders, AskOrder, AskPlace, AskCancel, AskBatch, AskStock, AskLot, AskRelease, AskReject, AskBack, AskForward, AskHouseForward, OwnerReply, TellOrders, TellBatch, TellStock, TellLot, TellTrace}
 use Rattle.toll_answers.specs.Replies.{has_key, AreOrdersTold, IsStockTold, IsBatchTold, IsLotTold, IsTraceTold, IsOrderOr, IsLotOr, IsBatchOr, IsTraceOr, IsWritten, IsAnswer, IsReply}
 
 -- a fact of what is told that one such at most meets
@@ -37,7 +37,7 @@ one_lot results sublots measure row r r' a b =
 one_trace : (E : LotId → LotId → Type 0) (lot : LotId) → IsOne (IsTraceTold E lot)
 one_trace E lot r r' a b = a.told ∙ ap TellTrace (trace_unique E lot a.trace b.trace a.traced b.traced) ∙ sym b.told
 
-one_by : (b : Bool) (P Q : Told → Type 0) → IsOne P → IsOne Q → IsOne (λ r. MatchBool b (P r) (Q r))
+one_by : (b : Bool) (P Q : OwnerReply → Type 0) → IsOne P → IsOne Q → IsOne (λ r. MatchBool b (P r) (Q r))
 one_by true P Q one_p one_q = one_p
 one_by false P Q one_p one_q = one_q
 
@@ -63,13 +63,13 @@ module _ (o : Bytes) (H : History) where
   one_batch_or (Some order) None Accepted = λ r r' a b. absurd a
   one_batch_or (Some order) None Repeated = λ r r' a b. absurd a
 
-one_written : (v : Verdict) (left : Told → Type 0) → IsOne left → IsOne (λ r. IsWritten v (left r) r)
+one_written : (v : Verdict) (left : OwnerReply → Type 0) → IsOne left → IsOne (λ r. IsWritten v (left r) r)
 one_written (Refused why) left one = one_value _
 one_written Accepted left one = one
 one_written Repeated left one = one
 
 module _ (o : Bytes) (H : History) where
-  one_answer : (q : Asked) → IsOne (IsAnswer o H q)
+  one_answer : (q : OwnerRequest) → IsOne (IsAnswer o H q)
   one_answer AskOrders = one_orders _
   one_answer (AskOrder order) = one_order_or _
   one_answer (AskPlace order recipe batches) = one_written _ _ (one_order_or _)
@@ -83,6 +83,6 @@ module _ (o : Bytes) (H : History) where
   one_answer (AskForward lot) = one_trace_or _ _ _
   one_answer (AskHouseForward lot) = one_trace_or _ _ _
 
-  pub one_reply : (key : Bytes) (q : Asked) → IsOne (IsReply o key H q)
+  pub one_reply : (key : Bytes) (q : OwnerRequest) → IsOne (IsReply o key H q)
   unfolding IsReply
   one_reply key q = one_by (has_key o key H) (IsAnswer o H q) _ (one_answer q) (one_value _)

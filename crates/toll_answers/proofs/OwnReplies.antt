@@ -9,7 +9,7 @@ use Rattle.toll_history.specs.Tables.{Tables, tables_given, lot_row}
 use Rattle.toll_base.specs.declared.refusal.Refusal.TheVariants.{UnknownOwner}
 use Rattle.toll_history.proofs.Own.{acts-part, part-own}
 use Rattle.toll_history.proofs.OwnTables.{lot_row-part, sublot_row-part, tables-part}
-use Rattle.toll_answers.specs.Told.{Asked, AskOrders, AskOrder, AskPlace, AskCancel, AskBatch, AskStock, AskLot, AskRelease, AskReject, AskBack, AskForward, AskHouseForward, Told, TellForbidden}
+use Rattle.toll_answers.specs.OwnerRequests.{OwnerRequest, AskOrders, AskOrder, AskPlace, AskCancel, AskBatch, AskStock, AskLot, AskRelease, AskReject, AskBack, AskForward, AskHouseForward, OwnerReply, TellForbidden}
 use Rattle.toll_answers.specs.Views.{stock_line, results_of_lot, sublots_of_lot, has_consumed}
 use Rattle.toll_answers.specs.Replies.{has_key, AreOrdersTold, IsStockTold, IsBatchTold, IsLotTold, IsOrderOr, IsLotOr, IsBatchOr, IsTraceOr, IsWritten, IsOrderAfter, IsLotAfter, IsAnswer, IsReply, after_answer, after_reply}
 use Rattle.toll_history.proofs.OwnAmounts.{on_hand-part, actual_of-part}
@@ -85,11 +85,11 @@ module _ (o : Bytes) (not_house : same_bytes o house_name ≡ false) where
     sublots_of_lot-part : (l : Bytes) → sublots_of_lot (part o H) o l ≡ sublots_of_lot H o l
     sublots_of_lot-part l i k = cond (same_bytes k.0 l) (sublot_row-part o H lawful not_house k i) None
 
-    lot_or-part : (row : Option LotRow) (r : Told) → IsLotOr (part o H) o row r ≡ IsLotOr H o row r
+    lot_or-part : (row : Option LotRow) (r : OwnerReply) → IsLotOr (part o H) o row r ≡ IsLotOr H o row r
     lot_or-part None r = refl
     lot_or-part (Some row) r = λ i. IsLotTold (results_of_lot (acts-part o H i) row.lot) (sublots_of_lot-part row.lot i) (measure_of-part row.material i) row r
 
-    batch_or-part : (order : Option OrderRow) (batch : Option BatchRow) (v : Verdict) (r : Told) → IsBatchOr (part o H) o order batch v r ≡ IsBatchOr H o order batch v r
+    batch_or-part : (order : Option OrderRow) (batch : Option BatchRow) (v : Verdict) (r : OwnerReply) → IsBatchOr (part o H) o order batch v r ≡ IsBatchOr H o order batch v r
     batch_or-part (Some order) (Some batch) v r = λ i. IsBatchTold (line_of-part batch.order batch.number order.recipe i) batch r
     batch_or-part None batch Accepted r = refl
     batch_or-part None batch Repeated r = refl
@@ -98,16 +98,16 @@ module _ (o : Bytes) (not_house : same_bytes o house_name ≡ false) where
     batch_or-part (Some order) None Repeated r = refl
     batch_or-part (Some order) None (Refused why) r = refl
 
-    written_by : (v v' : Verdict) (left left' : Type 0) (r : Told) → v ≡ v' → left ≡ left' → IsWritten v left r ≡ IsWritten v' left' r
+    written_by : (v v' : Verdict) (left left' : Type 0) (r : OwnerReply) → v ≡ v' → left ≡ left' → IsWritten v left r ≡ IsWritten v' left' r
     written_by v v' left left' r verdicts lefts i = IsWritten (verdicts i) (lefts i) r
 
-    order_after-part : (action : Action) (order : Bytes) (r : Told) → verdict (part o H) (by o action) ≡ verdict H (by o action) → IsOrderAfter (part o H) o action order r ≡ IsOrderAfter H o action order r
+    order_after-part : (action : Action) (order : Bytes) (r : OwnerReply) → verdict (part o H) (by o action) ≡ verdict H (by o action) → IsOrderAfter (part o H) o action order r ≡ IsOrderAfter H o action order r
     order_after-part action order r same =
         written_by _ _ _ _ r same
         (ap (λ L. IsOrderOr (order_of (acts o L) order) r) (grow-part action same) ∙ ap (λ own. IsOrderOr (order_of own order) r) (acts-part o (grow H (by o action))))
 
   -- a lot after a command of the owner
-  lot_after-part : (H : History) (lawful : IsLawful H) (action : Action) (lot : Bytes) (r : Told) → IsValid action → verdict (part o H) (by o action) ≡ verdict H (by o action) → IsLotAfter (part o H) o action lot r ≡ IsLotAfter H o action lot r
+  lot_after-part : (H : History) (lawful : IsLawful H) (action : Action) (lot : Bytes) (r : OwnerReply) → IsValid action → verdict (part o H) (by o action) ≡ verdict H (by o action) → IsLotAfter (part o H) o action lot r ≡ IsLotAfter H o action lot r
   lot_after-part H lawful action lot r valid same =
       let grown_lawful = lawful-grow H (by o action) lawful valid in
       let after = grow H (by o action) in
@@ -117,7 +117,7 @@ module _ (o : Bytes) (not_house : same_bytes o house_name ≡ false) where
       ∙ lot_or-part after grown_lawful (lot_row after o lot) r)
 
   module _ (H : History) (lawful : IsLawful H) where
-    answer-part : (q : Asked) (r : Told) → IsAnswer o (part o H) q r ≡ IsAnswer o H q r
+    answer-part : (q : OwnerRequest) (r : OwnerReply) → IsAnswer o (part o H) q r ≡ IsAnswer o H q r
     answer-part AskOrders r = λ i. AreOrdersTold (order_of (acts-part o H i)) r
     answer-part (AskOrder order) r = λ i. IsOrderOr (order_of (acts-part o H i) order) r
     answer-part (AskPlace order recipe batches) r = order_after-part H lawful (PlaceOrder order recipe batches) order r (place-part H lawful order recipe batches)
@@ -134,11 +134,11 @@ module _ (o : Bytes) (not_house : same_bytes o house_name ≡ false) where
     answer-part (AskHouseForward lot) r = λ i. IsTraceOr (IsOwnJoined (acts-part o H i) Forward) (lot_id house_name lot) (has_consumed (acts-part o H i) (lot_id house_name lot)) r
 
     -- an owner's reply is the reply over the owner's part
-    pub reply-part : (key : Bytes) (q : Asked) (r : Told) → IsReply o key (part o H) q r ≡ IsReply o key H q r
+    pub reply-part : (key : Bytes) (q : OwnerRequest) (r : OwnerReply) → IsReply o key (part o H) q r ≡ IsReply o key H q r
     unfolding IsReply
     reply-part key q r i = MatchBool (has_key-part key H i) (answer-part q r i) (r ≡ TellForbidden)
 
-    after_answer-part : (q : Asked) → after_answer o (part o H) q ≡ part o (after_answer o H q)
+    after_answer-part : (q : OwnerRequest) → after_answer o (part o H) q ≡ part o (after_answer o H q)
     after_answer-part (AskPlace order recipe batches) = grow-part H lawful (PlaceOrder order recipe batches) (place-part H lawful order recipe batches)
     after_answer-part (AskCancel order) = grow-part H lawful (CancelOrder order) (cancel-part H lawful order)
     after_answer-part (AskRelease lot) = grow-part H lawful (Release lot) (release-part H lawful lot)
@@ -150,10 +150,10 @@ module _ (o : Bytes) (not_house : same_bytes o house_name ≡ false) where
     part_by false grown H = refl
 
     -- and what a request makes of the history, cut to the owner, is what it makes of the part
-    pub after_reply-part : (key : Bytes) (q : Asked) → after_reply o key (part o H) q ≡ part o (after_reply o key H q)
+    pub after_reply-part : (key : Bytes) (q : OwnerRequest) → after_reply o key (part o H) q ≡ part o (after_reply o key H q)
     unfolding after_reply
     after_reply-part key q =
         (λ i. cond (has_key-part key H i) (after_answer-part q i) (part o H)) ∙ sym (part_by (has_key o key H) (after_answer o H q) H)
 
-    pub reply-both_ways : (key : Bytes) (q : Asked) (r : Told) → IsReply o key (part o H) q r ↔ IsReply o key H q r
+    pub reply-both_ways : (key : Bytes) (q : OwnerRequest) (r : OwnerReply) → IsReply o key (part o H) q r ↔ IsReply o key H q r
     reply-both_ways key q r = ((λ over_part. coe 0 1 (i. reply-part key q r i) over_part), (λ over_all. coe 1 0 (i. reply-part key q r i) over_all))

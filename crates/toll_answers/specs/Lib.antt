@@ -8,6 +8,6 @@ pub mod InSlice
 pub mod Views
 pub mod Columns
 pub mod Texts
-pub mod Told
+pub mod OwnerRequests
 pub mod Replies
 pub mod PlantAnswers

@@ -8,50 +8,50 @@ use Rattle.toll_answers.specs.declared.genealogy.recall.RecallLine.{RecallLine}
 use Rattle.toll_answers.specs.Texts.{orders_text, IsStockText, batch_text, trace_text, recall_text}
 
 -- what the plant does: a command, a question, or words of which a value couldn't be read
-pub data PlantAsked : Type 0 where
-  Does : (command : Command) → PlantAsked
-  AsksOrders : (owner : Bytes) → PlantAsked
-  AsksStock : (owner : Bytes) → PlantAsked
-  AsksBatch : (owner order : Bytes) (number : ℕ) → PlantAsked
-  AsksTrace : (lot : LotId) (way : Way) → PlantAsked
-  AsksRecall : (lot : LotId) → PlantAsked
-  CannotRead : (why : Refusal) → PlantAsked
+pub data PlantRequest : Type 0 where
+  Does : (command : Command) → PlantRequest
+  AsksOrders : (owner : Bytes) → PlantRequest
+  AsksStock : (owner : Bytes) → PlantRequest
+  AsksBatch : (owner order : Bytes) (number : ℕ) → PlantRequest
+  AsksTrace : (lot : LotId) (way : Way) → PlantRequest
+  AsksRecall : (lot : LotId) → PlantRequest
+  CannotRead : (why : Refusal) → PlantRequest
 
 -- an answer to the plant: a verdict, or a text
-pub data PlantTold : Type 0 where
-  Judged : (verdict : Verdict) → PlantTold
-  Shows : (text : Bytes) → PlantTold
+pub data PlantAnswer : Type 0 where
+  Judged : (verdict : Verdict) → PlantAnswer
+  Shows : (text : Bytes) → PlantAnswer
 
 -- ---- texts
 
-pub record AreOrdersShown (H : History) (o : Bytes) (r : PlantTold) : Type 0 where
+pub record AreOrdersShown (H : History) (o : Bytes) (r : PlantAnswer) : Type 0 where
   pub orders : List OrderRow
   pub given : AreRowsGiven bytes_cmp (λ row. row.order) (order_of (acts o H)) orders
   pub shown : r ≡ Shows (orders_text orders)
 
-pub record IsStockShown (H : History) (o : Bytes) (r : PlantTold) : Type 0 where
+pub record IsStockShown (H : History) (o : Bytes) (r : PlantAnswer) : Type 0 where
   pub text : Bytes
   pub is : IsStockText H o text
   pub shown : r ≡ Shows text
 
 -- the batch with the requirements of its order's recipe
-pub record IsBatchShown (given : RequirementKey → Option RequirementLine) (batch : BatchRow) (r : PlantTold) : Type 0 where
+pub record IsBatchShown (given : RequirementKey → Option RequirementLine) (batch : BatchRow) (r : PlantAnswer) : Type 0 where
   pub lines : List RequirementLine
   pub are_given : AreRowsGiven requirement_cmp line_key given lines
   pub shown : r ≡ Shows (batch_text batch lines)
 
 -- the batch of an order, if both are known; otherwise the refusal
-abbrev pub IsBatchShownOr : History → Bytes → Option OrderRow → Option BatchRow → Verdict → PlantTold → Type 0
+abbrev pub IsBatchShownOr : History → Bytes → Option OrderRow → Option BatchRow → Verdict → PlantAnswer → Type 0
 IsBatchShownOr H o (Some order) (Some batch) verdict r = IsBatchShown (line_of H o batch.order batch.number order.recipe) batch r
 IsBatchShownOr H o _ _ (Refused why) r = r ≡ Judged (Refused why)
 IsBatchShownOr H o _ _ _ r = ⊥
 
-pub record IsTraceShown (H : History) (lot : LotId) (way : Way) (r : PlantTold) : Type 0 where
+pub record IsTraceShown (H : History) (lot : LotId) (way : Way) (r : PlantAnswer) : Type 0 where
   pub trace : List Step
   pub traced : IsTrace (IsPlantJoined H way) lot trace
   pub shown : r ≡ Shows (trace_text trace)
 
-pub record IsRecallShown (H : History) (lot : LotId) (r : PlantTold) : Type 0 where
+pub record IsRecallShown (H : History) (lot : LotId) (r : PlantAnswer) : Type 0 where
   pub lines : List RecallLine
   pub recalled : IsRecall H lot lines
   pub shown : r ≡ Shows (recall_text lines)
@@ -59,7 +59,7 @@ pub record IsRecallShown (H : History) (lot : LotId) (r : PlantTold) : Type 0 wh
 -- ---- answers
 
 -- the refusal of the first check that applies, otherwise the text
-abbrev pub IsCheckedOr : Verdict → Type 0 → PlantTold → Type 0
+abbrev pub IsCheckedOr : Verdict → Type 0 → PlantAnswer → Type 0
 IsCheckedOr (Refused why) shown r = r ≡ Judged (Refused why)
 IsCheckedOr _ shown r = shown
 
@@ -70,7 +70,7 @@ owner_checks H o = (not (owner_known H o), Some UnknownOwner) ∷ []
 abbrev pub lot_checks : History → LotId → Checks
 lot_checks H lot = owner_checks H lot.owner ++ (is_none (lot_row H lot.owner lot.lot), Some UnknownLot) ∷ []
 
-abbrev pub IsPlantAnswer : History → PlantAsked → PlantTold → Type 0
+abbrev pub IsPlantAnswer : History → PlantRequest → PlantAnswer → Type 0
 IsPlantAnswer H (Does c) r = r ≡ Judged (verdict H c)
 IsPlantAnswer H (AsksOrders o) r = IsCheckedOr (first_of (owner_checks H o)) (AreOrdersShown H o r) r
 IsPlantAnswer H (AsksStock o) r = IsCheckedOr (first_of (owner_checks H o)) (IsStockShown H o r) r
@@ -80,6 +80,6 @@ IsPlantAnswer H (AsksRecall lot) r = IsCheckedOr (first_of (lot_checks H lot)) (
 IsPlantAnswer H (CannotRead why) r = r ≡ Judged (Refused why)
 
 -- the history after it
-abbrev pub after_plant : History → PlantAsked → History
+abbrev pub after_plant : History → PlantRequest → History
 after_plant H (Does c) = grow H c
 after_plant H _ = H

@@ -6,7 +6,7 @@ use Rattle.toll_answers.specs.declared.views.stock.StockLine.{StockLine}
 use Rattle.toll_base.specs.Words.{is_some_where}
 use Rattle.toll_base.specs.Lots.{lot_id}
 use Rattle.toll_trace.specs.declared.way.Way.TheVariants.{Back, Forward}
-use Rattle.toll_answers.specs.Told.{Asked, AskOrders, AskOrder, AskPlace, AskCancel, AskBatch, AskStock, AskLot, AskRelease, AskReject, AskBack, AskForward, AskHouseForward, Told, TellForbidden, TellOrders, TellOrder, TellBatch, TellStock, TellLot, TellTrace, TellRefused}
+use Rattle.toll_answers.specs.OwnerRequests.{OwnerRequest, AskOrders, AskOrder, AskPlace, AskCancel, AskBatch, AskStock, AskLot, AskRelease, AskReject, AskBack, AskForward, AskHouseForward, OwnerReply, TellForbidden, TellOrders, TellOrder, TellBatch, TellStock, TellLot, TellTrace, TellRefused}
 use Rattle.toll_answers.specs.Views.{stock_line, results_of_lot, sublots_of_lot, has_consumed}
 
 -- ---- admission
@@ -17,24 +17,24 @@ has_key o key H = not (same_bytes o house_name) && is_some_where (same_bytes key
 
 -- ---- replies from given rows, in the order of their keys
 
-pub record AreOrdersTold (given : Bytes → Option OrderRow) (r : Told) : Type 0 where
+pub record AreOrdersTold (given : Bytes → Option OrderRow) (r : OwnerReply) : Type 0 where
   pub orders : List OrderRow
   pub are_given : AreRowsGiven bytes_cmp (λ row. row.order) given orders
   pub told : r ≡ TellOrders orders
 
-pub record IsStockTold (given : Bytes → Option StockLine) (r : Told) : Type 0 where
+pub record IsStockTold (given : Bytes → Option StockLine) (r : OwnerReply) : Type 0 where
   pub lines : List StockLine
   pub are_given : AreRowsGiven bytes_cmp (λ line. line.row.lot) given lines
   pub told : r ≡ TellStock lines
 
 -- the batch with the requirements of its order's recipe
-pub record IsBatchTold (given : RequirementKey → Option RequirementLine) (batch : BatchRow) (r : Told) : Type 0 where
+pub record IsBatchTold (given : RequirementKey → Option RequirementLine) (batch : BatchRow) (r : OwnerReply) : Type 0 where
   pub lines : List RequirementLine
   pub are_given : AreRowsGiven requirement_cmp line_key given lines
   pub told : r ≡ TellBatch batch lines
 
 -- the lot with its results and its sublots
-pub record IsLotTold (results_given : Bytes × Bytes × ℕ → Option ResultRow) (sublots_given : Bytes × Bytes → Option SublotRow) (measure : Bytes) (row : LotRow) (r : Told) : Type 0 where
+pub record IsLotTold (results_given : Bytes × Bytes × ℕ → Option ResultRow) (sublots_given : Bytes × Bytes → Option SublotRow) (measure : Bytes) (row : LotRow) (r : OwnerReply) : Type 0 where
   pub results : List ResultRow
   pub sublots : List SublotRow
   pub are_results : AreRowsGiven result_cmp (λ row. (row.lot, row.test, row.number)) results_given results
@@ -42,43 +42,43 @@ pub record IsLotTold (results_given : Bytes × Bytes × ℕ → Option ResultRow
   pub told : r ≡ TellLot row measure results sublots
 
 -- the trace from the lot, where `E` joins lots
-pub record IsTraceTold (E : LotId → LotId → Type 0) (a : LotId) (r : Told) : Type 0 where
+pub record IsTraceTold (E : LotId → LotId → Type 0) (a : LotId) (r : OwnerReply) : Type 0 where
   pub trace : List Step
   pub traced : IsTrace E a trace
   pub told : r ≡ TellTrace trace
 
 -- ---- replies about what is there
 
-abbrev pub IsOrderOr : Option OrderRow → Told → Type 0
+abbrev pub IsOrderOr : Option OrderRow → OwnerReply → Type 0
 IsOrderOr None r = r ≡ TellRefused UnknownOrder
 IsOrderOr (Some row) r = r ≡ TellOrder row
 
-abbrev pub IsLotOr : History → Bytes → Option LotRow → Told → Type 0
+abbrev pub IsLotOr : History → Bytes → Option LotRow → OwnerReply → Type 0
 IsLotOr H o None r = r ≡ TellRefused UnknownLot
 IsLotOr H o (Some row) r = IsLotTold (results_of_lot (acts o H) row.lot) (sublots_of_lot H o row.lot) (measure_of (acts o H) row.material) row r
 
-abbrev pub IsBatchOr : History → Bytes → Option OrderRow → Option BatchRow → Verdict → Told → Type 0
+abbrev pub IsBatchOr : History → Bytes → Option OrderRow → Option BatchRow → Verdict → OwnerReply → Type 0
 IsBatchOr H o (Some order) (Some batch) verdict r = IsBatchTold (line_of H o batch.order batch.number order.recipe) batch r
 IsBatchOr H o _ _ (Refused why) r = r ≡ TellRefused why
 IsBatchOr H o _ _ _ r = ⊥
 
-abbrev pub IsTraceOr : (LotId → LotId → Type 0) → LotId → (known : Bool) → Told → Type 0
+abbrev pub IsTraceOr : (LotId → LotId → Type 0) → LotId → (known : Bool) → OwnerReply → Type 0
 IsTraceOr E a known r = MatchBool known (IsTraceTold E a r) (r ≡ TellRefused UnknownLot)
 
 -- the reply to a request that writes: the refusal, or what it left
-abbrev pub IsWritten : Verdict → Type 0 → Told → Type 0
+abbrev pub IsWritten : Verdict → Type 0 → OwnerReply → Type 0
 IsWritten (Refused why) left r = r ≡ TellRefused why
 IsWritten _ left r = left
 
 -- an order after a command about it, and a lot
-abbrev pub IsOrderAfter : History → Bytes → Action → Bytes → Told → Type 0
+abbrev pub IsOrderAfter : History → Bytes → Action → Bytes → OwnerReply → Type 0
 IsOrderAfter H o action order r = IsWritten (verdict H (by o action)) (IsOrderOr (order_of (acts o (grow H (by o action))) order) r) r
 
-abbrev pub IsLotAfter : History → Bytes → Action → Bytes → Told → Type 0
+abbrev pub IsLotAfter : History → Bytes → Action → Bytes → OwnerReply → Type 0
 IsLotAfter H o action lot r = IsWritten (verdict H (by o action)) (IsLotOr (grow H (by o action)) o (lot_row (grow H (by o action)) o lot) r) r
 
 -- the answer to a request of an owner that was admitted
-abbrev pub IsAnswer : Bytes → History → Asked → Told → Type 0
+abbrev pub IsAnswer : Bytes → History → OwnerRequest → OwnerReply → Type 0
 IsAnswer o H AskOrders r = AreOrdersTold (order_of (acts o H)) r
 IsAnswer o H (AskOrder order) r = IsOrderOr (order_of (acts o H) order) r
 IsAnswer o H (AskPlace order recipe batches) r = IsOrderAfter H o (PlaceOrder order recipe batches) order r
@@ -93,32 +93,32 @@ IsAnswer o H (AskForward lot) r = IsTraceOr (IsOwnJoined (acts o H) Forward) (lo
 IsAnswer o H (AskHouseForward lot) r = IsTraceOr (IsOwnJoined (acts o H) Forward) (lot_id house_name lot) (has_consumed (acts o H) (lot_id house_name lot)) r
 
 -- the reply to a request as this owner with this key
-unfoldable pub IsReply : Bytes → Bytes → History → Asked → Told → Type 0
+unfoldable pub IsReply : Bytes → Bytes → History → OwnerRequest → OwnerReply → Type 0
 IsReply o key H q r = MatchBool (has_key o key H) (IsAnswer o H q r) (r ≡ TellForbidden)
 
 -- ---- what a request makes of the history
 
-abbrev pub after_answer : Bytes → History → Asked → History
+abbrev pub after_answer : Bytes → History → OwnerRequest → History
 after_answer o H (AskPlace order recipe batches) = grow H (by o (PlaceOrder order recipe batches))
 after_answer o H (AskCancel order) = grow H (by o (CancelOrder order))
 after_answer o H (AskRelease lot) = grow H (by o (Release lot))
 after_answer o H (AskReject lot) = grow H (by o (Reject lot))
 after_answer o H _ = H
 
-unfoldable pub after_reply : Bytes → Bytes → History → Asked → History
+unfoldable pub after_reply : Bytes → Bytes → History → OwnerRequest → History
 after_reply o key H q = if has_key o key H then after_answer o H q else H
 
 -- ---- values within their bounds
 
 -- the count of batches that is asked for
-abbrev pub IsValidAsked : Asked → Type 0
-IsValidAsked (AskPlace order recipe batches) = IsValid (PlaceOrder order recipe batches)
-IsValidAsked _ = Unit {0}
+abbrev pub IsValidOwnerRequest : OwnerRequest → Type 0
+IsValidOwnerRequest (AskPlace order recipe batches) = IsValid (PlaceOrder order recipe batches)
+IsValidOwnerRequest _ = Unit {0}
 
 -- the owner's own part of the history says the same of the reply as all of it
-abbrev pub IsOwnReply : (o key : Bytes) → History → Asked → Told → Type 0
+abbrev pub IsOwnReply : (o key : Bytes) → History → OwnerRequest → OwnerReply → Type 0
 IsOwnReply o key H q r = IsReply o key (part o H) q r ↔ IsReply o key H q r
 
 -- what the request makes of the owner's own part is the owner's part of what it makes of all of it
-abbrev pub IsOwnGrowth : (o key : Bytes) → History → Asked → Type 0
+abbrev pub IsOwnGrowth : (o key : Bytes) → History → OwnerRequest → Type 0
 IsOwnGrowth o key H q = after_reply o key (part o H) q ≡ part o (after_reply o key H q)

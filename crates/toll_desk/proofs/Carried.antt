@@ -1,6 +1,6 @@
 -- A plan that is carried out.
 use Rattle.std.proofs.Common.{◌≡◌, ◌==◌, ◌&&◌, Bool, true, false, List, [], ◌∷◌, length, Result, Ok, Err, OnOk, OnErr, IfOk, refl, sym, ap, subst, arith, ◌∙◌}
-use Rattle.toll_desk.proofs.Common.{on_ok_weaker, History, Change, nat_eq-exact, Meaning, Content, after, Fits, Goes, IsReading, KeepFault, goes_then, goes_as, goes_fault, Asked, Told}
+use Rattle.toll_desk.proofs.Common.{on_ok_weaker, History, Change, nat_eq-exact, Meaning, Content, after, Fits, Goes, IsReading, KeepFault, goes_then, goes_as, goes_fault, OwnerRequest, OwnerReply}
 use Rattle.toll_keep.specs.Meaning.{OverHeld, OverLive}
 use Rattle.toll_desk.specs.Outcome.{finished, IsDone}
 use Rattle.toll_desk.specs.Plans.{LeadsTo}
@@ -15,7 +15,7 @@ and_false true = refl
 and_false false = refl
 
 -- where a fault is told, nothing was to be changed
-pub none_told : (q : Asked) (told : Result Told KeepFault) (P : Type 0) → (may_change q told ≡ false → P) → OnErr told P
+pub none_told : (q : OwnerRequest) (told : Result OwnerReply KeepFault) (P : Type 0) → (may_change q told ≡ false → P) → OnErr told P
 none_told q (Ok t) P quiet = tt
 none_told q (Err fault) P quiet = quiet (and_false (writes q))
 

@@ -10,12 +10,12 @@ pub use Rattle.std.specs.Option.{IfSome, is_some, option_map}
 pub use Rattle.std.specs.Ordering.{is_eq}
 pub use Rattle.toll_answers.proofs.KnownLots.{lots_known, lots_owned, some_mapped}
 pub use Rattle.toll_answers.specs.Edges.{IsOwnEdge, IsOwnJoined, IsPlantEdge, IsPlantJoined, WasDone}
-pub use Rattle.toll_answers.specs.PlantAnswers.{AreOrdersShown, AsksBatch, AsksOrders, AsksRecall, AsksStock, CannotRead, Does, IsBatchShownOr, IsCheckedOr, IsPlantAnswer, Judged, PlantAsked, PlantTold, Shows, after_plant, lot_checks, owner_checks}
+pub use Rattle.toll_answers.specs.PlantAnswers.{AreOrdersShown, AsksBatch, AsksOrders, AsksRecall, AsksStock, CannotRead, Does, IsBatchShownOr, IsCheckedOr, IsPlantAnswer, Judged, PlantRequest, PlantAnswer, Shows, after_plant, lot_checks, owner_checks}
 pub use Rattle.toll_answers.specs.Recall.{IsRecall, recall_line}
 unfoldable pub use Rattle.toll_answers.specs.Replies.{IsReply, after_reply}
 pub use Rattle.toll_answers.specs.Replies.{AreOrdersTold, IsAnswer, IsBatchOr, IsLotOr, IsOrderOr, IsWritten, after_answer, has_key}
 pub use Rattle.toll_answers.specs.Texts.{batch_text, orders_text, recall_text, trace_text}
-pub use Rattle.toll_answers.specs.Told.{AskCancel, AskPlace, AskReject, AskRelease, Asked, TellBatch, TellForbidden, TellLot, TellOrder, TellOrders, TellRefused, TellTrace, Told}
+pub use Rattle.toll_answers.specs.OwnerRequests.{AskCancel, AskPlace, AskReject, AskRelease, OwnerRequest, TellBatch, TellForbidden, TellLot, TellOrder, TellOrders, TellRefused, TellTrace, OwnerReply}
 pub use Rattle.toll_answers.specs.Views.{IsLotViewOf, consumes_lot, has_consumed}
 pub use Rattle.toll_answers.specs.declared.genealogy.recall.RecallLine.{RecallLine}
 pub use Rattle.toll_answers.specs.declared.views.lot.LotView.{LotView}

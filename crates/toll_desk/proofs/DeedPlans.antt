@@ -1,7 +1,7 @@
 -- The plant's decisions over the content of a keep.
 use Rattle.std.specs.Prelude.{nat_le}
 use Rattle.std.proofs.Common.{◌≡◌, Bool, true, false, not, ◌&&◌, Option, Some, None, is_some, [], ◌∷◌, refl, sym, ap, subst, ◌∙◌}
-use Rattle.toll_desk.proofs.Common.{list_any, Bytes, same_bytes, house_name, Action, AddOwner, AddUnit, OpenBatch, Command, by, History, acts, adds_owner, owner_known, unit_known, count_units, Slice, IsRowsOf, Verdict, Accepted, Repeated, Refused, first_of, Checks, checks, needs_owner, verdict, grown, IsLawful, IsValid, changes_of, after_changes, changes_if, ChangesKeepRules, IsDecided, Decides, DecidesWith, DecisionKeepsRules, PutsOnly, OwnerRow, UnitRow, Change, Owner, Unit as UnitAdded, Decision, Refuse, UnknownOwner, OwnerExists, UnitExists, LimitReached, same_bytes-refl, accepted_passes, PlantAsked, Does, Judged, Content, StandsFor, false≢true, option_map}
+use Rattle.toll_desk.proofs.Common.{list_any, Bytes, same_bytes, house_name, Action, AddOwner, AddUnit, OpenBatch, Command, by, History, acts, adds_owner, owner_known, unit_known, count_units, Slice, IsRowsOf, Verdict, Accepted, Repeated, Refused, first_of, Checks, checks, needs_owner, verdict, grown, IsLawful, IsValid, changes_of, after_changes, changes_if, ChangesKeepRules, IsDecided, Decides, DecidesWith, DecisionKeepsRules, PutsOnly, OwnerRow, UnitRow, Change, Owner, Unit as UnitAdded, Decision, Refuse, UnknownOwner, OwnerExists, UnitExists, LimitReached, same_bytes-refl, accepted_passes, PlantRequest, Does, Judged, Content, StandsFor, false≢true, option_map}
 use Rattle.toll_desk.proofs.Knowing.{standing_knows}
 use Rattle.toll_desk.proofs.UnitHolders.{same_holder}
 use Rattle.toll_keep.specs.Holding.{IsHolder}
@@ -26,7 +26,7 @@ pub house_known : (H : History) → owner_known H house_name ≡ true
 house_known H = first_of_either (same_bytes house_name house_name) (list_any adds_owner (acts house_name H)) (same_bytes-refl house_name)
 
 -- what is so of all that is such is so of it
-pub deed_so : (P Q : Action → Type 0) → ((a : Action) → P a → Q a) → (q : PlantAsked) → IsCommandSuchThat P q → IsCommandSuchThat Q q
+pub deed_so : (P Q : Action → Type 0) → ((a : Action) → P a → Q a) → (q : PlantRequest) → IsCommandSuchThat P q → IsCommandSuchThat Q q
 deed_so P Q so (Does command) deed = so command.action deed
 deed_so P Q so q deed = absurd deed
 
@@ -64,13 +64,13 @@ pub own_decision : (H : History) (s : Slice) (a : Action) (d : Decision) → IsL
 unfolding Decides DecisionKeepsRules
 own_decision H s a d lawful valid decides rules own = record { right = decides H lawful valid; rules = rules; own = own }
 
-pub deed_decision : (H : History) (s : Slice) (q : PlantAsked) (d : Decision) → IsLawful H → IsCommandSuchThat IsValid q → IsCommandSuchThat (λ a. Decides (by s.owner a) s d) q
+pub deed_decision : (H : History) (s : Slice) (q : PlantRequest) (d : Decision) → IsLawful H → IsCommandSuchThat IsValid q → IsCommandSuchThat (λ a. Decides (by s.owner a) s d) q
     → DecisionKeepsRules s d → PutsOnly s.owner (changes_of d) → IsCommandSuchThat (λ a. IsOwnDecision H s a d) q
 deed_decision H s (Does command) d lawful valid decides rules own = own_decision H s command.action d lawful valid decides rules own
 deed_decision H s q d lawful valid decides rules own = absurd valid
 
 module _ (c : Content) (H : History) (stands : StandsFor c H) where
-  pub decided_unknown : (q : PlantAsked) → IsCommandSuchThat AddsNeither q → owner_known H (concerned q) ≡ false → IsPlantDecision c H q (Refuse UnknownOwner)
+  pub decided_unknown : (q : PlantRequest) → IsCommandSuchThat AddsNeither q → owner_known H (concerned q) ≡ false → IsPlantDecision c H q (Refuse UnknownOwner)
   decided_unknown (Does command) neither unknown =
       let refused = sym (unknown_refused H command.owner command.action (needs_if command.action neither) unknown) in
       record { answer = ap Judged refused; leads = subst (λ v. LeadsTo c [] (grown v H command)) refused (leads_nowhere c H stands) }
@@ -78,7 +78,7 @@ module _ (c : Content) (H : History) (stands : StandsFor c H) where
 
   module _ (lawful : IsLawful H) where
     -- a decision over the rows of an owner is so over the content
-    pub decided_own : (q : PlantAsked) (s : Slice) (d : Decision) → IsCommandSuchThat AddsNeither q → owner_known H (concerned q) ≡ true → s ≡ c.rows (concerned q)
+    pub decided_own : (q : PlantRequest) (s : Slice) (d : Decision) → IsCommandSuchThat AddsNeither q → owner_known H (concerned q) ≡ true → s ≡ c.rows (concerned q)
         → IsCommandSuchThat (λ a. IsOwnDecision H s a d) q → IsPlantDecision c H q d
     decided_own (Does command) s d neither known is own =
         let o = command.owner in
@@ -93,7 +93,7 @@ module _ (c : Content) (H : History) (stands : StandsFor c H) where
     decided_own q s d neither known is own = absurd neither
 
     -- and so is one over the rows of an owner and of HOUSE
-    pub decided_both : (q : PlantAsked) (s house : Slice) (d : Decision) → IsCommandSuchThat AddsNeither q → IsCommandSuchThat IsValid q → owner_known H (concerned q) ≡ true
+    pub decided_both : (q : PlantRequest) (s house : Slice) (d : Decision) → IsCommandSuchThat AddsNeither q → IsCommandSuchThat IsValid q → owner_known H (concerned q) ≡ true
         → s ≡ c.rows (concerned q) → house ≡ c.rows house_name → IsCommandSuchThat (λ a. DecidesWith (by s.owner a) s house d) q → DecisionKeepsRules s d
         → (same_bytes s.owner house.owner ≡ false → DecisionKeepsRules house d) → PutsShared s.owner (changes_of d) → IsPlantDecision c H q d
     unfolding DecidesWith DecisionKeepsRules

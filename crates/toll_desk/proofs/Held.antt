@@ -1,6 +1,6 @@
 -- Commands of which the changes are held back.
 use Rattle.std.proofs.Common.{◌≡◌, ◌++◌, false, Option, [], Result, Ok, Err, inl, inr, refl, sym, ap, subst, ◌∙◌}
-use Rattle.toll_desk.proofs.Common.{append-nil, changes_of, Decision, Refusal, verdict_of, History, Refused as RefusedFor, Content, after, Meaning, OverHeld, KeepFault, CannotRead, Judged, PlantAsked}
+use Rattle.toll_desk.proofs.Common.{append-nil, changes_of, Decision, Refusal, verdict_of, History, Refused as RefusedFor, Content, after, Meaning, OverHeld, KeepFault, CannotRead, Judged, PlantRequest}
 use Rattle.toll_keep.specs.PendingChanges.{IsOver, ReadsThrough}
 use Rattle.toll_keep.specs.declared.pending_changes.PendingChanges.{PendingChanges}
 use Rattle.toll_desk.specs.Translations.{is_accepted, plant_told}
@@ -17,7 +17,7 @@ use Rattle.toll_desk.proofs.Going.{fault_as}
 use Rattle.toll_desk.proofs.Lift.{leads_nowhere}
 
 -- a plan that tells a decision and makes its changes is the plan of what is asked
-pub planned_as : (c : Content) (H : History) (q : PlantAsked) (d : Decision) (plan : PlantPlan) → plant_told plan.reply ≡ Ok (Judged (verdict_of d)) → plan.changes.items ≡ changes_of d → IsPlantDecision c H q d → IsPlantPlanned c H q plan
+pub planned_as : (c : Content) (H : History) (q : PlantRequest) (d : Decision) (plan : PlantPlan) → plant_told plan.reply ≡ Ok (Judged (verdict_of d)) → plan.changes.items ≡ changes_of d → IsPlantDecision c H q d → IsPlantPlanned c H q plan
 planned_as c H q d plan told changes decided = rw (told, changes) (decided.answer, decided.leads)
 
 module _ {K : Type 0} (meaning : Meaning K) (old new : K) (before : PendingChanges) where
@@ -38,7 +38,7 @@ module _ {K : Type 0} (meaning : Meaning K) (old new : K) (before : PendingChang
   through_answer : {X Y : Type 0} (x : X) (y : Y) → Through (answered x) → Through (answered y)
   through_answer x y reads = record { answered = λ first through. reads.answered first through; failed = λ first through. tt; kept = reads.kept }
 
-  module _ (mid now : PendingChanges) (both : Option Both) (q : PlantAsked) (plan : PlantPlan) (reply : PlantReply)
+  module _ (mid now : PendingChanges) (both : Option Both) (q : PlantRequest) (plan : PlantPlan) (reply : PlantReply)
       (reads : Through (answered both)) (are : OverHeld meaning old new (λ c. IsOver c before → AreBoth (after before.changes.items c) (concerned q) both)) (over : OverHeld meaning old new (λ c. IsOver c before → IsOver c mid)) (same : mid.changes.items ≡ before.changes.items)
       (quiet : is_accepted (plant_told plan.reply) ≡ false → plan.changes.items ≡ []) (judged : IsVerdictOrMemory (plant_told plan.reply)) (planned : IsPlannedOn both q plan)
       (still : (c : Content) → IsOver c mid → IsOver c now) where
@@ -64,7 +64,7 @@ module _ {K : Type 0} (meaning : Meaning K) (old new : K) (before : PendingChang
     }
 
   -- rows that couldn't be read
-  pub unheld : {X : Type 0} (now : PendingChanges) (q : PlantAsked) (fault : KeepFault) → Through {X = X} (failed fault) → OverHeld meaning old new (λ c. IsOver c before → IsOver c now) → now.changes.items ≡ before.changes.items
+  pub unheld : {X : Type 0} (now : PendingChanges) (q : PlantRequest) (fault : KeepFault) → Through {X = X} (failed fault) → OverHeld meaning old new (λ c. IsOver c before → IsOver c now) → now.changes.items ≡ before.changes.items
       → IsPlantStaged meaning old new before now q (Err fault)
   unheld now q fault reads over same = record {
     reading = inr (through_fault fault reads);

@@ -1,7 +1,7 @@
 -- From a plan over a slice to a plan over the content of a keep.
 use Rattle.std.proofs.Common.{◌≡◌, Bool, true, false, not, ◌&&◌, ◌||◌, Option, Some, None, is_some, List, [], refl, sym, ap, subst, ◌∙◌}
 use Rattle.std.specs.Prelude.{if◌then◌else◌}
-use Rattle.toll_desk.proofs.Common.{option_map, Bytes, bytes_cmp, same_bytes, house_name, is_some_where, where_so, row_at, PlaceOrder, CancelOrder, Release, Reject, History, acts, owner_key, owner_known, Slice, IsRowsOf, IsLawful, after_changes, ChangesKeepRules, Change, OwnerRow, Content, knows, slice_of, StandsFor, PutsOnly, Asked, AskPlace, AskCancel, AskRelease, AskReject, Told, TellForbidden, has_key, IsAnswer, after_answer, IsReply, after_reply}
+use Rattle.toll_desk.proofs.Common.{option_map, Bytes, bytes_cmp, same_bytes, house_name, is_some_where, where_so, row_at, PlaceOrder, CancelOrder, Release, Reject, History, acts, owner_key, owner_known, Slice, IsRowsOf, IsLawful, after_changes, ChangesKeepRules, Change, OwnerRow, Content, knows, slice_of, StandsFor, PutsOnly, OwnerRequest, AskPlace, AskCancel, AskRelease, AskReject, OwnerReply, TellForbidden, has_key, IsAnswer, after_answer, IsReply, after_reply}
 use Rattle.toll_desk.proofs.Knowing.{standing_knows}
 use Rattle.toll_desk.specs.Admission.{is_admitted}
 use Rattle.toll_desk.specs.Plans.{IsPlanOver, IsPlanFor, IsPlan}
@@ -69,14 +69,14 @@ none_read c H o stands e = sym (standing_knows H c stands o) ∙ read_none (know
 -- ---- plans
 
 -- an owner's request adds no owner and no unit
-same_answer : (o : Bytes) (H : History) (q : Asked) → SamePlant H (after_answer o H q)
+same_answer : (o : Bytes) (H : History) (q : OwnerRequest) → SamePlant H (after_answer o H q)
 same_answer o H (AskPlace order recipe batches) = same_grown H o (PlaceOrder order recipe batches) refl
 same_answer o H (AskCancel order) = same_grown H o (CancelOrder order) refl
 same_answer o H (AskRelease lot) = same_grown H o (Release lot) refl
 same_answer o H (AskReject lot) = same_grown H o (Reject lot) refl
 same_answer o H _ = same_plant-refl H
 
-pub plan_lift : (c : Content) (H : History) (o : Bytes) (q : Asked) (s : Slice) (told : Told) (changes : List Change) → StandsFor c H → IsLawful H → owner_known H o ≡ true → s ≡ c.rows o → IsPlanOver H s q told changes → IsPlanFor c H o q told changes
+pub plan_lift : (c : Content) (H : History) (o : Bytes) (q : OwnerRequest) (s : Slice) (told : OwnerReply) (changes : List Change) → StandsFor c H → IsLawful H → owner_known H o ≡ true → s ≡ c.rows o → IsPlanOver H s q told changes → IsPlanFor c H o q told changes
 plan_lift c H o q s told changes stands lawful known is plan =
     let named : s.owner ≡ o = ap (λ t. t.owner) is ∙ stands.own o in
     let own = subst (λ p. PutsOnly p changes) named plan.own in
@@ -86,10 +86,10 @@ plan_lift c H o q s told changes stands lawful known is plan =
       own = own;
     }
 
-pub plan_admitted : (c : Content) (H : History) (o key : Bytes) (q : Asked) (told : Told) (changes : List Change) → has_key o key H ≡ true → IsPlanFor c H o q told changes → IsPlan c H o key q told changes
+pub plan_admitted : (c : Content) (H : History) (o key : Bytes) (q : OwnerRequest) (told : OwnerReply) (changes : List Change) → has_key o key H ≡ true → IsPlanFor c H o q told changes → IsPlan c H o key q told changes
 unfolding IsReply after_reply
 plan_admitted c H o key q told changes right plan = record { reply = rw right plan.answer; leads = rw right plan.leads; own = plan.own }
 
-pub plan_forbidden : (c : Content) (H : History) (o key : Bytes) (q : Asked) → StandsFor c H → has_key o key H ≡ false → IsPlan c H o key q TellForbidden []
+pub plan_forbidden : (c : Content) (H : History) (o key : Bytes) (q : OwnerRequest) → StandsFor c H → has_key o key H ≡ false → IsPlan c H o key q TellForbidden []
 unfolding IsReply after_reply
 plan_forbidden c H o key q stands wrong = record { reply = rw wrong refl; leads = rw wrong (leads_nowhere c H stands); own = tt }

@@ -1,6 +1,6 @@
 -- What the plant is shown, over rows and edges that a keep has.
 use Rattle.std.specs.Prelude.{ℕ, is_none}
-use Rattle.toll_desk.proofs.Common.{option_map, false≢true, list_any, Bytes, bytes_cmp, Slice, IsInKeyOrder, Edge, LotId, UnknownOwner, UnknownLot, UnknownOrder, UnknownBatch, BatchRow, OrderRow, Record, History, acts, owner_known, IsRowsOf, lot_row, tables_given, Checks, Refused, first_of, known_batch_checks, IsLawful, order_of, batch_of, unit_of, state_of, is_closed, AreEdges, Contains-none, IsOwnEdge, IsPlantEdge, WasDone, lots_owned, IsViewOver, BatchView, orders_text, batch_text, recall_text, IsRecall, RecallLine, PlantAsked, PlantTold, AsksOrders, AsksStock, AsksBatch, Judged, Shows, AreOrdersShown, IsBatchShownOr, IsCheckedOr, AsksRecall, IsPlantAnswer, owner_checks, lot_checks, Content, slice_of, StandsFor}
+use Rattle.toll_desk.proofs.Common.{option_map, false≢true, list_any, Bytes, bytes_cmp, Slice, IsInKeyOrder, Edge, LotId, UnknownOwner, UnknownLot, UnknownOrder, UnknownBatch, BatchRow, OrderRow, Record, History, acts, owner_known, IsRowsOf, lot_row, tables_given, Checks, Refused, first_of, known_batch_checks, IsLawful, order_of, batch_of, unit_of, state_of, is_closed, AreEdges, Contains-none, IsOwnEdge, IsPlantEdge, WasDone, lots_owned, IsViewOver, BatchView, orders_text, batch_text, recall_text, IsRecall, RecallLine, PlantRequest, PlantAnswer, AsksOrders, AsksStock, AsksBatch, Judged, Shows, AreOrdersShown, IsBatchShownOr, IsCheckedOr, AsksRecall, IsPlantAnswer, owner_checks, lot_checks, Content, slice_of, StandsFor}
 use Rattle.toll_desk.proofs.Unknown.{acts_of_unknown}
 use Rattle.std.proofs.Common.{◌≡◌, ◌⊎◌, true, false, Option, Some, None, is_some, List, [], ◌∷◌, Result, Ok, Err, IfOk, IfErr, refl, sym, ap, subst, inl, inr, ◌∙◌, ◌&&◌}
 use Rattle.toll_desk.specs.Questions.{is_known_lot}
@@ -23,26 +23,26 @@ told_err P r e is so = subst (λ r. IfErr r P) is so
 pub orders_shown : (H : History) (s : Slice) (text : Bytes) → IsInKeyOrder bytes_cmp (λ row. row.order) s.orders → IsRowsOf H s → text ≡ orders_text s.orders → AreOrdersShown H s.owner (Shows text)
 orders_shown H s text ordered rows is = record { orders = s.orders; given = record { ordered = ordered; at = λ k i. (rows i).order k }; shown = ap Shows is }
 
-pub rows_of_unknown : (H : History) (q : PlantAsked) → AsksRows q → owner_known H (concerned q) ≡ false → IsPlantAnswer H q (Judged (Refused UnknownOwner))
+pub rows_of_unknown : (H : History) (q : PlantRequest) → AsksRows q → owner_known H (concerned q) ≡ false → IsPlantAnswer H q (Judged (Refused UnknownOwner))
 rows_of_unknown H (AsksOrders o) asks unknown = rw unknown refl
 rows_of_unknown H (AsksStock o) asks unknown = rw unknown refl
 rows_of_unknown H (AsksBatch o order number) asks unknown = rw unknown refl
 rows_of_unknown H q asks unknown = absurd asks
 
-asked_again : (q : PlantAsked) (o : Bytes) → o ≡ concerned q → asked_of_rows o q ≡ q
+asked_again : (q : PlantRequest) (o : Bytes) → o ≡ concerned q → asked_of_rows o q ≡ q
 asked_again (AsksOrders owner) o is = ap AsksOrders is
 asked_again (AsksStock owner) o is = ap AsksStock is
 asked_again (AsksBatch owner order number) o is = ap (λ p. AsksBatch p order number) is
 asked_again q o is = refl
 
 -- what is so of the rows that were read is so of those that are asked about
-pub asked_read : (c : Content) (H : History) (q : PlantAsked) (s : Slice) → IsLawful H → StandsFor c H → Some s ≡ slice_of c (concerned q)
-    → (P : History → PlantAsked → Type 0) → OverOwnRows s (λ H. P H (asked_of_rows s.owner q)) → P H q
+pub asked_read : (c : Content) (H : History) (q : PlantRequest) (s : Slice) → IsLawful H → StandsFor c H → Some s ≡ slice_of c (concerned q)
+    → (P : History → PlantRequest → Type 0) → OverOwnRows s (λ H. P H (asked_of_rows s.owner q)) → P H q
 asked_read c H q s lawful stands there P over =
     let read = rows_read c H (concerned q) s stands there in
     subst (P H) (asked_again q s.owner read.1) (over H lawful (ap (owner_known H) read.1 ∙ some_read c H (concerned q) s stands there) read.0)
 
-pub checked_owner : (H : History) (o : Bytes) (X : Type 0) (r : PlantTold) → owner_known H o ≡ true → X → IsCheckedOr (first_of (owner_checks H o)) X r
+pub checked_owner : (H : History) (o : Bytes) (X : Type 0) (r : PlantAnswer) → owner_known H o ≡ true → X → IsCheckedOr (first_of (owner_checks H o)) X r
 checked_owner H o X r known x = rw known x
 
 -- ---- a batch
@@ -94,7 +94,7 @@ none_if_not : {X : Type 0} (x : Option X) → is_some x ≡ false → is_none x 
 none_if_not None none = refl
 none_if_not (Some x) none = absurd (false≢true (sym none))
 
-pub checked_lot : (H : History) (lot : LotId) (X : Type 0) (r : PlantTold) → owner_known H lot.owner ≡ true → is_some (lot_row H lot.owner lot.lot) ≡ true → X → IsCheckedOr (first_of (lot_checks H lot)) X r
+pub checked_lot : (H : History) (lot : LotId) (X : Type 0) (r : PlantAnswer) → owner_known H lot.owner ≡ true → is_some (lot_row H lot.owner lot.lot) ≡ true → X → IsCheckedOr (first_of (lot_checks H lot)) X r
 checked_lot H lot X r known there x = rw (known, none_if (lot_row H lot.owner lot.lot) there) x
 
 pub lot_unknown : (H : History) (lot : LotId) (X : Type 0) → owner_known H lot.owner ≡ true → is_some (lot_row H lot.owner lot.lot) ≡ false → IsCheckedOr (first_of (lot_checks H lot)) X (Judged (Refused UnknownLot))

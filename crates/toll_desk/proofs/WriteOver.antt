@@ -1,6 +1,6 @@
 -- What an owner is told of what is decided over its rows.
 use Rattle.std.proofs.Common.{◌≡◌, ℕ, Bool, true, false, not, ◌||◌, cond, Option, Some, None, is_some, is_none, List, [], ◌∷◌, refl, sym, ap, subst, ◌∙◌}
-use Rattle.toll_desk.proofs.Common.{list_any, option_map, false≢true, Bytes, same_bytes, result_cmp, pair_cmp, lot_id, AreRowsGiven, or_else, where_so, is_some_where, Action, PlaceOrder, CancelOrder, Release, Reject, by, History, acts, owner_known, Slice, order_at, result_of, disposition_of, Made, lot_made, order_of, cancels, found, order_placed, measure_of, IsRowsOf, lot_row, sublot_row, Verdict, Accepted, Repeated, Refused, verdict, grown, grow, is_quarantined, checks, IsLawful, changes_of, after_changes, verdict_of, Decision, Disposition, Refusal, UnknownOrder, LotRow, OrderRow, acts-own, accepted_passes, same_bytes-refl, IsLotViewOf, LotView, Asked, AskPlace, AskCancel, AskRelease, AskReject, Told, TellOrder, TellLot, TellRefused, IsOrderOr, IsLotOr, IsWritten, IsAnswer, after_answer}
+use Rattle.toll_desk.proofs.Common.{list_any, option_map, false≢true, Bytes, same_bytes, result_cmp, pair_cmp, lot_id, AreRowsGiven, or_else, where_so, is_some_where, Action, PlaceOrder, CancelOrder, Release, Reject, by, History, acts, owner_known, Slice, order_at, result_of, disposition_of, Made, lot_made, order_of, cancels, found, order_placed, measure_of, IsRowsOf, lot_row, sublot_row, Verdict, Accepted, Repeated, Refused, verdict, grown, grow, is_quarantined, checks, IsLawful, changes_of, after_changes, verdict_of, Decision, Disposition, Refusal, UnknownOrder, LotRow, OrderRow, acts-own, accepted_passes, same_bytes-refl, IsLotViewOf, LotView, OwnerRequest, AskPlace, AskCancel, AskRelease, AskReject, OwnerReply, TellOrder, TellLot, TellRefused, IsOrderOr, IsLotOr, IsWritten, IsAnswer, after_answer}
 use Rattle.toll_base.specs.declared.lot.Disposition.TheVariants.{Released, Rejected}
 use Rattle.toll_base.specs.declared.rows.ResultRow.{ResultRow}
 use Rattle.toll_base.specs.declared.rows.SublotRow.{SublotRow}
@@ -14,9 +14,9 @@ use Rattle.toll_desk.proofs.ReadOver.{given_orders}
 -- ---- what is decided
 
 -- where the decision is right, and what is told is so over what it makes of the history, it is a plan
-module _ (H : History) (s : Slice) (q : Asked) (a : Action) (Left : History → Told → Type 0) (answers : (told : Told) → IsWritten (verdict H (by s.owner a)) (Left (grow H (by s.owner a)) told) told → IsAnswer s.owner H q told) (grows : after_answer s.owner H q ≡ grow H (by s.owner a))
+module _ (H : History) (s : Slice) (q : OwnerRequest) (a : Action) (Left : History → OwnerReply → Type 0) (answers : (told : OwnerReply) → IsWritten (verdict H (by s.owner a)) (Left (grow H (by s.owner a)) told) told → IsAnswer s.owner H q told) (grows : after_answer s.owner H q ≡ grow H (by s.owner a))
     (known : owner_known H s.owner ≡ true) (there : IsRowsOf H s) (d : Decision) (own : IsOwnDecision H s a d) where
-  pub decided_over : (v : Verdict) (told : Told) → verdict_of d ≡ v → IsWritten v (Left (grown v H (by s.owner a)) told) told → IsPlanOver H s q told (changes_of d)
+  pub decided_over : (v : Verdict) (told : OwnerReply) → verdict_of d ≡ v → IsWritten v (Left (grown v H (by s.owner a)) told) told → IsPlanOver H s q told (changes_of d)
   decided_over v told is so =
       let right = own.right known there in record {
         answer = answers told (subst (λ w. IsWritten w (Left (grown w H (by s.owner a)) told) told) (sym is ∙ right.verdict_is) so);
@@ -133,13 +133,13 @@ module _ (H : History) (s : Slice) (lawful : IsLawful H) (known : owner_known H 
     abbrev placed : OrderRow
     placed = record { order = order; recipe = recipe; batches = batches; cancelled = false }
 
-    order_by : (v : Verdict) (told : Told) → verdict_of d ≡ v → IsWritten v (IsOrderOr (order_of (acts s.owner (grown v H (by s.owner (PlaceOrder order recipe batches)))) order) told) told → IsPlanOver H s (AskPlace order recipe batches) told (changes_of d)
+    order_by : (v : Verdict) (told : OwnerReply) → verdict_of d ≡ v → IsWritten v (IsOrderOr (order_of (acts s.owner (grown v H (by s.owner (PlaceOrder order recipe batches)))) order) told) told → IsPlanOver H s (AskPlace order recipe batches) told (changes_of d)
     order_by = decided_over H s (AskPlace order recipe batches) (PlaceOrder order recipe batches) (λ G told. IsOrderOr (order_of (acts s.owner G) order) told) (λ told so. so) refl known there d own
 
     pub place_accepted : verdict_of d ≡ Accepted → IsPlanOver H s (AskPlace order recipe batches) (TellOrder placed) (changes_of d)
     place_accepted is = order_by Accepted (TellOrder placed) is (subst (λ known. IsOrderOr known (TellOrder placed)) (sym (placed_order H s.owner order recipe batches lawful (accepted_by _ d own is))) refl)
 
-    pub place_repeated : (told : Told) → verdict_of d ≡ Repeated → IsOrderOr (order_of (acts s.owner H) order) told → IsPlanOver H s (AskPlace order recipe batches) told (changes_of d)
+    pub place_repeated : (told : OwnerReply) → verdict_of d ≡ Repeated → IsOrderOr (order_of (acts s.owner H) order) told → IsPlanOver H s (AskPlace order recipe batches) told (changes_of d)
     place_repeated told is so = order_by Repeated told is so
 
     pub place_refused : (why : Refusal) → verdict_of d ≡ Refused why → IsPlanOver H s (AskPlace order recipe batches) (TellRefused why) (changes_of d)
@@ -157,7 +157,7 @@ module _ (H : History) (s : Slice) (lawful : IsLawful H) (known : owner_known H 
         }
 
     module _ (d : Decision) (own : IsOwnDecision H s (CancelOrder order) d) (row : OrderRow) (is_there : order_at s order ≡ Some row) where
-      cancel_by : (v : Verdict) (told : Told) → verdict_of d ≡ v → IsWritten v (IsOrderOr (order_of (acts s.owner (grown v H (by s.owner (CancelOrder order)))) order) told) told → IsPlanOver H s (AskCancel order) told (changes_of d)
+      cancel_by : (v : Verdict) (told : OwnerReply) → verdict_of d ≡ v → IsWritten v (IsOrderOr (order_of (acts s.owner (grown v H (by s.owner (CancelOrder order)))) order) told) told → IsPlanOver H s (AskCancel order) told (changes_of d)
       cancel_by = decided_over H s (AskCancel order) (CancelOrder order) (λ G told. IsOrderOr (order_of (acts s.owner G) order) told) (λ told so. so) refl known there d own
 
       stands : order_of (acts s.owner H) order ≡ Some row
@@ -173,8 +173,8 @@ module _ (H : History) (s : Slice) (lawful : IsLawful H) (known : owner_known H 
       cancel_refused why is = cancel_by (Refused why) (TellRefused why) is refl
 
   -- a lot that gets a disposition
-  module _ (lot : Bytes) (disposition : Disposition) (q : Asked) (a : Action) (disposes : Disposes H s.owner lot disposition q a) (d : Decision) (own : IsOwnDecision H s a d) where
-    dispose_by : (v : Verdict) (told : Told) → verdict_of d ≡ v → IsWritten v (IsLotOr (grown v H (by s.owner a)) s.owner (lot_row (grown v H (by s.owner a)) s.owner lot) told) told → IsPlanOver H s q told (changes_of d)
+  module _ (lot : Bytes) (disposition : Disposition) (q : OwnerRequest) (a : Action) (disposes : Disposes H s.owner lot disposition q a) (d : Decision) (own : IsOwnDecision H s a d) where
+    dispose_by : (v : Verdict) (told : OwnerReply) → verdict_of d ≡ v → IsWritten v (IsLotOr (grown v H (by s.owner a)) s.owner (lot_row (grown v H (by s.owner a)) s.owner lot) told) told → IsPlanOver H s q told (changes_of d)
     dispose_by = decided_over H s q a (λ G told. IsLotOr G s.owner (lot_row G s.owner lot) told) disposes.answers disposes.grows known there d own
 
     pub dispose_accepted : (view : LotView) → verdict_of d ≡ Accepted → IsLotViewOf H s.owner (lot_row H s.owner lot) (Some view) → IsPlanOver H s q (TellLot (record view.row { disposition = disposition }) view.measure view.results.items view.sublots.items) (changes_of d)
@@ -191,7 +191,7 @@ module _ (H : History) (s : Slice) (lawful : IsLawful H) (known : owner_known H 
         no_view None there shown = false≢true (sym there)
         no_view (Some row) there shown = shown
 
-    pub dispose_repeated : (told : Told) → verdict_of d ≡ Repeated → IsLotOr H s.owner (lot_row H s.owner lot) told → IsPlanOver H s q told (changes_of d)
+    pub dispose_repeated : (told : OwnerReply) → verdict_of d ≡ Repeated → IsLotOr H s.owner (lot_row H s.owner lot) told → IsPlanOver H s q told (changes_of d)
     dispose_repeated told is so = dispose_by Repeated told is so
 
     pub dispose_refused : (why : Refusal) → verdict_of d ≡ Refused why → IsPlanOver H s q (TellRefused why) (changes_of d)

@@ -1,6 +1,6 @@
 -- What the desk's functions say of what they answer, where several say the same.
 use Rattle.std.specs.Prelude.{◌≡◌, ◌≢◌, ◌++◌, [], ◌∷◌, List, OnOk, Bool, true, false, not, is_some, ℕ, Option, Result, IfOk, IfErr, Vec, Err}
-use Rattle.toll_desk.specs.Common.{Global, Bytes, same_bytes, Slice, order_at, house_name, where_so, Decision, LotId, IsRowsOf, lot_row, acts, Step, IsRecall, RecallLine, HaveRead, Damaged, Disposition, Refusal, Action, History, owner_known, Refused, IsPlantAnswer, Judged, PlantAsked, PlantTold, Shows, after_plant, IsAnswer, IsLotOr, IsOrderOr, IsReply, after_reply, has_key, AskPlace, Asked, Told, Content, Meaning, OverHeld, KeepFault}
+use Rattle.toll_desk.specs.Common.{Global, Bytes, same_bytes, Slice, order_at, house_name, where_so, Decision, LotId, IsRowsOf, lot_row, acts, Step, IsRecall, RecallLine, HaveRead, Damaged, Disposition, Refusal, Action, History, owner_known, Refused, IsPlantAnswer, Judged, PlantRequest, PlantAnswer, Shows, after_plant, IsAnswer, IsLotOr, IsOrderOr, IsReply, after_reply, has_key, AskPlace, OwnerRequest, OwnerReply, Content, Meaning, OverHeld, KeepFault}
 use Rattle.toll_desk.specs.Standing.{StandsFor}
 use Rattle.std.specs.declared.alloc.AllocError.{AllocError}
 use Rattle.toll_trace.specs.declared.way.Way.TheVariants.{Forward}
@@ -50,15 +50,15 @@ AreMoreSlices H step old new result = (before : List Step) → AreSlicesFor H be
 -- ---- what is read
 
 -- where rows are shown, they are the answer to what is asked
-abbrev pub IsReadAs : History → (o : Bytes) → Asked → Result Reply AllocError → Type 0
+abbrev pub IsReadAs : History → (o : Bytes) → OwnerRequest → Result Reply AllocError → Type 0
 IsReadAs H o q result = IfOk result (λ reply. IfOk (told_of reply) (IsAnswer o H q))
 
 -- where a text is shown, it is the answer to what the plant asks
-abbrev pub IsTextAs : History → PlantAsked → Result (Result (Vec ℕ Global) Refusal) AllocError → Type 0
+abbrev pub IsTextAs : History → PlantRequest → Result (Result (Vec ℕ Global) Refusal) AllocError → Type 0
 IsTextAs H q result = IfOk result (λ told. IfOk told (λ text. IsPlantAnswer H q (Shows text.items)))
 
 -- where a question of the plant is refused, that is the answer to it
-abbrev pub IsRefusedAs : History → PlantAsked → Result (Result (Vec ℕ Global) Refusal) AllocError → Type 0
+abbrev pub IsRefusedAs : History → PlantRequest → Result (Result (Vec ℕ Global) Refusal) AllocError → Type 0
 IsRefusedAs H q result = IfOk result (λ told. IfErr told (λ why. IsPlantAnswer H q (Judged (Refused why))))
 
 -- where an order is shown, it is the order as it stands, and a refusal where there is none
@@ -72,11 +72,11 @@ IsLotShown H o lot result = IfOk result (λ reply. IfOk (told_of reply) (IsLotOr
 -- ---- what is decided
 
 -- where it was decided over these rows, the decision is right for the command
-abbrev pub DecidesCommand : Slice → PlantAsked → Result Decision AllocError → Type 0
+abbrev pub DecidesCommand : Slice → PlantRequest → Result Decision AllocError → Type 0
 DecidesCommand s q result = IsCommandSuchThat (λ a. IfOk result (Decides (by s.owner a) s)) q
 
 -- where it was told, the decision over what was held is the one on what the plant asks
-abbrev pub IsDecidedOver : {K : Type 0} → Meaning K → (old new : K) → PlantAsked → Result Decision KeepFault → Type 0
+abbrev pub IsDecidedOver : {K : Type 0} → Meaning K → (old new : K) → PlantRequest → Result Decision KeepFault → Type 0
 IsDecidedOver meaning old new q result = Over meaning old new (λ c H. IfOk result (IsPlantDecision c H q))
 
 -- this tells whether no batch holds the unit in the history
@@ -86,28 +86,28 @@ IsFreeIn H unit free = free ≡ not (is_some (holder H unit))
 -- ---- what is planned
 
 -- where a plan is made, it is the one for what is asked over the slice
-abbrev pub IsPlannedOver : History → Slice → Asked → Result Planned AllocError → Type 0
+abbrev pub IsPlannedOver : History → Slice → OwnerRequest → Result Planned AllocError → Type 0
 IsPlannedOver H s q result = IfOk result (λ planned. IfOk (told_of planned.reply) (λ told. IsPlanOver H s q told planned.changes.items))
 
 -- where a decision on the disposition of a lot is right, so is the plan for what asks for it
 abbrev pub IsDisposedOver : History → Slice → (lot : Bytes) → Disposition → Decision → Result Planned AllocError → Type 0
 IsDisposedOver H s lot disposition decision result =
-    (q : Asked) (a : Action) → Disposes H s.owner lot disposition q a → IsOwnDecision H s a decision → IsPlannedOver H s q result
+    (q : OwnerRequest) (a : Action) → Disposes H s.owner lot disposition q a → IsOwnDecision H s a decision → IsPlannedOver H s q result
 
 -- where it is told, the plan is the one for what the owner asks
-abbrev pub IsPlannedFor : Content → History → (o : Bytes) → Asked → Planned → Type 0
+abbrev pub IsPlannedFor : Content → History → (o : Bytes) → OwnerRequest → Planned → Type 0
 IsPlannedFor c H o q planned = IfOk (told_of planned.reply) (λ told. IsPlanFor c H o q told planned.changes.items)
 
 -- where it is told, the plan is the one for what is asked with this key
-abbrev pub IsPlannedBy : Content → History → (o key : Bytes) → Asked → Planned → Type 0
+abbrev pub IsPlannedBy : Content → History → (o key : Bytes) → OwnerRequest → Planned → Type 0
 IsPlannedBy c H o key q planned = IfOk (told_of planned.reply) (λ told. IsPlan c H o key q told planned.changes.items)
 
 -- where it is told, the plan of a command is the answer to it, and its changes lead to the content after it
-abbrev pub IsPlantPlanned : Content → History → PlantAsked → PlantPlan → Type 0
+abbrev pub IsPlantPlanned : Content → History → PlantRequest → PlantPlan → Type 0
 IsPlantPlanned c H q plan = IfOk (plant_told plan.reply) (λ told. IsPlantAnswer H q told × LeadsTo c plan.changes.items (after_plant H q))
 
 -- this is so where an order is placed that is there already
-abbrev pub IfPlacedAgain : Slice → Asked → Type 0 → Type 0
+abbrev pub IfPlacedAgain : Slice → OwnerRequest → Type 0 → Type 0
 IfPlacedAgain s q P = (order recipe : Bytes) (batches : ℕ) → q ≡ AskPlace order recipe batches → is_some (order_at s order) ≡ true → P
 
 -- a plan that is not accepted makes no change
@@ -123,28 +123,28 @@ abbrev pub OverHeldRows : {K : Type 0} → Meaning K → (old new : K) → (o : 
 OverHeldRows meaning old new o P = OverHeld meaning old new (λ c. P (c.rows o))
 
 -- this is so where what was asked is to change nothing: it only asks, or isn't granted, or, over these rows, places an order that is there
-pub record IfUnchanging (OverRows : (Slice → Type 0) → Type 0) (q : Asked) (told : Result Told KeepFault) (P : Type 0) : Type 0 where
+pub record IfUnchanging (OverRows : (Slice → Type 0) → Type 0) (q : OwnerRequest) (told : Result OwnerReply KeepFault) (P : Type 0) : Type 0 where
   pub quiet : may_change q told ≡ false → P
   pub once : OverRows (λ s. IfPlacedAgain s q P)
 
 -- the plan makes no change where what was asked is to change nothing
-abbrev pub ChangesIfAsked : ((Slice → Type 0) → Type 0) → Asked → Planned → Type 0
+abbrev pub ChangesIfAsked : ((Slice → Type 0) → Type 0) → OwnerRequest → Planned → Type 0
 ChangesIfAsked OverRows q planned = IfUnchanging OverRows q (told_of planned.reply) (planned.changes.items ≡ [])
 
 -- ---- what is done
 
 -- what was held is held where what was asked is to change nothing
-abbrev pub StaysIfUnasked : {K : Type 0} → Meaning K → (old new : K) → (o : Bytes) → Asked → Result Told KeepFault → Type 0
+abbrev pub StaysIfUnasked : {K : Type 0} → Meaning K → (old new : K) → (o : Bytes) → OwnerRequest → Result OwnerReply KeepFault → Type 0
 StaysIfUnasked meaning old new o q told = OverHeld meaning old new (λ c. IfUnchanging (OverSlice (c.rows o)) q told (meaning.holds new c))
 
 module _ {K : Type 0} (meaning : Meaning K) (old new : K) where
   -- who asks as the owner with this key is answered over what was held, and what that makes of it is held
-  abbrev pub IsOwnerDone : (o key : Bytes) → Asked → Result Told KeepFault → Type 0
+  abbrev pub IsOwnerDone : (o key : Bytes) → OwnerRequest → Result OwnerReply KeepFault → Type 0
   IsOwnerDone o key q told =
       Over meaning old new (λ c H. IsDone (meaning.holds new) (meaning.is_live old) (meaning.leaves new) c (after_reply o key H q) told (IsReply o key H q))
 
   -- what the plant asks is answered over what was held, and what that makes of it is held
-  abbrev pub IsPlantDone : PlantAsked → Result PlantTold KeepFault → Type 0
+  abbrev pub IsPlantDone : PlantRequest → Result PlantAnswer KeepFault → Type 0
   IsPlantDone q told =
       Over meaning old new (λ c H. IsDone (meaning.holds new) (meaning.is_live old) (meaning.leaves new) c (after_plant H q) told (IsPlantAnswer H q))
 
@@ -153,5 +153,5 @@ abbrev pub IsFoundBy : Content → (o key : Bytes) → Result (Option Bytes) Kee
 IsFoundBy c o key result = (H : History) → StandsFor c H → IfOk result (λ found. found ≡ where_so (has_key o key H) o)
 
 -- where it is told, it is the answer to the owner
-abbrev pub IsToldAs : History → (o : Bytes) → Asked → Result Told KeepFault → Type 0
+abbrev pub IsToldAs : History → (o : Bytes) → OwnerRequest → Result OwnerReply KeepFault → Type 0
 IsToldAs H o q told = IfOk told (IsAnswer o H q)

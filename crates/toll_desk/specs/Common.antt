@@ -1,9 +1,9 @@
 -- Words of other crates that several definitions here are said in.
 pub use Rattle.std.specs.Global.{Global}
-pub use Rattle.toll_answers.specs.PlantAnswers.{AsksBatch, AsksOrders, AsksRecall, AsksStock, AsksTrace, CannotRead, Does, IsPlantAnswer, Judged, PlantAsked, PlantTold, Shows, after_plant}
+pub use Rattle.toll_answers.specs.PlantAnswers.{AsksBatch, AsksOrders, AsksRecall, AsksStock, AsksTrace, CannotRead, Does, IsPlantAnswer, Judged, PlantRequest, PlantAnswer, Shows, after_plant}
 pub use Rattle.toll_answers.specs.Recall.{IsRecall, recall_line}
 pub use Rattle.toll_answers.specs.Replies.{IsAnswer, IsLotOr, IsOrderOr, IsReply, IsWritten, after_answer, after_reply, has_key}
-pub use Rattle.toll_answers.specs.Told.{AskBack, AskBatch, AskCancel, AskForward, AskHouseForward, AskLot, AskOrder, AskOrders, AskPlace, AskReject, AskRelease, AskStock, Asked, TellBatch, TellForbidden, TellLot, TellOrder, TellOrders, TellRefused, TellStock, TellTrace, Told}
+pub use Rattle.toll_answers.specs.OwnerRequests.{AskBack, AskBatch, AskCancel, AskForward, AskHouseForward, AskLot, AskOrder, AskOrders, AskPlace, AskReject, AskRelease, AskStock, OwnerRequest, TellBatch, TellForbidden, TellLot, TellOrder, TellOrders, TellRefused, TellStock, TellTrace, OwnerReply}
 pub use Rattle.toll_answers.specs.declared.genealogy.recall.RecallLine.{RecallLine}
 pub use Rattle.toll_base.specs.Bytes.{Bytes, bytes_cmp, same_bytes}
 pub use Rattle.toll_base.specs.Lots.{lot_id}

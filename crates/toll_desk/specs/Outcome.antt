@@ -1,6 +1,6 @@
 -- What came of what was asked, over a keep.
 use Rattle.std.specs.Prelude.{◌≡◌, ◌⊎◌, List, [], ◌∷◌, Result, Ok, Err, IfOk, OnOk, OnErr}
-use Rattle.toll_desk.specs.Common.{History, PlantAsked, AsksRecall, CannotRead, PlantTold, Content, Goes, Meaning, KeepFault, Damaged}
+use Rattle.toll_desk.specs.Common.{History, PlantRequest, AsksRecall, CannotRead, PlantAnswer, Content, Goes, Meaning, KeepFault, Damaged}
 use Rattle.toll_desk.specs.Standing.{StandsFor}
 
 -- the outcome of a plan once its changes were made, or not
@@ -9,7 +9,7 @@ finished outcome (Ok made) = outcome
 finished outcome (Err fault) = Err fault
 
 -- how the calls of the keep go: where the command couldn't be read there are none; a recall that finds a lot without a row is told Damaged, each call having been answered
-abbrev pub GoesFor : {K : Type 0} → (meaning : Meaning K) → (old new : K) → PlantAsked → Result PlantTold KeepFault → Type 0
+abbrev pub GoesFor : {K : Type 0} → (meaning : Meaning K) → (old new : K) → PlantRequest → Result PlantAnswer KeepFault → Type 0
 GoesFor meaning old new (CannotRead why) outcome = Unit {0}
 GoesFor meaning old new (AsksRecall lot) outcome = Goes meaning old new outcome ⊎ ((outcome ≡ Err Damaged) × Goes {X = Unit {0}} meaning old new (Ok tt))
 GoesFor meaning old new _ outcome = Goes meaning old new outcome

@@ -1,7 +1,7 @@
 -- What a plan owes, and what a decision.
 use Rattle.std.specs.Prelude.{◌≡◌, Bool, true, false, ◌||◌, is_none, List, ◌∷◌}
 use Rattle.std.specs.Option.{option_map}
-use Rattle.toll_desk.specs.Common.{Bytes, Slice, house_name, Change, Decision, Disposition, Action, by, History, acts, owner_known, IsRowsOf, lot_row, sublot_row, Accepted, verdict, grow, PlantAsked, Judged, IsPlantAnswer, after_plant, IsLotOr, IsWritten, IsAnswer, after_answer, IsReply, after_reply, Asked, Told, Content, after, Fits}
+use Rattle.toll_desk.specs.Common.{Bytes, Slice, house_name, Change, Decision, Disposition, Action, by, History, acts, owner_known, IsRowsOf, lot_row, sublot_row, Accepted, verdict, grow, PlantRequest, Judged, IsPlantAnswer, after_plant, IsLotOr, IsWritten, IsAnswer, after_answer, IsReply, after_reply, OwnerRequest, OwnerReply, Content, after, Fits}
 use Rattle.toll_desk.specs.Standing.{StandsFor}
 use Rattle.toll_base.specs.Changes.{changes_of, after_changes}
 use Rattle.toll_base.specs.declared.rows.LotRow.{LotRow}
@@ -19,7 +19,7 @@ abbrev pub PutsShared : Bytes → List Change → Type 0
 PutsShared o changes = EachChange (is_shared_put o) changes
 
 -- over the rows of an owner that is known, this is the answer, and the changes lead to the rows after it
-pub record IsPlanOver (H : History) (s : Slice) (q : Asked) (told : Told) (changes : List Change) : Type 0 where
+pub record IsPlanOver (H : History) (s : Slice) (q : OwnerRequest) (told : OwnerReply) (changes : List Change) : Type 0 where
   pub answer : IsAnswer s.owner H q told
   pub rows : (t : Slice) → IsRowsOf H t → IsRowsOf (after_answer s.owner H q) (after_changes changes t)
   pub rules : ChangesKeepRules changes s
@@ -33,8 +33,8 @@ pub record IsDisposed (H G : History) (o lot : Bytes) (d : Disposition) : Type 0
   pub sublots : sublot_row G o ≡ sublot_row H o
 
 -- the request asks for the action, which gives this disposition to a lot that is known, and is told of the lot
-pub record Disposes (H : History) (o lot : Bytes) (d : Disposition) (q : Asked) (a : Action) : Type 0 where
-  pub answers : (told : Told) → IsWritten (verdict H (by o a)) (IsLotOr (grow H (by o a)) o (lot_row (grow H (by o a)) o lot) told) told → IsAnswer o H q told
+pub record Disposes (H : History) (o lot : Bytes) (d : Disposition) (q : OwnerRequest) (a : Action) : Type 0 where
+  pub answers : (told : OwnerReply) → IsWritten (verdict H (by o a)) (IsLotOr (grow H (by o a)) o (lot_row (grow H (by o a)) o lot) told) told → IsAnswer o H q told
   pub grows : after_answer o H q ≡ grow H (by o a)
   pub known : verdict H (by o a) ≡ Accepted → is_none (lot_row H o lot) ≡ false
   pub disposed : verdict H (by o a) ≡ Accepted → IsDisposed H (by o a ∷ H) o lot d
@@ -45,13 +45,13 @@ pub record LeadsTo (c : Content) (changes : List Change) (G : History) : Type 0 
   pub fits : Fits c changes
 
 -- over the content of a keep, this is the answer to an owner that is admitted, and the changes lead to the content after it
-pub record IsPlanFor (c : Content) (H : History) (o : Bytes) (q : Asked) (told : Told) (changes : List Change) : Type 0 where
+pub record IsPlanFor (c : Content) (H : History) (o : Bytes) (q : OwnerRequest) (told : OwnerReply) (changes : List Change) : Type 0 where
   pub answer : IsAnswer o H q told
   pub leads : LeadsTo c changes (after_answer o H q)
   pub own : PutsOnly o changes
 
 -- the same for who asks as this owner with this key
-pub record IsPlan (c : Content) (H : History) (o key : Bytes) (q : Asked) (told : Told) (changes : List Change) : Type 0 where
+pub record IsPlan (c : Content) (H : History) (o key : Bytes) (q : OwnerRequest) (told : OwnerReply) (changes : List Change) : Type 0 where
   pub reply : IsReply o key H q told
   pub leads : LeadsTo c changes (after_reply o key H q)
   pub own : PutsOnly o changes
@@ -63,6 +63,6 @@ pub record IsOwnDecision (H : History) (s : Slice) (a : Action) (d : Decision) :
   pub own : PutsOnly s.owner (changes_of d)
 
 -- over the content of a keep, the decision is what the plant is told, and its changes lead to the content after it
-pub record IsPlantDecision (c : Content) (H : History) (q : PlantAsked) (d : Decision) : Type 0 where
+pub record IsPlantDecision (c : Content) (H : History) (q : PlantRequest) (d : Decision) : Type 0 where
   pub answer : IsPlantAnswer H q (Judged (verdict_of d))
   pub leads : LeadsTo c (changes_of d) (after_plant H q)

@@ -1,6 +1,6 @@
 -- Commands of the plant of which the changes are held back.
 use Rattle.std.specs.Prelude.{◌≡◌, ◌++◌, ◌⊎◌, Bool, true, false, Option, List, [], Result, Ok, Err, IfOk, IsOk}
-use Rattle.toll_desk.specs.Common.{Change, History, IsLawful, Verdict, Content, after, Meaning, OverHeld, KeepFault, Memory, CannotRead, Does, IsPlantAnswer, Judged, PlantAsked, PlantTold, after_plant}
+use Rattle.toll_desk.specs.Common.{Change, History, IsLawful, Verdict, Content, after, Meaning, OverHeld, KeepFault, Memory, CannotRead, Does, IsPlantAnswer, Judged, PlantRequest, PlantAnswer, after_plant}
 use Rattle.toll_desk.specs.Standing.{StandsFor}
 use Rattle.toll_keep.specs.PendingChanges.{IsOver, ReadsThrough}
 use Rattle.toll_keep.specs.declared.pending_changes.PendingChanges.{PendingChanges}
@@ -14,13 +14,13 @@ use Rattle.toll_desk.specs.declared.plant_cmd.PlantPlan.{PlantPlan}
 use Rattle.toll_desk.specs.declared.plant_cmd.PlantReply.{PlantReply}
 
 -- it is decided over its owner's rows and HOUSE's, or couldn't be read
-abbrev pub looks_at_two : PlantAsked → Bool
+abbrev pub looks_at_two : PlantRequest → Bool
 looks_at_two (Does command) = is_shared command.action
 looks_at_two (CannotRead why) = true
 looks_at_two _ = false
 
 -- over any content that has these rows of the command's owner and of HOUSE, the plan is the command's
-abbrev pub IsPlannedOn : Option Both → PlantAsked → PlantPlan → Type 0
+abbrev pub IsPlannedOn : Option Both → PlantRequest → PlantPlan → Type 0
 IsPlannedOn both q plan = (c : Content) (H : History) → AreBoth c (concerned q) both → StandsFor c H → IsLawful H → IsPlantPlanned c H q plan
 
 -- ---- what is held back
@@ -32,7 +32,7 @@ IsStagedAs before after plan reply =
     ⊎ ((plant_told reply ≡ Err Memory) × (after.changes.items ≡ before.changes.items))
 
 -- a verdict is told, or that there was no memory
-abbrev pub IsVerdictOrMemory : Result PlantTold KeepFault → Type 0
+abbrev pub IsVerdictOrMemory : Result PlantAnswer KeepFault → Type 0
 IsVerdictOrMemory (Ok told) = (v : Verdict) × (told ≡ Judged v)
 IsVerdictOrMemory (Err fault) = fault ≡ Memory
 
@@ -42,7 +42,7 @@ grants (Ok reply) = is_accepted (plant_told reply)
 grants (Err fault) = false
 
 -- where it is told, it is the answer to what is asked, and the changes lead to the content after it
-abbrev pub IsToldOver : Content → History → PlantAsked → List Change → Result PlantTold KeepFault → Type 0
+abbrev pub IsToldOver : Content → History → PlantRequest → List Change → Result PlantAnswer KeepFault → Type 0
 IsToldOver c H asked changes outcome = IfOk outcome (λ told. IsPlantAnswer H asked told × LeadsTo c changes (after_plant H asked))
 
 -- neither the keep nor the pending changes were asked, and there was no fault
@@ -53,7 +53,7 @@ pub record IsUnasked {K : Type 0} (old new : K) (before now : PendingChanges) (r
   pub answered : IsOk result
 
 -- what is asked was answered over what the keep holds with the pending changes put, and what it changes is pending too
-pub record IsPlantStaged {K : Type 0} (meaning : Meaning K) (old new : K) (before now : PendingChanges) (asked : PlantAsked) (result : Result PlantReply KeepFault) : Type 0 where
+pub record IsPlantStaged {K : Type 0} (meaning : Meaning K) (old new : K) (before now : PendingChanges) (asked : PlantRequest) (result : Result PlantReply KeepFault) : Type 0 where
   pub reading : IsUnasked old new before now result ⊎ ReadsThrough meaning old new before result
   pub made : List Change
   pub held : now.changes.items ≡ before.changes.items ++ made

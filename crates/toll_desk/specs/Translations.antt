@@ -1,6 +1,6 @@
 -- What a request and a command of the plant ask, and what their replies tell.
 use Rattle.std.specs.Prelude.{Bool, true, false, ◌&&◌, Result, Ok, Err}
-use Rattle.toll_desk.specs.Common.{house_name, AddOwner, AddUnit, AddMaterial, AddTest, AddRecipe, Require, PlaceOrder, CancelOrder, OpenBatch, CommandBatch, CloseBatch, RecordResult, Release, Reject, Void, by, moves, Accepted, Repeated, Refused, IsValid, PlantAsked, Does, AsksOrders, AsksStock, AsksBatch, AsksTrace, AsksRecall, CannotRead, PlantTold, Judged, Shows, Asked, AskOrders, AskOrder, AskPlace, AskCancel, AskBatch, AskStock, AskLot, AskRelease, AskReject, AskBack, AskForward, AskHouseForward, Told, TellForbidden, TellOrders, TellOrder, TellBatch, TellStock, TellLot, TellTrace, TellRefused, KeepFault}
+use Rattle.toll_desk.specs.Common.{house_name, AddOwner, AddUnit, AddMaterial, AddTest, AddRecipe, Require, PlaceOrder, CancelOrder, OpenBatch, CommandBatch, CloseBatch, RecordResult, Release, Reject, Void, by, moves, Accepted, Repeated, Refused, IsValid, PlantRequest, Does, AsksOrders, AsksStock, AsksBatch, AsksTrace, AsksRecall, CannotRead, PlantAnswer, Judged, Shows, OwnerRequest, AskOrders, AskOrder, AskPlace, AskCancel, AskBatch, AskStock, AskLot, AskRelease, AskReject, AskBack, AskForward, AskHouseForward, OwnerReply, TellForbidden, TellOrders, TellOrder, TellBatch, TellStock, TellLot, TellTrace, TellRefused, KeepFault}
 use Rattle.toll_base.specs.declared.movement.Move.TheVariants as move
 use Rattle.toll_desk.specs.declared.plant_cmd.PlantCmd.{PlantCmd}
 use Rattle.toll_desk.specs.declared.plant_cmd.PlantCmd.TheVariants as cmd
@@ -12,7 +12,7 @@ use Rattle.toll_desk.specs.declared.request.Request.{Request}
 use Rattle.toll_desk.specs.declared.request.Request.TheVariants as request
 
 -- each request of an owner: what it asks
-abbrev pub asked_of : Request → Asked
+abbrev pub asked_of : Request → OwnerRequest
 asked_of request.Orders = AskOrders
 asked_of (request.Order order) = AskOrder order
 asked_of (request.Place order recipe batches) = AskPlace order recipe batches
@@ -27,7 +27,7 @@ asked_of (request.Forward lot) = AskForward lot
 asked_of (request.HouseForward lot) = AskHouseForward lot
 
 -- what the owner is told, or the fault that there was
-abbrev pub told_of : Reply → Result Told KeepFault
+abbrev pub told_of : Reply → Result OwnerReply KeepFault
 told_of reply.Forbidden = Ok TellForbidden
 told_of (reply.Orders rows) = Ok (TellOrders rows.items)
 told_of (reply.Order row) = Ok (TellOrder row)
@@ -39,24 +39,24 @@ told_of (reply.Refused why) = Ok (TellRefused why)
 told_of (reply.Fault fault) = Err fault
 
 -- a request that writes, and was not refused, may change rows; no other does
-abbrev pub writes : Asked → Bool
+abbrev pub writes : OwnerRequest → Bool
 writes (AskPlace order recipe batches) = true
 writes (AskCancel order) = true
 writes (AskRelease lot) = true
 writes (AskReject lot) = true
 writes _ = false
 
-abbrev pub is_granted : Result Told KeepFault → Bool
+abbrev pub is_granted : Result OwnerReply KeepFault → Bool
 is_granted (Ok TellForbidden) = false
 is_granted (Ok (TellRefused why)) = false
 is_granted (Ok told) = true
 is_granted (Err fault) = false
 
-abbrev pub may_change : Asked → Result Told KeepFault → Bool
+abbrev pub may_change : OwnerRequest → Result OwnerReply KeepFault → Bool
 may_change q outcome = writes q && is_granted outcome
 
 -- each of the plant's commands: what it does, or asks
-abbrev pub asked_by : PlantCmd → PlantAsked
+abbrev pub asked_by : PlantCmd → PlantRequest
 asked_by (cmd.OwnerAdd owner key) = Does (by owner (AddOwner key))
 asked_by (cmd.UnitAdd unit) = Does (by house_name (AddUnit unit))
 asked_by (cmd.MaterialAdd owner material measure) = Does (by owner (AddMaterial (record { material = material; measure = measure })))
@@ -85,17 +85,17 @@ asked_by (cmd.Recall lot) = AsksRecall lot
 asked_by (cmd.Unread why) = CannotRead why
 
 -- the values of what the plant does are within their bounds
-abbrev pub IsValidCommand : PlantAsked → Type 0
+abbrev pub IsValidCommand : PlantRequest → Type 0
 IsValidCommand (Does c) = IsValid c.action
 IsValidCommand _ = Unit {0}
 
 -- a question that may be told of damage though the keep goes on
-abbrev pub asks_recall : PlantAsked → Bool
+abbrev pub asks_recall : PlantRequest → Bool
 asks_recall (AsksRecall lot) = true
 asks_recall _ = false
 
 -- what the plant is told, or the fault that there was
-abbrev pub plant_told : PlantReply → Result PlantTold KeepFault
+abbrev pub plant_told : PlantReply → Result PlantAnswer KeepFault
 plant_told plant.Accepted = Ok (Judged Accepted)
 plant_told plant.Repeated = Ok (Judged Repeated)
 plant_told (plant.Refused why) = Ok (Judged (Refused why))
@@ -103,6 +103,6 @@ plant_told (plant.Text text) = Ok (Shows text.items)
 plant_told (plant.Fault fault) = Err fault
 
 -- a command that was accepted may change rows; no other, and no question, does
-abbrev pub is_accepted : Result PlantTold KeepFault → Bool
+abbrev pub is_accepted : Result PlantAnswer KeepFault → Bool
 is_accepted (Ok (Judged Accepted)) = true
 is_accepted _ = false

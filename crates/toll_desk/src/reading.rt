@@ -3,7 +3,7 @@ ghost use Rattle.std.specs.Prelude.{◌≡◌, true, IfOk, is_ok};
 ghost use Rattle.toll_history.specs.History.{History};
 ghost use Rattle.toll_history.specs.OverRows.{OverRows};
 ghost use Rattle.toll_history.specs.Tables.{IsRowsOf};
-ghost use Rattle.toll_answers.specs.Told.{AskBatch, AskOrders};
+ghost use Rattle.toll_answers.specs.OwnerRequests.{AskBatch, AskOrders};
 ghost use Rattle.toll_keep.specs.Goes.{IsReading};
 ghost use Rattle.toll_desk.specs.Clauses.{IsLotShown, IsOrderShown, IsReadAs, IsToldAs, OverKnown};
 ghost use Rattle.toll_desk.specs.Forms.{asked_to_read};

@@ -1,7 +1,7 @@
 //! Owners' requests that are decided.
 ghost use Rattle.std.specs.Prelude.{◌≡◌, true, false, [], IfOk, is_ok};
 ghost use Rattle.toll_history.specs.OverRows.{OverOwnRows};
-ghost use Rattle.toll_answers.specs.Told.{AskCancel, AskPlace};
+ghost use Rattle.toll_answers.specs.OwnerRequests.{AskCancel, AskPlace};
 ghost use Rattle.toll_keep.specs.Goes.{IsReading};
 ghost use Rattle.toll_desk.specs.Clauses.{ChangesIfAsked, IsDisposedOver, IsPlannedFor, IsPlannedOver, OverHeldRows, OverKnown, OverSlice};
 ghost use Rattle.toll_desk.specs.Forms.{asked_to_write};

@@ -12,7 +12,7 @@ use crate::everyone::edges_among;
 use crate::fault::KeepFault;
 use crate::holder::{Holder, holder_among};
 use crate::keep::Keep;
-use crate::slices::{place_of, put_for, shared_each, shared_of};
+use crate::slices::{index_of_slice, put_for, shared_each, shared_of};
 use std::alloc::{AllocError, Global};
 use std::marker::Model;
 use toll_base::{Change, Edge, LotId, Name, OwnerRow, Row, Slice, Table, UnitRow};
@@ -78,7 +78,7 @@ impl MemKeep {
     fn owners_edges(&self, alloc: Global, owner: &Name) -> Result<Vec<Edge>, AllocError>
         ensures { IfOk result (λ edges. AreEdges (IsEdge (rows_in self.now.slices owner.now)) edges.items) }
     {
-        match place_of(&self.slices, owner) {
+        match index_of_slice(&self.slices, owner) {
             Some(at) => edges_of(alloc, &self.slices[at]),
             None => edges_of(alloc, &Slice::new(alloc, *owner)),
         }
@@ -110,7 +110,7 @@ impl MemKeep {
     ) -> Result<Recorded, AllocError>
         ensures { IfOk result (λ all. (e : Edge) → Draws all e ↔ (Draws recorded e ⊎ IsEdge (rows_in self.now.slices owner.now) e)) }
     {
-        match place_of(&self.slices, owner) {
+        match index_of_slice(&self.slices, owner) {
             Some(at) => recorded.with(alloc, &self.slices[at]),
             None => recorded.with(alloc, &Slice::new(alloc, *owner)),
         }

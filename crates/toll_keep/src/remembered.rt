@@ -11,7 +11,7 @@ use std::alloc::{AllocError, Global};
 use toll_base::{Change, Edge, Name, Row, Slice};
 
 // Where the owner's slice is.
-fn place_of(slices: &[CachedSlice], owner: &Name) -> Option<usize>
+fn index_of_cached(slices: &[CachedSlice], owner: &Name) -> Option<usize>
     ensures { result ≡ position (is_of owner.now) slices.now }
 {
     slices.iter().position(|slice| *slice.owner() == *owner)
@@ -23,7 +23,7 @@ pub fn remembered<'a>(slices: &'a [CachedSlice], owner: &Name) -> Option<&'a Cac
     ensures own { IfSome result (λ slice. (c : Content) → AreOf c slices.now → slice_of c owner.now ≡ Some slice.now) }
     ensures some { IfSome result (λ _. slices.now ≢ []) }
 {
-    Some(&slices[place_of(slices, owner)?])
+    Some(&slices[index_of_cached(slices, owner)?])
 }
 
 /// The edges of the owner's slice, where that is remembered.
@@ -36,7 +36,7 @@ pub fn remembered_edges(
     ensures own { IfSome result (λ told. IfOk told (λ edges. (c : Content) → AreOf c slices.old.items → AreEdges (IsEdge (c.rows owner.now)) edges.items)) }
     ensures some { IfSome result (λ _. slices.old.items ≢ []) }
 {
-    let at = place_of(slices, owner)?;
+    let at = index_of_cached(slices, owner)?;
     Some(slices[at].edges(alloc))
 }
 

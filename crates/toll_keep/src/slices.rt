@@ -7,7 +7,7 @@ use std::alloc::{AllocError, Global};
 use toll_base::{Name, Row, Slice};
 
 /// Where the owner's slice is.
-pub fn place_of(slices: &[Slice], owner: &Name) -> Option<usize>
+pub fn index_of_slice(slices: &[Slice], owner: &Name) -> Option<usize>
     ensures { result ≡ position (is_of owner.now) slices.now }
 {
     slices.iter().position(|slice| *slice.owner() == *owner)
@@ -27,7 +27,7 @@ pub fn shared_of(alloc: Global, slices: &mut [Slice], owner: &Name) -> Result<Sl
     ensures copied { IfOk result (λ slice. slice ≡ rows_in slices.old owner.now) }
     ensures same { slices.new ≡ slices.old }
 {
-    match place_of(slices, owner) {
+    match index_of_slice(slices, owner) {
         Some(at) => shared(alloc, &mut slices[at]),
         None => Ok(Slice::new(alloc, *owner)),
     }
@@ -56,7 +56,7 @@ pub fn put_for(
     ensures put { OnOk result (slices.new.items ≡ put_slice slices.old.items (with_row (rows_in slices.old.items owner.now) row.now)) }
     ensures none { OnErr result (slices.new.items ≡ slices.old.items) }
 {
-    match place_of(slices, owner) {
+    match index_of_slice(slices, owner) {
         Some(at) => put_fitting(&mut slices[at], row),
         None => {
             let mut slice = Slice::new(alloc, *owner);

@@ -38,5 +38,5 @@ pub use Rattle.toll_keep.proofs.Calls.{Rests, goes_as, goes_fault, goes_memory, 
 pub use Rattle.toll_keep.specs.PendingChanges.{IsOver, IsReadThrough, ReadsThrough}
 pub use Rattle.toll_keep.specs.Reads.{IsKept}
 pub use Rattle.toll_keep.specs.declared.fault.KeepFault.TheVariants.{Closed, Disk}
-pub use Rattle.toll_plant.specs.Common.{Accepted, AllByRecursion, BadAmount, BadName, Bytes, Content, Damaged, Does, Goes, History, IsLawful, IsPlantAnswer, IsReading, IsValidCommand, Judged, KeepFault, Meaning, Memory, PlantAsked, PlantCmd, PlantTold, Refusal, Refused, Repeated, Settles, StandsFor, Verdict, acts, after, after_plant, asked_by, bytes_eq, is_some_where, list_all, list_any, same_bytes, where_so}
+pub use Rattle.toll_plant.specs.Common.{Accepted, AllByRecursion, BadAmount, BadName, Bytes, Content, Damaged, Does, Goes, History, IsLawful, IsPlantAnswer, IsReading, IsValidCommand, Judged, KeepFault, Meaning, Memory, PlantRequest, PlantCmd, PlantAnswer, Refusal, Refused, Repeated, Settles, StandsFor, Verdict, acts, after, after_plant, asked_by, bytes_eq, is_some_where, list_all, list_any, same_bytes, where_so}
 pub use mathlib.Core.Bool.{false≢true}

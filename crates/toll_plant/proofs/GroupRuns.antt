@@ -2,7 +2,7 @@
 use Rattle.std.proofs.Common.{◌≡◌, ◌<◌, ◌≤◌, ℕ, suc, Bool, true, false, ◌||◌, cond, Option, Some, None, List, [], ◌∷◌, ◌++◌, length, Result, Ok, Err, refl, sym, subst, ap, ◌∙◌, append_assoc, arith}
 use Rattle.std.specs.Prelude.{take}
 use mathlib.Core.Bool.{or-false}
-use Rattle.toll_plant.proofs.Common.{MatchBool, list_any, append-nil, list_any-append, Change, History, Verdict, Accepted, Repeated, Refused, IsLawful, grown, verdict, Content, after, KeepFault, StandsFor, CannotRead, Does, AsksOrders, AsksStock, AsksBatch, AsksTrace, AsksRecall, IsPlantAnswer, Judged, PlantAsked, after_plant, asked_by, LeadsTo, PlantCmd}
+use Rattle.toll_plant.proofs.Common.{MatchBool, list_any, append-nil, list_any-append, Change, History, Verdict, Accepted, Repeated, Refused, IsLawful, grown, verdict, Content, after, KeepFault, StandsFor, CannotRead, Does, AsksOrders, AsksStock, AsksBatch, AsksTrace, AsksRecall, IsPlantAnswer, Judged, PlantRequest, after_plant, asked_by, LeadsTo, PlantCmd}
 use Rattle.toll_desk.proofs.Unknown.{neither}
 use Rattle.toll_keep.proofs.PendingLemmas.{after_behind, fits_behind}
 use Rattle.toll_plant.specs.HeldRecords.{IsHeldFor, IsRecordOver}
@@ -95,7 +95,7 @@ accepted_calm calm end some = right_false (list_any is_accepted calm) (list_any 
 pub comes_fault : (H : History) (command : PlantCmd) (fault : KeepFault) → Comes H (Some command) (came.Fault fault) H
 comes_fault H command fault = refl
 
-quiet_verdict : (H : History) (asked : PlantAsked) (v : Verdict) → is_accepted (judged v) ≡ false → IsPlantAnswer H asked (Judged v) → after_plant H asked ≡ H
+quiet_verdict : (H : History) (asked : PlantRequest) (v : Verdict) → is_accepted (judged v) ≡ false → IsPlantAnswer H asked (Judged v) → after_plant H asked ≡ H
 quiet_verdict H (Does c) v none answer =
     let same : v ≡ verdict H c = cc answer in
     ap (λ w. grown w H c) (sym same) ∙ go v none

@@ -2,7 +2,7 @@
 use Rattle.std.proofs.Common.{◌≡◌, ◌+◌, ◌<◌, ℕ, zero, suc, true, false, Option, Some, None, List, [], ◌∷◌, ◌++◌, length, get_or, drop, Result, Ok, Err, refl, sym, subst, ap, ◌∙◌, inl, inr, append_assoc, arith}
 use Rattle.std.specs.Prelude.{◌⊎◌, take, IsOk, IsSome}
 use mathlib.Core.Bool.{or-false}
-use Rattle.toll_plant.proofs.Common.{AllByRecursion, list_any, append-nil, take_more, list_any-append, false≢true, Verdict, Accepted, Repeated, Refused, History, IsLawful, Content, after, IsReading, Meaning, IsOver, IsReadThrough, ReadsThrough, IsKept, KeepFault, Memory, read_fault, StandsFor, CannotRead, Does, AsksOrders, AsksStock, AsksBatch, AsksTrace, AsksRecall, IsPlantAnswer, Judged, PlantAsked, PlantTold, after_plant, IsPlantStaged, IsToldOver, IsUnasked, IsVerdictOrMemory, IsValidCommand, asked_by, is_accepted as is_granted, plant_told, LeadsTo, Change, PlantCmd}
+use Rattle.toll_plant.proofs.Common.{AllByRecursion, list_any, append-nil, take_more, list_any-append, false≢true, Verdict, Accepted, Repeated, Refused, History, IsLawful, Content, after, IsReading, Meaning, IsOver, IsReadThrough, ReadsThrough, IsKept, KeepFault, Memory, read_fault, StandsFor, CannotRead, Does, AsksOrders, AsksStock, AsksBatch, AsksTrace, AsksRecall, IsPlantAnswer, Judged, PlantRequest, PlantAnswer, after_plant, IsPlantStaged, IsToldOver, IsUnasked, IsVerdictOrMemory, IsValidCommand, asked_by, is_accepted as is_granted, plant_told, LeadsTo, Change, PlantCmd}
 use Rattle.toll_keep.specs.declared.pending_changes.PendingChanges.{PendingChanges}
 use Rattle.toll_answers.proofs.OwnReplies.{lawful-grow}
 use Rattle.toll_desk.specs.declared.plant_cmd.PlantReply.{PlantReply}
@@ -42,7 +42,7 @@ front_there told i o lt is some so_far =
 -- ---- one record
 
 -- a verdict, or want of memory, as an outcome
-outcome_quiet : (outcome : Result PlantTold KeepFault) → IsVerdictOrMemory outcome → is_accepted (outcome_of outcome) ≡ false → is_granted outcome ≡ false
+outcome_quiet : (outcome : Result PlantAnswer KeepFault) → IsVerdictOrMemory outcome → is_accepted (outcome_of outcome) ≡ false → is_granted outcome ≡ false
 outcome_quiet (Err fault) judges none = refl
 outcome_quiet (Ok told) judges none = subst (λ t. is_accepted (outcome_of (Ok t)) ≡ false → is_granted (Ok t) ≡ false) (sym judges.1) (go judges.0) none
   where
@@ -56,11 +56,11 @@ calm_verdict Accepted fault is = cc is
 calm_verdict Repeated fault is = cc is
 calm_verdict (Refused why) fault is = cc is
 
-outcome_open : (outcome : Result PlantTold KeepFault) → IsVerdictOrMemory outcome → IsOpenOutcome (outcome_of outcome)
+outcome_open : (outcome : Result PlantAnswer KeepFault) → IsVerdictOrMemory outcome → IsOpenOutcome (outcome_of outcome)
 outcome_open (Err fault) memory other is = let same : fault ≡ other = cc is in sym same ∙ memory
 outcome_open (Ok told) judges other is = absurd (calm_verdict judges.0 other (ap (λ t. outcome_of (Ok t)) (sym judges.1) ∙ is))
 
-calm_outcome : (outcome : Result PlantTold KeepFault) → IsVerdictOrMemory outcome → IsOk outcome → is_fault (outcome_of outcome) ≡ false
+calm_outcome : (outcome : Result PlantAnswer KeepFault) → IsVerdictOrMemory outcome → IsOk outcome → is_fault (outcome_of outcome) ≡ false
 calm_outcome (Err fault) judges ok = absurd (cc ok)
 calm_outcome (Ok told) judges ok = ap (λ t. is_fault (outcome_of (Ok t))) judges.1 ∙ go judges.0
   where
@@ -70,7 +70,7 @@ calm_outcome (Ok told) judges ok = ap (λ t. is_fault (outcome_of (Ok t))) judge
     go (Refused why) = refl
 
 -- a lawful history is lawful after it
-lawful_plant : (H : History) (asked : PlantAsked) → IsLawful H → IsValidCommand asked → IsLawful (after_plant H asked)
+lawful_plant : (H : History) (asked : PlantRequest) → IsLawful H → IsValidCommand asked → IsLawful (after_plant H asked)
 lawful_plant H (Does c) lawful valid = lawful-grow H c lawful valid
 lawful_plant H (CannotRead why) lawful valid = lawful
 lawful_plant H (AsksOrders o) lawful valid = lawful
@@ -79,7 +79,7 @@ lawful_plant H (AsksBatch o order number) lawful valid = lawful
 lawful_plant H (AsksTrace lot way) lawful valid = lawful
 lawful_plant H (AsksRecall lot) lawful valid = lawful
 
-record_over : (c : Content) (H : History) (command : PlantCmd) (outcome : Result PlantTold KeepFault) (made : List Change) → StandsFor c H → IsLawful H → IsValidCommand (asked_by command) → IsVerdictOrMemory outcome → (is_granted outcome ≡ false → made ≡ [])
+record_over : (c : Content) (H : History) (command : PlantCmd) (outcome : Result PlantAnswer KeepFault) (made : List Change) → StandsFor c H → IsLawful H → IsValidCommand (asked_by command) → IsVerdictOrMemory outcome → (is_granted outcome ≡ false → made ≡ [])
     → IsToldOver c H (asked_by command) made outcome → IsRecordOver c H (Some command) (outcome_of outcome) made
 record_over c H command (Err fault) made stands lawful valid judges quiet told = record {
   next = H;

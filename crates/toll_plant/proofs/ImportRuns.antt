@@ -1,14 +1,14 @@
 -- Records of a file of actuals, one after another, are a run.
 use Rattle.std.proofs.Common.{◌≡◌, Option, Some, None, refl}
 use Rattle.std.specs.Prelude.{◌⊎◌}
-use Rattle.toll_plant.proofs.Common.{Bytes, MoveRow, Refusal, Record, by, History, Verdict, Accepted, Repeated, Refused, PlantAsked, Does, CannotRead, Judged, IsPlantAnswer, after_plant, asked_by, PlantCmd}
+use Rattle.toll_plant.proofs.Common.{Bytes, MoveRow, Refusal, Record, by, History, Verdict, Accepted, Repeated, Refused, PlantRequest, Does, CannotRead, Judged, IsPlantAnswer, after_plant, asked_by, PlantCmd}
 use Rattle.toll_plant.specs.Outcomes.{judged}
 use Rattle.toll_plant.specs.Imports.{Comes}
 
 -- ---- what actuals ask
 
 -- a movement that is recorded, or what can't be read
-abbrev pub IsDeed : PlantAsked → Type 0
+abbrev pub IsDeed : PlantRequest → Type 0
 IsDeed asked = ((o : Bytes) × (row : MoveRow) × (asked ≡ Does (by o (Record row)))) ⊎ ((why : Refusal) × (asked ≡ CannotRead why))
 
 abbrev pub IsDeedOrNone : Option PlantCmd → Type 0

@@ -1,6 +1,6 @@
 -- A key acts once.
 use Rattle.std.proofs.Common.{◌≡◌, ◌+◌, ◌≤◌, ℕ, Bool, true, false, ◌&&◌, cond, Option, Some, None, is_some, List, [], ◌∷◌, ◌++◌, refl, sym, ap, subst, ◌∙◌, arith}
-use Rattle.toll_plant.proofs.Common.{MatchBool, Bytes, same_bytes, Command, History, acts, movement_of, Verdict, Accepted, Repeated, Refused, IsLawful, grown, verdict, count_acts, found_once, PlantAsked, Does, AsksOrders, AsksStock, AsksBatch, AsksTrace, AsksRecall, CannotRead, Judged, IsPlantAnswer, after_plant, asked_by, PlantCmd}
+use Rattle.toll_plant.proofs.Common.{MatchBool, Bytes, same_bytes, Command, History, acts, movement_of, Verdict, Accepted, Repeated, Refused, IsLawful, grown, verdict, count_acts, found_once, PlantRequest, Does, AsksOrders, AsksStock, AsksBatch, AsksTrace, AsksRecall, CannotRead, Judged, IsPlantAnswer, after_plant, asked_by, PlantCmd}
 use Rattle.toll_history.specs.Laws.{has_this_key}
 use Rattle.toll_plant.specs.Outcomes.{is_fault}
 use Rattle.toll_plant.specs.Imports.{Comes, IsImport, commands_in}
@@ -28,7 +28,7 @@ module _ (o key : Bytes) where
   kept_grown Repeated H c = omega arith
   kept_grown (Refused why) H c = omega arith
 
-  kept_after : (asked : PlantAsked) (H : History) → keyed H ≤ keyed (after_plant H asked)
+  kept_after : (asked : PlantRequest) (H : History) → keyed H ≤ keyed (after_plant H asked)
   kept_after (Does c) H = kept_grown (verdict H c) H c
   kept_after (AsksOrders owner) H = omega arith
   kept_after (AsksStock owner) H = omega arith
@@ -40,7 +40,7 @@ module _ (o key : Bytes) where
   -- ---- one record
 
   -- an accepted record is one more
-  accepted_adds : (asked : PlantAsked) (H : History) (v : Verdict) → IsPlantAnswer H asked (Judged v) → v ≡ Accepted → cond (records_keyed o key asked) 1 0 + keyed H ≤ keyed (after_plant H asked)
+  accepted_adds : (asked : PlantRequest) (H : History) (v : Verdict) → IsPlantAnswer H asked (Judged v) → v ≡ Accepted → cond (records_keyed o key asked) 1 0 + keyed H ≤ keyed (after_plant H asked)
   accepted_adds (Does c) H v answer accepted =
       let told : v ≡ verdict H c = cc answer in
       let so : verdict H c ≡ Accepted = sym told ∙ accepted in

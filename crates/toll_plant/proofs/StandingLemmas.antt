@@ -1,7 +1,7 @@
 -- What stands is repeated, and what was accepted or repeated stands.
 use Rattle.std.proofs.Common.{◌≡◌, ℕ, Bool, true, false, ◌&&◌, ◌||◌, not, cond, Option, Some, None, is_some, List, [], ◌∷◌, refl, sym, ap, subst, ◌∙◌, inl, inr, arith}
 use Rattle.std.specs.Prelude.{◌==◌, option_map}
-use Rattle.toll_plant.proofs.Common.{nat_tests, MatchBool, AllByRecursion, list_any, not-false, false≢true, Bytes, same_bytes, house_name, is_some_where, MoveRow, Refusal, UnknownOwner, KeyConflict, Voided, Record, Command, by, History, acts, adds_owner, owner_known, has_key, movement_of, movements, voided_in, voids_key, any_acts, void_of_actual, PlantAsked, Does, Judged, IsPlantAnswer, after_plant, asked_by, PlantCmd}
+use Rattle.toll_plant.proofs.Common.{nat_tests, MatchBool, AllByRecursion, list_any, not-false, false≢true, Bytes, same_bytes, house_name, is_some_where, MoveRow, Refusal, UnknownOwner, KeyConflict, Voided, Record, Command, by, History, acts, adds_owner, owner_known, has_key, movement_of, movements, voided_in, voids_key, any_acts, void_of_actual, PlantRequest, Does, Judged, IsPlantAnswer, after_plant, asked_by, PlantCmd}
 use Rattle.toll_base.specs.Moves.{same_movement, same_what}
 use Rattle.toll_base.specs.declared.movement.Move.{Move}
 use Rattle.toll_base.specs.declared.movement.Move.TheVariants.{Receive, Split, Ship, Scrap, Actual}
@@ -75,7 +75,7 @@ standing_repeats H lawful command s =
     ((is_some (movement_of (acts s.owner H) s.row.key), Some KeyConflict) ∷ movement_checks s.owner (tables_given H s.owner) (tables_given H house_name) s.row.what s.row.amount)
     (known_found H lawful s.owner s.row.key (same_movement s.row) s.equal) s.equal s.unvoided
 
-repeated_alone : (H : History) (c : Command) (asked : PlantAsked) (v : Verdict) → asked ≡ Does c → verdict H c ≡ Repeated → IsPlantAnswer H asked (Judged v) → (v ≡ Repeated) × (after_plant H asked ≡ H)
+repeated_alone : (H : History) (c : Command) (asked : PlantRequest) (v : Verdict) → asked ≡ Does c → verdict H c ≡ Repeated → IsPlantAnswer H asked (Judged v) → (v ≡ Repeated) × (after_plant H asked ≡ H)
 repeated_alone H c asked v is repeats answer =
     let told : Judged v ≡ Judged (verdict H c) = subst (λ a. IsPlantAnswer H a (Judged v)) is answer in
     let so : v ≡ verdict H c = cc told in
@@ -198,7 +198,7 @@ still_stands H w other accepted command s = record {
 abbrev Leaves : History → History → Option PlantCmd → Type 0
 Leaves old new command = IsStanding new command × ((c : Option PlantCmd) → IsStanding old c → IsStanding new c)
 
-verdict_alone : (H : History) (asked : PlantAsked) (v w : Verdict) → IsDeed asked → IsPlantAnswer H asked (Judged v) → v ≡ w → ((why : Refusal) → w ≡ Refused why → ⊥)
+verdict_alone : (H : History) (asked : PlantRequest) (v w : Verdict) → IsDeed asked → IsPlantAnswer H asked (Judged v) → v ≡ w → ((why : Refusal) → w ≡ Refused why → ⊥)
     → (o : Bytes) × (row : MoveRow) × (asked ≡ Does (by o (Record row))) × (verdict H (by o (Record row)) ≡ w)
 verdict_alone H asked v w (inl does) answer is never =
     let told : Judged v ≡ Judged (verdict H (by does.0 (Record does.1))) = subst (λ a. IsPlantAnswer H a (Judged v)) does.2 answer in
@@ -250,7 +250,7 @@ before_grown Accepted H c lawful = lawful.0
 before_grown Repeated H c lawful = lawful
 before_grown (Refused why) H c lawful = lawful
 
-before_plant : (asked : PlantAsked) → IsDeed asked → (H : History) → IsLawful (after_plant H asked) → IsLawful H
+before_plant : (asked : PlantRequest) → IsDeed asked → (H : History) → IsLawful (after_plant H asked) → IsLawful H
 before_plant asked (inl does) H lawful = before_grown (verdict H (by does.0 (Record does.1))) H (by does.0 (Record does.1)) (subst (λ a. IsLawful (after_plant H a)) does.2 lawful)
 before_plant asked (inr unread) H lawful = subst (λ a. IsLawful (after_plant H a)) unread.1 lawful
 

@@ -1,7 +1,7 @@
 -- Words of other crates that several definitions here are said in.
 pub use Rattle.std.specs.List.{AllByRecursion, list_all, list_any}
 pub use Rattle.std.specs.Str.{bytes_eq}
-pub use Rattle.toll_answers.specs.PlantAnswers.{Does, IsPlantAnswer, Judged, PlantAsked, PlantTold, Shows, after_plant}
+pub use Rattle.toll_answers.specs.PlantAnswers.{Does, IsPlantAnswer, Judged, PlantRequest, PlantAnswer, Shows, after_plant}
 pub use Rattle.toll_base.specs.Bytes.{Bytes, same_bytes}
 pub use Rattle.toll_base.specs.Words.{count, is_some_where, total, where_so}
 pub use Rattle.toll_base.specs.declared.refusal.Refusal.{Refusal}

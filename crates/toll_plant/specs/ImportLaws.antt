@@ -1,6 +1,6 @@
 -- What imports do with keys.
 use Rattle.std.specs.Prelude.{◌≡◌, ◌⊎◌, ◌+◌, ◌≤◌, ℕ, Bool, true, false, ◌&&◌, if◌then◌else◌, Option, Some, None, List, [], ◌∷◌, ◌++◌, option_map}
-use Rattle.toll_plant.specs.Common.{AllByRecursion, Bytes, same_bytes, count, is_some_where, total, History, acts, PlantAsked, Does, asked_by, PlantCmd}
+use Rattle.toll_plant.specs.Common.{AllByRecursion, Bytes, same_bytes, count, is_some_where, total, History, acts, PlantRequest, Does, asked_by, PlantCmd}
 use Rattle.toll_base.specs.Moves.{same_movement}
 use Rattle.toll_base.specs.declared.movement.MoveRow.{MoveRow}
 use Rattle.toll_history.specs.Command.{Record, by}
@@ -29,7 +29,7 @@ AreImports old (i ∷ imports) new =
 -- ---- one key
 
 -- what is asked records a movement of this owner with this key
-abbrev pub records_keyed : (o key : Bytes) → PlantAsked → Bool
+abbrev pub records_keyed : (o key : Bytes) → PlantRequest → Bool
 records_keyed o key (Does c) = same_bytes c.owner o && has_this_key key c.action
 records_keyed o key _ = false
 

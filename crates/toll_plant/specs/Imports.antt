@@ -178,7 +178,7 @@ OfRecords file P report = (records : List Fields) × HasActuals file records × 
 
 -- the records of the file are steps one after another over the keep
 abbrev pub AreStepsOf : {K : Type 0} → Meaning K → K → K → Content → History → Bytes → ImportReport → Type 0
-AreStepsOf meaning old new c H file = OfRecords file (λ asked told. AreRecordSteps meaning old c H asked told new)
+AreStepsOf meaning old new c H file = OfRecords file (λ commands outcomes. AreRecordSteps meaning old c H commands outcomes new)
 
 -- each line of the report tells such an outcome
 abbrev pub AllTell : (Outcome → Type 0) → ImportReport → Type 0

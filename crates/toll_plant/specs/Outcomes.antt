@@ -1,6 +1,6 @@
 -- What comes of a record of a file of actuals.
 use Rattle.std.specs.Prelude.{Bool, true, false, Result, Ok, Err}
-use Rattle.toll_plant.specs.Common.{Verdict, Accepted, Repeated, Refused, KeepFault, Damaged, PlantTold, Judged, Shows}
+use Rattle.toll_plant.specs.Common.{Verdict, Accepted, Repeated, Refused, KeepFault, Damaged, PlantAnswer, Judged, Shows}
 use Rattle.toll_plant.specs.declared.outcome.Outcome.{Outcome}
 use Rattle.toll_plant.specs.declared.outcome.Outcome.TheVariants as came
 
@@ -11,7 +11,7 @@ judged Repeated = came.Repeated
 judged (Refused why) = came.Refused why
 
 -- of one that the plant is told this of, or that met a fault
-abbrev pub outcome_of : Result PlantTold KeepFault → Outcome
+abbrev pub outcome_of : Result PlantAnswer KeepFault → Outcome
 outcome_of (Ok (Judged verdict)) = judged verdict
 outcome_of (Ok (Shows text)) = came.Fault Damaged
 outcome_of (Err fault) = came.Fault fault

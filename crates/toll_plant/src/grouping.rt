@@ -15,7 +15,7 @@ use toll_keep::{Keep, KeepFault, PendingChanges};
 /// so many, and what is held back until then takes little memory.
 pub const GROUP_RECORDS: usize = 500;
 
-/// Does a group of records of a file of actuals, one after another, and writes what came of them to `told`,
+/// Does a group of records of a file of actuals, one after another, and writes what came of them to `outcomes`,
 /// which is emptied first. What they change is held back, and made in the keep at the end by one call: all of
 /// it, or none.
 ///
@@ -30,18 +30,18 @@ pub fn import_group<K: Keep>(
     alloc: Global,
     keep: &mut K,
     commands: &[Option<PlantCmd>],
-    told: &mut Vec<Outcome>,
+    outcomes: &mut Vec<Outcome>,
 ) -> Result<(), KeepFault>
     requires can { AllByRecursion CanBeHeld commands.now }
-    requires room { length commands.now ≤ vec_capacity told.old }
-    ensures served { IsGroupServed K.meaning keep.old keep.new commands.now told.new.items result }
-    ensures within { vec_len told.new ≤ length commands.now }
-    ensures capacity { vec_capacity told.new ≡ vec_capacity told.old }
+    requires room { length commands.now ≤ vec_capacity outcomes.old }
+    ensures served { IsGroupServed K.meaning keep.old keep.new commands.now outcomes.new.items result }
+    ensures within { vec_len outcomes.new ≤ length commands.now }
+    ensures capacity { vec_capacity outcomes.new ≡ vec_capacity outcomes.old }
 {
-    told.clear();
-    match hold_all(alloc, keep, commands, told) {
-        Ok(held) => make(alloc, keep, held, told),
-        Err(fault) => refuse(told, fault),
+    outcomes.clear();
+    match hold_all(alloc, keep, commands, outcomes) {
+        Ok(held) => make(alloc, keep, held, outcomes),
+        Err(fault) => refuse(outcomes, fault),
     }
 }
 
@@ -65,15 +65,15 @@ fn hold_all<K: Keep>(
     alloc: Global,
     keep: &mut K,
     commands: &[Option<PlantCmd>],
-    told: &mut Vec<Outcome>,
+    outcomes: &mut Vec<Outcome>,
 ) -> Result<Held, KeepFault>
     requires can { AllByRecursion CanBeHeld commands.now }
-    requires none { told.old.items ≡ [] }
-    requires room { length commands.now ≤ vec_capacity told.old }
-    ensures held { AreHeld K.meaning keep.old keep.new commands.now told.new.items result }
-    ensures within { vec_len told.new ≤ length commands.now }
-    ensures short { OnErr result (vec_len told.new < length commands.now) }
-    ensures capacity { vec_capacity told.new ≡ vec_capacity told.old }
+    requires none { outcomes.old.items ≡ [] }
+    requires room { length commands.now ≤ vec_capacity outcomes.old }
+    ensures held { AreHeld K.meaning keep.old keep.new commands.now outcomes.new.items result }
+    ensures within { vec_len outcomes.new ≤ length commands.now }
+    ensures short { OnErr result (vec_len outcomes.new < length commands.now) }
+    ensures capacity { vec_capacity outcomes.new ≡ vec_capacity outcomes.old }
 {
     // Named for the proof: a change may have a row.
     let _row: Option<Row> = None;
@@ -83,7 +83,7 @@ fn hold_all<K: Keep>(
             Ok(outcome) => outcome,
             Err(fault) => return Err(fault),
         };
-        told.push_reserved(outcome);
+        outcomes.push_reserved(outcome);
         if outcome.is_fault() {
             return Ok(Held {
                 changes: pending.into_changes(),
@@ -121,40 +121,40 @@ fn make<K: Keep>(
     alloc: Global,
     keep: &mut K,
     held: Held,
-    told: &mut Vec<Outcome>,
+    outcomes: &mut Vec<Outcome>,
 ) -> Result<(), KeepFault>
-    requires { list_any is_accepted told.old.items ≡ false → held.changes.items ≡ [] }
-    ensures made { IsMade K.meaning keep.old keep.new held told.old.items told.new.items result }
-    ensures within { vec_len told.new ≤ vec_len told.old }
-    ensures capacity { vec_capacity told.new ≡ vec_capacity told.old }
+    requires { list_any is_accepted outcomes.old.items ≡ false → held.changes.items ≡ [] }
+    ensures made { IsMade K.meaning keep.old keep.new held outcomes.old.items outcomes.new.items result }
+    ensures within { vec_len outcomes.new ≤ vec_len outcomes.old }
+    ensures capacity { vec_capacity outcomes.new ≡ vec_capacity outcomes.old }
 {
     match commit(alloc, keep, &held.changes) {
         Ok(()) => held.end,
-        Err(fault) => refuse(told, fault),
+        Err(fault) => refuse(outcomes, fault),
     }
 }
 
 // Tells that nothing of the group was made, for this fault.
-fn refuse(told: &mut Vec<Outcome>, fault: KeepFault) -> Result<(), KeepFault>
-    requires { length (before_accepted told.old.items) < vec_capacity told.old }
-    ensures told { told.new.items ≡ refused_at fault told.old.items }
+fn refuse(outcomes: &mut Vec<Outcome>, fault: KeepFault) -> Result<(), KeepFault>
+    requires { length (before_accepted outcomes.old.items) < vec_capacity outcomes.old }
+    ensures told { outcomes.new.items ≡ refused_at fault outcomes.old.items }
     ensures fault { result ≡ Err fault }
-    ensures len { vec_len told.new ≡ length (before_accepted told.old.items) + 1 }
-    ensures capacity { vec_capacity told.new ≡ vec_capacity told.old }
+    ensures len { vec_len outcomes.new ≡ length (before_accepted outcomes.old.items) + 1 }
+    ensures capacity { vec_capacity outcomes.new ≡ vec_capacity outcomes.old }
 {
-    let unchanging = count_unchanging(told);
-    told.truncate(unchanging);
-    told.push_reserved(Outcome::Fault(fault));
+    let unchanging = count_unchanging(outcomes);
+    outcomes.truncate(unchanging);
+    outcomes.push_reserved(Outcome::Fault(fault));
     Err(fault)
 }
 
 // How many of these come before the first record that was accepted.
-fn count_unchanging(told: &[Outcome]) -> usize
-    ensures front { take result told.now ≡ before_accepted told.now }
-    ensures count { result ≡ length (before_accepted told.now) }
+fn count_unchanging(outcomes: &[Outcome]) -> usize
+    ensures front { take result outcomes.now ≡ before_accepted outcomes.now }
+    ensures count { result ≡ length (before_accepted outcomes.now) }
 {
     let mut count = 0;
-    for outcome in told {
+    for outcome in outcomes {
         if outcome.is_accepted() {
             return count;
         }

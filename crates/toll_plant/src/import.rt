@@ -23,7 +23,7 @@ pub struct Import {
     next: usize,
     lines: Vec<ImportLine>,
     // Room for what comes of a group.
-    told: Vec<Outcome>,
+    outcomes: Vec<Outcome>,
 }
 
 /// The commands of the records that are left, and the lines of those that were come to.
@@ -35,7 +35,7 @@ impl Model for Import {
 
     ghost view = { λ i. record { left = drop i.next i.commands.items; lines = i.lines.items } };
 
-    ghost invariant = { λ i. IsUnderWay i.commands.items i.next i.lines i.told };
+    ghost invariant = { λ i. IsUnderWay i.commands.items i.next i.lines i.outcomes };
 }
 
 impl Import {
@@ -53,12 +53,12 @@ impl Import {
         }
         let commands = actuals(alloc, file)?;
         let lines = Vec::with_capacity(alloc, commands.len())?;
-        let told = Vec::with_capacity(alloc, GROUP_RECORDS)?;
+        let outcomes = Vec::with_capacity(alloc, GROUP_RECORDS)?;
         Ok(Import {
             commands,
             next: 0,
             lines,
-            told,
+            outcomes,
         })
     }
 
@@ -79,9 +79,9 @@ impl Import {
             return;
         }
         let (group, _) = left.split_at(left.len().min(GROUP_RECORDS));
-        let end = import_group(alloc, keep, group, &mut self.told);
+        let end = import_group(alloc, keep, group, &mut self.outcomes);
         let behind = self.next + group.len();
-        push_lines(&mut self.lines, &self.told);
+        push_lines(&mut self.lines, &self.outcomes);
         match end {
             Ok(()) => self.next = behind,
             Err(_) => self.next = self.commands.len(),
@@ -98,14 +98,14 @@ impl Import {
 }
 
 // Adds a line for each of these outcomes.
-fn push_lines(lines: &mut Vec<ImportLine>, told: &[Outcome])
-    requires { vec_len lines.old + length told.now ≤ vec_capacity lines.old }
-    ensures told { outcomes_in lines.new.items ≡ outcomes_in lines.old.items ++ told.now }
+fn push_lines(lines: &mut Vec<ImportLine>, outcomes: &[Outcome])
+    requires { vec_len lines.old + length outcomes.now ≤ vec_capacity lines.old }
+    ensures told { outcomes_in lines.new.items ≡ outcomes_in lines.old.items ++ outcomes.now }
     ensures numbered { AreNumbered 1 lines.old.items → AreNumbered 1 lines.new.items }
-    ensures len { vec_len lines.new ≡ vec_len lines.old + length told.now }
+    ensures len { vec_len lines.new ≡ vec_len lines.old + length outcomes.now }
     ensures capacity { vec_capacity lines.new ≡ vec_capacity lines.old }
 {
-    for outcome in told {
+    for outcome in outcomes {
         let number = lines.len() as u64 + 1;
         lines.push_reserved(ImportLine {
             number,

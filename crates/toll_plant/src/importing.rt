@@ -40,7 +40,7 @@ pub fn import_actuals<K: Keep>(
     ensures err { OnErr result (keep.new ≡ keep.old) }
     ensures honest { K.meaning.is_honest keep.new → K.meaning.is_honest keep.old }
     ensures numbered { IfOk result (λ report. AreNumbered 1 report.lines.items) }
-    ensures served { IfOk result (OfRecords file.now (λ asked told. AreRecordsServed K.meaning keep.old asked told keep.new)) }
+    ensures served { IfOk result (OfRecords file.now (λ commands outcomes. AreRecordsServed K.meaning keep.old commands outcomes keep.new)) }
     ensures run { Over K.meaning keep.old keep.new (λ c H. IfOk result (OfRecords file.now (IsImportOf (K.meaning.holds keep.new) H))) }
     ensures steps { Over K.meaning keep.old keep.new (λ c H. IfOk result (AreStepsOf K.meaning keep.old keep.new c H file.now)) }
     ensures whole { Over K.meaning keep.old keep.new (λ c H. IfOk result (AllTell IsWholeOutcome)) }

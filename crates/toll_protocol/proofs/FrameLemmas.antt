@@ -34,9 +34,9 @@ front_fits text fits i =
     ]
 
 -- the bytes that a length claims are a frame with it
-pub claimed_parcel : (text : List ℕ) (len : ℕ) → ((i : ℕ) → get_or text i 0 < 256) → claimed text ≡ Some len → len ≤ length (drop 4 text)
+pub claimed_frame : (text : List ℕ) (len : ℕ) → ((i : ℕ) → get_or text i 0 < 256) → claimed text ≡ Some len → len ≤ length (drop 4 text)
     → text ≡ frame (take len (drop 4 text)) ++ drop len (drop 4 text)
-claimed_parcel text len fits is within =
+claimed_frame text len fits is within =
     let (long, told) = test_some (ltb (length text) 4) (from_be_bytes w32 (take 4 text)) len is in
     let rest = drop 4 text in
     let size : length (take len rest) ≡ len = length-take-le len rest within in

@@ -13,9 +13,9 @@ use Rattle.toll_service.specs.Serving.{AnswersOver, ResumesOver, RunsOver}
 
 module _ {K : Type 0} (meaning : Meaning K) (is_opened : K → Type 0) where
   -- each turn over what those before it left
-  abbrev Told : SessionState K → List (Turn ImportState) → SessionState K → Type 0
-  Told old [] new = new ≡ old
-  Told old (t ∷ turns) new = (middle : SessionState K) × IsToldOver meaning is_opened old t.input t.poll middle × Told middle turns new
+  abbrev TurnsLead : SessionState K → List (Turn ImportState) → SessionState K → Type 0
+  TurnsLead old [] new = new ≡ old
+  TurnsLead old (t ∷ turns) new = (middle : SessionState K) × IsToldOver meaning is_opened old t.input t.poll middle × TurnsLead middle turns new
 
   some_is : {x y : K} → Some x ≡ Some y → x ≡ y
   some_is h = (cc)
@@ -28,7 +28,7 @@ module _ {K : Type 0} (meaning : Meaning K) (is_opened : K → Type 0) where
   more_or_same old middle first (inr (opened, more)) = omega (arith, more)
 
   -- offices are counted on
-  counts : (old new : SessionState K) (turns : List (Turn ImportState)) → Told old turns new → old.openings ≤ new.openings
+  counts : (old new : SessionState K) (turns : List (Turn ImportState)) → TurnsLead old turns new → old.openings ≤ new.openings
   counts old new [] same = let is : new.openings ≡ old.openings = ap (λ s. s.openings) same in omega (arith, is)
   counts old new (t ∷ turns) (middle, inl one, rest) =
       let behind = counts middle new turns rest in
@@ -53,7 +53,7 @@ module _ {K : Type 0} (meaning : Meaning K) (is_opened : K → Type 0) where
   still_none old middle none (inr closed) = closed
 
   -- then all are turned away
-  all_turned : (old new : SessionState K) (turns : List (Turn ImportState)) → Told old turns new → old.keep ≡ None → new.openings ≡ old.openings
+  all_turned : (old new : SessionState K) (turns : List (Turn ImportState)) → TurnsLead old turns new → old.keep ≡ None → new.openings ≡ old.openings
       → AreThoseTaken turns [] × (new.keep ≡ None)
   all_turned old new [] same none count = (refl, ap (λ s. s.keep) same ∙ none)
   all_turned old new (t ∷ turns) (middle, inl one, rest) none count =
@@ -69,7 +69,7 @@ module _ {K : Type 0} (meaning : Meaning K) (is_opened : K → Type 0) where
     runs : RunsOver meaning (λ keep. keep) first taken last
     left : IsLeft last new
 
-  sat : (old new : SessionState K) (turns : List (Turn ImportState)) (first : K) → Told old turns new → old.keep ≡ Some first → new.openings ≡ old.openings → Sat first turns new
+  sat : (old new : SessionState K) (turns : List (Turn ImportState)) (first : K) → TurnsLead old turns new → old.keep ≡ Some first → new.openings ≡ old.openings → Sat first turns new
   sat old new [] first same there count =
       record { last = first; taken = []; those = refl; runs = refl; left = inl (ap (λ s. s.keep) same ∙ there) }
   sat old new (t ∷ turns) first (middle, inl one, rest) there count =
@@ -112,7 +112,7 @@ module _ {K : Type 0} (meaning : Meaning K) (is_opened : K → Type 0) where
 
   told_over : {O : Type 0} (state : O → SessionState K) (tally : O → Option Openings) (known : O → Damage) (old new : O) (turns : List (Turn ImportState))
       → Runs (AnswersBy meaning is_opened state tally known) (ResumesBy meaning is_opened state tally known) old turns new
-      → Told (state old) turns (state new)
+      → TurnsLead (state old) turns (state new)
   told_over state tally known old new [] same = ap state same
   told_over state tally known old new (t ∷ turns) (middle, one, rest) =
       (state middle, told_by state tally known old middle t.input t.poll one, told_over state tally known middle new turns rest)

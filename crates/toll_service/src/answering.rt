@@ -14,8 +14,8 @@ use toll_wire::{OfficeRouter, Out, answer_with_router};
 ///
 /// At the owners' listener that is a request over HTTP, and the reply is that of
 /// [`answer`](toll_wire::answer), by the router. At the plant's it is a frame as
-/// [`Asked`](toll_protocol::Call) packs it, and the reply is one as
-/// [`Told`](toll_protocol::Response) packs it: what the program itself would have printed, and its exit
+/// [`Call`](toll_protocol::Call) packs it, and the reply is one as
+/// [`Response`](toll_protocol::Response) packs it: what the program itself would have printed, and its exit
 /// status. Words of which the first is `import`, where a file came with them, are an import of that file,
 /// and all others a command or a question. What is no frame, or one that was cut, does nothing and is told
 /// nothing.

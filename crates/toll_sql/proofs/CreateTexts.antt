@@ -40,9 +40,9 @@ pub earlier_is : (k : TableKind) → earlier k ≡ take (number_of k) every_tabl
 earlier_is Meta = refl
 earlier_is _ = refl
 
-pub place_of : (i : ℕ) → i < 14 → number_of (get_or every_table i Meta) ≡ i
-place_of (suc (suc (suc (suc (suc (suc (suc (suc (suc (suc (suc (suc (suc (suc i)))))))))))))) low = absurd (omega (arith, low))
-place_of _ low = refl
+pub number_at : (i : ℕ) → i < 14 → number_of (get_or every_table i Meta) ≡ i
+number_at (suc (suc (suc (suc (suc (suc (suc (suc (suc (suc (suc (suc (suc (suc i)))))))))))))) low = absurd (omega (arith, low))
+number_at _ low = refl
 
 -- with it the first of all tables are one more
 pub next_is : (k : TableKind) → with_tables (made_before k) (k ∷ []) ≡ with_tables no_schema (take (suc (number_of k)) every_table)

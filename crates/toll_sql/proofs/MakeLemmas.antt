@@ -13,7 +13,7 @@ use Rattle.toll_sql.specs.Tables.{every_table, with_tables, made_before, made_al
 use Rattle.toll_sql.specs.declared.table_kind.TableKind.{TableKind}
 use Rattle.toll_sql.specs.declared.table_kind.TableKind.TheVariants.{Meta}
 use Rattle.toll_sql.proofs.CreateLemmas.{adds}
-use Rattle.toll_sql.proofs.CreateTexts.{unplaced, create_is, create_defines, create_uncounted, create_place, earlier_is, next_is, place_of}
+use Rattle.toll_sql.proofs.CreateTexts.{unplaced, create_is, create_defines, create_uncounted, create_place, earlier_is, next_is, number_at}
 use Rattle.toll_sql.proofs.PutTexts.{number_of}
 use Rattle.toll_sql.proofs.StepLemmas.{in_turn, one_step}
 use Rattle.toll_sql.proofs.ListLemmas.{more_valid}
@@ -82,7 +82,7 @@ pub next_step : {X : Type 0} (tables : List TableKind) → tables ≡ every_tabl
     → IsStep (IsMaking (made_before (get_or tables n Meta))) (MakesTable (get_or tables n Meta)) now next r → IsStep (IsMaking no_schema) (MakesFirst (n + 1)) first next r
 next_step tables are n low first now next r so_far one =
     let k = get_or every_table n Meta in
-    let at = place_of n low in
+    let at = number_at n low in
     in_turn (IsMaking no_schema) (IsMaking (made_before k)) (MakesFirst n) (MakesTable k) (MakesFirst (n + 1)) first now next tt r (λ _. next_ready n k at first now) (next_made n k at first now next) so_far
     (subst (λ all. IsStep (IsMaking (made_before (get_or all n Meta))) (MakesTable (get_or all n Meta)) now next r) are one)
 

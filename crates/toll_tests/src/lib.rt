@@ -6,8 +6,6 @@
 #[cfg(test)]
 mod desk;
 #[cfg(test)]
-mod doors;
-#[cfg(test)]
 mod keep;
 #[cfg(test)]
 mod office;
@@ -17,6 +15,8 @@ mod plant;
 mod programs;
 #[cfg(test)]
 mod refusing;
+#[cfg(test)]
+mod server;
 #[cfg(test)]
 mod slices;
 #[cfg(test)]

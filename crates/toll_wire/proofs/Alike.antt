@@ -1,6 +1,6 @@
 -- The same events are told the same, whatever keeps answered.
 use Rattle.std.proofs.Common.{◌≡◌, false, List, [], ◌∷◌, map, Result, Ok, Err, refl, sym, ap, subst, ◌∙◌}
-use Rattle.toll_wire.proofs.Common.{false≢true, History, KeepFault, PlantTold, plant_told}
+use Rattle.toll_wire.proofs.Common.{false≢true, History, KeepFault, PlantAnswer, plant_told}
 use Rattle.toll_wire.specs.declared.event.Answer.{Answer}
 use Rattle.toll_wire.specs.declared.event.Answer.TheVariants.{Bytes as Reply, Plant as CommandReply}
 use Rattle.toll_wire.specs.declared.event.Event.{Event}
@@ -12,7 +12,7 @@ use Rattle.toll_wire.specs.Steps.{http}
 use Rattle.toll_wire.proofs.Determined.{answers-determined}
 use Rattle.toll_wire.proofs.Readings.{says_once}
 
-plant_tells : (told : Result PlantTold KeepFault) (t : Answered) → PlantShows told t → t ≡ plant_answered told
+plant_tells : (told : Result PlantAnswer KeepFault) (t : Answered) → PlantShows told t → t ≡ plant_answered told
 plant_tells (Ok told) t h = h
 plant_tells (Err fault) t h = h
 

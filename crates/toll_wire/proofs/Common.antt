@@ -18,11 +18,11 @@ pub use Rattle.std.specs.List.{AllByRecursion, list_all, position_or_len, starts
 pub use Rattle.std.specs.Option.{IfSome, is_none}
 pub use Rattle.std.specs.Result.{MatchResult, OkIff, result_ok}
 pub use Rattle.std.specs.Str.{IsAscii, IsCharBoundary, IsUtf8}
-pub use Rattle.toll_answers.specs.PlantAnswers.{AsksBatch, AsksOrders, AsksRecall, AsksStock, AsksTrace, CannotRead, Does, IsCheckedOr, IsPlantAnswer, IsRecallShown, IsTraceShown, Judged, PlantAsked, PlantTold, Shows, after_plant, lot_checks}
+pub use Rattle.toll_answers.specs.PlantAnswers.{AsksBatch, AsksOrders, AsksRecall, AsksStock, AsksTrace, CannotRead, Does, IsCheckedOr, IsPlantAnswer, IsRecallShown, IsTraceShown, Judged, PlantRequest, PlantAnswer, Shows, after_plant, lot_checks}
 unfoldable pub use Rattle.toll_answers.specs.Replies.{IsReply, after_reply}
-pub use Rattle.toll_answers.specs.Replies.{IsAnswer, IsTraceTold, IsValidAsked, after_answer, has_key}
+pub use Rattle.toll_answers.specs.Replies.{IsAnswer, IsTraceTold, IsValidOwnerRequest, after_answer, has_key}
 pub use Rattle.toll_answers.specs.Texts.{recall_text}
-pub use Rattle.toll_answers.specs.Told.{AskCancel, AskPlace, AskReject, AskRelease, Asked, TellBatch, TellForbidden, TellLot, TellOrder, TellOrders, TellRefused, TellStock, TellTrace, Told}
+pub use Rattle.toll_answers.specs.OwnerRequests.{AskCancel, AskPlace, AskReject, AskRelease, OwnerRequest, TellBatch, TellForbidden, TellLot, TellOrder, TellOrders, TellRefused, TellStock, TellTrace, OwnerReply}
 pub use Rattle.toll_base.specs.Bytes.{Bytes, same_bytes}
 pub use Rattle.toll_base.specs.Values.{IsBatchNo, is_digit, is_name, is_name_byte, is_text_of, number_of}
 pub use Rattle.toll_base.specs.declared.refusal.Refusal.TheVariants.{OrderExists, UnknownLot}

@@ -1,7 +1,7 @@
 -- An owner's part of a run, as bytes, and its replies alone.
 use Rattle.std.proofs.Common.{◌≡◌, Bool, true, false, cond, Option, Some, None, List, [], ◌∷◌, ◌++◌, Result, Ok, Err, refl, sym, ap, subst, ◌∙◌, inl, inr}
 use Rattle.std.specs.Prelude.{◌⊎◌}
-use Rattle.toll_wire.proofs.Common.{false≢true, Bytes, same_bytes, Command, History, part, Accepted, Repeated, Refused, KeepFault, PlantAsked, Does, AsksOrders, AsksStock, AsksBatch, AsksTrace, AsksRecall, CannotRead, PlantTold, Judged, Shows as ShowsText, asked_by, plant_told}
+use Rattle.toll_wire.proofs.Common.{false≢true, Bytes, same_bytes, Command, History, part, Accepted, Repeated, Refused, KeepFault, PlantRequest, Does, AsksOrders, AsksStock, AsksBatch, AsksTrace, AsksRecall, CannotRead, PlantAnswer, Judged, Shows as ShowsText, asked_by, plant_told}
 use Rattle.toll_wire.specs.declared.event.Event.{Event}
 use Rattle.toll_wire.specs.declared.event.Event.TheVariants.{Owner, Plant as CommandOf}
 use Rattle.toll_wire.specs.declared.event.Answer.{Answer}
@@ -82,10 +82,10 @@ module _ (o : Bytes) where
   add_done c own replies happenings told false Rest rest is = rest own is
 
   module _ (own : List OwnEvent) (replies : List Bytes) (happenings : List Happening) (told : List Bytes) (Rest : List OwnEvent → Type 0) (rest : (own : List OwnEvent) → Rest own → Reads own replies happenings told) where
-    abbrev Adds : PlantAsked → Answered → Type 0
+    abbrev Adds : PlantRequest → Answered → Type 0
     Adds asked t = Reads own replies (cond (is_own http o (Plant asked) t) (Plant asked ∷ happenings) happenings) told
 
-    add_told : (asked : PlantAsked) (answer : PlantTold) → WithDone (done_for o asked (Ok answer)) Rest own → Adds asked (PlantTells answer)
+    add_told : (asked : PlantRequest) (answer : PlantAnswer) → WithDone (done_for o asked (Ok answer)) Rest own → Adds asked (PlantTells answer)
     add_told (Does c) (Judged Accepted) is = add_done c own replies happenings told (same_bytes c.owner o) Rest rest is
     add_told (Does c) (Judged Repeated) is = rest own is
     add_told (Does c) (Judged (Refused why)) is = rest own is
@@ -97,7 +97,7 @@ module _ (o : Bytes) where
     add_told (AsksRecall lot) answer is = rest own is
     add_told (CannotRead why) answer is = rest own is
 
-    add_fault : (asked : PlantAsked) (fault : KeepFault) → WithDone (done_for o asked (Err fault)) Rest own → Adds asked PlantFault
+    add_fault : (asked : PlantRequest) (fault : KeepFault) → WithDone (done_for o asked (Err fault)) Rest own → Adds asked PlantFault
     add_fault (Does c) fault is = rest own is
     add_fault (AsksOrders p) fault is = rest own is
     add_fault (AsksStock p) fault is = rest own is
@@ -106,7 +106,7 @@ module _ (o : Bytes) where
     add_fault (AsksRecall lot) fault is = rest own is
     add_fault (CannotRead why) fault is = rest own is
 
-    add_command : (asked : PlantAsked) (outcome : Result PlantTold KeepFault) (t : Answered) → PlantShows outcome t → WithDone (done_for o asked outcome) Rest own → Adds asked t
+    add_command : (asked : PlantRequest) (outcome : Result PlantAnswer KeepFault) (t : Answered) → PlantShows outcome t → WithDone (done_for o asked outcome) Rest own → Adds asked t
     add_command asked (Ok answer) t shows is = subst (Adds asked) (sym shows) (add_told asked answer is)
     add_command asked (Err fault) t shows is = subst (Adds asked) (sym shows) (add_fault asked fault is)
 

@@ -1,7 +1,7 @@
 -- What is printed of a recall and a trace is that of the definitions.
 use Rattle.std.proofs.Common.{◌≡◌, true, is_some, Some, List, ap, subst, ◌∙◌}
 use Rattle.std.specs.Prelude.{Contains, MatchBool}
-use Rattle.toll_wire.proofs.Common.{Bytes, UnknownLot, History, acts, Verdict, Accepted, Repeated, Refused, first_of, AsksRecall, AsksTrace, Shows, IsCheckedOr, IsPlantAnswer, IsRecallShown, IsTraceShown, lot_checks, has_key, IsAnswer, IsReply, IsTraceTold, Asked, Told, TellForbidden, TellRefused, TellTrace, recall_text}
+use Rattle.toll_wire.proofs.Common.{Bytes, UnknownLot, History, acts, Verdict, Accepted, Repeated, Refused, first_of, AsksRecall, AsksTrace, Shows, IsCheckedOr, IsPlantAnswer, IsRecallShown, IsTraceShown, lot_checks, has_key, IsAnswer, IsReply, IsTraceTold, OwnerRequest, OwnerReply, TellForbidden, TellRefused, TellTrace, recall_text}
 use Rattle.toll_base.specs.Lots.{lot_id}
 use Rattle.toll_base.specs.declared.lot.LotId.{LotId}
 use Rattle.toll_history.specs.Tables.{lot_row}
@@ -44,14 +44,14 @@ line_printed G H lot o text other line p shown agree = record {
 }
 
 module _ (H : History) (o key lot : Bytes) (has : has_key o key H ≡ true) (known : is_some (lot_row H o lot) ≡ true) where
-  abbrev TracedTo : Way → Told → Type 0
+  abbrev TracedTo : Way → OwnerReply → Type 0
   TracedTo way r = IsTraceTold (IsOwnJoined (acts o H) way) (lot_id o lot) r
 
-  answered : (q : Asked) (r : Told) → IsReply o key H q r → IsAnswer o H q r
+  answered : (q : OwnerRequest) (r : OwnerReply) → IsReply o key H q r → IsAnswer o H q r
   unfolding IsReply
   answered q r reply = subst (λ b. MatchBool b (IsAnswer o H q r) (r ≡ TellForbidden)) has reply
 
-  traced : (way : Way) (r : Told) → IsAnswer o H (asks_trace way lot) r → TracedTo way r
+  traced : (way : Way) (r : OwnerReply) → IsAnswer o H (asks_trace way lot) r → TracedTo way r
   traced Back r answer = subst (λ b. MatchBool b (TracedTo Back r) (r ≡ TellRefused UnknownLot)) known answer
   traced Forward r answer = subst (λ b. MatchBool b (TracedTo Forward r) (r ≡ TellRefused UnknownLot)) known answer
 

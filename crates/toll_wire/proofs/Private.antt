@@ -1,6 +1,6 @@
 -- Each owner's replies in a run are those that its own events give by themselves.
 use Rattle.std.proofs.Common.{◌≡◌, Bool, true, false, ◌&&◌, cond, Option, Some, None, List, [], ◌∷◌, ◌++◌, refl, sym, ap, subst, ◌∙◌}
-use Rattle.toll_wire.proofs.Common.{false≢true, Bytes, same_bytes, PlaceOrder, CancelOrder, Release, Reject, Command, by, History, part, Verdict, Accepted, Repeated, Refused, verdict, grow, grown, IsLawful, Asked, AskPlace, AskCancel, AskRelease, AskReject, IsValidAsked, has_key, IsReply, after_answer, after_reply, PlantAsked, Does, AsksOrders, AsksStock, AsksBatch, AsksTrace, AsksRecall, CannotRead, PlantTold, Judged, after_plant}
+use Rattle.toll_wire.proofs.Common.{false≢true, Bytes, same_bytes, PlaceOrder, CancelOrder, Release, Reject, Command, by, History, part, Verdict, Accepted, Repeated, Refused, verdict, grow, grown, IsLawful, OwnerRequest, AskPlace, AskCancel, AskRelease, AskReject, IsValidOwnerRequest, has_key, IsReply, after_answer, after_reply, PlantRequest, Does, AsksOrders, AsksStock, AsksBatch, AsksTrace, AsksRecall, CannotRead, PlantAnswer, Judged, after_plant}
 use Rattle.toll_base.specs.Values.{house_name}
 use Rattle.toll_history.proofs.Own.{part-own, part-other}
 use Rattle.toll_base.proofs.Texts.{same_bytes-exact}
@@ -18,14 +18,14 @@ grow-other o c H other = grown-other (verdict H c)
     grown-other (Refused why) = refl
 
 module _ (wire : Wire) where
-  lawful-after_answer : (o : Bytes) (H : History) (q : Asked) → IsLawful H → IsValidAsked q → IsLawful (after_answer o H q)
+  lawful-after_answer : (o : Bytes) (H : History) (q : OwnerRequest) → IsLawful H → IsValidOwnerRequest q → IsLawful (after_answer o H q)
   lawful-after_answer o H (AskPlace order recipe batches) lawful valid = lawful-grow H (by o (PlaceOrder order recipe batches)) lawful valid
   lawful-after_answer o H (AskCancel order) lawful valid = lawful-grow H (by o (CancelOrder order)) lawful tt
   lawful-after_answer o H (AskRelease lot) lawful valid = lawful-grow H (by o (Release lot)) lawful tt
   lawful-after_answer o H (AskReject lot) lawful valid = lawful-grow H (by o (Reject lot)) lawful tt
   lawful-after_answer o H _ lawful valid = lawful
 
-  lawful-after_reply : (o key : Bytes) (H : History) (q : Asked) → IsLawful H → IsValidAsked q → IsLawful (after_reply o key H q)
+  lawful-after_reply : (o key : Bytes) (H : History) (q : OwnerRequest) → IsLawful H → IsValidOwnerRequest q → IsLawful (after_reply o key H q)
   unfolding after_reply
   lawful-after_reply o key H q lawful valid =
       elim (has_key o key H) as (λ b. IsLawful (cond b (after_answer o H q) H)) [
@@ -39,7 +39,7 @@ module _ (wire : Wire) where
   lawful-after_saying H (By o None asking) lawful valid = lawful
   lawful-after_saying H (Nobody text) lawful valid = lawful
 
-  lawful-after_plant : (H : History) (asked : PlantAsked) → IsLawful H → IsValidEvent wire (Plant asked) → IsLawful (after_plant H asked)
+  lawful-after_plant : (H : History) (asked : PlantRequest) → IsLawful H → IsValidEvent wire (Plant asked) → IsLawful (after_plant H asked)
   lawful-after_plant H (Does c) lawful valid = lawful-grow H c lawful valid
   lawful-after_plant H _ lawful valid = lawful
 
@@ -55,14 +55,14 @@ module _ (wire : Wire) where
 
   -- ---- one step, seen by an owner
 
-  after_answer-other : (o p : Bytes) (H : History) (q : Asked) → same_bytes p o ≡ false → part o (after_answer p H q) ≡ part o H
+  after_answer-other : (o p : Bytes) (H : History) (q : OwnerRequest) → same_bytes p o ≡ false → part o (after_answer p H q) ≡ part o H
   after_answer-other o p H (AskPlace order recipe batches) other = grow-other o (by p (PlaceOrder order recipe batches)) H other
   after_answer-other o p H (AskCancel order) other = grow-other o (by p (CancelOrder order)) H other
   after_answer-other o p H (AskRelease lot) other = grow-other o (by p (Release lot)) H other
   after_answer-other o p H (AskReject lot) other = grow-other o (by p (Reject lot)) H other
   after_answer-other o p H _ other = refl
 
-  after_reply-other : (o p key : Bytes) (H : History) (q : Asked) → same_bytes p o ≡ false → part o (after_reply p key H q) ≡ part o H
+  after_reply-other : (o p key : Bytes) (H : History) (q : OwnerRequest) → same_bytes p o ≡ false → part o (after_reply p key H q) ≡ part o H
   unfolding after_reply
   after_reply-other o p key H q other =
       elim (has_key p key H) as (λ b. part o (cond b (after_answer p H q) H) ≡ part o H) [
@@ -108,7 +108,7 @@ module _ (wire : Wire) where
     command_alone old new c Repeated events replies new_is alone b is = subst (λ F. IsAlone wire (part o F) events replies) new_is alone
     command_alone old new c (Refused why) events replies new_is alone b is = subst (λ F. IsAlone wire (part o F) events replies) new_is alone
 
-    plant_alone : (old new : History) (asked : PlantAsked) (answer : PlantTold) (events : List Happening) (replies : List Bytes) → IsStep wire old (Plant asked) (PlantTells answer) new →
+    plant_alone : (old new : History) (asked : PlantRequest) (answer : PlantAnswer) (events : List Happening) (replies : List Bytes) → IsStep wire old (Plant asked) (PlantTells answer) new →
         IsAlone wire (part o new) events replies → IsAlone wire (part o old) (cond (is_own wire o (Plant asked) (PlantTells answer)) (Plant asked ∷ events) events) replies
     plant_alone old new (Does c) answer events replies step alone =
         subst (λ a. IsAlone wire (part o old) (cond (accepts wire a && same_bytes c.owner o) (Plant (Does c) ∷ events) events) replies) (sym step.0)

@@ -1,6 +1,6 @@
 -- Requests that are served, over any keep.
 use Rattle.std.proofs.Common.{◌≡◌, ℕ, Bool, true, false, ◌&&◌, cond, List, [], ◌∷◌, Some, None, Result, Ok, Err, IfOk, refl, sym, ap, subst, inl}
-use Rattle.toll_wire.proofs.Common.{Vec, starts_with, digits, false≢true, Bytes, History, Meaning, Content, ContentKeepsRules, Fits, after, Goes, IsReading, StandsFor, KeepFault, Memory, Damaged, Asked, Told, TellForbidden, TellOrders, TellOrder, TellBatch, TellStock, TellLot, TellTrace, TellRefused, has_key, IsReply, after_reply, is_granted, may_change, writes, finished, IsDone, reply_text, Forbidden}
+use Rattle.toll_wire.proofs.Common.{Vec, starts_with, digits, false≢true, Bytes, History, Meaning, Content, ContentKeepsRules, Fits, after, Goes, IsReading, StandsFor, KeepFault, Memory, Damaged, OwnerRequest, OwnerReply, TellForbidden, TellOrders, TellOrder, TellBatch, TellStock, TellLot, TellTrace, TellRefused, has_key, IsReply, after_reply, is_granted, may_change, writes, finished, IsDone, reply_text, Forbidden}
 use Rattle.std.specs.Prelude.{◌≢◌, OnOk, OnErr, IsTrue, nat_eq, codes}
 use Rattle.toll_base.specs.declared.decision.Change.{Change}
 use Rattle.toll_desk.specs.Clauses.{IfPlacedAgain}
@@ -19,7 +19,7 @@ use Rattle.toll_wire.specs.Steps.{http, outcome_of, IfSaidAgain, IsReplyWhere, I
 -- ---- texts
 
 -- what is told of a request that was granted says 200
-granted_text : (told : Told) → is_granted (Ok told) ≡ true → IsTrue (starts_with nat_eq (text_of_told told) (codes "HTTP/1.1 200 "))
+granted_text : (told : OwnerReply) → is_granted (Ok told) ≡ true → IsTrue (starts_with nat_eq (text_of_told told) (codes "HTTP/1.1 200 "))
 unfolding reply_text digits
 granted_text (TellOrders rows) granted = refl
 granted_text (TellOrder row) granted = refl
@@ -31,7 +31,7 @@ granted_text TellForbidden granted = absurd (false≢true granted)
 granted_text (TellRefused why) granted = absurd (false≢true granted)
 
 -- so what doesn't say 200 grants no change
-grants_none : (q : Asked) (told : Told) (text : Vec ℕ) → text.items ≡ text_of_told told → ¬ (IsGranted (Text text)) → may_change q (Ok told) ≡ false
+grants_none : (q : OwnerRequest) (told : OwnerReply) (text : Vec ℕ) → text.items ≡ text_of_told told → ¬ (IsGranted (Text text)) → may_change q (Ok told) ≡ false
 grants_none q told text is not = by_grant (is_granted (Ok told)) refl
   where
     by_grant : (b : Bool) → is_granted (Ok told) ≡ b → (writes q && is_granted (Ok told)) ≡ false
@@ -42,7 +42,7 @@ grants_none q told text is not = by_grant (is_granted (Ok told)) refl
         and_false true = refl
         and_false false = refl
 
-asks_none : (q : Asked) (told : Told) → writes q ≡ false → may_change q (Ok told) ≡ false
+asks_none : (q : OwnerRequest) (told : OwnerReply) → writes q ≡ false → may_change q (Ok told) ≡ false
 asks_none q told none = rw none refl
 
 -- ---- what is done where nothing changes
@@ -194,12 +194,12 @@ module _ {K : Type 0} (meaning : Meaning K) where
     pub whole : meaning.is_honest new → (c : Content) → meaning.holds middle c → ContentKeepsRules c → made ≢ Err Damaged
     pub crash : meaning.is_honest new → meaning.is_live middle → (c : Content) → meaning.holds middle c → Fits c changes → meaning.leaves new (c ∷ after changes c ∷ [])
 
-  module _ (old middle new : K) (o key : Bytes) (q : Asked) (told : Told) (changes : List Change) (reads : ReadsTo {X = Told} old middle (Ok told)) (quiet : may_change q (Ok told) ≡ false → changes ≡ []) (once : meaning.is_honest middle → (c : Content) → meaning.holds old c → IfPlacedAgain (c.rows o) q (changes ≡ []))
+  module _ (old middle new : K) (o key : Bytes) (q : OwnerRequest) (told : OwnerReply) (changes : List Change) (reads : ReadsTo {X = OwnerReply} old middle (Ok told)) (quiet : may_change q (Ok told) ≡ false → changes ≡ []) (once : meaning.is_honest middle → (c : Content) → meaning.holds old c → IfPlacedAgain (c.rows o) q (changes ≡ []))
       (plan : Over meaning old middle (λ c H. IsPlan c H o key q told changes)) (text : Vec ℕ) (is : text.items ≡ text_of_told told) where
     abbrev asking : Saying
     asking = By o (Some key) (Asks q)
 
-    abbrev planned : Result Told KeepFault
+    abbrev planned : Result OwnerReply KeepFault
     planned = Ok told
 
     goes_made : (made : Result (Unit {0}) KeepFault) → Carries middle new changes made → Goes meaning old new (finished planned made)
@@ -254,7 +254,7 @@ module _ {K : Type 0} (meaning : Meaning K) where
     }
 
   -- the same for a plan that was told, whose changes are read through a reference
-  pub plan_told : Rests meaning → (old middle new : K) (o key : Bytes) (q : Asked) (planned : Result Told KeepFault) (changes made_of : List Change) → made_of ≡ changes → ReadsTo old middle planned → (may_change q planned ≡ false → changes ≡ []) → (meaning.is_honest middle → (c : Content) → meaning.holds old c → IfPlacedAgain (c.rows o) q (changes ≡ [])) →
+  pub plan_told : Rests meaning → (old middle new : K) (o key : Bytes) (q : OwnerRequest) (planned : Result OwnerReply KeepFault) (changes made_of : List Change) → made_of ≡ changes → ReadsTo old middle planned → (may_change q planned ≡ false → changes ≡ []) → (meaning.is_honest middle → (c : Content) → meaning.holds old c → IfPlacedAgain (c.rows o) q (changes ≡ [])) →
       Over meaning old middle (λ c H. IfOk planned (λ told. IsPlan c H o key q told changes)) → (text : Vec ℕ) → IsText (Text text) (text_if_told planned) → (made : Result (Unit {0}) KeepFault) → Carries middle new made_of made → Serves old new (By o (Some key) (Asks q)) (text_if text made)
   plan_told settled old middle new o key q (Ok told) changes made_of same reads quiet once plan text is made carries =
       told_after old middle new o key q told changes reads quiet once plan text is settled made (subst (λ changes. Carries middle new changes made) same carries)

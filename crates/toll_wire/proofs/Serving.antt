@@ -1,6 +1,6 @@
 -- Events of the office, one after another, are a run.
 use Rattle.std.proofs.Common.{◌≡◌, ◌⊎◌, false, List, [], ◌∷◌, ◌++◌, Result, Ok, Err, refl, sym, subst, ap, ◌∙◌, inl, inr}
-use Rattle.toll_wire.proofs.Common.{Vec, AllByRecursion, false≢true, History, IsLawful, Meaning, Content, Goes, Settles, StandsFor, KeepFault, Memory, Disk, Damaged, Closed, PlantAsked, PlantTold, Does, AsksOrders, AsksStock, AsksBatch, AsksTrace, AsksRecall, CannotRead, IsPlantAnswer, after_plant, asked_by, plant_told, IsValidCommand, GoesFor, IsDone}
+use Rattle.toll_wire.proofs.Common.{Vec, AllByRecursion, false≢true, History, IsLawful, Meaning, Content, Goes, Settles, StandsFor, KeepFault, Memory, Disk, Damaged, Closed, PlantRequest, PlantAnswer, Does, AsksOrders, AsksStock, AsksBatch, AsksTrace, AsksRecall, CannotRead, IsPlantAnswer, after_plant, asked_by, plant_told, IsValidCommand, GoesFor, IsDone}
 use Rattle.std.specs.Prelude.{ℕ}
 use Rattle.toll_base.specs.declared.refusal.Refusal.{Refusal}
 use Rattle.toll_desk.specs.declared.plant_cmd.PlantCmd.{PlantCmd}
@@ -98,7 +98,7 @@ module _ {K : Type 0} (meaning : Meaning K) where
       }
 
       -- the plant was told something, or there was a fault
-      plant_step : (command : PlantCmd) (reply : PlantReply) (outcome : Result PlantTold KeepFault) → plant_told reply ≡ outcome → Settles meaning old new → IsValidCommand (asked_by command) →
+      plant_step : (command : PlantCmd) (reply : PlantReply) (outcome : Result PlantAnswer KeepFault) → plant_told reply ≡ outcome → Settles meaning old new → IsValidCommand (asked_by command) →
           IsDone (meaning.holds new) (meaning.is_live old) (meaning.leaves new) c (after_plant H (asked_by command)) outcome (IsPlantAnswer H (asked_by command)) → Step (Command command) (CommandReply reply)
       plant_step command reply (Ok told) outcome_is rests valid done = record {
         happening = Plant (asked_by command);
@@ -189,10 +189,10 @@ module _ {K : Type 0} (meaning : Meaning K) where
       memory_alone old new Damaged goes = absurd (false≢true (sym (never_closes new) ∙ goes.closes))
       memory_alone old new Closed goes = absurd (false≢true (sym (never_closes new) ∙ goes.closes))
 
-      abbrev GoesAs : K → K → PlantAsked → Result PlantTold KeepFault → Type 0
+      abbrev GoesAs : K → K → PlantRequest → Result PlantAnswer KeepFault → Type 0
       GoesAs old new asked outcome = GoesFor meaning old new asked outcome
 
-      fault_alone : (old new : K) (asked : PlantAsked) (fault : KeepFault) → GoesAs old new asked (Err fault) → ¬ (fault ≡ Damaged) → ((why : Refusal) → asked ≡ CannotRead why → ⊥) → fault ≡ Memory
+      fault_alone : (old new : K) (asked : PlantRequest) (fault : KeepFault) → GoesAs old new asked (Err fault) → ¬ (fault ≡ Damaged) → ((why : Refusal) → asked ≡ CannotRead why → ⊥) → fault ≡ Memory
       fault_alone old new (Does c) fault goes whole read = memory_alone old new fault goes
       fault_alone old new (AsksOrders o) fault goes whole read = memory_alone old new fault goes
       fault_alone old new (AsksStock o) fault goes whole read = memory_alone old new fault goes

@@ -2,7 +2,7 @@
 use Rattle.std.proofs.Common.{◌≡◌, Option, Some, None, sym, subst}
 use Rattle.std.specs.Prelude.{option_map}
 use Rattle.toll_wire.proofs.Common.{IfSome, Bytes, Request, Verb, Placing, AsksOrder}
-use Rattle.toll_answers.specs.Replies.{IsValidAsked}
+use Rattle.toll_answers.specs.Replies.{IsValidOwnerRequest}
 use Rattle.toll_desk.specs.Translations.{asked_of}
 use Rattle.toll_wire.proofs.BodyWithin.{asked_within}
 use Rattle.toll_wire.specs.Routing.{AsksAt, AsksBy, AsksOf, IsAsking, IsPlacing, IsValidAsks, ask_of, placing, request_from}
@@ -22,13 +22,13 @@ placing_within : (body : Bytes) (asks : RoutedRequest) → IsPlacing body asks �
 placing_within body asks posted = subst IsValidAsks (sym posted.2) (body_within body posted.0 posted.1)
 
 -- a request that has its values in the path has no count of batches
-request_within : (v : Values) (kind : RequestKind) → IfSome (request_from kind v) (λ r. IsValidAsked (asked_of r))
+request_within : (v : Values) (kind : RequestKind) → IfSome (request_from kind v) (λ r. IsValidOwnerRequest (asked_of r))
 request_within Nothing ask.Orders = tt
 request_within (Name name) ask.Order = tt
 request_within (NameAndNumber name number) ask.Batch = tt
 request_within _ _ = tt
 
-some_within : (request : Option Request) (asks : RoutedRequest) → IfSome request (λ r. IsValidAsked (asked_of r)) → Some asks ≡ option_map For request → IsValidAsks asks
+some_within : (request : Option Request) (asks : RoutedRequest) → IfSome request (λ r. IsValidOwnerRequest (asked_of r)) → Some asks ≡ option_map For request → IsValidAsks asks
 some_within None asks within e = absurd (cc e)
 some_within (Some r) asks within e = let same : asks ≡ For r = cc e in subst IsValidAsks (sym same) within
 

@@ -1,7 +1,7 @@
 -- Words of other crates that several definitions here are said in.
-pub use Rattle.toll_answers.specs.PlantAnswers.{AsksRecall, Does, IsPlantAnswer, Judged, PlantAsked, PlantTold, Shows, after_plant}
+pub use Rattle.toll_answers.specs.PlantAnswers.{AsksRecall, Does, IsPlantAnswer, Judged, PlantRequest, PlantAnswer, Shows, after_plant}
 pub use Rattle.toll_answers.specs.Texts.{recall_line, recall_text, trace_text}
-pub use Rattle.toll_answers.specs.Told.{AskBack, AskForward, Asked, TellBatch, TellForbidden, TellLot, TellOrder, TellOrders, TellRefused, TellStock, TellTrace, Told}
+pub use Rattle.toll_answers.specs.OwnerRequests.{AskBack, AskForward, OwnerRequest, TellBatch, TellForbidden, TellLot, TellOrder, TellOrders, TellRefused, TellStock, TellTrace, OwnerReply}
 pub use Rattle.toll_base.specs.Bytes.{Bytes, same_bytes}
 pub use Rattle.toll_base.specs.Values.{house_name}
 pub use Rattle.toll_base.specs.declared.lot.LotId.{LotId}

@@ -1,19 +1,19 @@
 -- Events of the office, and their answers, as a run.
 use Rattle.std.specs.Prelude.{◌≡◌, ◌⊎◌, List, [], ◌∷◌, Result, Ok, Err}
-use Rattle.toll_wire.specs.Common.{History, IsLawful, Meaning, Content, KeepFault, Memory, PlantTold, asked_by, plant_told, HoldsFor, LeavesOr}
+use Rattle.toll_wire.specs.Common.{History, IsLawful, Meaning, Content, KeepFault, Memory, PlantAnswer, asked_by, plant_told, HoldsFor, LeavesOr}
 use Rattle.toll_desk.specs.PlantServed.{IsPlantServed}
 use Rattle.toll_wire.specs.declared.event.Event.{Event}
 use Rattle.toll_wire.specs.declared.event.Event.TheVariants.{Owner, Plant as Command}
 use Rattle.toll_wire.specs.declared.event.Answer.{Answer}
 use Rattle.toll_wire.specs.declared.event.Answer.TheVariants.{Bytes as Reply, Plant as CommandReply}
 use Rattle.toll_wire.specs.declared.outgoing.Out.TheVariants.{Text, Unavailable as NoText}
-use Rattle.toll_wire.specs.Runs.{Saying, Nobody, Happening, Request, Plant, Answered, Text as Told, Unavailable, PlantTells, PlantFault, after_event, IsStep, IsRun, IsPrivate, IsValidEvent, AreValid}
+use Rattle.toll_wire.specs.Runs.{Saying, Nobody, Happening, Request, Plant, Answered, Text as OwnerReply, Unavailable, PlantTells, PlantFault, after_event, IsStep, IsRun, IsPrivate, IsValidEvent, AreValid}
 use Rattle.toll_wire.specs.Steps.{http, Says, IsAnswered}
 
 -- ---- what an event and its answer are in a run
 
 -- what the plant is told, or the fault that there was
-abbrev pub PlantShows : Result PlantTold KeepFault → Answered → Type 0
+abbrev pub PlantShows : Result PlantAnswer KeepFault → Answered → Type 0
 PlantShows (Ok told) answered = answered ≡ PlantTells told
 PlantShows (Err fault) answered = answered ≡ PlantFault
 
@@ -23,7 +23,7 @@ nothing = Nobody []
 
 -- the bytes of a request say it, and were told the text, or there was no reply; a command of the plant was told so
 abbrev pub Shows : Event → Answer → Happening → Answered → Type 0
-Shows (Owner bytes) (Reply (Text text)) (Request saying) answered = Says bytes.items saying × (answered ≡ Told text.items)
+Shows (Owner bytes) (Reply (Text text)) (Request saying) answered = Says bytes.items saying × (answered ≡ OwnerReply text.items)
 Shows (Owner bytes) (Reply NoText) (Request saying) answered = (Says bytes.items saying ⊎ (saying ≡ nothing)) × (answered ≡ Unavailable)
 Shows (Command command) (CommandReply reply) (Plant asked) answered = (asked ≡ asked_by command) × PlantShows (plant_told reply) answered
 Shows _ _ _ _ = ⊥
@@ -37,13 +37,13 @@ AllShow _ _ _ _ = ⊥
 -- ---- what an answer tells
 
 -- the plant is told it, or that there was a fault
-abbrev pub plant_answered : Result PlantTold KeepFault → Answered
+abbrev pub plant_answered : Result PlantAnswer KeepFault → Answered
 plant_answered (Ok told) = PlantTells told
 plant_answered (Err fault) = PlantFault
 
 -- the bytes of a reply, or what the plant is told; or that there was no reply, or a fault
 abbrev pub tells : Answer → Answered
-tells (Reply (Text text)) = Told text.items
+tells (Reply (Text text)) = OwnerReply text.items
 tells (Reply NoText) = Unavailable
 tells (CommandReply reply) = plant_answered (plant_told reply)
 

@@ -1,6 +1,6 @@
 -- What one owner has of a run, as bytes: its requests and their replies, and the commands on its rows.
 use Rattle.std.specs.Prelude.{◌≡◌, ◌⊎◌, true, if◌then◌else◌, Option, Some, None, List, [], ◌∷◌, Result, Ok}
-use Rattle.toll_wire.specs.Common.{Bytes, same_bytes, History, Accepted, KeepFault, PlantAsked, Does, PlantTold, Judged, asked_by, plant_told}
+use Rattle.toll_wire.specs.Common.{Bytes, same_bytes, History, Accepted, KeepFault, PlantRequest, Does, PlantAnswer, Judged, asked_by, plant_told}
 use Rattle.toll_history.specs.Command.{Command}
 use Rattle.toll_wire.specs.declared.event.Event.{Event}
 use Rattle.toll_wire.specs.declared.event.Event.TheVariants.{Owner, Plant}
@@ -20,7 +20,7 @@ abbrev pub IsClaimed : Bytes → Bytes → Type 0
 IsClaimed o bytes = (saying : Saying) × Says bytes saying × (claims o saying ≡ true)
 
 -- the command that was accepted, if it is one on this owner's rows
-abbrev pub done_for : Bytes → PlantAsked → Result PlantTold KeepFault → Option Command
+abbrev pub done_for : Bytes → PlantRequest → Result PlantAnswer KeepFault → Option Command
 done_for o (Does c) (Ok (Judged Accepted)) = if same_bytes c.owner o then Some c else None
 done_for o _ _ = None
 

@@ -1,12 +1,12 @@
 -- Traces and recalls down to the bytes that are told.
 use Rattle.std.specs.Prelude.{◌≡◌, List, Contains}
-use Rattle.toll_wire.specs.Common.{Bytes, LotId, Asked, AskBack, AskForward, History, recall_line, recall_text, Way}
+use Rattle.toll_wire.specs.Common.{Bytes, LotId, OwnerRequest, AskBack, AskForward, History, recall_line, recall_text, Way}
 use Rattle.toll_answers.specs.Recall.{IsRecall}
 use Rattle.toll_answers.specs.declared.genealogy.recall.RecallLine.{RecallLine}
 use Rattle.toll_trace.specs.declared.way.Way.TheVariants.{Back, Forward}
 
 -- the request for an owner's trace this way
-abbrev pub asks_trace : Way → Bytes → Asked
+abbrev pub asks_trace : Way → Bytes → OwnerRequest
 asks_trace Back lot = AskBack lot
 asks_trace Forward lot = AskForward lot
 

@@ -2,7 +2,7 @@
 use Rattle.std.specs.Prelude.{ℕ, [], Option, Some, None, Result, Ok, Err, codes}
 use Rattle.serde_json.specs.Data.{Data}
 use Rattle.serde_json.specs.Written.{compact_text}
-use Rattle.toll_wire.specs.Common.{Bytes, KeepFault, Told, TellForbidden, TellOrders, TellOrder, TellBatch, TellStock, TellLot, TellTrace, TellRefused, told_of, Failure, Forbidden}
+use Rattle.toll_wire.specs.Common.{Bytes, KeepFault, OwnerReply, TellForbidden, TellOrders, TellOrder, TellBatch, TellStock, TellLot, TellTrace, TellRefused, told_of, Failure, Forbidden}
 use Rattle.toll_base.specs.declared.refusal.Refusal.{Refusal}
 use Rattle.toll_base.specs.declared.refusal.Refusal.TheVariants.{UnknownOrder, UnknownBatch, UnknownLot}
 use Rattle.toll_desk.specs.declared.request.Reply.{Reply}
@@ -32,7 +32,7 @@ abbrev pub granted : Data → Bytes
 granted body = reply_text 200 None (compact_text body)
 
 -- what an owner is told
-abbrev pub text_of_told : Told → Bytes
+abbrev pub text_of_told : OwnerReply → Bytes
 text_of_told TellForbidden = text_of_failure Forbidden
 text_of_told (TellOrders rows) = granted (orders_data rows)
 text_of_told (TellOrder row) = granted (order_data row)
@@ -43,7 +43,7 @@ text_of_told (TellTrace trace) = granted (trace_data trace)
 text_of_told (TellRefused refusal) = reply_text (refusal_status refusal) None (compact_text (refusal_data refusal))
 
 -- nothing is told of a fault
-abbrev pub text_if_told : Result Told KeepFault → Option Bytes
+abbrev pub text_if_told : Result OwnerReply KeepFault → Option Bytes
 text_if_told (Ok told) = Some (text_of_told told)
 text_if_told (Err fault) = None
 

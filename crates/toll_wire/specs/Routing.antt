@@ -1,7 +1,7 @@
 -- What a target, a method and a body ask for.
 use Rattle.std.specs.Prelude.{◌≡◌, Option, Some, None, IsSome, option_map}
 use Rattle.toll_base.specs.Bytes.{Bytes}
-use Rattle.toll_answers.specs.Replies.{IsValidAsked}
+use Rattle.toll_answers.specs.Replies.{IsValidOwnerRequest}
 use Rattle.toll_desk.specs.Translations.{asked_of}
 use Rattle.toll_desk.specs.declared.request.Request.{Request}
 use Rattle.toll_desk.specs.declared.request.Request.TheVariants as request
@@ -88,4 +88,4 @@ pub record IsAsking (verb : Verb) (target body : Bytes) (asks : RoutedRequest) :
 -- the values of what is asked for are within their bounds
 abbrev pub IsValidAsks : RoutedRequest → Type 0
 IsValidAsks (Failing failure) = Unit {0}
-IsValidAsks (For request) = IsValidAsked (asked_of request)
+IsValidAsks (For request) = IsValidOwnerRequest (asked_of request)

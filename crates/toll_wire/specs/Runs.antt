@@ -1,12 +1,12 @@
 -- Runs of events with their answers, and what one owner's events give alone.
 use Rattle.std.specs.Prelude.{◌≡◌, Bool, false, true, ◌&&◌, if◌then◌else◌, Option, Some, None, List, [], ◌∷◌, ◌++◌}
-use Rattle.toll_wire.specs.Common.{Bytes, same_bytes, house_name, History, part, Accepted, Asked, Told, PlantAsked, Does, PlantTold, Judged, IsPlantAnswer, after_plant, IsValidCommand}
+use Rattle.toll_wire.specs.Common.{Bytes, same_bytes, house_name, History, part, Accepted, OwnerRequest, OwnerReply, PlantRequest, Does, PlantAnswer, Judged, IsPlantAnswer, after_plant, IsValidCommand}
 use Rattle.toll_base.specs.Words.{is_some_where}
-use Rattle.toll_answers.specs.Replies.{IsValidAsked, has_key, IsReply, after_reply}
+use Rattle.toll_answers.specs.Replies.{IsValidOwnerRequest, has_key, IsReply, after_reply}
 
 -- what is asked with a key: a request, or something that fails a check after the key's, with the text that it is told
 pub data ClaimedRequest : Type 0 where
-  Asks : (q : Asked) → ClaimedRequest
+  Asks : (q : OwnerRequest) → ClaimedRequest
   Fails : (text : Bytes) → ClaimedRequest
 
 -- what the bytes of a request say: whose it claims to be, with which key if with one, and for what it asks; or, where it claims to be nobody's, what is told by the bytes alone
@@ -17,13 +17,13 @@ pub data Saying : Type 0 where
 -- an event: a request, as its bytes are read, or what the plant does
 pub data Happening : Type 0 where
   Request : (saying : Saying) → Happening
-  Plant : (asked : PlantAsked) → Happening
+  Plant : (asked : PlantRequest) → Happening
 
 -- an answer: the bytes of a reply, that there was none, what the plant is told, or a fault
 pub data Answered : Type 0 where
   Text : (text : Bytes) → Answered
   Unavailable : Answered
-  PlantTells : (told : PlantTold) → Answered
+  PlantTells : (told : PlantAnswer) → Answered
   PlantFault : Answered
 
 -- the owner that is claimed in what was said, if one is
@@ -37,18 +37,18 @@ claims o saying = is_some_where (λ p. same_bytes p o) (claimed_in saying)
 
 -- how replies are written
 pub record Wire : Type 0 where
-  pub text : Told → Bytes
+  pub text : OwnerReply → Bytes
   pub forbidden : Bytes
 
 module _ (wire : Wire) where
   -- ---- one step
 
   -- who says this is told this text, where `Admits` says whether a key is the owner's and `Replies` what a request is told; without a key it is forbidden
-  abbrev pub Tells : (Admits : Bytes → Bytes → Bool → Type 0) → (Replies : Bytes → Bytes → Asked → Told → Type 0) → Saying → Bytes → Type 0
+  abbrev pub Tells : (Admits : Bytes → Bytes → Bool → Type 0) → (Replies : Bytes → Bytes → OwnerRequest → OwnerReply → Type 0) → Saying → Bytes → Type 0
   Tells Admits Replies (Nobody told) out = out ≡ told
   Tells Admits Replies (By o None asking) out = out ≡ wire.forbidden
   Tells Admits Replies (By o (Some key) (Fails told)) out = (b : Bool) × Admits o key b × (out ≡ (if b then told else wire.forbidden))
-  Tells Admits Replies (By o (Some key) (Asks q)) out = (r : Told) × Replies o key q r × (out ≡ wire.text r)
+  Tells Admits Replies (By o (Some key) (Asks q)) out = (r : OwnerReply) × Replies o key q r × (out ≡ wire.text r)
 
   -- what is told over this history
   abbrev pub IsTold : History → Saying → Bytes → Type 0
@@ -92,7 +92,7 @@ module _ (wire : Wire) where
 
   -- ---- one owner's part of a run
 
-  abbrev pub accepts : PlantTold → Bool
+  abbrev pub accepts : PlantAnswer → Bool
   accepts (Judged Accepted) = true
   accepts _ = false
 
@@ -137,7 +137,7 @@ module _ (wire : Wire) where
 
   -- of a request, and of a command
   abbrev pub IsValidSaying : Saying → Type 0
-  IsValidSaying (By o key (Asks q)) = IsValidAsked q
+  IsValidSaying (By o key (Asks q)) = IsValidOwnerRequest q
   IsValidSaying _ = Unit {0}
 
   abbrev pub IsValidEvent : Happening → Type 0

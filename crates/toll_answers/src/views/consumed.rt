@@ -2,7 +2,7 @@
 ghost use Rattle.std.specs.Prelude.{◌≡◌};
 ghost use Rattle.toll_answers.specs.Common.{bytes_cmp, IsInKeyOrder, History, acts, IsRowsOf, IsLawful};
 ghost use Rattle.toll_answers.specs.InSlice.{has_consumed_in};
-ghost use Rattle.toll_answers.specs.Views as told;
+ghost use Rattle.toll_answers.specs.Views as shown;
 
 use toll_base::{LotId, Move, Role, Slice};
 
@@ -10,7 +10,7 @@ use toll_base::{LotId, Move, Role, Slice};
 /// that isn't voided.
 pub fn has_consumed(slice: &Slice, lot: &LotId) -> bool
     ensures in_slice { result ≡ has_consumed_in slice.now lot.now }
-    ensures over { (H : History) → IsLawful H → IsRowsOf H slice.now → result ≡ told.has_consumed (acts slice.now.owner H) lot.now }
+    ensures over { (H : History) → IsLawful H → IsRowsOf H slice.now → result ≡ shown.has_consumed (acts slice.now.owner H) lot.now }
 {
     has_standing(slice, lot)
 }
@@ -24,7 +24,7 @@ fn has_standing(slice: &Slice, lot: &LotId) -> bool
 
 // Whether the movement consumes from the lot.
 fn consumes(what: &Move, lot: &LotId) -> bool
-    ensures { result ≡ told.consumes_lot lot.now what.now }
+    ensures { result ≡ shown.consumes_lot lot.now what.now }
 {
     match what {
         Move::Actual {

@@ -1,5 +1,5 @@
 //! Stories of orders, batches and units.
-use crate::desk::lines::Asked;
+use crate::desk::lines::DeskTeller;
 use crate::desk::setups::WITH_BATCH;
 use crate::stories::{Line, WITH_RECIPE, check_said};
 use std::test::Fail;
@@ -14,7 +14,7 @@ const UNIT_IS_HELD: &[Line] = &[
 
 #[test]
 fn a_unit_is_held_whoever_holds_it(rt: HostRuntime) -> Result<(), Fail> {
-    check_said::<Asked>(rt.alloc(), &[WITH_RECIPE, WITH_BATCH, UNIT_IS_HELD])
+    check_said::<DeskTeller>(rt.alloc(), &[WITH_RECIPE, WITH_BATCH, UNIT_IS_HELD])
 }
 
 const HELD_AND_STOPPED: &[Line] = &[
@@ -46,7 +46,7 @@ const HELD_AND_STOPPED: &[Line] = &[
 
 #[test]
 fn a_batch_goes_through_its_states(rt: HostRuntime) -> Result<(), Fail> {
-    check_said::<Asked>(rt.alloc(), &[WITH_RECIPE, WITH_BATCH, HELD_AND_STOPPED])
+    check_said::<DeskTeller>(rt.alloc(), &[WITH_RECIPE, WITH_BATCH, HELD_AND_STOPPED])
 }
 
 const CANCELLED: &[Line] = &[
@@ -66,7 +66,7 @@ const CANCELLED: &[Line] = &[
 
 #[test]
 fn an_order_is_cancelled_before_its_first_batch(rt: HostRuntime) -> Result<(), Fail> {
-    check_said::<Asked>(rt.alloc(), &[WITH_RECIPE, WITH_BATCH, CANCELLED])
+    check_said::<DeskTeller>(rt.alloc(), &[WITH_RECIPE, WITH_BATCH, CANCELLED])
 }
 
 const ORDERS_OF_HOUSE: &[Line] = &[
@@ -94,7 +94,7 @@ const REQUIREMENTS: &[Line] = &[
 
 #[test]
 fn house_orders_as_owners_do(rt: HostRuntime) -> Result<(), Fail> {
-    check_said::<Asked>(
+    check_said::<DeskTeller>(
         rt.alloc(),
         &[WITH_RECIPE, WITH_BATCH, ORDERS_OF_HOUSE, REQUIREMENTS],
     )

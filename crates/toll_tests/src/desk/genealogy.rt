@@ -1,5 +1,5 @@
 //! Stories of traces and recalls.
-use crate::desk::lines::Asked;
+use crate::desk::lines::DeskTeller;
 use crate::desk::setups::RELEASED_AND_PLACED;
 use crate::stories::{
     A_CONSUMED, BOTH_RUN, Line, P1_PRODUCED, WITH_HOUSE, WITH_TWO_RECIPES, check_said_and_joined,
@@ -28,7 +28,7 @@ const TRACED: &[Line] = &[
 
 #[test]
 fn traces_go_by_segments(rt: HostRuntime) -> Result<(), Fail> {
-    check_said_and_joined::<Asked>(
+    check_said_and_joined::<DeskTeller>(
         rt.alloc(),
         &[
             WITH_HOUSE,
@@ -71,7 +71,7 @@ const IN_A_CIRCLE: &[Line] = &[
 
 #[test]
 fn a_trace_round_a_circle_ends(rt: HostRuntime) -> Result<(), Fail> {
-    check_said_and_joined::<Asked>(
+    check_said_and_joined::<DeskTeller>(
         rt.alloc(),
         &[WITH_TWO_RECIPES, BOTH_PLACED, BOTH_RUN, IN_A_CIRCLE],
     )
@@ -152,7 +152,7 @@ const RECALLED_THROUGH_H2: &[Line] = &[
 
 #[test]
 fn a_recall_goes_on_from_house_to_owners(rt: HostRuntime) -> Result<(), Fail> {
-    check_said_and_joined::<Asked>(
+    check_said_and_joined::<DeskTeller>(
         rt.alloc(),
         &[
             WITH_HOUSE_RECIPE,
@@ -183,7 +183,7 @@ const SHIPPED_IN_PARTS: &[Line] = &[
 
 #[test]
 fn shipments_of_each_recalled_lot_are_added_up(rt: HostRuntime) -> Result<(), Fail> {
-    check_said_and_joined::<Asked>(
+    check_said_and_joined::<DeskTeller>(
         rt.alloc(),
         &[
             WITH_HOUSE_RECIPE,
@@ -210,7 +210,7 @@ const NOT_RECALLED: &[Line] = &[
 
 #[test]
 fn what_is_consumed_later_is_not_recalled(rt: HostRuntime) -> Result<(), Fail> {
-    check_said_and_joined::<Asked>(
+    check_said_and_joined::<DeskTeller>(
         rt.alloc(),
         &[
             WITH_HOUSE_RECIPE,
@@ -236,7 +236,7 @@ const RECALLED_BOTH_WAYS: &[Line] = &[
 
 #[test]
 fn a_recall_goes_the_shortest_way(rt: HostRuntime) -> Result<(), Fail> {
-    check_said_and_joined::<Asked>(
+    check_said_and_joined::<DeskTeller>(
         rt.alloc(),
         &[
             WITH_HOUSE_RECIPE,

@@ -1,5 +1,5 @@
 //! Stories of how many rows there may be.
-use crate::desk::lines::Asked;
+use crate::desk::lines::DeskTeller;
 use crate::desk::setups::WITH_BATCH;
 use crate::stories::{Line, Teller, WITH_RECIPE, check, check_said_over, empty_tables, plant_said};
 use std::alloc::{AllocError, Global};
@@ -25,7 +25,7 @@ fn line_of(alloc: Global, pieces: &[&str], number: u64) -> Result<String, AllocE
 fn fill(alloc: Global, keep: &mut MemKeep, pieces: &[&str]) -> Result<String, AllocError> {
     for number in 0..100_000 {
         let line = line_of(alloc, pieces, number)?;
-        let said = Asked::say(alloc, keep, &line)?;
+        let said = DeskTeller::say(alloc, keep, &line)?;
         if said.as_str() != "accepted" {
             return format!(in alloc; "{number}, {said}");
         }
@@ -114,10 +114,10 @@ const ONE_LOT_MORE: &[Line] = &[
 #[test]
 fn an_owner_has_5000_lots(rt: HostRuntime) -> Result<(), Fail> {
     let mut keep = empty_tables(rt.alloc())?;
-    check_said_over::<Asked, _>(rt.alloc(), &mut keep, &[WITH_RECIPE])?;
+    check_said_over::<DeskTeller, _>(rt.alloc(), &mut keep, &[WITH_RECIPE])?;
     let last = receive_all(rt.alloc(), &mut keep, 5_000, true)?;
     assert!(rt; last.as_str() == "accepted", "{last}");
-    check_said_over::<Asked, _>(rt.alloc(), &mut keep, &[ONE_LOT_MORE])
+    check_said_over::<DeskTeller, _>(rt.alloc(), &mut keep, &[ONE_LOT_MORE])
 }
 
 const ONE_MOVEMENT_MORE: &[Line] = &[
@@ -128,17 +128,17 @@ const ONE_MOVEMENT_MORE: &[Line] = &[
 #[test]
 fn an_owner_has_20000_movements(rt: HostRuntime) -> Result<(), Fail> {
     let mut keep = empty_tables(rt.alloc())?;
-    check_said_over::<Asked, _>(rt.alloc(), &mut keep, &[WITH_RECIPE])?;
+    check_said_over::<DeskTeller, _>(rt.alloc(), &mut keep, &[WITH_RECIPE])?;
     let last = receive_all(rt.alloc(), &mut keep, 20_000, false)?;
     assert!(rt; last.as_str() == "accepted", "{last}");
-    check_said_over::<Asked, _>(rt.alloc(), &mut keep, &[ONE_MOVEMENT_MORE])
+    check_said_over::<DeskTeller, _>(rt.alloc(), &mut keep, &[ONE_MOVEMENT_MORE])
 }
 
 // Says it with each number from 1 to 99, which is accepted.
 fn check_each(alloc: Global, keep: &mut MemKeep, pieces: &[&str]) -> Result<(), Fail> {
     for number in 1..100 {
         let line = line_of(alloc, pieces, number)?;
-        let said = Asked::say(alloc, keep, &line)?;
+        let said = DeskTeller::say(alloc, keep, &line)?;
         check(said.as_str() == "accepted", &line)?;
     }
     Ok(())
@@ -149,7 +149,7 @@ const WITH_99_BATCHES: &[Line] = &[("> ACME ACMEKEY1 place O R 99", "order O R 9
 #[test]
 fn an_order_has_its_batches_and_no_more(rt: HostRuntime) -> Result<(), Fail> {
     let mut keep = MemKeep::new(rt.alloc());
-    check_said_over::<Asked, _>(rt.alloc(), &mut keep, &[WITH_RECIPE, WITH_99_BATCHES])?;
+    check_said_over::<DeskTeller, _>(rt.alloc(), &mut keep, &[WITH_RECIPE, WITH_99_BATCHES])?;
     check_filled(
         rt.alloc(),
         &mut keep,
@@ -180,13 +180,13 @@ const NO_BATCH_MORE: &[Line] = &[
 #[test]
 fn an_order_whose_batches_are_closed_has_no_more(rt: HostRuntime) -> Result<(), Fail> {
     let mut keep = MemKeep::new(rt.alloc());
-    check_said_over::<Asked, _>(rt.alloc(), &mut keep, &[WITH_RECIPE, WITH_99_BATCHES])?;
+    check_said_over::<DeskTeller, _>(rt.alloc(), &mut keep, &[WITH_RECIPE, WITH_99_BATCHES])?;
     fill(rt.alloc(), &mut keep, &["unit-add U-", ""])?;
     fill(rt.alloc(), &mut keep, &["open ACME O U-", ""])?;
     for pieces in UP_TO_CLOSED {
         check_each(rt.alloc(), &mut keep, pieces)?;
     }
-    check_said_over::<Asked, _>(rt.alloc(), &mut keep, &[NO_BATCH_MORE])
+    check_said_over::<DeskTeller, _>(rt.alloc(), &mut keep, &[NO_BATCH_MORE])
 }
 
 // A voided actual counts as before.
@@ -209,12 +209,12 @@ const VOIDED: &[Line] = &[
 #[test]
 fn a_batch_has_200_actuals(rt: HostRuntime) -> Result<(), Fail> {
     let mut keep = MemKeep::new(rt.alloc());
-    check_said_over::<Asked, _>(rt.alloc(), &mut keep, &[WITH_RECIPE, WITH_BATCH])?;
+    check_said_over::<DeskTeller, _>(rt.alloc(), &mut keep, &[WITH_RECIPE, WITH_BATCH])?;
     check_filled(
         rt.alloc(),
         &mut keep,
         &["actual N", " ACME O 1 1 produced P ACME P1 S1 1 11"],
         "200, refused LimitReached",
     )?;
-    check_said_over::<Asked, _>(rt.alloc(), &mut keep, &[VOIDED])
+    check_said_over::<DeskTeller, _>(rt.alloc(), &mut keep, &[VOIDED])
 }

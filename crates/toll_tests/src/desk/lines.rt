@@ -7,9 +7,9 @@ use toll_desk::owner_do;
 use toll_keep::Keep;
 
 /// The plant asks in its words; an owner's line begins with `>`, its name and its key.
-pub(crate) struct Asked;
+pub(crate) struct DeskTeller;
 
-impl Teller for Asked {
+impl Teller for DeskTeller {
     fn say<K: Keep>(alloc: Global, keep: &mut K, line: &str) -> Result<String, AllocError> {
         let words: Vec<&str> = line.split(' ').collect(alloc)?;
         match words.as_slice() {

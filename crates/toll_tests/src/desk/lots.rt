@@ -1,5 +1,5 @@
 //! Stories of lots, their tests and their dispositions.
-use crate::desk::lines::Asked;
+use crate::desk::lines::DeskTeller;
 use crate::stories::{Line, check_said};
 use std::test::Fail;
 
@@ -44,7 +44,7 @@ const OUT_OF_LIMITS: &[Line] = &[
 
 #[test]
 fn a_lot_is_released_while_its_tests_pass(rt: HostRuntime) -> Result<(), Fail> {
-    check_said::<Asked>(rt.alloc(), &[TESTED, OUT_OF_LIMITS])
+    check_said::<DeskTeller>(rt.alloc(), &[TESTED, OUT_OF_LIMITS])
 }
 
 // Three lots, two of whose names begin alike, with results and sublots.
@@ -84,5 +84,5 @@ const NAMED_ALIKE: &[Line] = &[
 
 #[test]
 fn a_lot_is_told_with_its_own_rows(rt: HostRuntime) -> Result<(), Fail> {
-    check_said::<Asked>(rt.alloc(), &[NAMED_ALIKE])
+    check_said::<DeskTeller>(rt.alloc(), &[NAMED_ALIKE])
 }

@@ -1,5 +1,5 @@
 //! Stories of movements.
-use crate::desk::lines::Asked;
+use crate::desk::lines::DeskTeller;
 use crate::desk::setups::WITH_BATCH;
 use crate::stories::{CONSUMED_ONCE, Line, WITH_RECIPE, check_said};
 use std::test::Fail;
@@ -17,7 +17,7 @@ const ALL_CONSUMED: &[Line] = &[
 
 #[test]
 fn a_batch_consumes_what_there_is(rt: HostRuntime) -> Result<(), Fail> {
-    check_said::<Asked>(
+    check_said::<DeskTeller>(
         rt.alloc(),
         &[WITH_RECIPE, WITH_BATCH, CONSUMED_ONCE, ALL_CONSUMED],
     )
@@ -72,7 +72,7 @@ const PRODUCT_CONSUMED: &[Line] = &[
 
 #[test]
 fn a_product_is_consumed_once_it_is_released(rt: HostRuntime) -> Result<(), Fail> {
-    check_said::<Asked>(
+    check_said::<DeskTeller>(
         rt.alloc(),
         &[WITH_RECIPE, CONSUMED_AGAIN, WITH_BATCH, PRODUCT_CONSUMED],
     )
@@ -108,5 +108,5 @@ const SPLIT_AND_SHIPPED: &[Line] = &[
 
 #[test]
 fn material_is_split_scrapped_and_shipped(rt: HostRuntime) -> Result<(), Fail> {
-    check_said::<Asked>(rt.alloc(), &[WITH_RECIPE, WITH_BATCH, SPLIT_AND_SHIPPED])
+    check_said::<DeskTeller>(rt.alloc(), &[WITH_RECIPE, WITH_BATCH, SPLIT_AND_SHIPPED])
 }

@@ -1,5 +1,5 @@
 //! Stories of owners and the plant, over a list keep and over one that once has no memory.
-use crate::desk::lines::Asked;
+use crate::desk::lines::DeskTeller;
 use crate::refusing::{Refused, Refusing};
 use crate::stories::{Line, check_said, check_said_over};
 use std::test::Fail;
@@ -24,7 +24,7 @@ const PLACED_ONCE: &[Line] = &[
 
 #[test]
 fn an_order_is_placed_once(rt: HostRuntime) -> Result<(), Fail> {
-    check_said::<Asked>(rt.alloc(), &[WITH_ACME, PLACED_ONCE])
+    check_said::<DeskTeller>(rt.alloc(), &[WITH_ACME, PLACED_ONCE])
 }
 
 const OF_ONE_NAME: &[Line] = &[
@@ -38,7 +38,7 @@ const OF_ONE_NAME: &[Line] = &[
 
 #[test]
 fn owners_have_orders_of_one_name(rt: HostRuntime) -> Result<(), Fail> {
-    check_said::<Asked>(rt.alloc(), &[WITH_ACME, OF_ONE_NAME])
+    check_said::<DeskTeller>(rt.alloc(), &[WITH_ACME, OF_ONE_NAME])
 }
 
 const FORBIDDEN: &[Line] = &[
@@ -51,7 +51,7 @@ const FORBIDDEN: &[Line] = &[
 
 #[test]
 fn a_wrong_key_is_forbidden(rt: HostRuntime) -> Result<(), Fail> {
-    check_said::<Asked>(rt.alloc(), &[WITH_ACME, FORBIDDEN])
+    check_said::<DeskTeller>(rt.alloc(), &[WITH_ACME, FORBIDDEN])
 }
 
 const ADDED_ONCE: &[Line] = &[
@@ -66,7 +66,7 @@ const ADDED_ONCE: &[Line] = &[
 
 #[test]
 fn an_owner_is_added_once(rt: HostRuntime) -> Result<(), Fail> {
-    check_said::<Asked>(rt.alloc(), &[WITH_ACME, ADDED_ONCE])
+    check_said::<DeskTeller>(rt.alloc(), &[WITH_ACME, ADDED_ONCE])
 }
 
 const NOT_PLACED_WITHOUT_MEMORY: &[Line] = &[
@@ -79,8 +79,8 @@ const NOT_PLACED_WITHOUT_MEMORY: &[Line] = &[
 #[test]
 fn an_order_without_memory_is_not_placed(rt: HostRuntime) -> Result<(), Fail> {
     let mut keep = MemKeep::new(rt.alloc());
-    check_said_over::<Asked, _>(rt.alloc(), &mut keep, &[WITH_ACME])?;
-    check_said_over::<Asked, _>(
+    check_said_over::<DeskTeller, _>(rt.alloc(), &mut keep, &[WITH_ACME])?;
+    check_said_over::<DeskTeller, _>(
         rt.alloc(),
         &mut Refusing::new(keep, Refused::Apply),
         &[NOT_PLACED_WITHOUT_MEMORY],
@@ -97,5 +97,5 @@ const NOT_ADDED_WITHOUT_MEMORY: &[Line] = &[
 #[test]
 fn an_owner_without_memory_is_not_added(rt: HostRuntime) -> Result<(), Fail> {
     let mut keep = Refusing::new(MemKeep::new(rt.alloc()), Refused::Apply);
-    check_said_over::<Asked, _>(rt.alloc(), &mut keep, &[NOT_ADDED_WITHOUT_MEMORY])
+    check_said_over::<DeskTeller, _>(rt.alloc(), &mut keep, &[NOT_ADDED_WITHOUT_MEMORY])
 }

@@ -1,5 +1,5 @@
 //! What an owner's rows say along stories.
-use crate::desk::lines::Asked;
+use crate::desk::lines::DeskTeller;
 use crate::desk::setups::{RELEASED_AND_PLACED, WITH_BATCH};
 use crate::stories::{
     A_CONSUMED, Line, WITH_HOUSE, WITH_RECIPE, check, check_lines, check_said_over,
@@ -13,7 +13,7 @@ use toll_work::open_batch;
 
 fn told(alloc: Global, story: &[&[Line]]) -> Result<MemKeep, Fail> {
     let mut keep = MemKeep::new(alloc);
-    check_said_over::<Asked, _>(alloc, &mut keep, story)?;
+    check_said_over::<DeskTeller, _>(alloc, &mut keep, story)?;
     Ok(keep)
 }
 
@@ -106,7 +106,7 @@ fn what_is_consumed_of_house_is_the_batch_owners_movement(rt: HostRuntime) -> Re
     let story: &[&[Line]] = &[WITH_HOUSE, RELEASED_AND_PLACED, A_CONSUMED];
     let mut keep = told(rt.alloc(), story)?;
     let (own, house) = movements(rt.alloc(), &mut keep)?;
-    check_lines::<Asked, _>(rt.alloc(), &mut keep, HOUSE_CONSUMED)?;
+    check_lines::<DeskTeller, _>(rt.alloc(), &mut keep, HOUSE_CONSUMED)?;
     let (own_after, house_after) = movements(rt.alloc(), &mut keep)?;
     let is_own = own.checked_add(1) == Some(own_after);
     check(is_own && house_after == house, "another movement")
@@ -134,5 +134,5 @@ const SAME_NAMES: &[Line] = &[
 #[test]
 fn movements_of_another_owners_lot_leave_ones_own(rt: HostRuntime) -> Result<(), Fail> {
     let mut keep = told(rt.alloc(), &[WITH_RECIPE, WITH_BATCH])?;
-    check_lines::<Asked, _>(rt.alloc(), &mut keep, SAME_NAMES)
+    check_lines::<DeskTeller, _>(rt.alloc(), &mut keep, SAME_NAMES)
 }

@@ -1,5 +1,5 @@
 //! Stories of actuals that are taken back.
-use crate::desk::lines::Asked;
+use crate::desk::lines::DeskTeller;
 use crate::desk::setups::{RELEASED_AND_PLACED, WITH_BATCH};
 use crate::stories::{
     A_CONSUMED, CONSUMED_AND_PRODUCED, CONSUMPTION_VOIDED, Line, P1_PRODUCED, WITH_HOUSE,
@@ -40,7 +40,7 @@ const KEYS_STAY_TAKEN: &[Line] = &[
 
 #[test]
 fn a_voided_consumption_gives_back(rt: HostRuntime) -> Result<(), Fail> {
-    check_said_and_joined::<Asked>(
+    check_said_and_joined::<DeskTeller>(
         rt.alloc(),
         &[
             WITH_RECIPE,
@@ -68,7 +68,7 @@ const GIVEN_BACK_TO_HOUSE: &[Line] = &[
 
 #[test]
 fn a_void_gives_back_to_house(rt: HostRuntime) -> Result<(), Fail> {
-    check_said_and_joined::<Asked>(
+    check_said_and_joined::<DeskTeller>(
         rt.alloc(),
         &[
             WITH_HOUSE,

@@ -1,6 +1,6 @@
 //! The batch that holds a unit, of tables in which its row is none of the office's: it is told as damage, and
 //! the unit is neither free nor held.
-use crate::desk::lines::Asked;
+use crate::desk::lines::DeskTeller;
 use crate::desk::setups::WITH_BATCH;
 use crate::keep::rows::{batch, fill_all};
 use crate::keep::tables::adopted;
@@ -60,13 +60,13 @@ const NEITHER_FREE_NOR_HELD: &[Line] = &[
 fn a_batch_is_opened_on_no_unit_with_a_broken_row(rt: HostRuntime) -> Result<(), Fail> {
     let alloc = rt.alloc();
     let mut keep = empty_tables(alloc)?;
-    check_said_over::<Asked, TableKeep>(
+    check_said_over::<DeskTeller, TableKeep>(
         alloc,
         &mut keep,
         &[WITH_RECIPE, WITH_BATCH, BOLT_IS_PLACED],
     )?;
     let found = adopted(alloc, without_state(alloc, keep)?)?;
-    check_said_over::<Asked, TableKeep>(
+    check_said_over::<DeskTeller, TableKeep>(
         alloc,
         &mut CachedKeep::new(alloc, found),
         &[NEITHER_FREE_NOR_HELD],

@@ -1,6 +1,6 @@
 //! How files are read.
 use crate::desk::setups::WITH_BATCH;
-use crate::plant::lines::{Asked, HEADER};
+use crate::plant::lines::{HEADER, PlantTeller};
 use crate::stories::{Line, WITH_RECIPE, check_said_over_lists, say_to_file};
 use std::alloc::{AllocError, Global};
 use std::test::Fail;
@@ -22,7 +22,7 @@ const READ_ALIKE: &str =
 #[test]
 fn a_file_is_read_alike_however_it_is_written(rt: HostRuntime) -> Result<(), Fail> {
     for file in WRITTEN {
-        check_said_over_lists::<Asked>(
+        check_said_over_lists::<PlantTeller>(
             rt.alloc(),
             &[WITH_RECIPE, WITH_BATCH, &[(file, READ_ALIKE)]],
         )?;
@@ -65,7 +65,7 @@ const HEADERS: &[Line] = &[
 
 #[test]
 fn a_file_needs_its_header(rt: HostRuntime) -> Result<(), Fail> {
-    check_said_over_lists::<Asked>(rt.alloc(), &[HEADERS])
+    check_said_over_lists::<PlantTeller>(rt.alloc(), &[HEADERS])
 }
 
 // Eleven fields, thirteen, and none but an empty quoted one; and all else as it is without them.
@@ -83,7 +83,10 @@ const UNREAD: &[Line] = &[(
 
 #[test]
 fn records_that_are_no_actuals_change_nothing(rt: HostRuntime) -> Result<(), Fail> {
-    check_said_over_lists::<Asked>(rt.alloc(), &[WITH_RECIPE, WITH_BATCH, UNREAD, BAD_RECORDS])
+    check_said_over_lists::<PlantTeller>(
+        rt.alloc(),
+        &[WITH_RECIPE, WITH_BATCH, UNREAD, BAD_RECORDS],
+    )
 }
 
 #[test]

@@ -1,6 +1,6 @@
 //! Stories of files that are imported.
 use crate::desk::setups::WITH_BATCH;
-use crate::plant::lines::{Asked, HEADER};
+use crate::plant::lines::{HEADER, PlantTeller};
 use crate::refusing::{Refused, Refusing};
 use crate::stories::{Line, WITH_RECIPE, check_said, check_said_over, empty_tables, say_to_file};
 use std::alloc::{AllocError, Global};
@@ -32,7 +32,7 @@ const IMPORTED_AGAIN: &[Line] = &[
 
 #[test]
 fn a_file_that_was_imported_changes_nothing_again(rt: HostRuntime) -> Result<(), Fail> {
-    check_said::<Asked>(
+    check_said::<PlantTeller>(
         rt.alloc(),
         &[WITH_RECIPE, WITH_BATCH, IMPORTED, IMPORTED_AGAIN],
     )
@@ -48,7 +48,7 @@ const VOIDED_BETWEEN: &[Line] = &[
 
 #[test]
 fn a_voided_actual_is_refused_when_it_is_imported_again(rt: HostRuntime) -> Result<(), Fail> {
-    check_said::<Asked>(
+    check_said::<PlantTeller>(
         rt.alloc(),
         &[WITH_RECIPE, WITH_BATCH, IMPORTED, VOIDED_BETWEEN],
     )
@@ -78,7 +78,7 @@ const REFUSED_AND_LATER_ACCEPTED: &[Line] = &[
 
 #[test]
 fn a_refused_record_may_be_imported_later(rt: HostRuntime) -> Result<(), Fail> {
-    check_said::<Asked>(
+    check_said::<PlantTeller>(
         rt.alloc(),
         &[
             WITH_RECIPE,
@@ -147,8 +147,12 @@ fn check_refused<K: Keep + Drop>(
     before: &[&[Line]],
     refused: &[&[Line]],
 ) -> Result<(), Fail> {
-    check_said_over::<Asked, K>(alloc, &mut keep, before)?;
-    check_said_over::<Asked, Refusing<K>>(alloc, &mut Refusing::new(keep, Refused::Apply), refused)
+    check_said_over::<PlantTeller, K>(alloc, &mut keep, before)?;
+    check_said_over::<PlantTeller, Refusing<K>>(
+        alloc,
+        &mut Refusing::new(keep, Refused::Apply),
+        refused,
+    )
 }
 
 const REFUSED: &[(&[&[Line]], &[&[Line]])] = &[
@@ -208,7 +212,7 @@ fn check_long<K: Keep>(alloc: Global, keep: &mut K, wanted: &str) -> Result<(), 
 #[test]
 fn groups_before_a_refused_one_stand(rt: HostRuntime) -> Result<(), Fail> {
     let mut keep = MemKeep::new(rt.alloc());
-    check_said_over::<Asked, _>(
+    check_said_over::<PlantTeller, _>(
         rt.alloc(),
         &mut keep,
         &[WITH_RECIPE, WITH_BATCH, K2_IMPORTED],
@@ -279,7 +283,7 @@ const FAULTY: &[Line] = &[(
 #[test]
 fn a_fault_ends_an_import(rt: HostRuntime) -> Result<(), Fail> {
     let mut keep = MemKeep::new(rt.alloc());
-    check_said_over::<Asked, _>(rt.alloc(), &mut keep, &[WITH_RECIPE, WITH_BATCH])?;
+    check_said_over::<PlantTeller, _>(rt.alloc(), &mut keep, &[WITH_RECIPE, WITH_BATCH])?;
     let mut keep = Refusing::new(keep, Refused::Apply);
-    check_said_over::<Asked, _>(rt.alloc(), &mut keep, &[FAULTY, IMPORTED])
+    check_said_over::<PlantTeller, _>(rt.alloc(), &mut keep, &[FAULTY, IMPORTED])
 }

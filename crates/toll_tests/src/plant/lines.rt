@@ -6,7 +6,7 @@ use toll_keep::Keep;
 
 /// Behind `file` stands a file of actuals, and behind `records` what is under its header. All else is
 /// asked as in the stories of the desk.
-pub(crate) struct Asked;
+pub(crate) struct PlantTeller;
 
 /// The first record of a file of actuals, with its line end.
 pub(crate) const HEADER: &str =
@@ -21,12 +21,12 @@ fn say_to_records<K: Keep>(
     say_to_file(alloc, keep, file.as_bytes())
 }
 
-impl Teller for Asked {
+impl Teller for PlantTeller {
     fn say<K: Keep>(alloc: Global, keep: &mut K, line: &str) -> Result<String, AllocError> {
         match line.split_once(' ') {
             Some(("file", file)) => say_to_file(alloc, keep, file.as_bytes()),
             Some(("records", records)) => say_to_records(alloc, keep, records),
-            _ => desk::lines::Asked::say(alloc, keep, line),
+            _ => desk::lines::DeskTeller::say(alloc, keep, line),
         }
     }
 }

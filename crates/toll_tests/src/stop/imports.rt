@@ -1,6 +1,6 @@
 //! A file of two groups that is imported while the files of the office stop.
-use crate::plant::lines::{Asked, HEADER};
-use crate::stop::runs::{Run, Told, files_of, told_of};
+use crate::plant::lines::{HEADER, PlantTeller};
+use crate::stop::runs::{Run, RunResult, files_of, told_of};
 use crate::stop::stops::check_stops;
 use crate::stories::{Line, WITH_HOUSE, are_said, check_lines, say_to_file};
 use crate::wire::setups::RELEASED_AND_PLACED;
@@ -56,13 +56,13 @@ const BOTH_STAND: &[Line] = &[
 
 // Whether both groups stand. Fails where it is neither that, nor the first alone, nor none.
 fn both_stand<K: Keep>(alloc: Global, keep: &mut K) -> Result<bool, Fail> {
-    if are_said::<Asked, K>(alloc, keep, NONE_STANDS)? {
+    if are_said::<PlantTeller, K>(alloc, keep, NONE_STANDS)? {
         return Ok(false);
     }
-    if are_said::<Asked, K>(alloc, keep, ONE_STANDS)? {
+    if are_said::<PlantTeller, K>(alloc, keep, ONE_STANDS)? {
         return Ok(false);
     }
-    check_lines::<Asked, K>(alloc, keep, BOTH_STAND)?;
+    check_lines::<PlantTeller, K>(alloc, keep, BOTH_STAND)?;
     Ok(true)
 }
 
@@ -71,18 +71,18 @@ const DONE: &str = "accepted 2 repeated 0 refused 0 bad 499 fault 0\n";
 
 const FAULT: &str = "fault 1\n";
 
-fn told_by(said: &str) -> Told {
+fn told_by(said: &str) -> RunResult {
     if said.ends_with(DONE) {
-        Told::Done
+        RunResult::Done
     } else if said.ends_with(FAULT) {
-        Told::Fault
+        RunResult::Fault
     } else {
-        Told::Other
+        RunResult::Other
     }
 }
 
 // What comes of the file.
-fn import<K: Keep>(alloc: Global, keep: &mut K) -> Result<Told, AllocError> {
+fn import<K: Keep>(alloc: Global, keep: &mut K) -> Result<RunResult, AllocError> {
     let said = say_to_file(alloc, keep, file_of_two_groups(alloc)?.as_bytes())?;
     Ok(told_by(said.as_str()))
 }
@@ -91,11 +91,15 @@ fn import<K: Keep>(alloc: Global, keep: &mut K) -> Result<Told, AllocError> {
 struct Importing;
 
 impl Run for Importing {
-    fn go<S: Alter + Drop>(&self, alloc: Global, conn: Connection<S>) -> (Connection<S>, Told) {
+    fn go<S: Alter + Drop>(
+        &self,
+        alloc: Global,
+        conn: Connection<S>,
+    ) -> (Connection<S>, RunResult) {
         match SqlKeep::adopt(alloc, conn) {
             Ok(keep) => {
                 let mut keep = CachedKeep::new(alloc, keep);
-                let told = import(alloc, &mut keep).unwrap_or(Told::Other);
+                let told = import(alloc, &mut keep).unwrap_or(RunResult::Other);
                 (keep.inside().into_connection(), told)
             }
             Err((fault, conn)) => (conn, told_of(fault)),

@@ -2,7 +2,7 @@
 use crate::refusing::{Refused, Refusing};
 use crate::stop::runs::Telling;
 use crate::stories::{Teller, check, check_lines, check_said_over};
-use crate::wire::lines::Asked;
+use crate::wire::lines::WireTeller;
 use sqlite::MemStore;
 use std::alloc::Global;
 use std::test::Fail;
@@ -41,7 +41,7 @@ fn check_refused_of_tables(alloc: Global, telling: &Telling) -> Result<(), Fail>
 // Whether the line meets a refusal where the call behind so many is refused.
 fn is_refused_of_lists(alloc: Global, telling: &Telling, calls: u64) -> Result<bool, Fail> {
     let mut keep = MemKeep::new(alloc);
-    check_said_over::<Asked, MemKeep>(alloc, &mut keep, telling.story)?;
+    check_said_over::<WireTeller, MemKeep>(alloc, &mut keep, telling.story)?;
     let mut keep = Refusing::new(keep, Refused::Behind(calls));
     let is_refused = meets_refusal(alloc, &mut keep, telling)?;
     check_passed_on(is_refused, keep.refused)
@@ -49,7 +49,7 @@ fn is_refused_of_lists(alloc: Global, telling: &Telling, calls: u64) -> Result<b
 
 fn is_refused_of_tables(alloc: Global, telling: &Telling, calls: u64) -> Result<bool, Fail> {
     let mut keep = SqlKeep::in_memory(alloc)?;
-    check_said_over::<Asked, SqlKeep<MemStore>>(alloc, &mut keep, telling.story)?;
+    check_said_over::<WireTeller, SqlKeep<MemStore>>(alloc, &mut keep, telling.story)?;
     let mut keep = CachedKeep::new(alloc, Refusing::new(keep, Refused::Behind(calls)));
     let is_refused = meets_refusal(alloc, &mut keep, telling)?;
     check_passed_on(is_refused, keep.inside().refused)
@@ -67,14 +67,17 @@ fn check_passed_on(is_refused: bool, left: Refused) -> Result<bool, Fail> {
 // Whether want of memory is told to the line. Nothing has changed then, and the line is done after all.
 fn meets_refusal<K: Keep>(alloc: Global, keep: &mut K, telling: &Telling) -> Result<bool, Fail> {
     let (asked, done) = telling.line;
-    let said = Asked::say(alloc, keep, asked)?;
+    let said = WireTeller::say(alloc, keep, asked)?;
     if said.as_str() == done {
         return Ok(false);
     }
     check(said.as_str() == refusal_of(asked), "told otherwise")?;
-    check_lines::<Asked, K>(alloc, keep, telling.before)?;
-    check(Asked::say(alloc, keep, asked)?.as_str() == done, "not done")?;
-    check_lines::<Asked, K>(alloc, keep, telling.after)?;
+    check_lines::<WireTeller, K>(alloc, keep, telling.before)?;
+    check(
+        WireTeller::say(alloc, keep, asked)?.as_str() == done,
+        "not done",
+    )?;
+    check_lines::<WireTeller, K>(alloc, keep, telling.after)?;
     Ok(true)
 }
 

@@ -1,7 +1,7 @@
 //! What is done to an office while its files stop.
 use crate::stop::disks::{Disks, connect, disconnect, empty_files};
 use crate::stories::{Line, Teller, are_said, check_lines, check_said_over};
-use crate::wire::lines::Asked;
+use crate::wire::lines::WireTeller;
 use sqlite::{Alter, Connection};
 use std::alloc::Global;
 use std::test::Fail;
@@ -10,7 +10,7 @@ use toll_sql::{OpenFault, SqlKeep};
 
 /// What comes of a run.
 #[derive(Clone, Copy, PartialEq, Eq)]
-pub enum Told {
+pub enum RunResult {
     /// It was done.
     Done,
     /// A fault of the disk was told.
@@ -22,7 +22,7 @@ pub enum Told {
 /// Something that is done to an office.
 pub trait Run {
     /// Does it to the office in this store, and hands the store back.
-    fn go<S: Alter + Drop>(&self, alloc: Global, conn: Connection<S>) -> (Connection<S>, Told);
+    fn go<S: Alter + Drop>(&self, alloc: Global, conn: Connection<S>) -> (Connection<S>, RunResult);
 
     /// Whether the office in this store is the one from after it, and not the one from before. Fails
     /// where it is neither.
@@ -30,10 +30,10 @@ pub trait Run {
 }
 
 /// What comes of a run whose office isn't opened.
-pub fn told_of(fault: OpenFault) -> Told {
+pub fn told_of(fault: OpenFault) -> RunResult {
     match fault {
-        OpenFault::Disk => Told::Fault,
-        _ => Told::Other,
+        OpenFault::Disk => RunResult::Fault,
+        _ => RunResult::Other,
     }
 }
 
@@ -41,9 +41,13 @@ pub fn told_of(fault: OpenFault) -> Told {
 pub struct Making;
 
 impl Run for Making {
-    fn go<S: Alter + Drop>(&self, _alloc: Global, conn: Connection<S>) -> (Connection<S>, Told) {
+    fn go<S: Alter + Drop>(
+        &self,
+        _alloc: Global,
+        conn: Connection<S>,
+    ) -> (Connection<S>, RunResult) {
         match SqlKeep::create(conn) {
-            Ok(keep) => (keep.into_connection(), Told::Done),
+            Ok(keep) => (keep.into_connection(), RunResult::Done),
             Err((fault, conn)) => (conn, told_of(fault)),
         }
     }
@@ -101,9 +105,13 @@ fn as_version_1<S: Alter + Drop>(mut conn: Connection<S>) -> Result<Connection<S
 }
 
 impl Run for Adopting {
-    fn go<S: Alter + Drop>(&self, alloc: Global, conn: Connection<S>) -> (Connection<S>, Told) {
+    fn go<S: Alter + Drop>(
+        &self,
+        alloc: Global,
+        conn: Connection<S>,
+    ) -> (Connection<S>, RunResult) {
         match SqlKeep::adopt(alloc, conn) {
-            Ok(keep) => (keep.into_connection(), Told::Done),
+            Ok(keep) => (keep.into_connection(), RunResult::Done),
             Err((fault, conn)) => (conn, told_of(fault)),
         }
     }
@@ -117,7 +125,7 @@ impl Run for Adopting {
         let version: i64 = row.get(0)?;
         match SqlKeep::adopt(alloc, conn) {
             Ok(mut keep) => {
-                check_lines::<Asked, SqlKeep<S>>(alloc, &mut keep, self.rows)?;
+                check_lines::<WireTeller, SqlKeep<S>>(alloc, &mut keep, self.rows)?;
                 Ok(version == 2)
             }
             Err((fault, _)) => Err(fault.into()),
@@ -146,21 +154,21 @@ impl Telling {
     }
 
     // What comes of the line.
-    fn say<K: Keep>(&self, alloc: Global, keep: &mut K) -> Told {
+    fn say<K: Keep>(&self, alloc: Global, keep: &mut K) -> RunResult {
         let (asked, done) = self.line;
-        match Asked::say(alloc, keep, asked) {
-            Ok(said) if said.as_str() == done => Told::Done,
-            Ok(said) if said.as_str() == self.fault => Told::Fault,
-            _ => Told::Other,
+        match WireTeller::say(alloc, keep, asked) {
+            Ok(said) if said.as_str() == done => RunResult::Done,
+            Ok(said) if said.as_str() == self.fault => RunResult::Fault,
+            _ => RunResult::Other,
         }
     }
 
     // Whether this is the office from after it. Fails where it is neither that nor the one from before.
     fn shows_after<K: Keep>(&self, alloc: Global, keep: &mut K) -> Result<bool, Fail> {
-        if are_said::<Asked, K>(alloc, keep, self.before)? {
+        if are_said::<WireTeller, K>(alloc, keep, self.before)? {
             return Ok(false);
         }
-        check_lines::<Asked, K>(alloc, keep, self.after)?;
+        check_lines::<WireTeller, K>(alloc, keep, self.after)?;
         Ok(true)
     }
 }
@@ -180,7 +188,7 @@ fn told_to_new<S: Alter + Drop>(
     story: &[&[Line]],
 ) -> Result<Connection<S>, Fail> {
     match SqlKeep::create(conn) {
-        Ok(mut keep) => match check_said_over::<Asked, SqlKeep<S>>(alloc, &mut keep, story) {
+        Ok(mut keep) => match check_said_over::<WireTeller, SqlKeep<S>>(alloc, &mut keep, story) {
             Ok(()) => Ok(keep.into_connection()),
             Err(fail) => Err(fail),
         },
@@ -189,7 +197,11 @@ fn told_to_new<S: Alter + Drop>(
 }
 
 impl Run for Telling {
-    fn go<S: Alter + Drop>(&self, alloc: Global, conn: Connection<S>) -> (Connection<S>, Told) {
+    fn go<S: Alter + Drop>(
+        &self,
+        alloc: Global,
+        conn: Connection<S>,
+    ) -> (Connection<S>, RunResult) {
         match SqlKeep::adopt(alloc, conn) {
             Ok(keep) => {
                 let mut keep = CachedKeep::new(alloc, keep);

@@ -2,7 +2,7 @@
 use crate::stop::disks::{
     Disks, Stopping, connect, cut_power, disconnect, fused_files, has_stopped, left_files,
 };
-use crate::stop::runs::{Run, Told};
+use crate::stop::runs::{Run, RunResult};
 use sqlite::Files;
 use sqlite_disk::Disk;
 use std::alloc::Global;
@@ -38,7 +38,7 @@ fn check_stops_of<R: Run>(
 fn stops<R: Run>(alloc: Global, run: &R, files: Disks) -> Result<bool, Fail> {
     let (mut left, told) = go_over(alloc, run, files);
     let stopped = has_stopped(&mut left.log) || has_stopped(&mut left.db);
-    if told == Told::Other || (told == Told::Fault && !stopped) {
+    if told == RunResult::Other || (told == RunResult::Fault && !stopped) {
         return Err("neither done nor stopped".into());
     }
     check_left(alloc, run, &left, told)?;
@@ -48,23 +48,27 @@ fn stops<R: Run>(alloc: Global, run: &R, files: Disks) -> Result<bool, Fail> {
 }
 
 // The run over these files, and the files that it leaves.
-fn go_over<R: Run, D: Disk + Drop>(alloc: Global, run: &R, files: Files<D>) -> (Files<D>, Told) {
+fn go_over<R: Run, D: Disk + Drop>(
+    alloc: Global,
+    run: &R,
+    files: Files<D>,
+) -> (Files<D>, RunResult) {
     match connect(alloc, files) {
         Ok(conn) => {
             let (conn, told) = run.go(alloc, conn);
             (disconnect(conn), told)
         }
-        Err(files) => (files, Told::Fault),
+        Err(files) => (files, RunResult::Fault),
     }
 }
 
 // Fails where the office in these files is not one that may be left.
-fn check_left<R: Run>(alloc: Global, run: &R, left: &Disks, told: Told) -> Result<(), Fail> {
+fn check_left<R: Run>(alloc: Global, run: &R, left: &Disks, told: RunResult) -> Result<(), Fail> {
     let is_after = match connect(alloc, left_files(alloc, left)?) {
         Ok(conn) => run.is_after(alloc, conn)?,
         Err(_) => return Err("the files can't be opened again".into()),
     };
-    if told == Told::Done && !is_after {
+    if told == RunResult::Done && !is_after {
         return Err("what was told as done is lost".into());
     }
     Ok(())

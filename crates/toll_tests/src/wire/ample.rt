@@ -1,6 +1,6 @@
 //! Many receipts with ample memory, each followed by a look at the stock.
 use crate::stories::{Teller, WITH_RECIPE, check_said_over, empty_tables};
-use crate::wire::lines::Asked;
+use crate::wire::lines::WireTeller;
 use crate::wire::setups::WITH_BATCH;
 use std::alloc::{AllocError, Global};
 use std::test::Fail;
@@ -11,7 +11,7 @@ const RECEIPTS: u64 = 300;
 // What is said to the receipt with this number.
 fn receive<K: Keep>(alloc: Global, keep: &mut K, number: u64) -> Result<String, AllocError> {
     let line = format!(in alloc; "receive ACME Z-{number} M Z S 1 12")?;
-    Asked::say(alloc, keep, line.as_str())
+    WireTeller::say(alloc, keep, line.as_str())
 }
 
 // The stock once so many of them came, one of each.
@@ -25,7 +25,7 @@ fn stock_with(alloc: Global, amount: u64) -> Result<String, AllocError> {
 // Fails where the receipt with this number is not accepted, or the stock is another one after it.
 fn check_receipt<K: Keep>(alloc: Global, keep: &mut K, number: u64) -> Result<(), Fail> {
     let said = receive(alloc, keep, number)?;
-    let stock = Asked::say(alloc, keep, "> ACME ACMEKEY1 GET /stock")?;
+    let stock = WireTeller::say(alloc, keep, "> ACME ACMEKEY1 GET /stock")?;
     if said.as_str() == "accepted" && stock == stock_with(alloc, number)? {
         return Ok(());
     }
@@ -33,7 +33,7 @@ fn check_receipt<K: Keep>(alloc: Global, keep: &mut K, number: u64) -> Result<()
 }
 
 fn check_receipts<K: Keep>(alloc: Global, keep: &mut K) -> Result<(), Fail> {
-    check_said_over::<Asked, K>(alloc, keep, &[WITH_RECIPE, WITH_BATCH])?;
+    check_said_over::<WireTeller, K>(alloc, keep, &[WITH_RECIPE, WITH_BATCH])?;
     for number in 1..RECEIPTS + 1 {
         check_receipt(alloc, keep, number)?;
     }

@@ -1,7 +1,7 @@
 //! Requests and what they are answered.
 use crate::refusing::{Refused, Refusing};
 use crate::stories::{check, check_lines};
-use crate::wire::lines::{Asked, events_of};
+use crate::wire::lines::{WireTeller, events_of};
 use crate::wire::requests::{keyed, reply, request};
 use crate::wire::setups::WITH_ACME;
 use std::alloc::{AllocError, Global};
@@ -41,7 +41,7 @@ const NONE: &[u8] =
 /// ACME with a recipe.
 pub fn office(alloc: Global) -> Result<MemKeep, Fail> {
     let mut keep = MemKeep::new(alloc);
-    check_lines::<Asked, _>(alloc, &mut keep, WITH_ACME)?;
+    check_lines::<WireTeller, _>(alloc, &mut keep, WITH_ACME)?;
     Ok(keep)
 }
 

@@ -2,7 +2,7 @@
 use crate::stories::{
     A_CONSUMED, BOTH_RUN, Line, P1_PRODUCED, WITH_HOUSE, WITH_TWO_RECIPES, check_said,
 };
-use crate::wire::lines::Asked;
+use crate::wire::lines::WireTeller;
 use crate::wire::setups::{RELEASED_AND_PLACED, WITH_PRODUCT_OF_HOUSE, WITH_RECIPE_OF_HOUSE};
 use std::test::Fail;
 
@@ -47,7 +47,7 @@ const VOIDED: &[Line] = &[
 
 #[test]
 fn traces_go_by_segments(rt: HostRuntime) -> Result<(), Fail> {
-    check_said::<Asked>(
+    check_said::<WireTeller>(
         rt.alloc(),
         &[
             WITH_HOUSE,
@@ -97,7 +97,7 @@ const IN_A_CIRCLE: &[Line] = &[
 
 #[test]
 fn a_trace_round_a_circle_ends(rt: HostRuntime) -> Result<(), Fail> {
-    check_said::<Asked>(
+    check_said::<WireTeller>(
         rt.alloc(),
         &[WITH_TWO_RECIPES, BOTH_PLACED, BOTH_RUN, IN_A_CIRCLE],
     )
@@ -130,7 +130,7 @@ const TRACED_TO_HOUSE: &[Line] = &[
 
 #[test]
 fn an_owner_sees_no_batch_of_house(rt: HostRuntime) -> Result<(), Fail> {
-    check_said::<Asked>(
+    check_said::<WireTeller>(
         rt.alloc(),
         &[
             WITH_RECIPE_OF_HOUSE,

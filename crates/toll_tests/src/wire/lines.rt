@@ -9,7 +9,7 @@ use toll_wire::{Event, answer};
 /// The plant asks in its words. An owner's line begins with `>`, its name and its key, and then has the
 /// method, the target and, where there is one, the body; what is said to it is the status and, where there
 /// is one, the body.
-pub struct Asked;
+pub struct WireTeller;
 
 /// What comes to the office with this line: nothing with words that are no command's.
 pub fn event_of(alloc: Global, line: &str) -> Result<Option<Event>, AllocError> {
@@ -31,7 +31,7 @@ pub fn events_of(alloc: Global, lines: &[&str]) -> Result<Vec<Event>, AllocError
     Ok(events)
 }
 
-impl Teller for Asked {
+impl Teller for WireTeller {
     fn say<K: Keep>(alloc: Global, keep: &mut K, line: &str) -> Result<String, AllocError> {
         match event_of(alloc, line)? {
             Some(Event::Owner(bytes)) => say_to_owner(alloc, keep, &bytes),

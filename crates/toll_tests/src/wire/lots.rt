@@ -1,6 +1,6 @@
 //! Stories of lots, their tests and their dispositions.
 use crate::stories::{Line, check_said_over_lists};
-use crate::wire::lines::Asked;
+use crate::wire::lines::WireTeller;
 use std::test::Fail;
 
 const TESTED: &[Line] = &[
@@ -43,7 +43,7 @@ const OUT_OF_LIMITS: &[Line] = &[
 
 #[test]
 fn a_lot_is_released_while_its_tests_pass(rt: HostRuntime) -> Result<(), Fail> {
-    check_said_over_lists::<Asked>(rt.alloc(), &[TESTED, OUT_OF_LIMITS])
+    check_said_over_lists::<WireTeller>(rt.alloc(), &[TESTED, OUT_OF_LIMITS])
 }
 
 const BELOW_ZERO: &[Line] = &[
@@ -60,5 +60,5 @@ const BELOW_ZERO: &[Line] = &[
 
 #[test]
 fn a_value_below_zero_has_a_sign(rt: HostRuntime) -> Result<(), Fail> {
-    check_said_over_lists::<Asked>(rt.alloc(), &[BELOW_ZERO])
+    check_said_over_lists::<WireTeller>(rt.alloc(), &[BELOW_ZERO])
 }

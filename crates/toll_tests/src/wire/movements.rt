@@ -1,6 +1,6 @@
 //! Stories of movements.
 use crate::stories::{CONSUMED_ONCE, Line, WITH_RECIPE, check_said_over_lists};
-use crate::wire::lines::Asked;
+use crate::wire::lines::WireTeller;
 use crate::wire::setups::WITH_BATCH;
 use std::test::Fail;
 
@@ -17,7 +17,7 @@ const ALL_CONSUMED: &[Line] = &[
 
 #[test]
 fn a_batch_consumes_what_there_is(rt: HostRuntime) -> Result<(), Fail> {
-    check_said_over_lists::<Asked>(
+    check_said_over_lists::<WireTeller>(
         rt.alloc(),
         &[WITH_RECIPE, WITH_BATCH, CONSUMED_ONCE, ALL_CONSUMED],
     )
@@ -49,5 +49,5 @@ const IN_STOCK: &[Line] = &[
 
 #[test]
 fn what_is_in_stock_is_listed(rt: HostRuntime) -> Result<(), Fail> {
-    check_said_over_lists::<Asked>(rt.alloc(), &[WITH_RECIPE, WITH_BATCH, IN_STOCK])
+    check_said_over_lists::<WireTeller>(rt.alloc(), &[WITH_RECIPE, WITH_BATCH, IN_STOCK])
 }

@@ -1,6 +1,6 @@
 //! Stories of orders, their bodies and their batches.
 use crate::stories::{Line, WITH_RECIPE, check_said_over_lists};
-use crate::wire::lines::Asked;
+use crate::wire::lines::WireTeller;
 use crate::wire::setups::{WITH_ACME, WITH_BATCH, WITH_ORDER};
 use std::test::Fail;
 
@@ -25,7 +25,7 @@ const PLACED_ONCE: &[Line] = &[
 
 #[test]
 fn an_order_is_placed_once(rt: HostRuntime) -> Result<(), Fail> {
-    check_said_over_lists::<Asked>(rt.alloc(), &[WITH_ACME, WITH_ORDER, PLACED_ONCE])
+    check_said_over_lists::<WireTeller>(rt.alloc(), &[WITH_ACME, WITH_ORDER, PLACED_ONCE])
 }
 
 const OF_ONE_NAME: &[Line] = &[
@@ -51,7 +51,7 @@ const OF_ONE_NAME: &[Line] = &[
 
 #[test]
 fn owners_have_orders_of_one_name(rt: HostRuntime) -> Result<(), Fail> {
-    check_said_over_lists::<Asked>(rt.alloc(), &[WITH_ACME, WITH_ORDER, OF_ONE_NAME])
+    check_said_over_lists::<WireTeller>(rt.alloc(), &[WITH_ACME, WITH_ORDER, OF_ONE_NAME])
 }
 
 const CANCELLED: &[Line] = &[
@@ -75,7 +75,7 @@ const CANCELLED: &[Line] = &[
 
 #[test]
 fn an_order_is_cancelled_once(rt: HostRuntime) -> Result<(), Fail> {
-    check_said_over_lists::<Asked>(rt.alloc(), &[WITH_ACME, WITH_ORDER, CANCELLED])
+    check_said_over_lists::<WireTeller>(rt.alloc(), &[WITH_ACME, WITH_ORDER, CANCELLED])
 }
 
 const NOT_CANCELLED: &[Line] = &[
@@ -91,7 +91,7 @@ const NOT_CANCELLED: &[Line] = &[
 
 #[test]
 fn an_order_with_a_batch_is_not_cancelled(rt: HostRuntime) -> Result<(), Fail> {
-    check_said_over_lists::<Asked>(rt.alloc(), &[WITH_RECIPE, WITH_BATCH, NOT_CANCELLED])
+    check_said_over_lists::<WireTeller>(rt.alloc(), &[WITH_RECIPE, WITH_BATCH, NOT_CANCELLED])
 }
 
 const UNIT_IS_HELD: &[Line] = &[
@@ -109,7 +109,7 @@ const UNIT_IS_HELD: &[Line] = &[
 
 #[test]
 fn a_unit_is_held_whoever_holds_it(rt: HostRuntime) -> Result<(), Fail> {
-    check_said_over_lists::<Asked>(rt.alloc(), &[WITH_RECIPE, WITH_BATCH, UNIT_IS_HELD])
+    check_said_over_lists::<WireTeller>(rt.alloc(), &[WITH_RECIPE, WITH_BATCH, UNIT_IS_HELD])
 }
 
 const LAST_MEMBER_COUNTS: &[Line] = &[
@@ -129,7 +129,7 @@ const LAST_MEMBER_COUNTS: &[Line] = &[
 
 #[test]
 fn members_of_a_body_are_taken_by_name(rt: HostRuntime) -> Result<(), Fail> {
-    check_said_over_lists::<Asked>(rt.alloc(), &[WITH_ACME, LAST_MEMBER_COUNTS])
+    check_said_over_lists::<WireTeller>(rt.alloc(), &[WITH_ACME, LAST_MEMBER_COUNTS])
 }
 
 const NOT_ASKED: &[Line] = &[
@@ -178,5 +178,5 @@ const NOT_ASKED: &[Line] = &[
 
 #[test]
 fn a_body_that_asks_for_no_order_is_bad(rt: HostRuntime) -> Result<(), Fail> {
-    check_said_over_lists::<Asked>(rt.alloc(), &[WITH_ACME, NOT_ASKED])
+    check_said_over_lists::<WireTeller>(rt.alloc(), &[WITH_ACME, NOT_ASKED])
 }

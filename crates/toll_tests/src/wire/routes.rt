@@ -1,7 +1,7 @@
 //! What leads nowhere, and methods that are not served.
 use crate::stories::{Line, check, check_lines, check_said_over_lists, reply_said};
 use crate::wire::answers::{check_bytes, office};
-use crate::wire::lines::Asked;
+use crate::wire::lines::WireTeller;
 use crate::wire::requests::request;
 use crate::wire::setups::{WITH_ACME, WITH_ORDER};
 use std::alloc::Global;
@@ -88,7 +88,7 @@ const WITHOUT_THE_KEY: &[Line] = &[
 
 #[test]
 fn a_path_of_no_route_leads_nowhere(rt: HostRuntime) -> Result<(), Fail> {
-    check_said_over_lists::<Asked>(
+    check_said_over_lists::<WireTeller>(
         rt.alloc(),
         &[WITH_ACME, WITH_ORDER, NOWHERE, SOMEWHERE, WITHOUT_THE_KEY],
     )
@@ -131,7 +131,7 @@ const ODD_PATHS: &[Line] = &[
 
 #[test]
 fn odd_paths_lead_nowhere(rt: HostRuntime) -> Result<(), Fail> {
-    check_said_over_lists::<Asked>(rt.alloc(), &[WITH_ACME, ODD_PATHS])
+    check_said_over_lists::<WireTeller>(rt.alloc(), &[WITH_ACME, ODD_PATHS])
 }
 
 const GET_ALONE: &str =
@@ -236,7 +236,7 @@ fn check_routed(
 #[test]
 fn one_router_serves_all_routes(rt: HostRuntime) -> Result<(), Fail> {
     let mut keep = office(rt.alloc())?;
-    check_lines::<Asked, _>(rt.alloc(), &mut keep, WITH_ORDER)?;
+    check_lines::<WireTeller, _>(rt.alloc(), &mut keep, WITH_ORDER)?;
     let mut router = OfficeRouter::new();
     for lines in &[EVERY_ROUTE, NEAR_MISSES, EVERY_ROUTE, NEAR_MISSES] {
         check_routed(rt.alloc(), &mut router, &mut keep, lines)?;

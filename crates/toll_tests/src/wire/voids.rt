@@ -1,6 +1,6 @@
 //! Stories of actuals that are taken back.
 use crate::stories::{CONSUMED_AND_PRODUCED, CONSUMPTION_VOIDED, Line, WITH_RECIPE, check_said};
-use crate::wire::lines::Asked;
+use crate::wire::lines::WireTeller;
 use crate::wire::setups::WITH_BATCH;
 use std::test::Fail;
 
@@ -21,7 +21,7 @@ const AS_IF_NOT_CONSUMED: &[Line] = &[
 
 #[test]
 fn a_voided_consumption_gives_back(rt: HostRuntime) -> Result<(), Fail> {
-    check_said::<Asked>(
+    check_said::<WireTeller>(
         rt.alloc(),
         &[
             WITH_RECIPE,

@@ -7,5 +7,5 @@ use Rattle.toll_plant.proofs.grouping.count_unchanging.Given as goal
 abbrev pub invariant-loop-outcome : goal.invariant-loop-outcome
 invariant-loop-outcome l = record {
   count : l.count ≡ l.outcome-index;
-  front : before_accepted l.told ≡ take l.outcome-index l.told ++ before_accepted (drop l.outcome-index l.told);
+  front : before_accepted l.outcomes ≡ take l.outcome-index l.outcomes ++ before_accepted (drop l.outcome-index l.outcomes);
 }

@@ -16,7 +16,7 @@ returns-in-Err-clause-held g c =
     let i = l.command-index in
     let commands = c.args.commands.now in
     let command = c.command-item.result in
-    let told = l.told.items in
+    let told = l.outcomes.items in
     record {
       ends = record { calm = told; calmly = so.calm; said = sym (append-nil told) };
       memory = tt;
@@ -41,7 +41,7 @@ returns-then-is_fault-clause-held g c =
     let i = l.command-index in
     let commands = c.args.commands.now in
     let command = c.command-item.result in
-    let told = l.told.items in
+    let told = l.outcomes.items in
     let faulty : is_fault o ≡ true = sym c.is_fault.ensures ∙ c.if-is_fault.true in
     record {
       ends = record { calm = told; calmly = so.calm; said = c.push_reserved.ensures.items ∙ ap (λ x. told ++ x ∷ []) (faulty_memory o faulty held.memory) };
@@ -70,7 +70,7 @@ loop-command-preserved g c =
     let i = l.command-index in
     let commands = c.args.commands.now in
     let command = c.command-item.result in
-    let told = l.told.items in
+    let told = l.outcomes.items in
     let calm : is_fault o ≡ false = sym c.is_fault.ensures ∙ c.if-is_fault.false in
     record {
       count = c.push_reserved.ensures.len ∙ ap (λ n. n + 1) so.count;
@@ -96,7 +96,7 @@ returns-clause-held g c =
     let K = g.K.Keep in
     let l = c.loop-command in
     let so = l.invariant in
-    let told = l.told.items in
+    let told = l.outcomes.items in
     let commands = c.args.commands.now in
     record {
       ends = record { calm = told; calmly = so.calm; said = sym (append-nil told) };

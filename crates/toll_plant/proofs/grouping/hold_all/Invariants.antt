@@ -9,12 +9,12 @@ abbrev pub invariant-loop-command : goal.invariant-loop-command
 invariant-loop-command g l =
     let K = g.K.Keep in
     record {
-      count : vec_len l.told ≡ l.command-index;
-      capacity : vec_capacity l.told ≡ vec_capacity l.fn.told;
-      calm : list_any is_fault l.told.items ≡ false;
+      count : vec_len l.outcomes ≡ l.command-index;
+      capacity : vec_capacity l.outcomes ≡ vec_capacity l.fn.outcomes;
+      calm : list_any is_fault l.outcomes.items ≡ false;
       through : IsReadThrough K.meaning l.fn.keep l.keep l.pending;
       kept : IsKept K.meaning l.fn.keep l.keep;
-      quiet : list_any is_accepted l.told.items ≡ false → l.pending.changes.items ≡ [];
+      quiet : list_any is_accepted l.outcomes.items ≡ false → l.pending.changes.items ≡ [];
       over : K.meaning.is_honest l.keep → (c : Content) → K.meaning.holds l.fn.keep c → IsOver c l.pending;
-      so_far : K.meaning.is_honest l.keep → (c : Content) (H : History) → K.meaning.holds l.fn.keep c → StandsFor c H → IsLawful H → SoFar c H l.commands (drop l.command-index l.commands) l.told.items l.pending.changes.items;
+      so_far : K.meaning.is_honest l.keep → (c : Content) (H : History) → K.meaning.holds l.fn.keep c → StandsFor c H → IsLawful H → SoFar c H l.commands (drop l.command-index l.commands) l.outcomes.items l.pending.changes.items;
     }

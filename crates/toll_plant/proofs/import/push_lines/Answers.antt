@@ -11,6 +11,6 @@ loop-outcome-preserved c =
     record {
       len = omega (arith, so.len, c.push_reserved.ensures.len);
       capacity = c.push_reserved.ensures.capacity ∙ so.capacity;
-      told = outcomes_more c.args.lines.now.items before c.push_reserved.new.self.items c.args.told.now c.loop-outcome.outcome-index _ _ c.loop-outcome-test.true c.push_reserved.ensures.items so.told;
+      told = outcomes_more c.args.lines.now.items before c.push_reserved.new.self.items c.args.outcomes.now c.loop-outcome.outcome-index _ _ c.loop-outcome-test.true c.push_reserved.ensures.items so.told;
       numbered = λ numbered. subst (AreNumbered 1) (sym {A = List ImportLine} c.push_reserved.ensures.items) (numbered_more 1 before _ (so.numbered numbered) (omega arith));
     }

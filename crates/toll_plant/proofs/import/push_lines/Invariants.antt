@@ -8,6 +8,6 @@ abbrev pub invariant-loop-outcome : goal.invariant-loop-outcome
 invariant-loop-outcome l = record {
   len : vec_len l.lines ≡ vec_len l.fn.lines + l.outcome-index;
   capacity : vec_capacity l.lines ≡ vec_capacity l.fn.lines;
-  told : outcomes_in l.lines.items ≡ outcomes_in l.fn.lines.items ++ take l.outcome-index l.told;
+  told : outcomes_in l.lines.items ≡ outcomes_in l.fn.lines.items ++ take l.outcome-index l.outcomes;
   numbered : AreNumbered 1 l.fn.lines.items → AreNumbered 1 l.lines.items;
 }

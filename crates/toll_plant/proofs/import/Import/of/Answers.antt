@@ -12,6 +12,6 @@ invariant_of-result c =
       can = subst (AllByRecursion CanBeHeld) (sym read.2) (all_held read.0);
       valid = subst (AllByRecursion HasValidValues) (sym read.2) (all_valid read.0);
       room = omega (arith, c.in_ok-lines.ensures.len, c.in_ok-lines.ensures.capacity, c.len.ensures, c.in_ok-commands.commands.ok);
-      buffer = omega (arith, c.in_ok-told.ensures.capacity);
+      buffer = omega (arith, c.in_ok-outcomes.ensures.capacity);
       numbered = subst (AreNumbered 1) (sym c.in_ok-lines.ensures.items) tt;
     }

@@ -3,9 +3,9 @@ mod crowd;
 mod script;
 mod wire;
 
-use crate::doors::connections::crowd::Crowd;
-use crate::doors::connections::script::{Scribe, Script};
-use crate::doors::connections::wire::{Ends, Log, Pace, Plan, Takes};
+use crate::server::connections::crowd::Crowd;
+use crate::server::connections::script::{Scribe, Script};
+use crate::server::connections::wire::{Ends, Log, Pace, Plan, Takes};
 use std::alloc::Global;
 use toll_server::{Listener, ServingEnd, serve};
 

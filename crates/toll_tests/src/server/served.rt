@@ -5,8 +5,8 @@ mod long;
 mod services;
 mod street;
 
-use crate::doors::served::street::{Log, Street};
 use crate::refusing::{Refused, Refusing};
+use crate::server::served::street::{Log, Street};
 use std::alloc::{AllocError, Global};
 use toll_keep::{Keep, MemKeep};
 use toll_protocol::Response;

@@ -1,6 +1,6 @@
 //! A world in which clients come in groups. All of a group may go on at once, and are told so once, by the keys
 //! by which the server knows them.
-use crate::doors::connections::wire::{Log, Plan, Wire};
+use crate::server::connections::wire::{Log, Plan, Wire};
 use std::alloc::Global;
 use toll_server::{Accepted, Network, NetworkFault};
 

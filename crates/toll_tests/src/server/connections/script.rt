@@ -1,5 +1,5 @@
 //! A world by a script, and an office that writes down what it is asked.
-use crate::doors::connections::wire::{Log, Plan, Wire};
+use crate::server::connections::wire::{Log, Plan, Wire};
 use std::alloc::Global;
 use toll_server::{Accepted, Listener, Network, NetworkFault, Poll, Service};
 

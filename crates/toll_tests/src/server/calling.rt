@@ -1,5 +1,5 @@
 //! What is handed to a server, and what is printed of what it tells.
-use crate::doors::frames::{STOCK, TOLD};
+use crate::server::frames::{STOCK, TOLD};
 use std::alloc::Global;
 use std::cell::Cell;
 use std::io;

@@ -1,7 +1,7 @@
 //! What is long: a stock of more than 1,048,576 bytes that is told, and a file of just so many that is
 //! imported.
-use crate::doors::served::street::{Log, Street};
-use crate::doors::served::{Visit, answer_alone, tells};
+use crate::server::served::street::{Log, Street};
+use crate::server::served::{Visit, answer_alone, tells};
 use crate::stories::{told_stock, with_much_stock};
 use std::alloc::{AllocError, Global};
 use std::test::Fail;

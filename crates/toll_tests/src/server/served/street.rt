@@ -1,5 +1,5 @@
 //! Peers of a world of memory, who come at once, each with all that it asks.
-use crate::doors::served::Visit;
+use crate::server::served::Visit;
 use std::cell::Cell;
 use std::io;
 use std::io::{ErrorKind, Read, Write};

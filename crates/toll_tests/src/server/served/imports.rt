@@ -1,9 +1,9 @@
 //! Imports in turns, with others in between.
-use crate::doors::served::street::{Log, Street};
-use crate::doors::served::{
+use crate::refusing::{Refused, Refusing};
+use crate::server::served::street::{Log, Street};
+use crate::server::served::{
     ADD_OWNER, ADD_RECIPE, LIST, PLACE, Visit, answer_alone, is_told, resume, tells,
 };
-use crate::refusing::{Refused, Refusing};
 use std::alloc::{AllocError, Global};
 use std::test::Fail;
 use toll_keep::{Keep, MemKeep};

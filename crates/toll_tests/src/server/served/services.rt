@@ -1,6 +1,6 @@
 //! An office in a file: when it is opened anew, and when its lock is kept.
-use crate::doors::served::imports::import_of_records;
-use crate::doors::served::{ADD_AGAIN, ADD_OWNER, MOST_TURNS, Visit};
+use crate::server::served::imports::import_of_records;
+use crate::server::served::{ADD_AGAIN, ADD_OWNER, MOST_TURNS, Visit};
 use std::alloc::Global;
 use std::cell::Cell;
 use std::fs::{File, OpenOptions};

@@ -1,7 +1,7 @@
 //! An import that is given up, since its office was closed and can't be opened.
-use crate::doors::served::imports::{import_of_records, push_lines};
-use crate::doors::served::{ADD_OWNER, NO_MEMORY, Visit};
 use crate::refusing::{Refused, Refusing};
+use crate::server::served::imports::{import_of_records, push_lines};
+use crate::server::served::{ADD_OWNER, NO_MEMORY, Visit};
 use std::alloc::Global;
 use std::fs;
 use std::fs::File;
