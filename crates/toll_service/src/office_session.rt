@@ -203,7 +203,7 @@ impl<K: Keep + Drop> OfficeSession<K> {
     ) -> Result<Option<OpenOffice<K>>, OfficeFault>
         ensures left { IfOk result (λ left. IfSome left (λ o. (state_of_session self.old).keep ≡ Some o.keep)) }
         ensures ok { OnOk result ((self.new.opened ≡ None) × IsSome self.new.lock) }
-        ensures err { OnErr result (self.new ≡ record self.old { lock = self.new.lock }) }
+        ensures err { OnErr result (IsIdle (state_of_session self.old) (state_of_session self.new)) }
         ensures kept { IsSome self.old.lock → IsSome self.new.lock }
         ensures refused { OnErr result (IsOneRefused (O.openings office_path.old.opener) (O.openings office_path.new.opener)) }
         ensures unasked { OnOk result (IsUnasked (O.openings office_path.old.opener) (O.openings office_path.new.opener)) }
@@ -216,15 +216,15 @@ impl<K: Keep + Drop> OfficeSession<K> {
         }
         let lock = office_path.opener.lock(office_path.rt, office_path.path)?;
         self.lock = Some(lock);
-        if !self.is_as_left(office_path)? {
-            self.opened = None;
-            self.damage.forget();
-            return Ok(None);
+        let opened = match self.opened.take() {
+            Some(opened) if opened.reacquire() => Some(opened),
+            _ => None,
+        };
+        if self.is_as_left(office_path)? {
+            return Ok(opened);
         }
-        match self.opened.take() {
-            Some(opened) if opened.reacquire() => Ok(Some(opened)),
-            _ => Ok(None),
-        }
+        self.damage.forget();
+        Ok(None)
     }
 
     // Whether nobody else has changed the files since they were left.
