@@ -3,7 +3,6 @@ use crate::bounded::{Amount, BatchNo, Day, Segment};
 use crate::lot::LotId;
 use crate::name::Name;
 use crate::role::Role;
-use crate::table::Keyed;
 
 /// What a movement moves.
 #[derive(Clone, Copy, PartialEq, Eq)]
@@ -79,15 +78,5 @@ impl MoveRow {
             } => *order == *of && number == *n,
             _ => false,
         }
-    }
-}
-
-impl Keyed for MoveRow {
-    type Key = Name;
-
-    ghost key_of = { λ row. row.key };
-
-    fn key(&self) -> Name {
-        self.key
     }
 }
