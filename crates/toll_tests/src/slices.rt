@@ -1,6 +1,7 @@
 //! What the contracts of the crates that work on slices do not show: worked examples, and that ample memory
 //! meets no refusal.
 
+mod movements;
 mod print;
 mod rows;
 mod states;
