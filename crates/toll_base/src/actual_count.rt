@@ -38,7 +38,7 @@ pub fn count_in(counts: &Table<ActualCount>, order: &Name, number: BatchNo) -> u
     }
 }
 
-/// Gives the batch of an actual a row, of 0 where it has none yet.
+/// Gives the batch of an actual a row with the count 0, if it has no row yet.
 pub fn add_row(counts: &mut Table<ActualCount>, what: &Move) -> Result<(), AllocError>
     ensures same { (order : Bytes) (number : ℕ) → count_of counts.new order number ≡ count_of counts.old order number }
     ensures kept { (order : Bytes) (number : ℕ) → is_some (counted counts.old order number) ≡ true → is_some (counted counts.new order number) ≡ true }
@@ -56,7 +56,7 @@ pub fn add_row(counts: &mut Table<ActualCount>, what: &Move) -> Result<(), Alloc
     Ok(())
 }
 
-/// Counts the movement, where it is an actual.
+/// Counts the movement if it is an actual.
 pub fn add_one(counts: &mut Table<ActualCount>, what: &Move)
     requires row { HasRowFor counts.old what.now }
     requires room { (order : Bytes) (number : ℕ) → count_of counts.old order number < 2 ^ 32 }
@@ -72,7 +72,7 @@ pub fn add_one(counts: &mut Table<ActualCount>, what: &Move)
     }
 }
 
-/// Counts the movement no more, where it is an actual.
+/// Stops counting the movement if it is an actual.
 pub fn take_one(counts: &mut Table<ActualCount>, what: &Move)
     requires row { HasRowFor counts.old what.now }
     requires counted { (order : Bytes) (number : ℕ) → is_actual_of order number what.now ≡ true → 1 ≤ count_of counts.old order number }

@@ -22,7 +22,7 @@ impl<const LEAST: u64, const MOST: u64> Model for Bounded<LEAST, MOST> {
 }
 
 impl<const LEAST: u64, const MOST: u64> Bounded<LEAST, MOST> {
-    /// This number; [`Refusal::BadAmount`] where it is out of the bounds.
+    /// This number. [`Refusal::BadAmount`] if it is out of the bounds.
     pub fn new(n: u64) -> Result<Self, Refusal>
         ensures within { OkIff result ((LEAST ≤ n) × (n ≤ MOST)) n }
         ensures refusal { OnErr result (result ≡ Err Refusal.BadAmount) }
@@ -67,8 +67,8 @@ pub type Segment = Bounded<1, MOST_SEGMENTS>;
 /// The number of a batch of an order, or how many batches it has: 1 to 99.
 pub type BatchNo = Bounded<1, MOST_BATCHES>;
 
-/// What a number is to each of these types: one of its values just where the definitions say so, and
-/// [`Refusal::BadAmount`] elsewhere.
+/// How each of these types takes a number: as a value if and only if the definitions say so, else
+/// with [`Refusal::BadAmount`].
 pub fn numbers_are_those_defined(
     n: u64,
 ) -> (

@@ -1,4 +1,4 @@
-//! How much the office keeps, of each kind. Code and definitions cite these numbers.
+//! How many rows of each kind the office keeps. Code and definitions cite these numbers.
 
 /// The materials of an owner.
 pub const MOST_MATERIALS: usize = 200;
@@ -30,7 +30,7 @@ pub const MOST_RESULTS: usize = 20_000;
 /// The actuals of one batch, voided ones included.
 pub const MOST_ACTUALS: u64 = 200;
 
-/// What is in one sublot: every movement of an owner, each of the greatest amount.
+/// The amount in one sublot: every movement of an owner, each of the greatest amount.
 pub const MOST_STOCK: u64 = 20_000_000_000_000;
 
 /// The owners of the plant, besides HOUSE.

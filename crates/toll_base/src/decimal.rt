@@ -5,9 +5,9 @@ ghost use Rattle.toll_base.specs.Values as value;
 
 const MOST_DIGITS: usize = 10;
 
-/// The number that these bytes write: 1 to 10 decimal digits, leading zeros allowed. `None` where
-/// they write none. A sign is no part of it: the `M` before a negative value of a test is read where
-/// words are read.
+/// The number that these bytes write: 1 to 10 decimal digits, leading zeros allowed. `None` if they
+/// write no number. A sign isn't part of it: the code that reads words also reads the `M` before a
+/// negative value of a test.
 pub fn number(bytes: &[u8]) -> Option<u64>
     ensures { result ≡ value.number_of bytes.now }
 {

@@ -14,30 +14,30 @@ pub enum Change {
     Owner(OwnerRow),
     /// The unit is added.
     Unit(UnitRow),
-    /// The row is added to those of this owner, or put in place of the one with its key.
+    /// The row is added to those of this owner, or replaces the one with its key.
     Put(Name, Row),
 }
 
-/// What is decided of a command.
+/// The decision on a command.
 #[derive(Drop)]
 pub enum Decision {
-    /// It is done by these changes, in order.
+    /// The command makes these changes, in order.
     Accept(Vec<Change>),
-    /// It was done before, and changes nothing.
+    /// The command was done before, and changes nothing.
     Repeated,
-    /// It is not done.
+    /// The command is refused.
     Refuse(Refusal),
 }
 
 impl Decision {
-    /// It is done by this change.
+    /// The command makes this change.
     pub fn accept(alloc: Global, change: Change) -> Result<Self, AllocError>
         ensures { IfOk result (λ d. IsAccepted (change ∷ []) d) }
     {
         Ok(Decision::Accept(vec![in alloc; change]?))
     }
 
-    /// It is done by these changes, in order.
+    /// The command makes these changes, in order.
     pub fn accept_all(alloc: Global, changes: &[Change]) -> Result<Self, AllocError>
         ensures { IfOk result (IsAccepted changes.now) }
     {

@@ -6,14 +6,14 @@ use std::alloc::{AllocError, Global};
 use std::marker::Model;
 
 /// A double-ended vector: a list in one piece, with room behind it and, once it was needed, in front.
-/// An item goes in by moving those on its shorter side, and so a quarter of them on average.
+/// To insert an item, it moves the items on the shorter side: a quarter of them on average.
 pub struct DoubleEnded<T: Copy> {
-    // The items, behind as many others as `front` says.
+    // The items, behind `front` other ones.
     room: Vec<T>,
     front: usize,
 }
 
-/// By hand, since what is derived is written out at every exit of every function that owns a list.
+/// Written by hand: a derived `Drop` is expanded at every exit of every function that owns a list.
 impl<T: Copy> Drop for DoubleEnded<T> {
     fn drop(self) {
         let DoubleEnded { room: _, front: _ } = self;
@@ -56,7 +56,7 @@ impl<T: Copy> DoubleEnded<T> {
         &self.room[self.front..]
     }
 
-    /// Puts the item in the place of the one that is there.
+    /// Replaces the item at this place.
     pub fn set(&mut self, at: usize, item: T)
         requires { at < length self.old }
         ensures { self.new ≡ slice_set self.old at item }
@@ -64,8 +64,8 @@ impl<T: Copy> DoubleEnded<T> {
         self.room[self.front + at] = item;
     }
 
-    /// Puts the item in front of the one that is there, or behind all. After want of memory nothing is
-    /// changed.
+    /// Inserts the item in front of the one at this place, or behind all. If memory runs out, nothing
+    /// changes.
     pub fn insert(&mut self, at: usize, item: T) -> Result<(), AllocError>
         requires { at ≤ length self.old }
         ensures ok { OnOk result (self.new ≡ insert self.old at item) }
@@ -84,7 +84,7 @@ impl<T: Copy> DoubleEnded<T> {
     }
 }
 
-// Doubles the items, and tells how many of them are now in front of the same items once more.
+// Doubles the items. Returns how many of them are now in front of the second copy.
 fn open_front<T: Copy>(room: &mut Vec<T>) -> Result<usize, AllocError>
     ensures items { IfOk result (λ front. drop front room.new.items ≡ room.old.items) }
     ensures front { IfOk result (λ front. front ≡ vec_len room.old) }
@@ -95,7 +95,7 @@ fn open_front<T: Copy>(room: &mut Vec<T>) -> Result<usize, AllocError>
     Ok(front)
 }
 
-// Moves as many items as `at` says one place down, and puts the item behind them.
+// Moves `at` items one place down, and puts the item behind them.
 fn insert_in_front<T: Copy>(room: &mut [T], front: usize, at: usize, item: T)
     requires room { 1 ≤ front }
     requires place { front + at ≤ length room.old }

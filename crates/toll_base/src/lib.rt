@@ -1,4 +1,4 @@
-//! The ground of the office: values, rows, all rows of one owner, refusals, and what a decision is.
+//! The base of the office: values, rows, all rows of one owner, refusals and decisions.
 #![tactic(auto)]
 
 mod actual_count;

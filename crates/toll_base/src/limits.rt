@@ -4,7 +4,7 @@ ghost use Rattle.std.specs.Prelude.{◌≡◌, ℤ, ◌≤ℤ◌, ◌↔◌, OnE
 use crate::refusal::Refusal;
 use crate::value::Value;
 
-/// What the result of a test must be for a lot to be released: from `low` to `high`, both included.
+/// The results of a test with which a lot may be released: from `low` to `high`, both included.
 #[derive(Clone, Copy, PartialEq, Eq)]
 pub struct Limits {
     /// The least value that passes.
@@ -15,7 +15,7 @@ pub struct Limits {
 }
 
 impl Limits {
-    /// These limits; [`Refusal::BadAmount`] where the low one is above the high one.
+    /// These limits. [`Refusal::BadAmount`] if `low` is above `high`.
     pub fn new(low: Value, high: Value) -> Result<Self, Refusal>
         ensures ordered { IsOk result ↔ (low ≤ℤ high) }
         ensures limits { IfOk result (λ limits. (limits.low ≡ low) × (limits.high ≡ high)) }

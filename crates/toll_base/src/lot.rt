@@ -10,12 +10,12 @@ use std::cmp::Ordering;
 /// What may be done with a lot (the disposition of a material lot, IEC 62264-2).
 #[derive(Clone, Copy, PartialEq, Eq)]
 pub enum Disposition {
-    /// At first, and again after a result out of limits: it takes material, and gives none to a
-    /// batch or a shipment.
+    /// The first disposition, and again after a result out of limits. The lot takes material, and
+    /// gives none to a batch or a shipment.
     Quarantined,
-    /// It gives material, and takes none.
+    /// The lot gives material, and takes none.
     Released,
-    /// For good: it takes no material, and gives none to a batch or a shipment.
+    /// Final. The lot takes no material, and gives none to a batch or a shipment.
     Rejected,
 }
 
@@ -32,7 +32,7 @@ impl Disposition {
     }
 }
 
-/// Where a lot comes from: receipts, or one batch of its owner, never both.
+/// The origin of a lot: receipts, or one batch of its owner, never both.
 #[derive(Clone, Copy)]
 pub enum Origin {
     Receipts,

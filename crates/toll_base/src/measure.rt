@@ -9,7 +9,7 @@ use std::marker::Model;
 
 const MOST: usize = 8;
 
-/// The unit of measure of a material, as `kg`: 1 to 8 ASCII letters.
+/// The unit of measure of a material, such as `kg`: 1 to 8 ASCII letters.
 #[derive(Clone, Copy, Debug, PartialEq, Eq)]
 pub struct Measure(Text<MOST>);
 
@@ -27,7 +27,7 @@ impl Model for Measure {
 }
 
 impl Measure {
-    /// The measure of these bytes; [`Refusal::BadName`] where they are none.
+    /// The measure of these bytes. [`Refusal::BadName`] if they aren't a measure.
     pub fn parse(bytes: &[u8]) -> Result<Self, Refusal>
         ensures measure { OkIff result (IsTrue (value.is_measure bytes.now)) bytes.now }
         ensures refusal { OnErr result (result ≡ Err Refusal.BadName) }

@@ -18,14 +18,14 @@ use std::cmp::Ordering;
 use std::marker::Model;
 
 /// The movements of one owner, each key once, in the order of the keys. A row stays at its place, and a list
-/// of the places is kept in order: so a new row moves places, of 4 bytes each, and no row. A look-up is a
+/// of the places is kept in order. So a new row moves places of 4 bytes each, and no row. A look-up is a
 /// binary search.
 pub struct MoveRows {
     rows: Vec<MoveRow>,
     places: DoubleEnded<u32>,
 }
 
-/// By hand, since what is derived is written out at every exit of every function that owns rows.
+/// Written by hand: a derived `Drop` is expanded at every exit of every function that owns rows.
 impl Drop for MoveRows {
     fn drop(self) {
         let MoveRows { rows: _, places: _ } = self;
@@ -82,14 +82,14 @@ impl MoveRows {
         }
     }
 
-    /// Whether the movement's key is there, or there are less movements than this.
+    /// Whether a movement has this movement's key, or there are fewer movements than `most`.
     pub(crate) fn has_room(&self, row: &MoveRow, most: usize) -> bool
         ensures { result ≡ has_room bytes_cmp (λ row. row.key) most self.now row.now }
     {
         self.len() < most || self.get(&row.key).is_some()
     }
 
-    /// Adds the movement, or puts it in place of the one with its key, which is told.
+    /// Adds the movement, or replaces the one with its key and returns that one.
     pub(crate) fn put(&mut self, row: MoveRow) -> Result<Option<MoveRow>, AllocError>
         requires { length self.old ≤ MOST_MOVEMENTS }
         ensures ok { OnOk result (self.new ≡ put_row bytes_cmp (λ row. row.key) self.old row) }
@@ -117,7 +117,7 @@ impl MoveRows {
         }
     }
 
-    /// The same movements once more.
+    /// A copy of the movements.
     pub(crate) fn copy(&self, alloc: Global) -> Result<Self, AllocError>
         ensures { IfOk result (λ copied. copied ≡ self.now) }
     {
@@ -128,7 +128,7 @@ impl MoveRows {
     }
 }
 
-// Where the key is among the rows at these places, or where it would go.
+// The place of the key among the rows at these places, or the place to insert it.
 fn search(rows: &[MoveRow], places: &[u32], key: &Name) -> Result<usize, usize>
     requires { ArePlacesOf rows.now places.now }
     ensures bound { IsSearchInRange result (length places.now) }

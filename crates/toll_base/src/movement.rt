@@ -41,8 +41,8 @@ pub enum Move {
     },
 }
 
-/// A movement of material, known by its key. It stands in the rows of the owner that it concerns,
-/// which for an actual is the batch's owner, also where the lot is HOUSE's.
+/// A movement of material, known by its key. It is one of the rows of the owner that it concerns.
+/// For an actual that is the batch's owner, even if the lot is HOUSE's.
 #[derive(Clone, Copy)]
 pub struct MoveRow {
     pub key: Name,

@@ -15,13 +15,13 @@ use crate::table::Table;
 use std::alloc::{AllocError, Global};
 use std::marker::Model;
 
-/// The movements in the order of their keys, and beside them how many actuals each batch has.
+/// The movements in the order of their keys, with the number of actuals of each batch.
 pub struct Moves {
     rows: MoveRows,
     actuals: Table<ActualCount>,
 }
 
-/// By hand, since what is derived is written out at every exit of every function that owns rows.
+/// Written by hand: a derived `Drop` is expanded at every exit of every function that owns rows.
 impl Drop for Moves {
     fn drop(self) {
         let Moves {
@@ -73,7 +73,7 @@ impl Moves {
         self.rows.get(key)
     }
 
-    /// Whether the movement's key is there, or there are less movements than this.
+    /// Whether a movement has this movement's key, or there are fewer movements than `most`.
     pub fn has_room(&self, row: &MoveRow, most: usize) -> bool
         ensures { result ≡ has_room bytes_cmp (λ row. row.key) most self.now row.now }
     {
@@ -87,7 +87,7 @@ impl Moves {
         count_in(&self.actuals, order, number)
     }
 
-    /// The same movements once more.
+    /// A copy of the movements.
     pub fn copy(&self, alloc: Global) -> Result<Self, AllocError>
         ensures { IfOk result (λ copied. copied ≡ self.now) }
     {
@@ -96,7 +96,7 @@ impl Moves {
         Ok(Moves { rows, actuals })
     }
 
-    /// Adds the movement, or puts it in place of the one with its key.
+    /// Adds the movement, or replaces the one with its key.
     pub fn put(&mut self, row: MoveRow) -> Result<(), AllocError>
         requires { length self.old ≤ MOST_MOVEMENTS }
         ensures ok { OnOk result (self.new ≡ put_row bytes_cmp (λ row. row.key) self.old row) }
@@ -109,7 +109,7 @@ impl Moves {
     }
 }
 
-// Counts a movement that was put, in place of the known one if there is one.
+// Counts a movement that was put. It replaces the known one, if there is one.
 fn recount(counts: &mut Table<ActualCount>, known: &Option<MoveRow>, what: &Move)
     requires rows { HasRowFor counts.old what.now }
     requires known { HasKnown counts.old known.now }

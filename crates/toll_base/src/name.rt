@@ -30,7 +30,7 @@ impl Model for Name {
 }
 
 impl Name {
-    /// The name of these bytes; [`Refusal::BadName`] where they are none.
+    /// The name of these bytes. [`Refusal::BadName`] if they aren't a name.
     pub fn parse(bytes: &[u8]) -> Result<Self, Refusal>
         ensures name { OkIff result (IsTrue (value.is_name bytes.now)) bytes.now }
         ensures refusal { OnErr result (result ≡ Err Refusal.BadName) }

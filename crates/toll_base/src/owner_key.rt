@@ -11,7 +11,7 @@ const LEAST: usize = 8;
 
 const MOST: usize = 32;
 
-/// The key that an owner shows with each request: 8 to 32 ASCII letters or digits.
+/// The key that an owner sends with each request: 8 to 32 ASCII letters or digits.
 #[derive(Clone, Copy, Debug, PartialEq, Eq)]
 pub struct OwnerKey(Text<MOST>);
 
@@ -29,7 +29,7 @@ impl Model for OwnerKey {
 }
 
 impl OwnerKey {
-    /// The key of these bytes; [`Refusal::BadName`] where they are none.
+    /// The key of these bytes. [`Refusal::BadName`] if they aren't a key.
     pub fn parse(bytes: &[u8]) -> Result<Self, Refusal>
         ensures key { OkIff result (IsTrue (value.is_owner_key bytes.now)) bytes.now }
         ensures refusal { OnErr result (result ≡ Err Refusal.BadName) }

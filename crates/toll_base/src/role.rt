@@ -1,4 +1,4 @@
-//! What an actual, or a requirement of a recipe, does with a material.
+//! How an actual, or a requirement of a recipe, uses a material.
 ghost use Rattle.std.specs.Prelude.{◌≡◌, Some, refl};
 ghost use Rattle.std.proofs.lemmas.Cmp.{nat_cmp_total, on_total};
 ghost use Rattle.std.specs.Cmp.{partial_equiv_from_equiv, eq_by_cmp_equiv, partial_order_from_total};

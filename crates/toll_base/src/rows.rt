@@ -14,7 +14,7 @@ use crate::state::State;
 use crate::table::Keyed;
 use crate::value::Value;
 
-/// An owner, and the key that it shows. HOUSE has none.
+/// An owner, and the key of its requests. HOUSE has no key.
 #[derive(Clone, Copy, Debug, PartialEq, Eq)]
 pub struct OwnerRow {
     pub owner: Name,
@@ -34,7 +34,7 @@ pub struct MaterialRow {
     pub measure: Measure,
 }
 
-/// A test of a material, and what its result must be for a lot to be released.
+/// A test of a material, and the limits that its result must meet before a lot is released.
 #[derive(Clone, Copy)]
 pub struct TestRow {
     pub material: Name,
@@ -71,7 +71,7 @@ pub struct OrderRow {
 }
 
 impl OrderRow {
-    /// Whether it stands, as a word.
+    /// Whether it is open or cancelled, as a word.
     pub fn status(&self) -> &'static str
         ensures { result.now ≡ order_status self.now.cancelled }
     {
@@ -98,8 +98,8 @@ pub struct LotRow {
     pub disposition: Disposition,
 }
 
-/// A material sublot (IEC 62264-2) of one lot, and how much is there, in the measure of the lot's
-/// material: 0 to 20,000,000,000,000.
+/// A material sublot (IEC 62264-2) of one lot, and its amount in the measure of the lot's material:
+/// 0 to 20,000,000,000,000.
 #[derive(Clone, Copy)]
 pub struct SublotRow {
     pub lot: Name,
@@ -117,7 +117,7 @@ pub struct ResultRow {
     pub day: Day,
 }
 
-/// The movement with this key, an actual, is voided.
+/// A void: the movement with this key, an actual, is voided.
 #[derive(Clone, Copy)]
 pub struct VoidRow {
     pub key: Name,

@@ -23,8 +23,8 @@ use std::marker::Model;
 use std::mem;
 use std::rc::Rc;
 
-/// All rows of one owner, each kind in the order of its keys. Copies may share them, until one of
-/// the copies changes.
+/// All rows of one owner, each kind in the order of its keys. Copies may share the rows until one
+/// copy changes.
 pub struct Slice {
     alloc: Global,
     rows: Sharing,
@@ -33,9 +33,9 @@ pub struct Slice {
 // The rows of a slice.
 #[derive(Drop)]
 enum Sharing {
-    // No copy has them.
+    // No copy shares them.
     Own(UniqueSlice),
-    // Copies may have them.
+    // Copies may share them.
     Shared(Rc<UniqueSlice>),
 }
 
@@ -49,7 +49,7 @@ impl Model for Slice {
     ghost view = { λ s. rows_of s.rows };
 }
 
-/// By hand, since what is derived is written out at every exit of every function that owns a slice.
+/// Written by hand: a derived `Drop` is expanded at every exit of every function that owns a slice.
 impl Drop for Slice {
     fn drop(self) {
         let Slice { alloc: _, rows: _ } = self;
@@ -75,8 +75,8 @@ impl Slice {
         self.unique_slice().owner()
     }
 
-    /// Adds the row, or puts it in place of the one with its key. After want of memory nothing is
-    /// changed. Rows that a copy shares are copied first.
+    /// Adds the row, or replaces the one with its key. If memory runs out, nothing changes. Rows that a
+    /// copy shares are copied first.
     pub fn put(&mut self, row: Row) -> Result<(), AllocError>
         requires { KeepsRules (with_row self.old row) }
         ensures ok { OnOk result (self.new ≡ with_row self.old row) }
@@ -114,7 +114,7 @@ impl Slice {
         &self.unique_slice().tables
     }
 
-    // The rows, wherever they are.
+    // The rows, shared or not.
     fn unique_slice(&self) -> &UniqueSlice
         ensures { result.now ≡ self.now }
     {
@@ -127,7 +127,7 @@ impl Slice {
 
 /// How copies share rows.
 impl Slice {
-    /// The same rows once more: those that are shared are not copied.
+    /// A copy of the slice. Shared rows aren't copied.
     pub fn copy(&self, alloc: Global) -> Result<Self, AllocError>
         ensures { IfOk result (λ copied. copied ≡ self.now) }
     {
@@ -156,8 +156,8 @@ impl Slice {
         Ok(())
     }
 
-    /// Takes the rows out, to be changed in place, and leaves none. They are copied only where another
-    /// slice shares them. After want of memory nothing is changed.
+    /// Takes the rows out, to change them in place, and leaves none. They are copied only if another
+    /// slice shares them. If memory runs out, nothing changes.
     pub fn take(&mut self, alloc: Global) -> Result<UniqueSlice, AllocError>
         ensures rows { IfOk result (λ rows. rows ≡ self.old) }
         ensures ok { OnOk result (self.new ≡ empty_slice self.old.owner) }
@@ -353,7 +353,7 @@ impl Slice {
         self.rows().results.get(&(*lot, *test, number))
     }
 
-    /// How much is in the sublot, 0 where there is none: at most 20,000,000,000,000.
+    /// The amount in the sublot, or 0 if there is no such sublot: at most 20,000,000,000,000.
     pub fn amount_in(&self, lot: &Name, sublot: &Name) -> u64
         ensures amount { result ≡ amount_at self.now (lot.now, sublot.now) }
         ensures bound { result ≤ MOST_STOCK }

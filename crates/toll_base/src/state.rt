@@ -1,7 +1,7 @@
 //! States of batches.
 
-/// The state of a batch. The states are named in the manner of IEC 61512-1; which command leads from
-/// which to which is this project's own.
+/// The state of a batch. The states are named after IEC 61512-1. This project defines which command
+/// leads from which state to which.
 #[derive(Clone, Copy, PartialEq, Eq)]
 pub enum State {
     Idle,

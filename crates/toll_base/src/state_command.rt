@@ -4,8 +4,8 @@ ghost use Rattle.toll_base.specs.Bytes.{same_bytes};
 ghost use Rattle.toll_base.specs.States.{word_of_command, read_command};
 ghost use Rattle.toll_base.specs.declared.state_command.StateCommand.{StateCommand};
 
-/// What is done to a batch, or reported of it: `Done` reports that a transient state, or running,
-/// has ended. The commands are named in the manner of IEC 61512-1.
+/// A command to a batch, or a report on it: `Done` reports that a transient state, or running, has
+/// ended. The commands are named after IEC 61512-1.
 #[derive(Clone, Copy, PartialEq, Eq)]
 pub enum StateCommand {
     Done,

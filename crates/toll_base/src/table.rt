@@ -24,7 +24,7 @@ pub struct Table<R: Keyed> {
     rows: DoubleEnded<R>,
 }
 
-/// By hand, since what is derived is written out at every exit of every function that owns rows.
+/// Written by hand: a derived `Drop` is expanded at every exit of every function that owns rows.
 impl<R: Keyed> Drop for Table<R> {
     fn drop(self) {
         let Table { rows: _ } = self;
@@ -67,14 +67,14 @@ impl<R: Keyed> Table<R> {
         }
     }
 
-    /// Whether the row's key is there, or there are less rows than this.
+    /// Whether a row has this row's key, or there are fewer rows than `most`.
     pub fn has_room(&self, row: &R, most: usize) -> bool
         ensures { result ≡ has_room R.Key.cmp R.key_of most self.now row.now }
     {
         self.get(&row.key()).is_some() || self.rows().len() < most
     }
 
-    /// Adds the row, or puts it in place of the one with its key.
+    /// Adds the row, or replaces the one with its key.
     pub fn put(&mut self, row: R) -> Result<(), AllocError>
         ensures ok { OnOk result (self.new ≡ put_row R.Key.cmp R.key_of self.old row) }
         ensures err { OnErr result (self.new ≡ self.old) }
@@ -86,7 +86,7 @@ impl<R: Keyed> Table<R> {
         Ok(())
     }
 
-    /// Puts the row in place of the one with its key, which takes no memory.
+    /// Replaces the row with its key. This takes no memory.
     pub fn replace(&mut self, row: R)
         requires { is_some (row_at R.Key.cmp R.key_of self.old (R.key_of row)) ≡ true }
         ensures { self.new ≡ put_row R.Key.cmp R.key_of self.old row }
@@ -96,7 +96,7 @@ impl<R: Keyed> Table<R> {
         }
     }
 
-    /// The same rows once more.
+    /// A copy of the rows.
     pub fn copy(&self, alloc: Global) -> Result<Self, AllocError>
         ensures { IfOk result (λ copied. copied ≡ self.now) }
     {
@@ -105,7 +105,7 @@ impl<R: Keyed> Table<R> {
         })
     }
 
-    // Where the key is, or where it would go.
+    // The place of the key, or the place to insert it.
     fn search(&self, key: &R::Key) -> Result<usize, usize>
         ensures bound { IsSearchInRange result (length self.now) }
         ensures place { MatchResult result (HasKeyAt R.Key.cmp R.key_of self.now key.now) (IsPlaceFor R.Key.cmp R.key_of self.now key.now) }

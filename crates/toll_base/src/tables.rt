@@ -21,7 +21,7 @@ use crate::table::Table;
 use std::alloc::{AllocError, Global};
 use std::marker::Model;
 
-/// A table of each kind of one owner's rows, whether they keep the rules of a slice or not.
+/// A table of each kind of one owner's rows. The rows may break the rules of a slice.
 pub struct Tables {
     pub owner: Name,
     pub materials: Table<MaterialRow>,
@@ -47,7 +47,7 @@ impl Model for Tables {
     ghost view = { shown };
 }
 
-/// By hand, since what is derived is written out at every exit of every function that owns rows.
+/// Written by hand: a derived `Drop` is expanded at every exit of every function that owns rows.
 impl Drop for Tables {
     fn drop(self) {
         let Tables {
@@ -88,8 +88,7 @@ impl Tables {
         }
     }
 
-    /// Adds the row, or puts it in place of the one with its key. After want of memory nothing is
-    /// changed.
+    /// Adds the row, or replaces the one with its key. If memory runs out, nothing changes.
     pub fn put(&mut self, row: Row) -> Result<(), AllocError>
         requires { length self.old.moves ≤ MOST_MOVEMENTS }
         ensures ok { OnOk result (self.new ≡ with_row self.old row) }
@@ -110,7 +109,7 @@ impl Tables {
         }
     }
 
-    /// Whether the rules of a slice hold after this row is put, where they do before.
+    /// Whether the rules of a slice still hold after this row is put, if they hold before.
     pub fn fits(&self, row: &Row) -> bool
         ensures { result ≡ row_fits self.now row.now }
     {
@@ -128,14 +127,14 @@ impl Tables {
         }
     }
 
-    // Whether there is room for the lot, and its material is there.
+    // Whether there is room for the lot, and the owner has its material.
     fn lot_fits(&self, row: &LotRow) -> bool
         ensures { result ≡ row_fits self.now (Lot row.now) }
     {
         self.lots.has_room(row, MOST_LOTS) && self.materials.get(&row.material).is_some()
     }
 
-    // Whether there is room for the sublot and its amount, and its lot is there.
+    // Whether there is room for the sublot and its amount, and the owner has its lot.
     fn sublot_fits(&self, row: &SublotRow) -> bool
         ensures { result ≡ row_fits self.now (Sublot row.now) }
     {
@@ -144,7 +143,7 @@ impl Tables {
             && self.lots.get(&row.lot).is_some()
     }
 
-    // Whether the movement's batch has room for one more actual, or has the one that it replaces.
+    // Whether the movement's batch has room for one more actual, or already has the replaced one.
     fn batch_has_room(&self, row: &MoveRow) -> bool
         ensures { result ≡ batch_has_room self.now row.now.key row.now.what }
     {
@@ -166,7 +165,7 @@ impl Tables {
         }
     }
 
-    /// The same rows once more.
+    /// A copy of the rows.
     pub fn copy(&self, alloc: Global) -> Result<Self, AllocError>
         ensures { IfOk result (λ copied. copied ≡ self.now) }
     {

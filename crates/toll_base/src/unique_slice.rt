@@ -1,4 +1,4 @@
-//! All rows of one owner, to be changed in place.
+//! All rows of one owner, for changes in place.
 ghost use Rattle.std.specs.Prelude.{◌≡◌, ◌↔◌, OnOk, OnErr, IfOk, IsTrue, true};
 ghost use Rattle.toll_base.specs.Slice.{empty_slice, with_row};
 ghost use Rattle.toll_base.specs.SliceRules.{KeepsRules};
@@ -9,7 +9,7 @@ use crate::tables::Tables;
 use std::alloc::{AllocError, Global};
 use std::marker::Model;
 
-/// All rows of one owner, each kind in the order of its keys. No copy has them too, so that they are
+/// All rows of one owner, each kind in the order of its keys. No copy shares them, so they can be
 /// changed in place.
 pub struct UniqueSlice {
     pub(crate) tables: Tables,
@@ -27,7 +27,7 @@ impl Model for UniqueSlice {
     ghost invariant = { λ s. KeepsRules s.tables };
 }
 
-/// By hand, since what is derived is written out at every exit of every function that owns rows.
+/// Written by hand: a derived `Drop` is expanded at every exit of every function that owns rows.
 impl Drop for UniqueSlice {
     fn drop(self) {
         let UniqueSlice { tables: _ } = self;
@@ -52,8 +52,7 @@ impl UniqueSlice {
         &self.tables.owner
     }
 
-    /// Adds the row, or puts it in place of the one with its key. After want of memory nothing is
-    /// changed.
+    /// Adds the row, or replaces the one with its key. If memory runs out, nothing changes.
     pub fn put(&mut self, row: Row) -> Result<(), AllocError>
         requires { KeepsRules (with_row self.old row) }
         ensures ok { OnOk result (self.new ≡ with_row self.old row) }
@@ -69,7 +68,7 @@ impl UniqueSlice {
         self.tables.fits(row)
     }
 
-    /// The same rows once more.
+    /// A copy of the rows.
     pub fn copy(&self, alloc: Global) -> Result<Self, AllocError>
         ensures { IfOk result (λ copied. copied ≡ self.now) }
     {

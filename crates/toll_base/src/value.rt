@@ -29,7 +29,7 @@ impl Model for Value {
 }
 
 impl Value {
-    /// This value; [`Refusal::BadAmount`] where it is out of range.
+    /// This value. [`Refusal::BadAmount`] if it is out of range.
     pub fn new(value: i64) -> Result<Self, Refusal>
         ensures within { OkIff result (IsValue value) value }
         ensures refusal { OnErr result (result ≡ Err Refusal.BadAmount) }
