@@ -22,12 +22,12 @@ pub(crate) struct Use {
     pub(crate) segment: Segment,
 }
 
-/// The pairs of lots such that two standing actuals of one batch of the slice's owner consume the
-/// one and produce the other, the consumption's segment not above the production's: in order, each
-/// once. An actual stands where no void has its key.
+/// The pairs of lots, in order and each once, such that two standing actuals of one batch of the
+/// slice's owner consume the one and produce the other. The consumption's segment isn't above the
+/// production's. An actual is standing if no void has its key.
 ///
-/// A batch's lots are paired, each once, and not its actuals: a lot draws an edge from the lowest segment
-/// that consumes it or from none, and to the highest that produces it or to none.
+/// A batch's lots are paired, each once, and not its actuals. Two lots have an edge if and only if the
+/// lowest segment that consumes the one isn't above the highest segment that produces the other.
 pub fn edges_of(alloc: Global, slice: &Slice) -> Result<Vec<Edge>, AllocError>
     ensures { IfOk result (λ edges. AreEdges (IsEdge slice.now) edges.items) }
 {
@@ -40,7 +40,7 @@ pub fn edges_of(alloc: Global, slice: &Slice) -> Result<Vec<Edge>, AllocError>
     Ok(edges)
 }
 
-/// Of the uses of a lot by a batch leaves one, in the lowest of their segments.
+/// Leaves one of the uses of a lot by a batch, in the lowest of their segments.
 fn leave_lowest(uses: &mut Vec<(Batch, Use)>)
     ensures { AreLeft (λ lowest segment. lowest ≤ segment) uses.old.items uses.new.items }
 {
@@ -48,7 +48,7 @@ fn leave_lowest(uses: &mut Vec<(Batch, Use)>)
     leave_first(uses);
 }
 
-/// Of the uses of a lot by a batch leaves one, in the highest of their segments.
+/// Leaves one of the uses of a lot by a batch, in the highest of their segments.
 fn leave_highest(uses: &mut Vec<(Batch, Use)>)
     ensures { AreLeft (λ highest segment. segment ≤ highest) uses.old.items uses.new.items }
 {
@@ -56,14 +56,14 @@ fn leave_highest(uses: &mut Vec<(Batch, Use)>)
     leave_first(uses);
 }
 
-/// Of uses of one lot by one batch that stand together leaves the first.
+/// Leaves the first of neighbouring uses of one lot by one batch.
 fn leave_first(uses: &mut Vec<(Batch, Use)>)
     ensures { uses.new.items ≡ dedup same_use uses.old.items }
 {
     uses.dedup_by(|later, first| later.0 == first.0 && later.1.lot == first.1.lot);
 }
 
-/// The edges from what is consumed to what its batch produces, with repeats.
+/// The edges from each consumed lot to the lots that its batch produces, with repeats.
 fn edges_among(
     alloc: Global,
     consumptions: &[(Batch, Use)],
@@ -78,7 +78,7 @@ fn edges_among(
     Ok(edges)
 }
 
-/// What the standing actuals of this role use, by their batches.
+/// The uses of the standing actuals of this role, each with its batch.
 pub(crate) fn uses(
     alloc: Global,
     slice: &Slice,
@@ -94,7 +94,7 @@ pub(crate) fn uses(
         .collect(alloc)
 }
 
-/// What the movement uses, where it is an actual of this role and no void has its key.
+/// The use of the movement, if it is an actual of this role and no void has its key.
 fn standing_use(slice: &Slice, role: Role, row: &MoveRow) -> Option<(Batch, Use)>
     ensures { result ≡ standing_use role slice.now row.now }
 {
@@ -104,7 +104,7 @@ fn standing_use(slice: &Slice, role: Role, row: &MoveRow) -> Option<(Batch, Use)
     use_as(role, &row.what)
 }
 
-/// What is used, with the batch that uses it, where an actual of this role is recorded.
+/// The use and its batch, if an actual of this role is recorded.
 fn use_as(role: Role, what: &Move) -> Option<(Batch, Use)>
     ensures { result ≡ use_as role what.now }
 {
@@ -121,7 +121,7 @@ fn use_as(role: Role, what: &Move) -> Option<(Batch, Use)>
     }
 }
 
-/// Adds the edges from what is consumed to what its batch produces in no lower segment.
+/// Adds the edges from the consumed lot to the lots that its batch produces in the same or a higher segment.
 fn add_edges(
     edges: &mut Vec<Edge>,
     consumption: &Use,

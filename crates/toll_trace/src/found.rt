@@ -8,7 +8,7 @@ use std::collections::BTreeSet;
 use std::marker::Model;
 use toll_base::LotId;
 
-/// Steps in the order in which they were found, with their lots beside them to look one up.
+/// Steps in the order in which they were found, with an index of their lots.
 #[derive(Drop)]
 pub(crate) struct Found {
     steps: Vec<Step>,

@@ -12,7 +12,7 @@ use crate::way::Way;
 use std::alloc::{AllocError, Global};
 use toll_base::{Edge, LotId, Slice};
 
-/// Joints for both ways along edges: for traces where there are many edges.
+/// Joints for both ways along edges, for traces over many edges.
 #[derive(Drop)]
 pub struct Graph {
     forward: Joints,
@@ -42,7 +42,7 @@ impl Graph {
         Graph::of_recorded(alloc, Recorded::new(alloc).with(alloc, slice)?)
     }
 
-    /// A graph of the edges that what is recorded draws.
+    /// A graph of the edges that the recorded uses draw.
     pub fn of_recorded(alloc: Global, recorded: Recorded) -> Result<Self, AllocError>
         ensures { IfOk result (IsGraph (Draws recorded)) }
     {
@@ -55,8 +55,8 @@ impl Graph {
         Ok(Graph { forward, back })
     }
 
-    /// Every lot that ends a chain of the graph's edges from the lot, as [`crate::plain_trace`]
-    /// answers it. It walks each joint once at most.
+    /// Every lot that ends a chain of the graph's edges from the lot: the same steps as those of
+    /// [`crate::plain_trace`]. It walks each joint once at most.
     pub fn trace(&self, alloc: Global, from: &LotId, way: Way) -> Result<Vec<Step>, AllocError>
         ensures led { IfOk result (λ trace. IsTrace (Leads self.now way) from.now trace.items) }
         ensures edges { IfOk result (λ trace. (edges : List Edge) → IsGraphOf edges self.now → IsTrace (IsJoined edges way) from.now trace.items) }

@@ -5,7 +5,7 @@ ghost use Rattle.std.specs.Ordering.{is_eq};
 
 use std::marker::Model;
 
-/// Pairs of a key and a value, in the order of the keys, so that those of one key stand together.
+/// Pairs of a key and a value, in the order of the keys, so the pairs of one key are next to each other.
 #[derive(Drop)]
 pub(crate) struct Index<K: Ord + Copy, V: Copy> {
     pairs: Vec<(K, V)>,

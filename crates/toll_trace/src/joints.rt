@@ -11,15 +11,15 @@ use crate::way::Way;
 use std::alloc::{AllocError, Global};
 use toll_base::{Edge, LotId};
 
-/// Joints that stand together: those from `start` on, before `end`.
+/// Neighbouring joints: those from `start` on, before `end`.
 #[derive(Clone, Copy)]
 pub(crate) struct Span {
     pub(crate) start: usize,
     pub(crate) end: usize,
 }
 
-/// Lots enter spans of joints, and at each joint a lot leaves: who enters a span leads to all that
-/// leave it.
+/// Lots enter spans of joints, and at each joint a lot leaves. A lot that enters a span leads to all
+/// lots that leave it.
 #[derive(Drop)]
 pub(crate) struct Joints {
     pub(crate) entries: Index<LotId, Span>,
@@ -35,8 +35,8 @@ impl Joints {
     ghost use Rattle.std.specs.List.Sorted.{IsPermutation};
     ghost use Rattle.toll_trace.specs.Places.{Passes};
 
-    /// A joint for each edge: the lot that a step that way along it leaves enters there, and the one
-    /// that it comes to leaves.
+    /// A joint for each edge. For a step that way along the edge, the lot at its start enters the
+    /// joint, and the lot at its end leaves it.
     pub(crate) fn of_edges(alloc: Global, edges: &[Edge], way: Way) -> Result<Self, AllocError>
         ensures { IfOk result (λ joints. (a b : LotId) → LeadsThrough joints.entries joints.exits.items a b ↔ IsJoined edges.now way a b) }
     {
@@ -59,8 +59,8 @@ impl Joints {
         })
     }
 
-    /// A joint for each use at which a lot leaves: who enters a chain at a place leads to all that
-    /// leave it ahead. Puts what leaves in the order of that way.
+    /// A joint for each use at which a lot leaves. A lot that enters a chain at a place leads to all
+    /// lots that leave the chain ahead. Puts the leaving uses in the order of that way.
     pub(crate) fn of_uses(
         alloc: Global,
         entering: &[(Place, LotId)],

@@ -1,6 +1,6 @@
 //! The genealogy of lots: the edges that recorded consumption draws between them, and traces
-//! along these edges. IEC 62264-2 gives material lots and material actuals; what an edge and a
-//! trace are is this office's own profile.
+//! along these edges. IEC 62264-2 defines material lots and material actuals. This office's own
+//! profile defines edges and traces.
 #![tactic(auto)]
 
 mod edges;

@@ -1,4 +1,4 @@
-//! Where lots are used, in the order in which a way leads.
+//! The places where batches use lots, in the order of a way.
 ghost use Rattle.std.specs.Prelude.{◌≡◌};
 ghost use Rattle.std.specs.List.Sorted.{IsPermutation, IsSortedBy};
 ghost use Rattle.std.specs.Ordering.{is_lt};
@@ -16,8 +16,8 @@ pub(crate) type Chain = (usize, Batch);
 /// A segment of a chain.
 pub(crate) type Place = (Chain, Segment);
 
-/// Where the uses stand that lie ahead of the place in its chain, itself among them. The uses are in
-/// the order of that way.
+/// The span of the uses that lie ahead of the place in its chain, those at the place included. The
+/// uses are in the order of that way.
 pub(crate) fn ahead_of(uses: &[(Place, LotId)], way: Way, place: &Place) -> Span
     requires { IsSortedBy (λ u v. is_lt (along way place_cmp u.0 v.0)) uses.now }
     ensures { IsAheadOf way uses.now place.now result }

@@ -13,10 +13,10 @@ use toll_base::{Edge, LotId};
 
 /// Every lot that ends a chain of these edges from the lot, that lot itself among them: each once,
 /// with the fewest edges of such a chain, by (steps, owner, lot). For [`Way::Back`] each edge is
-/// turned round. The list of edges may have repeats, loops and cycles.
+/// reversed. The list of edges may have repeats, loops and cycles.
 ///
-/// Goes over the whole list for each step away from the lot. [`crate::Graph`] answers the same
-/// sooner where there are many edges.
+/// Reads the whole list for each step away from the lot. [`crate::Graph`] gives the same answer
+/// faster if there are many edges.
 pub fn plain_trace(
     alloc: Global,
     edges: &[Edge],
@@ -36,7 +36,7 @@ pub fn plain_trace(
     Ok(found.into_steps())
 }
 
-/// The lots that one edge leads to from those found and that are not found yet, in order.
+/// The lots that one edge reaches from those found and that aren't found yet, in order.
 fn next_lots(
     alloc: Global,
     edges: &[Edge],
@@ -53,7 +53,7 @@ fn next_lots(
     Ok(lots)
 }
 
-/// The lot that the edge leads to from one found, where it is not found yet.
+/// The lot that the edge reaches from a found one, if it isn't found yet.
 fn next_lot(edge: &Edge, way: Way, found: &Found) -> Option<LotId>
     ensures { result ≡ next_lot way found.now edge.now }
 {

@@ -1,4 +1,4 @@
-//! What the batches of several owners consumed and produced.
+//! Uses of lots by the batches of several owners.
 ghost use Rattle.std.specs.Prelude.{◌≡◌, ◌++◌, map, OnOk};
 ghost use Rattle.toll_trace.specs.Places.{AreNumbered, placed};
 
@@ -7,8 +7,8 @@ use crate::places::Place;
 use std::alloc::{AllocError, Global};
 use toll_base::{LotId, Role, Slice};
 
-/// What standing actuals of several slices consumed and produced, of which a graph is made. Slices may
-/// be added one by one, and are not kept.
+/// The lots that standing actuals of several slices consumed and produced. A graph is made of them.
+/// Slices may be added one by one, and aren't kept.
 #[derive(Drop)]
 pub struct Recorded {
     pub(crate) consumptions: Vec<(Place, LotId)>,
@@ -22,7 +22,7 @@ impl Recorded {
     ghost use Rattle.toll_trace.specs.Edges.{IsEdge};
     ghost use Rattle.toll_trace.specs.Recorded.{Draws};
 
-    /// Nothing. It takes no memory yet.
+    /// No uses. It takes no memory yet.
     pub fn new(alloc: Global) -> Self
         ensures { (e : Edge) → Draws result e → ⊥ }
     {
@@ -32,8 +32,8 @@ impl Recorded {
         }
     }
 
-    /// With what the slice's batches consumed and produced, where no void has the movement's key. Lots
-    /// that several slices name are the same.
+    /// Adds the lots that the slice's batches consumed and produced, unless a void has the movement's
+    /// key. Lots with the same name in several slices are the same lot.
     pub fn with(self, alloc: Global, slice: &Slice) -> Result<Self, AllocError>
         ensures { IfOk result (λ all. (e : Edge) → Draws all e ↔ (Draws self e ⊎ IsEdge slice.now e)) }
     {

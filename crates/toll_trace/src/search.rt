@@ -12,8 +12,8 @@ use crate::step::Step;
 use std::alloc::{AllocError, Global};
 use toll_base::LotId;
 
-/// The joints of one graph, and for each place where a span of them may end, from which joint on those
-/// before it were walked.
+/// The joints of one graph, and for each place where a span of them may end, the first of the walked
+/// joints before that place.
 #[derive(Drop)]
 pub(crate) struct Part<'a> {
     pub(crate) joints: &'a Joints,
@@ -30,7 +30,7 @@ impl<'a> Part<'a> {
         Ok(Part { joints, lows })
     }
 
-    // Adds the lots that one step through the joints leads to from the front and that are not found yet.
+    // Adds the lots that one step through the joints reaches from the front and that aren't found yet.
     fn lead_on(
         &mut self,
         lots: &mut Vec<LotId>,
@@ -74,8 +74,8 @@ pub(crate) fn search(
     Ok(found.into_steps())
 }
 
-/// For each place where a span of so many joints may end, from which joint on those before it were
-/// walked: none yet.
+/// For each place where a span of so many joints may end, the first of the walked joints before that
+/// place: none yet.
 fn nothing_walked(alloc: Global, joints: usize) -> Result<Vec<usize>, AllocError>
     requires { joints + 1 < 2 ^ 64 }
     ensures length { IfOk result (λ lows. length lows.items ≡ joints + 1) }
@@ -88,7 +88,7 @@ fn nothing_walked(alloc: Global, joints: usize) -> Result<Vec<usize>, AllocError
     Ok(lows)
 }
 
-/// The lots that one step leads to from the front and that are not found yet, in order.
+/// The lots that one step reaches from the front and that aren't found yet, in order.
 fn next_front(
     alloc: Global,
     parts: &mut Vec<Part<'_>>,
@@ -107,8 +107,8 @@ fn next_front(
     Ok(lots)
 }
 
-/// Adds the lots that leave the spans entered and that are not found yet. Of the joints before an end
-/// those that were walked are passed over: all that leaves there is found, or among the lots.
+/// Adds the lots that leave the entered spans and that aren't found yet. It skips the joints before an
+/// end that were walked: every lot that leaves there is found already, or among the lots.
 fn enter(
     lots: &mut Vec<LotId>,
     lows: &mut [usize],
@@ -131,7 +131,7 @@ fn enter(
     Ok(())
 }
 
-/// Adds those of the lots that are not found yet.
+/// Adds those of the lots that aren't found yet.
 fn add_new(lots: &mut Vec<LotId>, found: &Found, leaving: &[LotId]) -> Result<(), AllocError>
     ensures { OnOk result (lots.new.items ≡ lots.old.items ++ filter (λ lot. not (is_found found.now lot)) leaving.now) }
 {

@@ -6,16 +6,16 @@ use toll_base::{Edge, LotId};
 /// Which way a trace goes along the edges.
 #[derive(Clone, Copy, Debug, PartialEq, Eq)]
 pub enum Way {
-    /// From what was made to what went into it: each edge turned round.
+    /// From a product to the lots that went into it: each edge reversed.
     Back,
-    /// From what went in to what was made of it: each edge as it is.
+    /// From a consumed lot to its products: each edge as it is.
     Forward,
 }
 
 impl Way {
     ghost use Rattle.toll_trace.specs.Chain.{ends};
 
-    /// The lot that a step along the edge leaves, and the one that it comes to.
+    /// The lot that a step along the edge leaves, and the lot that it reaches.
     pub(crate) fn ends(self, edge: &Edge) -> (LotId, LotId)
         ensures { result ≡ ends self edge.now }
     {
