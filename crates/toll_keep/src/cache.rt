@@ -1,4 +1,4 @@
-//! What is remembered of a keep.
+//! The remembered rows of a keep.
 ghost use Rattle.std.specs.Prelude.{◌≡◌, OnOk};
 ghost use Rattle.toll_keep.specs.Common.{list_any};
 ghost use Rattle.toll_keep.specs.Content.{Content, after};
@@ -11,8 +11,8 @@ use crate::remembered::follow_all;
 use std::alloc::{AllocError, Global};
 use toll_base::{Change, OwnerRow, Row, UnitRow};
 
-/// What was read of a keep: slices, the owners and the units once they were asked for, and the graphs of
-/// owners over whose batches a trace was asked for.
+/// Rows that were read of a keep: slices, the owners and the units after a request for them, and the graphs
+/// of owners after a trace over their batches.
 pub struct Cache {
     pub slices: Vec<CachedSlice>,
     pub owners: Option<Vec<OwnerRow>>,
@@ -20,7 +20,7 @@ pub struct Cache {
     pub graphs: Vec<KnownGraph>,
 }
 
-/// By hand, since what is derived is written out at every exit of every function that owns one.
+/// Written by hand: a derived `Drop` is expanded at every exit of every function that owns one.
 impl Drop for Cache {
     fn drop(self) {
         let Cache {
@@ -33,7 +33,7 @@ impl Drop for Cache {
 }
 
 impl Cache {
-    /// Nothing yet, which takes no memory.
+    /// Nothing yet. It takes no memory.
     pub fn nothing(alloc: Global) -> Self
         ensures { IsNothing result }
     {
@@ -45,10 +45,9 @@ impl Cache {
         }
     }
 
-    /// Makes the changes in the slices, each in place where no other copy has its rows. The owners and
-    /// the units are forgotten where one is added, and an owner's graph where a change may draw an edge of
-    /// the owner or take one away. Where there is no memory, or a row does not fit, what
-    /// is left is of no more use.
+    /// Makes the changes in the slices, each in place if no other copy shares its rows. It forgets the
+    /// owners and the units if one is added. It forgets an owner's graph if a change may add or remove an
+    /// edge of the owner. If memory runs out, or a row doesn't fit, the rest can't be used any more.
     pub fn follow(&mut self, alloc: Global, changes: &[Change]) -> Result<(), AllocError>
         ensures { OnOk result ((c : Content) → IsOf c self.old → IsOf (after changes.now c) self.new) }
     {
@@ -72,7 +71,7 @@ pub fn has_addition(changes: &[Change]) -> bool
 fn is_addition(change: &Change) -> bool
     ensures { result ≡ is_addition change.now }
 {
-    // Named for the proof: a change may have a row.
+    // This names the type for the proof: a change may have a row.
     let _row: Option<Row> = None;
     matches!(change, Change::Owner(_) | Change::Unit(_))
 }

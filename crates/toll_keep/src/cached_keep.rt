@@ -15,10 +15,10 @@ use std::mem;
 use toll_base::{Change, Edge, LotId, Name, OwnerRow, Row, Slice, UnitRow};
 use toll_trace::{Step, Way};
 
-/// A keep around another one, that remembers the slices, the owners and the units that it read, and the
-/// graphs of owners over which it traced. What is changed is changed in the slices too, in place where no
-/// copy that was handed out is left; the owners and the units are forgotten where one is added, and an
-/// owner's graph where its edges may change. At any fault all is forgotten.
+/// A keep around another one. It remembers the slices, the owners and the units that it read, and the
+/// graphs of owners over which it traced. Changes are made in the slices too, in place if no copy given to
+/// a caller is left. It forgets the owners and the units if one is added, and an owner's graph if its edges
+/// may change. At any fault it forgets everything.
 pub struct CachedKeep<K: Keep> {
     keep: K,
     recollection: Cache,
@@ -26,7 +26,7 @@ pub struct CachedKeep<K: Keep> {
     ghost live: { ¬ (IsNothing recollection) → K.meaning.is_honest keep → ∥ K.meaning.is_live keep ∥₁ },
 }
 
-/// By hand, since what is derived is written out at every exit of every function that owns a keep.
+/// Written by hand: a derived `Drop` is expanded at every exit of every function that owns a keep.
 impl<K: Keep + Drop> Drop for CachedKeep<K> {
     fn drop(self) {
         let CachedKeep {
@@ -37,7 +37,8 @@ impl<K: Keep + Drop> Drop for CachedKeep<K> {
 }
 
 impl<K: Keep> CachedKeep<K> {
-    /// Around this keep, holding what that holds, where only known owners have rows. It remembers nothing yet, and takes no memory.
+    /// A keep around this one. It holds what this one holds, if only known owners have rows. It remembers
+    /// nothing yet, and takes no memory.
     pub fn new(alloc: Global, keep: K) -> Self
         ensures keep { result.keep ≡ keep }
         ensures nothing { IsNothing result.recollection }
@@ -49,7 +50,7 @@ impl<K: Keep> CachedKeep<K> {
         }
     }
 
-    /// The keep that it is around, open or closed as it was.
+    /// The keep inside, open or closed as it was.
     pub fn inside(self) -> K
         ensures { result ≡ self.keep }
     {
@@ -61,7 +62,7 @@ impl<K: Keep> CachedKeep<K> {
     }
 }
 
-// What was told; where that is a fault all is forgotten.
+// Passes the answer on. If it is a fault, everything is forgotten.
 fn or_forget<T>(
     alloc: Global,
     recollection: &mut Cache,
@@ -136,10 +137,10 @@ impl<K: Keep> Keep for CachedKeep<K> {
         or_forget(alloc, recollection, told)
     }
 
-    // The keep inside makes the changes first: it alone can refuse them. What is remembered is taken out
-    // before, and put back where all went well.
+    // The keep inside makes the changes first: it alone can refuse them. The remembered rows are taken
+    // out before, and put back if all changes succeed.
     fn apply(&mut self, alloc: Global, changes: &[Change]) -> Result<(), KeepFault> {
-        // Named for the proof: a change may have a row.
+        // This names the type for the proof: a change may have a row.
         let _row: Option<Row> = None;
         let mut recollection = mem::replace(&mut self.recollection, Cache::nothing(alloc));
         self.keep.apply(alloc, changes)?;

@@ -1,4 +1,4 @@
-//! A slice that is remembered, with its edges.
+//! A remembered slice, with its edges.
 ghost use Rattle.std.specs.Prelude.{◌≡◌, IfOk, OnOk, is_some};
 ghost use Rattle.toll_base.specs.Slice.{move_at};
 ghost use Rattle.toll_trace.specs.Graph.{IsGraph};
@@ -10,8 +10,8 @@ use std::marker::Model;
 use toll_base::{Edge, Name, Row, Slice};
 use toll_trace::edges_of;
 
-/// A slice with rows that its copies share. Once its edges were asked for they are kept beside it, until
-/// a row is put.
+/// A slice whose copies share its rows. After the first request for its edges it also keeps them, until a
+/// row is put.
 pub struct CachedSlice {
     slice: Slice,
     edges: Option<Vec<Edge>>,
@@ -29,7 +29,7 @@ impl Model for CachedSlice {
     ghost invariant = { λ k. IfSome k.edges (λ edges. AreEdges (IsEdge k.slice) edges.items) };
 }
 
-/// By hand, since what is derived is written out at every exit of every function that owns one.
+/// Written by hand: a derived `Drop` is expanded at every exit of every function that owns one.
 impl Drop for CachedSlice {
     fn drop(self) {
         let CachedSlice { slice: _, edges: _ } = self;
@@ -37,14 +37,14 @@ impl Drop for CachedSlice {
 }
 
 impl CachedSlice {
-    /// The slice, of which no edges were asked for yet.
+    /// The slice, without its edges yet.
     pub fn of(slice: Slice) -> Self
         ensures { result ≡ slice }
     {
         CachedSlice { slice, edges: None }
     }
 
-    /// The slice again.
+    /// Gives the slice back.
     pub fn into_slice(self) -> Slice
         ensures { result ≡ self }
     {
@@ -79,7 +79,7 @@ impl CachedSlice {
         Ok(edges)
     }
 
-    /// The graph of the edges of the slice, whose owner this is.
+    /// The graph of the edges of the slice, for this owner.
     pub fn graph(&self, alloc: Global, owner: &Name) -> Result<KnownGraph, AllocError>
         ensures owner { IfOk result (λ known. known.owner ≡ owner.now) }
         ensures named { IfOk result (λ known. known.named ≡ self.now.owner) }
@@ -95,8 +95,8 @@ impl CachedSlice {
         self.slice.movement(key).is_some()
     }
 
-    /// Puts the row, in place where no other copy has the rows. Where there is no memory, or the row does
-    /// not fit, the slice is of no more use.
+    /// Puts the row, in place if no other copy shares the rows. If memory runs out, or the row doesn't
+    /// fit, the slice can't be used any more.
     pub fn put(&mut self, alloc: Global, row: &Row) -> Result<(), AllocError>
         ensures { OnOk result (self.new ≡ with_row self.old row.now) }
     {

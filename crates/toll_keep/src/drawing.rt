@@ -1,4 +1,4 @@
-//! Which changes leave the graphs of owners as they are.
+//! Changes that leave the graphs of owners as they are.
 ghost use Rattle.std.specs.Prelude.{◌≡◌, not, filter};
 ghost use Rattle.toll_keep.specs.Graphs.{is_actual, is_drawn, lacks_key, may_draw};
 
@@ -6,7 +6,7 @@ use crate::cached_slice::CachedSlice;
 use crate::known_graph::KnownGraph;
 use toll_base::{Change, Move, Name, Row};
 
-/// Forgets the graphs of owners of whom one of the changes may draw an edge, or take one away. The slices
+/// Forgets the graphs of owners if one of the changes may add or remove an edge of theirs. The slices
 /// are those from before the changes.
 pub fn forget_drawn(graphs: &mut Vec<KnownGraph>, slices: &[CachedSlice], changes: &[Change])
     ensures { graphs.new.items ≡ filter (λ known. not (is_drawn slices.now changes.now known)) graphs.old.items }
@@ -20,8 +20,8 @@ fn is_drawn(slices: &[CachedSlice], changes: &[Change], known: &KnownGraph) -> b
     changes.iter().any(|change| may_draw(slices, known, change))
 }
 
-// Whether the change may draw an edge of the graph's owner, or take one away. A movement that is no actual
-// draws none, and takes none away where no movement has its key.
+// Whether the change may add or remove an edge of the graph's owner. A movement that isn't an actual adds
+// no edge, and removes none if no movement has its key.
 fn may_draw(slices: &[CachedSlice], known: &KnownGraph, change: &Change) -> bool
     ensures { result ≡ may_draw slices.now known.now.owner known.now.named change.now }
 {
@@ -41,7 +41,7 @@ fn is_actual(what: &Move) -> bool
     matches!(what, Move::Actual { .. })
 }
 
-// Whether the owner's rows are among the slices, and have no movement with this key.
+// Whether the owner's slice is among these, and has no movement with this key.
 fn lacks_key(slices: &[CachedSlice], owner: &Name, key: &Name) -> bool
     ensures { result ≡ lacks_key slices.now owner.now key.now }
 {

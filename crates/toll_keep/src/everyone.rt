@@ -6,7 +6,7 @@ use std::alloc::{AllocError, Global};
 use toll_base::{Edge, Slice};
 use toll_trace::edges_of;
 
-/// The edges of each of these slices, in no order, and with repeats where several have one.
+/// The edges of all of these slices, in no order. An edge of several slices comes several times.
 pub fn edges_among(alloc: Global, slices: &[Slice]) -> Result<Vec<Edge>, AllocError>
     ensures { IfOk result (λ edges. AreGathered slices.now edges.items) }
 {

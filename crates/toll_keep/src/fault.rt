@@ -1,4 +1,4 @@
-//! Why a keep did not answer.
+//! Why a keep didn't answer.
 ghost use Rattle.std.specs.Prelude.{◌≡◌};
 ghost use Rattle.toll_keep.specs.Fault.{name_of};
 
@@ -6,18 +6,18 @@ use std::alloc::AllocError;
 use std::fmt;
 use thiserror::Error;
 
-/// Why a keep did not answer.
+/// Why a keep didn't answer.
 #[derive(Clone, Copy, Debug, PartialEq, Eq, Error)]
 pub enum KeepFault {
-    /// There was no memory. Nothing changed, and the keep goes on.
+    /// Memory ran out. Nothing changed, and the keep goes on.
     Memory,
-    /// The disk failed, or refused. From now on the keep answers [`KeepFault::Closed`]; opened again,
-    /// its store has the rows from before a change that was cut off, or those after all of it.
+    /// The disk failed, or refused. From now on the keep answers [`KeepFault::Closed`]. Opened again,
+    /// its store has the rows from before an interrupted change, or those after all of it.
     Disk,
-    /// A stored row is no value of its kind, or breaks the rules of its owner's rows. From now on the
+    /// A stored row isn't a value of its kind, or breaks the rules of its owner's rows. From now on the
     /// keep answers [`KeepFault::Closed`].
     Damaged,
-    /// After a Disk or a Damaged, until the store is opened again.
+    /// A Disk or Damaged fault came before, and the store wasn't opened again.
     Closed,
 }
 

@@ -1,4 +1,4 @@
-//! The edges of all owners, by their slices.
+//! The edges of all owners, from their slices.
 ghost use Rattle.std.specs.Prelude.{◌≡◌, IfOk, OnOk};
 ghost use Rattle.toll_keep.specs.Common.{AreEdges, IsEdge};
 ghost use Rattle.toll_keep.specs.Goes.{IsReading};
@@ -17,8 +17,8 @@ use std::alloc::{AllocError, Global};
 use toll_base::{Edge, Name, OwnerRow, Slice};
 use toll_trace::{edges_of, put_in_order};
 
-/// The edges of all owners, in order, each once: of each owner by its slice, where that is remembered,
-/// or by one that is read and let go. The owners are remembered.
+/// The edges of all owners, in order, each once. The edges of an owner are those of its remembered slice,
+/// or of a slice that is read and not remembered. The owners are remembered.
 pub fn read_all_edges<K: Keep>(
     alloc: Global,
     keep: &mut K,
@@ -34,7 +34,7 @@ pub fn read_all_edges<K: Keep>(
     }
 }
 
-// The same of these owners and HOUSE.
+// The same for these owners and HOUSE.
 fn gather<K: Keep>(
     alloc: Global,
     keep: &mut K,
@@ -90,7 +90,7 @@ fn own_edges<K: Keep>(
     }
 }
 
-// The same by a slice that is read and let go.
+// The same, from a slice that is read and not remembered.
 fn edges_once<K: Keep>(alloc: Global, keep: &mut K, owner: &Name) -> Result<Vec<Edge>, KeepFault>
     ensures reading { IsReading K.meaning keep.old keep.new result }
     ensures reads { OverHeld K.meaning keep.old keep.new (λ c. OnlyKnownHaveRows c → IfOk result (λ edges. AreEdges (IsEdge (c.rows owner.now)) edges.items)) }

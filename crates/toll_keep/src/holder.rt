@@ -3,8 +3,8 @@ ghost use Rattle.toll_keep.specs.Holding.{IsHolderIn, IsHolderAmong};
 
 use toll_base::{BatchNo, Name, Slice};
 
-/// The batch that holds a unit: it was opened on the unit and isn't closed. A unit is held by one
-/// batch at most, of any owner.
+/// The batch that holds a unit: it was opened on the unit and isn't closed. At most one batch, of any
+/// owner, holds a unit.
 #[derive(Clone, Copy)]
 pub struct Holder {
     pub owner: Name,
@@ -12,7 +12,7 @@ pub struct Holder {
     pub number: BatchNo,
 }
 
-/// The batch among those of these owners that holds the unit.
+/// The batch of one of these owners that holds the unit.
 pub fn holder_among(slices: &[Slice], unit: &Name) -> Option<Holder>
     ensures { IsHolderAmong slices.now unit.now result }
 {

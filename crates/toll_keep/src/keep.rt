@@ -1,4 +1,4 @@
-//! What keeps the rows of the office.
+//! The keep of the office's rows.
 ghost use Rattle.std.specs.Prelude.{◌≡◌, ◌≢◌, Err, List, [], ◌∷◌, ◌++◌, IfOk, OnOk, OnErr};
 ghost use Rattle.toll_keep.specs.Common.{AreEdges, IsEdge};
 ghost use Rattle.toll_keep.specs.Content.{Content, slice_of, after, Fits, ContentKeepsRules};
@@ -12,19 +12,19 @@ use std::alloc::Global;
 use toll_base::{Change, Edge, LotId, Name, OwnerRow, Slice, UnitRow};
 use toll_trace::{Step, Way};
 
-/// What keeps the rows of the plant and of each owner.
+/// The keep of the rows of the plant and of each owner.
 ///
-/// A call that answers [`KeepFault::Memory`] changed nothing, and the keep goes on: where its store lived
-/// it lives on, it holds what it held, and a stop leaves just that. The one exception is a keep that lacked
-/// even the memory to ask whether its store lives still (`is_unsure`): it asks that at its next call. After
-/// [`KeepFault::Disk`] or [`KeepFault::Damaged`] every call answers [`KeepFault::Closed`], and the keep
-/// is said to hold the rows from before the call that failed; what its store has when it is opened
-/// again is said by `leaves`.
+/// A call that answers [`KeepFault::Memory`] changed nothing, and the keep goes on. A live store stays
+/// live, the keep holds what it held, and a stop leaves just that. The one exception is a keep without
+/// the memory to ask whether its store is still live (`is_unsure`): it asks at its next call. After
+/// [`KeepFault::Disk`] or [`KeepFault::Damaged`] every call answers [`KeepFault::Closed`]. The keep then
+/// counts as holding the rows from before the failed call. `leaves` says what its store has when it is
+/// opened again.
 pub trait Keep {
     // What a keep of this type means: what it holds, when it is honest, live and closed, what a stop leaves.
     ghost meaning: { Meaning Self };
 
-    /// All rows of an owner: `None` for an unknown one. HOUSE is always known.
+    /// All rows of an owner: `None` for an unknown owner. HOUSE is always known.
     fn slice(&mut self, alloc: Global, owner: &Name) -> Result<Option<Slice>, KeepFault>
         ensures reading { IsReading meaning self.old self.new result }
         ensures reads { OverHeld meaning self.old self.new (λ c. IfOk result (λ slice. slice ≡ slice_of c owner.now)) };
@@ -39,7 +39,7 @@ pub trait Keep {
         ensures reading { IsReading meaning self.old self.new result }
         ensures reads { OverHeld meaning self.old self.new (λ c. IfOk result (λ rows. rows.items ≡ c.units)) };
 
-    /// The batch that holds the unit, of any owner: `None` where none does.
+    /// The batch, of any owner, that holds the unit: `None` if no batch does.
     fn holder(&mut self, alloc: Global, unit: &Name) -> Result<Option<Holder>, KeepFault>
         ensures reading { IsReading meaning self.old self.new result }
         ensures reads { OverHeld meaning self.old self.new (λ c. IfOk result (IsHolder c unit.now)) };
@@ -55,7 +55,7 @@ pub trait Keep {
         ensures reads { OverHeld meaning self.old self.new (λ c. IfOk result (λ edges. AreEdges (IsEdgeOfSome c) edges.items)) };
 
     /// Every lot that ends a chain of the edges of these owners' own batches from the lot, the lot itself
-    /// among them, as `toll_trace::Graph::trace` answers it. An unknown owner has no edges.
+    /// included: the same steps as those of `toll_trace::Graph::trace`. An unknown owner has no edges.
     fn trace(
         &mut self,
         alloc: Global,
@@ -68,10 +68,10 @@ pub trait Keep {
 
     /// Makes all of these changes, in order, or none.
     ///
-    /// The caller sees to it that each row that is put is HOUSE's, or of an owner that is there or
-    /// is added before it in the list, and that after each change its owner's rows keep the rules of
-    /// a [`Slice`]. A stop during the call, or a fault of the disk that cuts it off, leaves a store that
-    /// has, when it is opened again, the rows from before or those after all changes, never some.
+    /// The caller ensures that each row that is put is HOUSE's, or of an owner that is known or added
+    /// before it in the list. The caller also ensures that after each change its owner's rows keep the
+    /// rules of a [`Slice`]. If a stop or a disk fault interrupts the call, the store, opened again, has
+    /// the rows from before or those after all changes, never some.
     fn apply(&mut self, alloc: Global, changes: &[Change]) -> Result<(), KeepFault>
         ensures goes { Goes meaning self.old self.new result }
         ensures all { OverHeld meaning self.old self.new (λ c. Fits c changes.now → OnOk result (meaning.holds self.new (after changes.now c))) }
@@ -83,9 +83,9 @@ pub trait Keep {
     // While the store lives, a stop between two calls leaves the content and nothing else.
     ghost settled: { (k : Self) (c : Content) → meaning.is_honest k → meaning.is_live k → meaning.holds k c → meaning.leaves k (c ∷ []) };
 
-    // That its store has not shut itself is one fact.
+    // There is one proof at most that a store is live.
     ghost lives_once: { (k : Self) (a b : meaning.is_live k) → a ≡ b };
 
-    // One of some contents is one of more.
+    // If a stop leaves one of some contents, it also leaves one of more contents.
     ghost widened: { (k : Self) (cs more : List Content) → meaning.leaves k cs → meaning.leaves k (cs ++ more) };
 }

@@ -1,4 +1,4 @@
-//! Graphs of owners that are remembered.
+//! Remembered graphs of owners.
 ghost use Rattle.std.specs.Prelude.{◌≡◌, IfOk};
 ghost use Rattle.toll_trace.specs.Edges.{IsEdge};
 ghost use Rattle.toll_trace.specs.Graph.{IsGraph};
@@ -10,13 +10,13 @@ use toll_trace::Graph;
 /// The graph of the edges of an owner's own batches.
 pub struct KnownGraph {
     pub owner: Name,
-    /// Whom the owner's rows name: changes of who is named change them. It is the owner again, for all
-    /// that a keep stores.
+    /// The owner that the slice of the owner's rows names. Changes of that owner's rows change the
+    /// graph. It is the same owner in everything that a keep stores.
     pub named: Name,
     pub graph: Graph,
 }
 
-/// By hand, since what is derived is written out at every exit of every function that owns one.
+/// Written by hand: a derived `Drop` is expanded at every exit of every function that owns one.
 impl Drop for KnownGraph {
     fn drop(self) {
         let KnownGraph {
@@ -28,7 +28,7 @@ impl Drop for KnownGraph {
 }
 
 impl KnownGraph {
-    /// That of the owner with these rows.
+    /// The graph of the owner with these rows.
     pub fn of(alloc: Global, owner: &Name, slice: &Slice) -> Result<Self, AllocError>
         ensures owner { IfOk result (λ known. known.owner ≡ owner.now) }
         ensures named { IfOk result (λ known. known.named ≡ slice.now.owner) }

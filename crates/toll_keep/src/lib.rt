@@ -1,4 +1,4 @@
-//! What keeps the rows of the office, and the plainest one: lists in memory.
+//! The keep of the office's rows, and the simplest implementation: lists in memory.
 #![tactic(auto)]
 
 mod cache;

@@ -18,7 +18,7 @@ use std::marker::Model;
 use toll_base::{Change, Edge, LotId, Name, OwnerRow, Row, Slice, Table, UnitRow};
 use toll_trace::{Graph, Recorded, Step, Way, edges_of, put_in_order};
 
-/// Rows in lists. It answers no fault but [`KeepFault::Memory`].
+/// Rows in lists. Its only fault is [`KeepFault::Memory`].
 pub struct MemKeep {
     owners: Table<OwnerRow>,
     units: Table<UnitRow>,
@@ -35,7 +35,7 @@ impl Model for MemKeep {
     ghost invariant = { λ k. IsOneEach k.slices.items };
 }
 
-/// By hand, since what is derived is written out at every exit of every function that owns a keep.
+/// Written by hand: a derived `Drop` is expanded at every exit of every function that owns a keep.
 impl Drop for MemKeep {
     fn drop(self) {
         let MemKeep {
@@ -129,7 +129,7 @@ impl MemKeep {
         graph.trace(alloc, from, way)
     }
 
-    // The same rows once more, which the two share.
+    // A copy that shares the rows.
     fn copy(&mut self, alloc: Global) -> Result<Self, AllocError>
         ensures copied { IfOk result (λ copied. copied ≡ self.old) }
         ensures same { self.new ≡ self.old }
@@ -141,8 +141,8 @@ impl MemKeep {
         })
     }
 
-    // Makes the changes, in order. Where there is no memory, or a row does not fit, the rows are of no
-    // more use.
+    // Makes the changes, in order. If memory runs out, or a row doesn't fit, the rows can't be used any
+    // more.
     fn make_all(&mut self, alloc: Global, changes: &[Change]) -> Result<(), AllocError>
         ensures { OnOk result (content_of self.new ≡ after changes.now (content_of self.old)) }
     {
@@ -155,7 +155,7 @@ impl MemKeep {
     fn make(&mut self, alloc: Global, change: &Change) -> Result<(), AllocError>
         ensures { OnOk result (content_of self.new ≡ after (change.now ∷ []) (content_of self.old)) }
     {
-        // Named for the proof: a change may have a row.
+        // This names the type for the proof: a change may have a row.
         let _row: Option<Row> = None;
         match change {
             Change::Owner(row) => self.owners.put(*row),
@@ -164,7 +164,7 @@ impl MemKeep {
         }
     }
 
-    // The changes are made in a copy, which takes the place of the rows where all went well.
+    // Makes the changes in a copy. The copy replaces the rows if all changes succeed.
     fn change(&mut self, alloc: Global, changes: &[Change]) -> Result<(), KeepFault>
         ensures all { OnOk result (content_of self.new ≡ after changes.now (content_of self.old)) }
         ensures none { OnErr result (content_of self.new ≡ content_of self.old) }

@@ -1,4 +1,4 @@
-//! Changes that are held back from a keep.
+//! Changes that a keep doesn't have yet.
 ghost use Rattle.std.specs.Prelude.{◌≡◌, ◌++◌, [], IfOk, OnErr, OnOk};
 ghost use Rattle.toll_keep.specs.Content.{Content, slice_of};
 ghost use Rattle.toll_keep.specs.Meaning.{OverHeld};
@@ -14,15 +14,15 @@ use std::alloc::{AllocError, Global};
 use std::mem;
 use toll_base::{Change, Name, Row, Slice};
 
-/// Changes that a keep does not have yet, and those of its slices that were read, with these changes put.
-/// It lies over one keep, which each call that reads is passed; that is not changed, and nothing of them
-/// outlives a stop.
+/// Changes that a keep doesn't have yet, and the slices that were read of it, with these changes put.
+/// They belong to one keep. The caller passes it to each call that reads, and the calls don't change it.
+/// A stop loses the pending changes.
 pub struct PendingChanges {
     slices: Vec<CachedSlice>,
     changes: Vec<Change>,
 }
 
-/// By hand, since what is derived is written out at every exit of every function that owns one.
+/// Written by hand: a derived `Drop` is expanded at every exit of every function that owns one.
 impl Drop for PendingChanges {
     fn drop(self) {
         let PendingChanges {
@@ -33,7 +33,7 @@ impl Drop for PendingChanges {
 }
 
 impl PendingChanges {
-    /// Over any keep: nothing is held back, and nothing was read. It takes no memory yet.
+    /// No changes and no slices, for any keep. It takes no memory yet.
     pub fn new(alloc: Global) -> Self
         ensures changes { result.changes.items ≡ [] }
         ensures slices { result.slices.items ≡ [] }
@@ -45,8 +45,8 @@ impl PendingChanges {
         }
     }
 
-    /// All rows of an owner, as the keep has them once the changes are made: `None` for an unknown one.
-    /// The keep is asked for them once, as long as there is the memory to remember them.
+    /// All rows of an owner, as the keep will have them after the changes: `None` for an unknown owner.
+    /// It asks the keep for them once, as long as there is memory to remember them.
     pub fn slice<K: Keep>(
         &mut self,
         alloc: Global,
@@ -62,14 +62,14 @@ impl PendingChanges {
         tell_slice(alloc, keep, slices, changes, owner)
     }
 
-    /// Holds these changes back, behind those from before. An `Err` means that they are not held: there was
-    /// no memory, or one of them adds an owner or a unit, which can't be pending.
+    /// Adds these changes behind the earlier ones. `Err` means that they weren't added: memory ran out, or
+    /// one of them adds an owner or a unit, which can't be pending.
     pub fn hold(&mut self, alloc: Global, changes: &[Change]) -> Result<(), AllocError>
         ensures held { OnOk result (self.new.changes.items ≡ self.old.changes.items ++ changes.now) }
         ensures none { OnErr result (self.new.changes.items ≡ self.old.changes.items) }
         ensures over { (c : Content) → IsOver c self.old → IsOver c self.new }
     {
-        // Named for the proof: a change may have a row.
+        // This names the type for the proof: a change may have a row.
         let _row: Option<Row> = None;
         if has_addition(changes) {
             return Err(AllocError);
@@ -82,7 +82,7 @@ impl PendingChanges {
         Ok(())
     }
 
-    /// What was held back, in order.
+    /// The changes, in order.
     pub fn into_changes(self) -> Vec<Change>
         ensures { result.items ≡ self.changes.items }
     {

@@ -1,4 +1,4 @@
-//! Rows of the plant's own.
+//! The plant's own rows.
 ghost use Rattle.std.specs.Prelude.{◌≡◌, IfOk};
 ghost use Rattle.toll_keep.specs.Goes.{IsReading};
 ghost use Rattle.toll_keep.specs.Meaning.{OverHeld};
@@ -8,7 +8,7 @@ use crate::keep::Keep;
 use std::alloc::Global;
 use toll_base::{OwnerRow, UnitRow};
 
-/// A row that is no owner's: one of the owners, or of the units.
+/// A row that belongs to no owner: a row of the owners or of the units.
 pub trait PlantRow: Copy {
     ghost use Rattle.std.specs.Prelude.{List};
     ghost use Rattle.toll_keep.specs.Content.{Content};
@@ -16,7 +16,7 @@ pub trait PlantRow: Copy {
     // The rows of this kind that a content has.
     ghost rows_of: { Content → List Self };
 
-    /// The rows of this kind, as the keep tells them.
+    /// The rows of this kind, as the keep gives them.
     fn read<K: Keep>(alloc: Global, keep: &mut K) -> Result<Vec<Self>, KeepFault>
         ensures reading { IsReading K.meaning keep.old keep.new result }
         ensures reads { OverHeld K.meaning keep.old keep.new (λ c. IfOk result (λ rows. rows.items ≡ rows_of c)) };

@@ -1,4 +1,4 @@
-//! Slices that are remembered, each with rows that its copies share.
+//! Remembered slices, each with rows that its copies share.
 ghost use Rattle.std.specs.Prelude.{◌≡◌, ◌≢◌, [], Some, OnOk, IfOk, IfSome, is_some, map, position};
 ghost use Rattle.toll_keep.specs.Common.{after_change, after_changes, AreEdges, IsEdge};
 ghost use Rattle.toll_keep.specs.Content.{Content, slice_of};
@@ -10,14 +10,14 @@ use crate::slices::shared;
 use std::alloc::{AllocError, Global};
 use toll_base::{Change, Edge, Name, Row, Slice};
 
-// Where the owner's slice is.
+// The place of the owner's slice.
 fn index_of_cached(slices: &[CachedSlice], owner: &Name) -> Option<usize>
     ensures { result ≡ position (is_of owner.now) slices.now }
 {
     slices.iter().position(|slice| *slice.owner() == *owner)
 }
 
-/// The owner's slice, where it is remembered.
+/// The owner's slice, if it is remembered.
 pub fn remembered<'a>(slices: &'a [CachedSlice], owner: &Name) -> Option<&'a CachedSlice>
     ensures found { is_some result ≡ is_some (position (is_of owner.now) slices.now) }
     ensures own { IfSome result (λ slice. (c : Content) → AreOf c slices.now → slice_of c owner.now ≡ Some slice.now) }
@@ -26,7 +26,7 @@ pub fn remembered<'a>(slices: &'a [CachedSlice], owner: &Name) -> Option<&'a Cac
     Some(&slices[index_of_cached(slices, owner)?])
 }
 
-/// The edges of the owner's slice, where that is remembered.
+/// The edges of the owner's slice, if the slice is remembered.
 pub fn remembered_edges(
     alloc: Global,
     slices: &mut Vec<CachedSlice>,
@@ -40,8 +40,8 @@ pub fn remembered_edges(
     Some(slices[at].edges(alloc))
 }
 
-/// The slice that was read for the owner, with the changes put. It is remembered where it is the owner's and
-/// there is memory, and then the two share their rows.
+/// The slice that was read for the owner, with the changes put. It is remembered if it is the owner's and
+/// there is memory. Then the two share their rows.
 pub fn remember(
     alloc: Global,
     slices: &mut Vec<CachedSlice>,
@@ -65,8 +65,8 @@ pub fn remember(
     Ok(slice)
 }
 
-/// The edges of the slice that was read for the owner. The two are remembered together, where the slice
-/// is the owner's and there is memory.
+/// The edges of the slice that was read for the owner. Slice and edges are remembered together, if the
+/// slice is the owner's and there is memory.
 pub fn remember_edges(
     alloc: Global,
     slices: &mut Vec<CachedSlice>,
@@ -86,8 +86,8 @@ pub fn remember_edges(
     Ok(edges)
 }
 
-/// Makes the changes in all of these slices, each in place where no other copy has its rows. Where
-/// there is no memory, or a row does not fit, the slices are of no more use.
+/// Makes the changes in all of these slices, each in place if no other copy shares its rows. If memory
+/// runs out, or a row doesn't fit, the slices can't be used any more.
 pub fn follow_all(
     alloc: Global,
     slices: &mut Vec<CachedSlice>,
@@ -101,8 +101,8 @@ pub fn follow_all(
     Ok(())
 }
 
-/// Makes the changes in this slice, in place where no other copy has its rows. Where there is no memory,
-/// or a row does not fit, the slice is of no more use.
+/// Makes the changes in this slice, in place if no other copy shares its rows. If memory runs out, or a
+/// row doesn't fit, the slice can't be used any more.
 pub fn follow(alloc: Global, slice: &mut CachedSlice, changes: &[Change]) -> Result<(), AllocError>
     ensures { OnOk result (slice.new ≡ after_changes changes.now slice.old) }
 {
@@ -115,7 +115,7 @@ pub fn follow(alloc: Global, slice: &mut CachedSlice, changes: &[Change]) -> Res
 fn follow_one(alloc: Global, slice: &mut CachedSlice, change: &Change) -> Result<(), AllocError>
     ensures { OnOk result (slice.new ≡ after_change change.now slice.old) }
 {
-    // Named for the proof: a change may have a row.
+    // This names the type for the proof: a change may have a row.
     let _row: Option<Row> = None;
     match change {
         Change::Put(owner, row) if *owner == *slice.owner() => slice.put(alloc, row),

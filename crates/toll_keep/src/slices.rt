@@ -6,7 +6,7 @@ ghost use Rattle.toll_keep.specs.Slices.{is_of, rows_in, put_slice};
 use std::alloc::{AllocError, Global};
 use toll_base::{Name, Row, Slice};
 
-/// Where the owner's slice is.
+/// The place of the owner's slice.
 pub fn index_of_slice(slices: &[Slice], owner: &Name) -> Option<usize>
     ensures { result ≡ position (is_of owner.now) slices.now }
 {
@@ -22,7 +22,7 @@ pub fn shared(alloc: Global, slice: &mut Slice) -> Result<Slice, AllocError>
     slice.copy(alloc)
 }
 
-/// A copy of the owner's slice, that shares its rows: empty where there is none.
+/// A copy of the owner's slice that shares its rows. It is empty if there is no such slice.
 pub fn shared_of(alloc: Global, slices: &mut [Slice], owner: &Name) -> Result<Slice, AllocError>
     ensures copied { IfOk result (λ slice. slice ≡ rows_in slices.old owner.now) }
     ensures same { slices.new ≡ slices.old }
@@ -45,8 +45,8 @@ pub fn shared_each(alloc: Global, slices: &mut [Slice]) -> Result<Vec<Slice>, Al
     Ok(copied)
 }
 
-/// Puts the row into the owner's slice, or into a new one where there is none. Rows that a copy shares are
-/// copied first. Where there is no memory, or the row does not fit, nothing is changed.
+/// Puts the row into the owner's slice, or into a new one if there is none. Rows that a copy shares are
+/// copied first. If memory runs out, or the row doesn't fit, nothing changes.
 pub fn put_for(
     alloc: Global,
     slices: &mut Vec<Slice>,

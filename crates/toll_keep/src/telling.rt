@@ -1,4 +1,4 @@
-//! What is told from what is remembered, or read of a keep and then remembered.
+//! Answers from remembered rows, or from rows that are read of a keep and then remembered.
 ghost use Rattle.std.specs.Prelude.{◌≡◌, ◌≢◌, [], None, IfOk, IsOkAnd, IsSome};
 ghost use Rattle.toll_keep.specs.Common.{AreEdges, IsEdge};
 ghost use Rattle.toll_keep.specs.Content.{Content, slice_of};
@@ -15,8 +15,8 @@ use crate::remembered::{remember, remember_edges, remembered, remembered_edges};
 use std::alloc::{AllocError, Global};
 use toll_base::{Change, Edge, Name, Slice};
 
-/// All rows of an owner, with these changes put, none of which adds an owner or a unit: `None` for an
-/// unknown one. The keep is asked for them once, as long as there is the memory to remember them.
+/// All rows of an owner, with these changes put: `None` for an unknown owner. No change adds an owner or a
+/// unit. It asks the keep for the rows once, as long as there is memory to remember them.
 pub fn tell_slice<K: Keep>(
     alloc: Global,
     keep: &mut K,
@@ -38,7 +38,7 @@ pub fn tell_slice<K: Keep>(
     }
 }
 
-/// The edges of the owner, by its slice: none of one that is not known.
+/// The edges of the owner's slice: none for an unknown owner.
 pub fn tell_edges<K: Keep>(
     alloc: Global,
     keep: &mut K,
@@ -55,7 +55,7 @@ pub fn tell_edges<K: Keep>(
     }
 }
 
-// The same by a slice that is read and remembered.
+// The same, from a slice that is read and remembered.
 fn read_edges<K: Keep>(
     alloc: Global,
     keep: &mut K,
@@ -70,7 +70,8 @@ fn read_edges<K: Keep>(
     Ok(edges_read(alloc, slices, owner, read)?)
 }
 
-// The edges of a slice that was read, which is remembered. None are told, without memory, where there is none.
+// The edges of a slice that was read. The slice is remembered. If there is no slice, there are no edges,
+// and this takes no memory.
 fn edges_read(
     alloc: Global,
     slices: &mut Vec<CachedSlice>,

@@ -1,4 +1,4 @@
-//! Traces over graphs that are remembered, or made of slices that are read.
+//! Traces over remembered graphs, or over graphs of slices that are read.
 ghost use Rattle.std.specs.Prelude.{◌≡◌, [], ◌∷◌, ◌++◌, map, filter, IfOk, OnErr, OnOk, Contains};
 ghost use Rattle.std.specs.List.{list_any};
 ghost use Rattle.toll_base.specs.Bytes.{Bytes, same_bytes};
@@ -21,11 +21,11 @@ use std::alloc::{AllocError, Global};
 use toll_base::{LotId, Name, Slice};
 use toll_trace::{Graph, Step, Way, trace_among};
 
-/// How many graphs stay remembered. That of an owner with all movements there may be takes a megabyte.
+/// How many graphs stay remembered. The graph of an owner with the most movements allowed takes a megabyte.
 const MOST_GRAPHS: usize = 64;
 
-/// The trace from the lot over the edges of these owners' batches. Each owner's graph is remembered; it is
-/// made of the slice that is remembered, or of one that is read and let go. The owners are remembered.
+/// The trace from the lot over the edges of these owners' batches. Each owner's graph is remembered. It is
+/// made of the remembered slice, or of a slice that is read and not remembered. The owners are remembered.
 pub fn tell_trace<K: Keep>(
     alloc: Global,
     keep: &mut K,
@@ -38,7 +38,7 @@ pub fn tell_trace<K: Keep>(
     ensures reads { OverHeld K.meaning keep.old keep.new (λ c. IsOf c recollection.old → OnlyKnownHaveRows c → TellsTrace c owners.now from.now way result) }
     ensures own { OverHeld K.meaning keep.old keep.new (λ c. IsOf c recollection.old → OnlyKnownHaveRows c → IsOf c recollection.new) }
 {
-    // The keep was asked at least once, whatever is remembered.
+    // This asks the keep at least once, whatever is remembered.
     match tell_rows(alloc, keep, &mut recollection.owners) {
         Ok(_owners) => trace_learnt(
             alloc,
@@ -53,7 +53,7 @@ pub fn tell_trace<K: Keep>(
     }
 }
 
-// The same beside the slices that are remembered.
+// The same, with the remembered slices.
 fn trace_learnt<K: Keep>(
     alloc: Global,
     keep: &mut K,
@@ -74,7 +74,7 @@ fn trace_learnt<K: Keep>(
     Ok(told?)
 }
 
-// The trace over those of the graphs that are these owners'.
+// The trace over these owners' graphs.
 fn trace_known(
     alloc: Global,
     graphs: &[KnownGraph],
@@ -88,7 +88,7 @@ fn trace_known(
     trace_among(alloc, &chosen, from, way)
 }
 
-// Those of the graphs that are these owners'.
+// These owners' graphs.
 fn chosen<'a>(
     alloc: Global,
     graphs: &'a [KnownGraph],
@@ -111,9 +111,9 @@ fn is_among(owners: &[Name], owner: &Name) -> bool
     owners.iter().any(|other| *owner == *other)
 }
 
-// ---- graphs that are not there yet
+// ---- graphs that aren't remembered yet
 
-// Sees to it that the graphs of these owners are there.
+// Adds the missing graphs of these owners.
 fn learn_all<K: Keep>(
     alloc: Global,
     keep: &mut K,
@@ -132,7 +132,7 @@ fn learn_all<K: Keep>(
     Ok(())
 }
 
-// Sees to it that the graph of the owner is there.
+// Adds the graph of the owner, if it is missing.
 fn learn<K: Keep>(
     alloc: Global,
     keep: &mut K,
@@ -185,7 +185,7 @@ fn own_graph<K: Keep>(
     }
 }
 
-// The same by a slice that is read and let go.
+// The same, from a slice that is read and not remembered.
 fn graph_once<K: Keep>(alloc: Global, keep: &mut K, owner: &Name) -> Result<KnownGraph, KeepFault>
     ensures reading { IsReading K.meaning keep.old keep.new result }
     ensures owner { IfOk result (λ known. known.owner ≡ owner.now) }
