@@ -1,4 +1,4 @@
-//! Tables found.
+//! Tables that a store already has.
 ghost use Rattle.std.specs.Prelude.{◌≡◌, ◌≢◌, ◌⊎◌, false, None, Some, Ok, Err, IsTrue, IfOk, IfErr};
 ghost use Rattle.sqlite.specs.Held.{state};
 ghost use Rattle.sqlite.specs.State.{HasCleanDisk};
@@ -22,17 +22,17 @@ use std::alloc::Global;
 /// The version of these tables.
 const VERSION: u64 = 2;
 
-/// The version before, which had no voids.
+/// The earlier version, which had no voids.
 const FIRST_VERSION: u64 = 1;
 
-/// Takes the office's tables as they are: those of this version stay, and so do tables, indexes and views
-/// that others have made behind them. Those of version 1, which are to be alone, are brought to this one in
+/// Takes the office's tables as they are. Those of this version stay, and so do tables, indexes and views
+/// that others have made behind them. Those of version 1 must be alone. They are brought to this version in
 /// one transaction.
-/// NotOurs where `meta` has no row of the office with one of these versions, or a transaction is open;
-/// Damaged where it has, and a table, a column or a key is missing or differs, or comes in another order,
-/// or where another table refers to any, or another index lets no two rows of a table of the office have
-/// one key; Memory where there is none, and Disk where the disk fails or refuses. No other row is read, and
-/// a refusal leaves the store as it is, or, after Disk, perhaps with all of this version.
+/// NotOurs if `meta` has no row of the office with one of these versions, or a transaction is open.
+/// Damaged if it has one, and a table, a column or a key is missing or differs, or comes in another order,
+/// or another table refers to any table, or another unique index is on a table of the office.
+/// Memory if memory runs out, and Disk if the disk fails or refuses. No other row is read. A refusal leaves
+/// the store as it is, or, after Disk, perhaps with all of this version.
 pub fn adopt_tables<S: Alter>(alloc: Global, conn: &mut Connection<S>) -> Result<(), OpenFault>
     ensures adopts { Adopts (state S.Store conn.old) (state S.Store conn.new) result }
 {
@@ -48,7 +48,7 @@ pub fn adopt_tables<S: Alter>(alloc: Global, conn: &mut Connection<S>) -> Result
     }
 }
 
-// Which tables these are. Memory where there is none to make the office's beside them.
+// Which tables these are. Memory if there is no memory to make the office's tables beside them.
 fn layout_in(alloc: Global, schema: &Schema) -> Result<Layout, OpenFault>
     ensures ours { result ≡ Ok Layout.Ours → HasOurs schema.now }
     ensures first { result ≡ Ok Layout.First → AreFirst schema.now }
@@ -61,7 +61,7 @@ fn layout_in(alloc: Global, schema: &Schema) -> Result<Layout, OpenFault>
     }
 }
 
-// The tables are ours: the version is read.
+// Reads the version. The tables are ours.
 fn adopt_ours<S: Alter>(conn: &mut Connection<S>) -> Result<(), OpenFault>
     requires autocommit { conn.old.in_transaction ≡ false }
     requires settled { LiesIdle (state S.Store conn.old) }
@@ -81,8 +81,8 @@ fn adopt_ours<S: Alter>(conn: &mut Connection<S>) -> Result<(), OpenFault>
     }
 }
 
-// Why tables that are not of the version that was told are refused: Damaged where it is the other one of
-// ours, and else NotOurs.
+// The fault of tables that aren't of the version that was read: Damaged if that is our other version,
+// else NotOurs.
 fn misfit(told: Option<u64>, other: u64) -> OpenFault
     ensures damaged { result ≡ OpenFault.Damaged → told ≡ Some other }
     ensures foreign { result ≡ OpenFault.NotOurs → told ≢ Some other }
@@ -95,7 +95,7 @@ fn misfit(told: Option<u64>, other: u64) -> OpenFault
     }
 }
 
-// The tables are those of version 1: the version is read, and they are brought to this one.
+// Reads the version, and brings the tables to this version. They are those of version 1.
 fn adopt_first<S: Alter>(conn: &mut Connection<S>) -> Result<(), OpenFault>
     requires autocommit { conn.old.in_transaction ≡ false }
     requires settled { LiesIdle (state S.Store conn.old) }
@@ -115,7 +115,7 @@ fn adopt_first<S: Alter>(conn: &mut Connection<S>) -> Result<(), OpenFault>
     }
 }
 
-// The store is of version 1: its tables are brought to this one.
+// Brings the tables of a store of version 1 to this version.
 fn raise_all<S: Alter>(conn: &mut Connection<S>) -> Result<(), OpenFault>
     requires autocommit { conn.old.in_transaction ≡ false }
     requires settled { HasCleanDisk (state S.Store conn.old) → LiesIdle (state S.Store conn.old) }
@@ -127,7 +127,7 @@ fn raise_all<S: Alter>(conn: &mut Connection<S>) -> Result<(), OpenFault>
     }
 }
 
-// The fault that an error of reading the version is: NotOurs where it can't be asked for.
+// The fault for an error of reading the version: NotOurs if the query can't be made.
 fn read_fault_of(error: Error) -> OpenFault
     ensures memory { result ≡ OpenFault.Memory → error ≡ Error.SqliteFailure ErrorCode.OutOfMemory }
     ensures disk { result ≡ OpenFault.Disk → IsTrue (is_disk_fault error) }
@@ -143,7 +143,7 @@ fn read_fault_of(error: Error) -> OpenFault
     }
 }
 
-// Why tables of neither version are refused: Damaged where one of ours was told, and else NotOurs.
+// The fault of tables of neither version: Damaged if the version read is one of ours, else NotOurs.
 fn fault_of_others(told: Option<u64>) -> OpenFault
     ensures damaged { result ≡ OpenFault.Damaged → (told ≡ Some first_version) ⊎ (told ≡ Some version) }
     ensures foreign { result ≡ OpenFault.NotOurs → (told ≢ Some first_version) × (told ≢ Some version) }
@@ -155,7 +155,7 @@ fn fault_of_others(told: Option<u64>) -> OpenFault
     }
 }
 
-// The tables are others: the version tells whether they should be the office's.
+// Refuses other tables. The version shows whether they should be the office's.
 fn adopt_other<S: Alter>(conn: &mut Connection<S>) -> Result<(), OpenFault>
     requires autocommit { conn.old.in_transaction ≡ false }
     requires settled { LiesIdle (state S.Store conn.old) }
@@ -169,7 +169,7 @@ fn adopt_other<S: Alter>(conn: &mut Connection<S>) -> Result<(), OpenFault>
     }
 }
 
-/// A store in memory with the office's tables, which are empty. Memory where there is none.
+/// A store in memory with the office's tables, which are empty. Memory if memory runs out.
 pub(crate) fn new_office(alloc: Global) -> Result<Connection<MemStore>, OpenFault>
     ensures made { IfOk result (λ c. HoldsIn (state over_memory c) nothing × IsJustOurs (state over_memory c).now.schema) }
     ensures unlimited { IfOk result (λ c. (c.step_limit ≡ None) × (c.in_transaction ≡ false)) }

@@ -1,4 +1,4 @@
-//! Rows asked of the tables.
+//! Queries for rows of the tables.
 ghost use Rattle.std.specs.Prelude.{◌≡◌, true, false, IfOk};
 ghost use Rattle.sqlite.specs.Held.{state};
 ghost use Rattle.sqlite.specs.State.{HasCleanDisk};
@@ -14,8 +14,8 @@ use sqlite::{Alter, Connection, Error, Row};
 use toll_base::Name;
 use toll_keep::KeepFault;
 
-/// Asks whether the store lies open, and reads nothing: Disk where it has shut itself, Memory where there
-/// is none to ask it.
+/// Asks whether the store is open, and reads nothing. Disk if it has shut itself. Memory if there is no
+/// memory to ask it.
 pub fn find_open<S: Alter>(conn: &mut Connection<S>) -> Result<(), KeepFault>
     ensures { IsFinding (state S.Store conn.old) (state S.Store conn.new) result }
 {
@@ -37,7 +37,7 @@ pub fn owners_rows<S: Alter>(
     conn.query_all(table.select_text(), &[ValueRef::Text(owner.as_bytes())])
 }
 
-/// All rows of a table that owners do not part, in the order of its key.
+/// All rows of a table whose rows belong to no owner, in the order of its key.
 pub fn all_rows<S: Alter>(conn: &mut Connection<S>, table: TableKind) -> Result<Vec<Row>, Error>
     ensures asks { is_owned table ≡ false → IsQuerying (state S.Store conn.old) (state S.Store conn.new) result }
     ensures rows { is_owned table ≡ false → OverOurs (state S.Store conn.old) (state S.Store conn.new) (λ db. IfOk result (λ rows. AreAll table db rows.items)) }

@@ -1,4 +1,4 @@
-//! Cells of stored rows read as values.
+//! Reading cells of stored rows as values.
 ghost use Rattle.std.specs.Prelude.{◌≡◌, ◌≢◌, ◌≤◌, ◌↔◌, ℕ, ℤ, pos, List, [], Bool, None, IsTrue, IfSome};
 ghost use Rattle.sqlite.specs.Order.{column};
 ghost use Rattle.sqlite.specs.declared.types.Value.TheVariants.{Int, Text};
@@ -19,7 +19,7 @@ use toll_base::{
     Bounded, Disposition, Limits, LotId, Measure, Name, Origin, OwnerKey, Role, State, Value,
 };
 
-// The text in this column, where it has one.
+// The text in this column, if it has one.
 fn text_at(row: &Row, at: usize) -> Option<&[u8]>
     ensures some { IfSome result (λ t. column row.now at ≡ Text t.now) }
     ensures none { result ≡ None → (t : List ℕ) → column row.now at ≢ Text t }
@@ -30,7 +30,7 @@ fn text_at(row: &Row, at: usize) -> Option<&[u8]>
     }
 }
 
-// The whole number in this column, where it has one.
+// The whole number in this column, if it has one.
 fn int_at(row: &Row, at: usize) -> Option<i64>
     ensures some { IfSome result (λ n. column row.now at ≡ Int n) }
     ensures none { result ≡ None → (n : ℤ) → column row.now at ≢ Int n }
@@ -41,7 +41,7 @@ fn int_at(row: &Row, at: usize) -> Option<i64>
     }
 }
 
-/// The name in this column, where it is one.
+/// The name in this column, if it is one.
 pub fn name_at(row: &Row, at: usize) -> Option<Name>
     ensures some { IfSome result (λ n. column row.now at ≡ Text n) }
     ensures valid { IfSome result (λ n. IsTrue (is_name n)) }
@@ -50,7 +50,7 @@ pub fn name_at(row: &Row, at: usize) -> Option<Name>
     Name::parse(text_at(row, at)?).ok()
 }
 
-/// The lot that these columns name, its owner's and its own, where it is one.
+/// The lot that these columns name, its owner and itself, if they are names.
 pub fn lot_at(row: &Row, owner: usize, lot: usize) -> Option<LotId>
     ensures some { IfSome result (λ l. (column row.now owner ≡ Text l.owner) × (column row.now lot ≡ Text l.lot)) }
     ensures valid { IfSome result IsLotId }
@@ -62,7 +62,7 @@ pub fn lot_at(row: &Row, owner: usize, lot: usize) -> Option<LotId>
     })
 }
 
-/// The measure in this column, where it is one.
+/// The measure in this column, if it is one.
 pub fn measure_at(row: &Row, at: usize) -> Option<Measure>
     ensures some { IfSome result (λ n. column row.now at ≡ Text n) }
     ensures valid { IfSome result (λ n. IsTrue (is_measure n)) }
@@ -71,7 +71,7 @@ pub fn measure_at(row: &Row, at: usize) -> Option<Measure>
     Measure::parse(text_at(row, at)?).ok()
 }
 
-/// The owner's key in this column, where it is one.
+/// The owner's key in this column, if it is one.
 pub fn key_at(row: &Row, at: usize) -> Option<OwnerKey>
     ensures some { IfSome result (λ n. column row.now at ≡ Text n) }
     ensures valid { IfSome result (λ n. IsTrue (is_owner_key n)) }
@@ -80,7 +80,7 @@ pub fn key_at(row: &Row, at: usize) -> Option<OwnerKey>
     OwnerKey::parse(text_at(row, at)?).ok()
 }
 
-/// The whole number in this column, where it is one and not negative.
+/// The whole number in this column, if it is one and not negative.
 pub fn number_at(row: &Row, at: usize) -> Option<u64>
     ensures some { IfSome result (λ n. column row.now at ≡ Int (pos n)) }
     ensures valid { IfSome result IsStorable }
@@ -92,7 +92,7 @@ pub fn number_at(row: &Row, at: usize) -> Option<u64>
     }
 }
 
-/// The number in this column, where it is within the bounds.
+/// The number in this column, if it is within the bounds.
 pub fn bounded_at<const LEAST: u64, const MOST: u64>(
     row: &Row,
     at: usize,
@@ -104,7 +104,7 @@ pub fn bounded_at<const LEAST: u64, const MOST: u64>(
     Bounded::new(number_at(row, at)?).ok()
 }
 
-/// The value of a test in this column, where it is one.
+/// The value of a test in this column, if it is one.
 pub fn value_at(row: &Row, at: usize) -> Option<Value>
     ensures some { IfSome result (λ n. column row.now at ≡ Int n) }
     ensures valid { IfSome result IsValue }
@@ -181,7 +181,7 @@ pub fn limits_at(row: &Row, low: usize, high: usize) -> Option<Limits>
     Limits::new(value_at(row, low)?, value_at(row, high)?).ok()
 }
 
-/// Where a lot comes from, by these columns: of an order and of the number of a batch.
+/// The origin of a lot, in these columns: an order and the number of a batch.
 pub fn origin_at(row: &Row, order: usize, number: usize) -> Option<Origin>
     ensures some { IfSome result (λ o. (column row.now order ≡ Text (stored.origin_order o)) × (column row.now number ≡ Int (pos (stored.origin_number o)))) }
     ensures valid { IfSome result IsOrigin }

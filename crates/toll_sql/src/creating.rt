@@ -1,4 +1,4 @@
-//! The tables made.
+//! Making the tables.
 ghost use Rattle.std.specs.Prelude.{◌≡◌, false};
 ghost use Rattle.sqlite.specs.Held.{state};
 ghost use Rattle.sqlite.specs.State.{HasCleanDisk};
@@ -19,7 +19,7 @@ use sqlite::{Alter, Connection, Error, Transaction};
 /// The version of these tables.
 const VERSION: u64 = 2;
 
-/// All tables, in the order in which they are made.
+/// All tables, in the order of making them.
 pub(crate) fn every_table() -> [TableKind; 14]
     ensures { result ≡ every_table }
 {
@@ -41,7 +41,7 @@ pub(crate) fn every_table() -> [TableKind; 14]
     ]
 }
 
-/// Makes the table; those before it are there.
+/// Makes the table, after those before it.
 pub(crate) fn make_table<S: Alter>(
     tx: &mut Transaction<'_, S>,
     table: TableKind,
@@ -52,7 +52,7 @@ pub(crate) fn make_table<S: Alter>(
     tx.execute(table.create_text(), &[])
 }
 
-// Writes the version; all tables are there.
+// Writes the version, after all tables are made.
 fn write_version<S: Alter>(tx: &mut Transaction<'_, S>) -> Result<(), Error>
     ensures same_reference { tx.new.conn.ghost_name ≡ tx.old.conn.ghost_name }
     ensures steps { IsStep (IsShapedAs made_all) WritesVersion (state S.Store tx.old.conn.now) (state S.Store tx.new.conn.now) result }
@@ -60,7 +60,7 @@ fn write_version<S: Alter>(tx: &mut Transaction<'_, S>) -> Result<(), Error>
     put(tx, TableKind::Meta, &meta_values(VERSION))
 }
 
-// Makes all tables, none of which is there.
+// Makes all tables. None of them exists yet.
 fn make_tables<S: Alter>(tx: &mut Transaction<'_, S>) -> Result<(), Error>
     ensures same_reference { tx.new.conn.ghost_name ≡ tx.old.conn.ghost_name }
     ensures steps { IsStep (IsMaking no_schema) MakesAllTables (state S.Store tx.old.conn.now) (state S.Store tx.new.conn.now) result }
@@ -80,7 +80,7 @@ fn make_all<S: Alter>(tx: &mut Transaction<'_, S>) -> Result<(), Error>
     write_version(tx)
 }
 
-// Makes all of it in one transaction, or nothing.
+// Makes all tables and writes the version in one transaction, or makes nothing.
 fn create_or_none<S: Alter>(conn: &mut Connection<S>) -> Result<(), Error>
     requires autocommit { conn.old.in_transaction ≡ false }
     requires settled { HasCleanDisk (state S.Store conn.old) → LiesIdle (state S.Store conn.old) }
@@ -91,10 +91,9 @@ fn create_or_none<S: Alter>(conn: &mut Connection<S>) -> Result<(), Error>
     tx.commit()
 }
 
-/// Makes the tables of the office, in one transaction, on a store that has none. NotOurs, and nothing
-/// is written, where the store has tables, or a transaction is open. Memory where there is none, and
-/// Disk where the disk fails or refuses: then none of the tables is there, or, after Disk, perhaps
-/// all.
+/// Makes the tables of the office, in one transaction, on a store that has none. NotOurs if the store
+/// has tables, or a transaction is open: nothing is written. Memory if memory runs out, and Disk if the
+/// disk fails or refuses: the store has none of the tables, or, after Disk, perhaps all.
 pub fn create_tables<S: Alter>(conn: &mut Connection<S>) -> Result<(), OpenFault>
     ensures creates { Creates (state S.Store conn.old) (state S.Store conn.new) result }
 {
@@ -108,7 +107,7 @@ pub fn create_tables<S: Alter>(conn: &mut Connection<S>) -> Result<(), OpenFault
     }
 }
 
-// Makes of the tables of version 1 those of this version.
+// Brings the tables of version 1 to this version.
 fn raise<S: Alter>(tx: &mut Transaction<'_, S>) -> Result<(), Error>
     ensures same_reference { tx.new.conn.ghost_name ≡ tx.old.conn.ghost_name }
     ensures steps { IsStep (IsShapedAs first_ours) MakesRaised (state S.Store tx.old.conn.now) (state S.Store tx.new.conn.now) result }
@@ -117,7 +116,7 @@ fn raise<S: Alter>(tx: &mut Transaction<'_, S>) -> Result<(), Error>
     write_version(tx)
 }
 
-/// Makes of the tables of version 1 those of this version, in one transaction, or nothing.
+/// Brings the tables of version 1 to this version in one transaction, or changes nothing.
 pub(crate) fn raise_or_none<S: Alter>(conn: &mut Connection<S>) -> Result<(), Error>
     requires autocommit { conn.old.in_transaction ≡ false }
     requires settled { HasCleanDisk (state S.Store conn.old) → LiesIdle (state S.Store conn.old) }

@@ -1,4 +1,4 @@
-//! The genealogy of batches, asked of the tables.
+//! The genealogy of batches, read from the tables.
 ghost use Rattle.std.specs.Prelude.{◌≡◌, ◌≢◌, [], Err, map, IfOk};
 ghost use Rattle.sqlite.specs.Held.{state};
 ghost use Rattle.sqlite.specs.State.{HasCleanDisk};
@@ -21,9 +21,9 @@ use toll_trace::put_in_order;
 
 /// The genealogy of an owner's own batches, in order, each edge once: empty for an unknown owner.
 ///
-/// Memory and Disk are faults of the store; Damaged is a row that shows no two lots with names. The edges are
-/// those of all rows that the store gives, whatever its tables have; and of the movements and voids of this
-/// owner, whatever rows they have of others.
+/// Memory and Disk are faults of the store. Damaged is a row that shows no two lots with names. The edges are
+/// those of all rows that the store gives, whatever its tables have. They are also those of the movements and
+/// voids of this owner, whatever rows the tables have of others.
 pub fn read_edges<S: Alter>(
     conn: &mut Connection<S>,
     alloc: Global,
@@ -42,9 +42,9 @@ pub fn read_edges<S: Alter>(
 
 /// The genealogy of all batches, in order, each edge once.
 ///
-/// Memory and Disk are faults of the store; Damaged is a row that shows no two lots with names. The edges are
-/// those of all rows that the store gives, whatever its tables have; and of all movements and voids, whatever
-/// other rows they have.
+/// Memory and Disk are faults of the store. Damaged is a row that shows no two lots with names. The edges are
+/// those of all rows that the store gives, whatever its tables have. They are also those of all movements and
+/// voids, whatever other rows the tables have.
 pub fn read_all_edges<S: Alter>(
     conn: &mut Connection<S>,
     alloc: Global,
@@ -60,8 +60,8 @@ pub fn read_all_edges<S: Alter>(
     }
 }
 
-// The lots of each consumption and each production of one batch of the owner, neither of them voided, the
-// consumption's segment not above the production's.
+// The lots of each consumption and each production of one batch of the owner, if neither is voided and the
+// consumption's segment isn't above the production's.
 fn owners_pairs<S: Alter>(conn: &mut Connection<S>, owner: &Name) -> Result<Vec<Row>, Error>
     ensures asks { IsQuerying (state S.Store conn.old) (state S.Store conn.new) result }
     ensures read { HasCleanDisk (state S.Store conn.new) → IfOk result (λ rows. AreOwnersPairs (state S.Store conn.old).now owner.now rows.items) }
@@ -73,7 +73,7 @@ fn owners_pairs<S: Alter>(conn: &mut Connection<S>, owner: &Name) -> Result<Vec<
     )
 }
 
-// The same of the batches of all owners.
+// The same for the batches of all owners.
 fn all_pairs<S: Alter>(conn: &mut Connection<S>) -> Result<Vec<Row>, Error>
     ensures asks { IsQuerying (state S.Store conn.old) (state S.Store conn.new) result }
     ensures read { HasCleanDisk (state S.Store conn.new) → IfOk result (λ rows. AreReadWith (state S.Store conn.old).now all_text [] rows.items) }
@@ -85,7 +85,7 @@ fn all_pairs<S: Alter>(conn: &mut Connection<S>) -> Result<Vec<Row>, Error>
     )
 }
 
-// The edges that the rows show, in order, each once.
+// The edges in the rows, in order, each once.
 fn edges_shown(alloc: Global, rows: &[Row]) -> Result<Vec<Edge>, KeepFault>
     ensures read { IfOk result (λ edges. AreReadFrom rows.now edges.items) }
     ensures damaged { result ≡ Err KeepFault.Damaged → HasNoEdge rows.now }

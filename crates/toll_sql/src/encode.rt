@@ -1,4 +1,4 @@
-//! Rows as the tables have them.
+//! Cells of rows for the tables.
 ghost use Rattle.std.specs.Prelude.{◌≡◌, ℕ, pos, IsTrue, [], ◌∷◌};
 ghost use Rattle.sqlite.specs.Values.{bound};
 ghost use Rattle.toll_base.specs.Roles.{role_rank};
@@ -13,7 +13,7 @@ use toll_base::{
     RecipeRow, RequirementRow, ResultRow, Role, State, SublotRow, TestRow, UnitRow, VoidRow,
 };
 
-/// The cells of `meta`: these are the office's tables, of this version.
+/// The cells of `meta`, which say that the tables are the office's, of this version.
 pub fn meta_values<'a>(version: u64) -> [ValueRef<'a>; 2]
     requires { IsStorable version }
     ensures cells { bound result ≡ stored.meta_cells version }
@@ -254,7 +254,7 @@ fn state_number(state: State) -> u64
     }
 }
 
-// The order and the number of the batch that the lot comes from; `''` and 0 where there is none.
+// The order and the number of the batch that the lot comes from. `''` and 0 if there is no batch.
 fn origin_parts(origin: &Origin) -> (&[u8], u64)
     ensures order { result.0.now ≡ stored.origin_order origin.now }
     ensures number { result.1 ≡ stored.origin_number origin.now }

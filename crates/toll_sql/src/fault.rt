@@ -5,8 +5,8 @@ ghost use Rattle.toll_sql.specs.Causes.{is_disk_fault};
 use sqlite::{Error, ErrorCode};
 use toll_keep::KeepFault;
 
-/// The fault that the error is: Disk where the disk failed or refused, or the store shut itself, and
-/// else Memory.
+/// The fault for the error: Disk if the disk failed or refused, or the store shut itself, else
+/// Memory.
 pub fn fault_of(error: Error) -> KeepFault
     ensures { ((result ≡ KeepFault.Memory) × (is_disk_fault error ≡ false)) ⊎ ((result ≡ KeepFault.Disk) × IsTrue (is_disk_fault error)) }
 {

@@ -1,4 +1,4 @@
-//! What the keep over SQLite chooses for the ghosts of [`Keep`].
+//! The ghosts of [`Keep`] for the keep over SQLite.
 ghost use Rattle.std.specs.Prelude.{◌≡◌, ◌↔◌, List};
 ghost use Rattle.sqlite.specs.Held.{state};
 ghost use Rattle.sqlite.specs.State.{HasCleanDisk};
@@ -11,8 +11,8 @@ use crate::sql_keep::SqlKeep;
 use sqlite::Alter;
 use toll_keep::Keep;
 
-/// A keep over SQLite is honest while the disk has returned what was written to it, lives while its
-/// connection lies open, is unsure of that where it lacked the memory to ask, and meets the causes of Disk
+/// A keep over SQLite is honest while the disk has returned what was written to it, and live while its
+/// connection is open. It is unsure of that if there was no memory to ask. Its causes of Disk are those
 /// that `sqlite` names.
 pub fn a_keep_over_sqlite_is_as_honest_as_its_disk<S: Alter>()
     ensures honest { (k : SqlKeep S S.Store) → ⟦<SqlKeep<S> as Keep>⟧.meaning.is_honest k ↔ HasCleanDisk (state S.Store k.conn) }
@@ -22,8 +22,8 @@ pub fn a_keep_over_sqlite_is_as_honest_as_its_disk<S: Alter>()
     ensures cause { (old new : SqlKeep S S.Store) → ⟦<SqlKeep<S> as Keep>⟧.meaning.has_cause old new ↔ HasCause (state S.Store old.conn) (state S.Store new.conn) }
 {}
 
-/// A keep over SQLite holds what its tables hold, where its connection lies open, and a stop leaves
-/// what it leaves of its store.
+/// If its connection is open, a keep over SQLite holds what its tables hold. A stop leaves what it
+/// leaves of the store.
 pub fn a_keep_over_sqlite_has_the_content_of_its_tables<S: Alter>()
     ensures holds { (k : SqlKeep S S.Store) (c : Content) → ⟦<SqlKeep<S> as Keep>⟧.meaning.holds k c ↔ HoldsWhileOpen (state S.Store k.conn) c }
     ensures leaves { (k : SqlKeep S S.Store) (cs : List Content) → ⟦<SqlKeep<S> as Keep>⟧.meaning.leaves k cs ↔ LeavesIn (state S.Store k.conn) cs }

@@ -1,4 +1,4 @@
-//! The batch that holds a unit, asked of the tables.
+//! The batch that holds a unit, read from the tables.
 ghost use Rattle.std.specs.Prelude.{◌≡◌, ◌≢◌, [], ◌∷◌, Err, None, IfOk, IfSome, OnOk, IsPermutation};
 ghost use Rattle.sqlite.specs.Held.{state};
 ghost use Rattle.sqlite.specs.declared.types.Value.TheVariants.{Text};
@@ -16,11 +16,11 @@ use sqlite::{Alter, Connection, Error, Row};
 use toll_base::{BatchRow, Name};
 use toll_keep::{Holder, KeepFault};
 
-/// The batch that holds the unit, of any owner: `None` where none does.
+/// The batch, of any owner, that holds the unit: `None` if no batch does.
 ///
-/// Memory and Disk are faults of the store; Damaged is told where the store gives a row that is that of no
-/// batch, and only there. The batch is that of a row that the store gives, and where none is told it gives none,
-/// whatever its tables have: no row but those of open batches on this unit matters.
+/// Memory and Disk are faults of the store. Damaged comes if the store gives a row that isn't a batch's, and
+/// only then. The batch is that of a row that the store gives. After `None` the store gives no row. All this
+/// is true whatever the tables have: only the rows of open batches on this unit matter.
 pub fn read_holder<S: Alter>(
     conn: &mut Connection<S>,
     unit: &Name,
@@ -37,7 +37,7 @@ pub fn read_holder<S: Alter>(
     }
 }
 
-// The batches on the unit that are not closed, of all owners.
+// The batches on the unit, of all owners, that aren't closed.
 fn open_batches<S: Alter>(conn: &mut Connection<S>, unit: &Name) -> Result<Vec<Row>, Error>
     ensures asks { IsQuerying (state S.Store conn.old) (state S.Store conn.new) result }
     ensures read { HasCleanDisk (state S.Store conn.new) → IfOk result (λ rows. AreBatchesOn (state S.Store conn.old).now unit.now rows.items) }
@@ -50,7 +50,7 @@ fn open_batches<S: Alter>(conn: &mut Connection<S>, unit: &Name) -> Result<Vec<R
     )
 }
 
-// The batch that the rows show, the last one's where there are several. Each has to be that of a batch.
+// The batch of the rows: that of the last row, if there are several. Each must be a batch's row.
 fn holder_in(rows: &[Row]) -> Result<Option<Holder>, KeepFault>
     ensures shown { IfOk result (IsShownIn rows.now) }
     ensures whole { OnOk result (AreBatchRows rows.now) }
@@ -69,7 +69,7 @@ fn holder_in(rows: &[Row]) -> Result<Option<Holder>, KeepFault>
     Ok(found)
 }
 
-// The batch that the row is that of.
+// The batch of the row.
 fn holder_at(row: &Row) -> Option<Holder>
     ensures some { IfSome result (IsRowOfBatch row.now) }
     ensures none { result ≡ None → ShowsNoBatch row.now }

@@ -22,7 +22,7 @@ use toll_base::{OwnerRow, UnitRow};
 use toll_keep::KeepFault;
 
 /// The owners besides HOUSE, in the order of their names: each row that the store gives, whatever its
-/// tables have. A row that is none of the office's is Damaged.
+/// tables have. Damaged if a row isn't the office's.
 pub fn read_owners<S: Alter>(
     conn: &mut Connection<S>,
     alloc: Global,
@@ -35,8 +35,8 @@ pub fn read_owners<S: Alter>(
     read_all::<S, OwnerRow>(conn, alloc)
 }
 
-/// The units, in the order of their names: each row that the store gives, whatever its tables have. A row
-/// that is none of the office's is Damaged.
+/// The units, in the order of their names: each row that the store gives, whatever its tables have.
+/// Damaged if a row isn't the office's.
 pub fn read_units<S: Alter>(
     conn: &mut Connection<S>,
     alloc: Global,
@@ -65,7 +65,7 @@ fn read_all<S: Alter, X: PlantRow>(
     }
 }
 
-// The rows that these stored ones are.
+// The rows of these stored rows.
 fn list_rows<X: PlantRow>(alloc: Global, rows: &[Stored]) -> Result<Vec<X>, KeepFault>
     ensures reads { ForCells X.kind X.cells X.is_valid rows.now (λ l. IfOk result (λ listed. listed.items ≡ l)) }
     ensures shown { IfOk result (λ listed. (map X.cells listed.items ≡ map (columns_from 0 (width_of X.kind)) rows.now) × AllByRecursion X.is_valid listed.items) }

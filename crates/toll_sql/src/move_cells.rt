@@ -1,4 +1,4 @@
-//! What a stored movement moves.
+//! Reading the kind of a stored movement.
 ghost use Rattle.std.specs.Prelude.{◌≡◌, ◌↔◌, pos, [], None, IsTrue, IfSome};
 ghost use Rattle.sqlite.specs.Order.{column};
 ghost use Rattle.sqlite.specs.declared.types.Value.TheVariants.{Int, Text};
@@ -13,7 +13,7 @@ use sqlite::Row;
 use sqlite::types::ValueRef;
 use toll_base::{Move, Name, Role};
 
-/// What the movement of these cells moves: `None` where they are those of none.
+/// What the movement of these cells moves: `None` if they aren't a movement's cells.
 pub fn move_at(row: &Row) -> Option<Move>
     ensures some { (o : Bytes) → column row.now 0 ≡ Text o → IfSome result (ShowsMove o row.now) }
     ensures valid { IfSome result IsMove }
@@ -97,7 +97,7 @@ fn actual_at(row: &Row, role: Role) -> Option<Move>
     })
 }
 
-// Whether the lot is of the owner of the row.
+// Whether the lot belongs to the owner of the row.
 fn is_own(row: &Row) -> bool
     ensures { (o : Bytes) → column row.now 0 ≡ Text o → IsTrue result ↔ (column row.now 3 ≡ Text o) }
 {
@@ -107,7 +107,7 @@ fn is_own(row: &Row) -> bool
     }
 }
 
-// Whether no batch is named.
+// Whether the row names no batch.
 fn is_without_batch(row: &Row) -> bool
     ensures { IsTrue result ↔ ((column row.now 8 ≡ Text []) × (column row.now 9 ≡ Int (pos 0)) × (column row.now 10 ≡ Int (pos 0))) }
 {

@@ -1,4 +1,4 @@
-//! The parts of a movement, each where the table of movements has it.
+//! The parts of a movement, one for each column of the table of movements.
 ghost use Rattle.std.specs.Prelude.{◌≡◌, [], ℕ, IsTrue};
 ghost use Rattle.toll_base.specs.Values.{is_name};
 ghost use Rattle.toll_sql.specs.Encode as stored;
@@ -6,7 +6,7 @@ ghost use Rattle.toll_sql.specs.Valid.{IsMove, IsLotId, IsStorable};
 
 use toll_base::{Move, Name, Role};
 
-/// The parts of a movement; `''` or 0 where its kind has not the part.
+/// The parts of a movement. A part that its kind doesn't have is `''` or 0.
 #[derive(Clone, Copy)]
 pub struct MoveParts<'a> {
     pub kind: u64,
@@ -21,7 +21,7 @@ pub struct MoveParts<'a> {
 }
 
 impl<'a> MoveParts<'a> {
-    /// Those of a movement of this owner.
+    /// The parts of a movement of this owner.
     pub fn of(owner: &'a Name, what: &'a Move) -> Self
         ensures kind { result.kind ≡ stored.kind_number what.now }
         ensures lot_owner { result.lot_owner.now ≡ (stored.lot_of owner.now what.now).owner }
@@ -72,7 +72,7 @@ impl<'a> MoveParts<'a> {
         }
     }
 
-    // A movement that has a lot and a sublot alone.
+    // A movement with only a lot and a sublot.
     fn taken(kind: u64, owner: &'a Name, lot: &'a Name, sublot: &'a Name) -> Self
         ensures kind { result.kind ≡ kind }
         ensures lot_owner { result.lot_owner.now ≡ owner.now }

@@ -1,4 +1,4 @@
-//! Why a store did not become a keep.
+//! Why a store didn't become a keep.
 ghost use Rattle.std.specs.Prelude.{◌≡◌, ◌⊎◌, false, IsTrue};
 ghost use Rattle.toll_sql.specs.Causes.{is_disk_fault};
 ghost use Rattle.toll_sql.specs.Opening.{name_of};
@@ -8,20 +8,20 @@ use sqlite::Error as StoreError;
 use thiserror::Error;
 use toll_keep::KeepFault;
 
-/// Why a store did not become a keep.
+/// Why a store didn't become a keep.
 #[derive(Clone, Copy, Debug, PartialEq, Eq, Error)]
 pub enum OpenFault {
-    /// There was no memory. The store is as it was.
+    /// Memory ran out. The store is as it was.
     #[error("Memory")]
     Memory,
-    /// The disk failed, or refused. Opened again, the store is as it was, or has all of what was to be made.
+    /// The disk failed, or refused. Opened again, the store is as it was, or has all that the call makes.
     #[error("Disk")]
     Disk,
     /// The store has the office's version, but a table or column of it is missing or differs.
     #[error("Damaged")]
     Damaged,
-    /// The store has tables already where new ones are to be made, or it has not the office's version.
-    /// Nothing was written.
+    /// New tables were to be made and the store already has tables, or it doesn't have the office's
+    /// version. Nothing was written.
     #[error("NotOurs")]
     NotOurs,
 }
@@ -40,8 +40,8 @@ impl OpenFault {
     }
 }
 
-/// The fault that the error is: Disk where the disk failed or refused, or the store shut itself, and
-/// else Memory.
+/// The fault for the error: Disk if the disk failed or refused, or the store shut itself, else
+/// Memory.
 pub(crate) fn open_fault_of(error: StoreError) -> OpenFault
     ensures { ((result ≡ OpenFault.Memory) × (is_disk_fault error ≡ false)) ⊎ ((result ≡ OpenFault.Disk) × IsTrue (is_disk_fault error)) }
 {

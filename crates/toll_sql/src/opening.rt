@@ -1,4 +1,4 @@
-//! A keep made over a store, and given back.
+//! Making a keep over a store, and giving the store back.
 ghost use Rattle.std.specs.Prelude.{◌≡◌, false, Err, codes, IfOk, IfErr, OnOk};
 ghost use Rattle.sqlite.specs.Held.{state};
 ghost use Rattle.sqlite.specs.Steps.{over_memory};
@@ -19,8 +19,8 @@ use std::rt::HostRuntime;
 use toll_keep::KeepFault;
 
 impl<S: Alter> SqlKeep<S> {
-    /// A keep of a store that has no tables: they are made, in one transaction, and it holds nothing. A
-    /// refusal hands the connection back; its faults are those of [`create_tables`].
+    /// A keep of a store that has no tables. They are made, in one transaction, and the keep holds
+    /// nothing. A refusal gives the connection back. Its faults are those of [`create_tables`].
     pub fn create(mut conn: Connection<S>) -> Result<SqlKeep<S>, (OpenFault, Connection<S>)>
         ensures made { IfOk result (λ keep. Creates (state S.Store conn) (state S.Store keep.conn) succeeds × (keep.closed ≡ false)) }
         ensures refused { IfErr result (λ left. Creates (state S.Store conn) (state S.Store left.1) (refuses left.0)) }
@@ -35,8 +35,8 @@ impl<S: Alter> SqlKeep<S> {
         }
     }
 
-    /// A keep of the office's tables as they are; those of version 1 are brought to this one. A refusal
-    /// hands the connection back; its faults are those of [`adopt_tables`].
+    /// A keep of the office's tables as they are. Those of version 1 are brought to this version. A
+    /// refusal gives the connection back. Its faults are those of [`adopt_tables`].
     pub fn adopt(
         alloc: Global,
         mut conn: Connection<S>,
@@ -54,7 +54,7 @@ impl<S: Alter> SqlKeep<S> {
         }
     }
 
-    /// The connection, also of a keep that answers Closed.
+    /// The connection, even of a keep that answers Closed.
     pub fn into_connection(self) -> Connection<S>
         ensures { result ≡ self.conn }
     {
@@ -68,7 +68,7 @@ impl<S: Alter> SqlKeep<S> {
 }
 
 impl SqlKeep<MemStore> {
-    /// A keep in memory that holds nothing. Memory where there is none.
+    /// A keep in memory that holds nothing. Memory if memory runs out.
     pub fn in_memory(alloc: Global) -> Result<SqlKeep<MemStore>, OpenFault>
         ensures holds { IfOk result (λ keep. HoldsIn (state over_memory keep.conn) nothing × (keep.closed ≡ false)) }
         ensures fault { IfErr result (λ fault. fault ≡ OpenFault.Memory) }
@@ -83,10 +83,10 @@ impl SqlKeep<MemStore> {
 }
 
 impl<S: Start> SqlKeep<FileStore<FileFrom<S>>> {
-    /// A keep of the file: a `fresh` one has no tables yet, and they are made; else they are adopted.
-    /// `start` stands for what the file holds. Memory where there is none, Disk where the file can't be
-    /// opened (the path `:memory:` names none), NotOurs where it is no database; the other faults are those
-    /// of [`SqlKeep::create`] and [`SqlKeep::adopt`].
+    /// A keep of the file. A `fresh` file has no tables yet, and they are made. Otherwise its tables are
+    /// adopted. `start` represents the content of the file. Memory if memory runs out, Disk if the file
+    /// can't be opened (the path `:memory:` names no file), NotOurs if it isn't a database. The other
+    /// faults are those of [`SqlKeep::create`] and [`SqlKeep::adopt`].
     pub fn open_from(
         rt: &HostRuntime,
         path: &str,
@@ -103,8 +103,8 @@ impl<S: Start> SqlKeep<FileStore<FileFrom<S>>> {
         }
     }
 
-    /// Copies what was committed into the database file and closes both files. Memory where there is
-    /// none, Disk where the disk fails or refuses; what was committed stands in the two files.
+    /// Copies committed changes into the database file and closes both files. Memory if memory runs
+    /// out, Disk if the disk fails or refuses. Even then the two files have all committed changes.
     pub fn close(self) -> Result<(), KeepFault>
         ensures copied { OnOk result (IsLeftIn self.conn) }
         ensures unclosed { IfErr result (λ fault. (last : _) × IsUnclosed self.conn last fault) }
@@ -113,7 +113,7 @@ impl<S: Start> SqlKeep<FileStore<FileFrom<S>>> {
     }
 }
 
-// Closes the files of a connection, after what was committed was copied into the database file.
+// Closes the files of a connection, after it copied committed changes into the database file.
 fn close_connection<S: Start>(conn: Connection<FileStore<FileFrom<S>>>) -> Result<(), KeepFault>
     ensures copied { OnOk result (IsLeftIn conn) }
     ensures unclosed { IfErr result (λ fault. (last : _) × IsUnclosed conn last fault) }
@@ -143,7 +143,7 @@ fn connect<S: Start>(
     }
 }
 
-// The keep of a connection that is taken over, which is let go where there is none.
+// The keep that takes the connection over. If there is no keep, the connection is dropped.
 fn keep_of<S: Alter + Drop>(
     alloc: Global,
     conn: Connection<S>,
@@ -174,7 +174,7 @@ fn take_over<S: Alter>(
     }
 }
 
-// The fault that an error of opening a file is.
+// The fault for an error of opening a file.
 fn file_fault_of(error: Error) -> OpenFault
     ensures { result ≡ fault_of_files error }
 {

@@ -1,4 +1,4 @@
-//! Whether a schema is ours.
+//! The test whether a schema is ours.
 ghost use Rattle.std.specs.Prelude.{◌≡◌, ◌≢◌, ◌↔◌, [], ◌∷◌, false, IsTrue};
 ghost use Rattle.sqlite_value.specs.Keys.{plain};
 ghost use Rattle.std.specs.List.{AllByRecursion};
@@ -14,10 +14,10 @@ use sqlite_schema::schema::{Column, Index, Schema, Stamps, Table};
 use sqlite_value::keys::{Collation, Order};
 use sqlite_value::value::{Bytes, Value};
 
-/// How many tables version 1 has, and so many indexes.
+/// How many tables version 1 has. It has as many indexes.
 const FIRST: usize = 13;
 
-/// Whether there is nothing.
+/// Whether the schema is empty.
 pub(crate) fn is_blank(schema: &Schema) -> bool
     ensures same { IsTrue result → schema.now ≡ no_schema }
     ensures other { result ≡ false → schema.now ≢ no_schema }
@@ -157,15 +157,15 @@ fn are_indexes(indexes: &[Index], wanted: &[Index]) -> bool
 /// The tables that a schema has.
 #[derive(Clone, Copy)]
 pub(crate) enum Layout {
-    /// Those of the office, of this version, and perhaps others behind them.
+    /// The office's tables of this version, and perhaps others behind them.
     Ours,
-    /// Those of the office, of version 1, and no others.
+    /// The office's tables of version 1, and no others.
     First,
-    /// Others, or not all.
+    /// Other tables, or not all of the office's.
     Other,
 }
 
-/// Which tables these are; `made` is the schema that is made for the office.
+/// Which tables these are. `made` is the schema of the office's tables.
 pub(crate) fn layout_of(schema: &Schema, made: &Schema) -> Layout
     requires { made.now ≡ made_all }
     ensures ours { result ≡ Layout.Ours → HasOurs schema.now }
@@ -194,7 +194,7 @@ fn has_tables(schema: &Schema, tables: &[Table], indexes: &[Index]) -> bool
         && schema.views.is_empty()
 }
 
-// Whether the schema has the office's tables, and behind them none that touch their rows.
+// Whether the schema has the office's tables, and no others behind them that affect their rows.
 fn has_ours(schema: &Schema, made: &Schema) -> bool
     requires { made.now ≡ made_all }
     ensures { IsTrue result ↔ HasOurs schema.now }
@@ -204,7 +204,7 @@ fn has_ours(schema: &Schema, made: &Schema) -> bool
         && begin_with_indexes(schema.indexes.as_slice(), made.indexes.as_slice(), tables)
 }
 
-// Whether the first tables are the plain ones, and none behind them has a foreign key.
+// Whether the first tables are the plain ones, and no table behind them has a foreign key.
 fn begin_with_tables(tables: &[Table], wanted: &[Table]) -> bool
     ensures { AllByRecursion IsPlainTable wanted.now → (IsTrue result ↔ BeginsWith RefersToNone wanted.now tables.now) }
 {
@@ -214,7 +214,7 @@ fn begin_with_tables(tables: &[Table], wanted: &[Table]) -> bool
     }
 }
 
-// Whether the first indexes are the plain ones, and none behind them is a unique one of these tables.
+// Whether the first indexes are the plain ones, and no index behind them is a unique one of these tables.
 fn begin_with_indexes(indexes: &[Index], wanted: &[Index], tables: &[Table]) -> bool
     ensures { AllByRecursion IsPlainIndex wanted.now → (IsTrue result ↔ BeginsWith (GuardsNone tables.now) wanted.now indexes.now) }
 {
@@ -242,7 +242,7 @@ fn all_guard_none(indexes: &[Index], tables: &[Table]) -> bool
     }
 }
 
-// Whether the index is a unique one of none of these tables.
+// Whether the index isn't a unique one of any of these tables.
 fn guards_none(index: &Index, tables: &[Table]) -> bool
     ensures { IsTrue result ↔ GuardsNone tables.now index.now }
 {

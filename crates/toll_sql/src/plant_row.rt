@@ -1,4 +1,4 @@
-//! Owners and units as the tables have them.
+//! Owners and units in the tables.
 ghost use Rattle.std.specs.Prelude.{◌≡◌, ◌≢◌, None, IfSome};
 ghost use Rattle.sqlite.specs.Order.{Row};
 ghost use Rattle.toll_sql.specs.Cells.{columns_from};
@@ -13,7 +13,7 @@ use crate::table_kind::TableKind;
 use sqlite::Row as Stored;
 use toll_base::{OwnerRow, UnitRow};
 
-/// A row of the plant that a table has.
+/// A row of the plant in a table.
 pub trait PlantRow: Copy {
     // The table that has such rows.
     ghost kind: { Kinds };
@@ -28,7 +28,7 @@ pub trait PlantRow: Copy {
     fn table() -> TableKind
         ensures { result ≡ kind };
 
-    /// The row that has these cells: `None` where no row has.
+    /// The row that has these cells: `None` if no row has them.
     fn read(from: &Stored) -> Option<Self>
         ensures some { IfSome result (λ x. columns_from 0 (width_of kind) from.now ≡ cells x) }
         ensures valid { IfSome result is_valid }

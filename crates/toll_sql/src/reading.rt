@@ -32,8 +32,8 @@ pub fn read_table<S: Alter, X: StoredRow>(
     }
 }
 
-// Puts the stored rows in, which are all rows of this kind. Damaged is told of the first that is none or breaks
-// the rules, and Memory of none but one that fits.
+// Puts in the stored rows, which are all rows of this kind. Damaged is the fault of the first one that isn't
+// a row of this kind or breaks the rules. Memory is only the fault of a row that fits.
 fn read_rows<X: StoredRow>(slice: &mut Slice, rows: &[Stored]) -> Result<(), KeepFault>
     ensures reads { ForStored X.kind X.cells X.is_valid X.any_row X.listed rows.now slice.old (λ s. OnOk result (slice.new ≡ past X.kind X.listed s)) }
     ensures shown { (o : Bytes) → AreOwnedBy o rows.now → OnOk result (AllByRecursion (IsRowOf X.kind X.cells X.is_valid o) rows.now) }
@@ -63,7 +63,7 @@ fn read_row<X: StoredRow>(slice: &mut Slice, row: &Stored) -> Result<(), KeepFau
     }
 }
 
-// Puts the row in where the slice keeps its rules with it.
+// Puts the row in if the slice then keeps its rules.
 fn put_read(slice: &mut Slice, row: Row) -> Result<(), KeepFault>
     ensures made { OnOk result (slice.new ≡ with_row slice.old row) }
     ensures whole { KeepsRules (with_row slice.old row) → result ≢ Err KeepFault.Damaged }

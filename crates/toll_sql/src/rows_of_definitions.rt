@@ -1,4 +1,4 @@
-//! Materials, tests, recipes and requirements as the tables have them.
+//! Materials, tests, recipes and requirements in the tables.
 ghost use Rattle.toll_base.specs.declared.rows.Row.TheVariants.{Material, Test, Recipe, Requirement};
 ghost use Rattle.toll_sql.specs.Encode.{material_cells, test_cells, recipe_cells, requirement_cells};
 ghost use Rattle.toll_sql.specs.Valid.{IsMaterial, IsTest, IsRecipe, IsRequirement};

@@ -1,4 +1,4 @@
-//! Lots, sublots and results as the tables have them.
+//! Lots, sublots and results in the tables.
 ghost use Rattle.toll_base.specs.declared.rows.Row.TheVariants.{Lot, Sublot, Result as ResultOf};
 ghost use Rattle.toll_sql.specs.Encode.{lot_cells, sublot_cells, result_cells};
 ghost use Rattle.toll_sql.specs.Valid.{IsLot, IsSublot, IsResult};

@@ -1,4 +1,4 @@
-//! Movements and voids as the tables have them.
+//! Movements and voids in the tables.
 ghost use Rattle.toll_base.specs.declared.rows.Row.TheVariants.{Move as MoveOf, Void};
 ghost use Rattle.toll_sql.specs.Encode.{move_cells, void_cells};
 ghost use Rattle.toll_sql.specs.Valid.{IsMovement, IsVoid};

@@ -1,4 +1,4 @@
-//! Orders and batches as the tables have them.
+//! Orders and batches in the tables.
 ghost use Rattle.toll_base.specs.declared.rows.Row.TheVariants.{Order, Batch};
 ghost use Rattle.toll_sql.specs.Encode.{order_cells, batch_cells};
 ghost use Rattle.toll_sql.specs.Valid.{IsOrder, IsBatch};

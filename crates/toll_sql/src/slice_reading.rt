@@ -27,13 +27,13 @@ use toll_base::{
 };
 use toll_keep::KeepFault;
 
-/// How many tables stand first that owners do not part.
+/// The number of tables, at the start of the list, whose rows belong to no owner.
 const UNOWNED: usize = 3;
 
-/// All rows of an owner: `None` for an unknown one. HOUSE is always known. Where rows are given, each that
-/// the tables have of the owner is a row of the office, its values values of their kinds: one that is none
-/// is Damaged. And an owner is told to be unknown only where no row that the store gives of owners names it.
-/// What is told of one owner stands whatever rows the tables have of others.
+/// All rows of an owner: `None` for an unknown owner. HOUSE is always known. If rows are given, each of the
+/// owner's rows in the tables is a row of the office, and its values are values of their kinds. Any other row
+/// is Damaged. An owner is unknown only if no row of owners that the store gives names it. The answer for one
+/// owner holds whatever rows the tables have of others.
 pub fn read_slice<S: Alter>(
     conn: &mut Connection<S>,
     alloc: Global,
@@ -84,7 +84,7 @@ pub fn read_rows_of<S: Alter>(
     Ok(slice)
 }
 
-// Reads the owner's rows of each table that owners part, each behind those of the rows that its own refer to.
+// Reads the owner's rows of each table whose rows belong to owners, after the tables that its rows refer to.
 fn read_tables<S: Alter>(
     conn: &mut Connection<S>,
     slice: &mut Slice,

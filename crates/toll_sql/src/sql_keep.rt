@@ -31,7 +31,7 @@ use toll_trace::{Graph, Recorded, Step, Way};
 pub struct SqlKeep<S: Alter> {
     pub(crate) conn: Connection<S>,
     pub(crate) closed: bool,
-    // Whether the store lies open is not known: nothing was answered yet, or there was no memory to ask it.
+    // Whether the store is open isn't known: no call was answered yet, or there was no memory to ask it.
     pub(crate) unsure: bool,
     ghost idle: { conn.in_transaction ≡ false },
     ghost unlimited: { conn.step_limit ≡ None },
@@ -39,8 +39,8 @@ pub struct SqlKeep<S: Alter> {
 }
 
 impl<S: Alter> SqlKeep<S> {
-    // What each call does first: a closed keep answers Closed, and where it isn't known whether the store
-    // lies open, that is asked.
+    // Each call begins with this. A closed keep answers Closed. If it isn't known whether the store is
+    // open, the keep asks it.
     fn begin(&mut self) -> Result<(), KeepFault>
         ensures unsure { OnOk result (self.new.unsure ≡ true) }
         ensures reading { IsReading (means (λ k. state S.Store k.conn) (λ k. k.closed) (λ k. k.unsure)) self.old self.new result }
@@ -60,8 +60,8 @@ impl<S: Alter> SqlKeep<S> {
         found
     }
 
-    // Passes the answer on, and is closed from now on where it is a fault of the disk or damage. Behind want
-    // of memory the store may have shut itself: it is asked, and where it has, the answer is Disk.
+    // Passes the answer on. If it is Disk or Damaged, the keep is closed from now on. After Memory the store
+    // may have shut itself: the keep asks it, and if it has, the answer is Disk.
     fn pass_on<X>(&mut self, answer: Result<X, KeepFault>) -> Result<X, KeepFault>
         requires { HasCleanDisk (state S.Store self.old.conn) → OnOk answer (IsTrue (state S.Store self.old.conn).is_open) }
         ensures same { answer ≢ Err KeepFault.Memory → (result ≡ answer) × (self.new.conn ≡ self.old.conn) }
@@ -77,7 +77,7 @@ impl<S: Alter> SqlKeep<S> {
         answer
     }
 
-    // What is told behind want of memory.
+    // The answer after Memory.
     fn ask_behind<X>(&mut self) -> Result<X, KeepFault>
         ensures asked { IsAskedBehind (state S.Store self.old.conn) (state S.Store self.new.conn) result self.new.unsure }
         ensures closed { self.new.closed ≡ closes result }
@@ -106,7 +106,7 @@ impl<S: Alter> SqlKeep<S> {
         }
     }
 
-    // What the batches of these owners consumed and produced.
+    // The lots that the batches of these owners consumed and produced.
     fn recorded(&mut self, alloc: Global, owners: &[Name]) -> Result<Recorded, KeepFault>
         ensures reads { (first : _) → HaveRead (means (λ k. state S.Store k.conn) (λ k. k.closed) (λ k. k.unsure)) first self.old → IsReading (means (λ k. state S.Store k.conn) (λ k. k.closed) (λ k. k.unsure)) first self.new result }
         ensures kept { IsKept (means (λ k. state S.Store k.conn) (λ k. k.closed) (λ k. k.unsure)) self.old self.new }
@@ -121,7 +121,7 @@ impl<S: Alter> SqlKeep<S> {
     }
 }
 
-// The trace over what is recorded.
+// The trace over the recorded uses.
 fn trace_recorded(
     alloc: Global,
     recorded: Recorded,

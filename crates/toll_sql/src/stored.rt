@@ -1,4 +1,4 @@
-//! Rows of an owner that a table has.
+//! Rows of an owner in a table.
 ghost use Rattle.std.specs.Prelude.{◌≡◌, ◌≢◌, List, None, IfSome};
 ghost use Rattle.sqlite.specs.Order.{Row, column};
 ghost use Rattle.sqlite.specs.declared.types.Value.TheVariants.{Text};
@@ -13,7 +13,7 @@ use crate::table_kind::TableKind;
 use sqlite::Row as Stored;
 use toll_base::Row as AnyRow;
 
-/// A row of an owner that a table has.
+/// A row of an owner in a table.
 pub trait StoredRow: Copy {
     // The table that has such rows.
     ghost kind: { Kinds };
@@ -38,7 +38,7 @@ pub trait StoredRow: Copy {
     fn into_row(self) -> AnyRow
         ensures { result ≡ any_row self };
 
-    /// The row that has these cells: `None` where no row has.
+    /// The row that has these cells: `None` if no row has them.
     fn read(from: &Stored) -> Option<Self>
         ensures some { (o : Bytes) → column from.now 0 ≡ Text o → IfSome result (λ x. columns_from 0 (width_of kind) from.now ≡ cells o x) }
         ensures valid { IfSome result is_valid }

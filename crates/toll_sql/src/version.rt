@@ -1,4 +1,4 @@
-//! The version that a store has.
+//! The version of a store.
 ghost use Rattle.std.specs.Prelude.{◌≡◌, ◌↔◌, false, ℕ, Some, IsTrue, IfErr, IfOk, IfSome, OnOk, codes};
 ghost use Rattle.sqlite.specs.Held.{state};
 ghost use Rattle.sqlite.specs.Order.{column};
@@ -28,7 +28,7 @@ fn is_office(row: &Row) -> bool
     }
 }
 
-/// The version that these rows of `meta` tell, where they do.
+/// The version in these rows of `meta`, if they have one.
 pub(crate) fn version_in(rows: &[Row]) -> Option<u64>
     ensures { IsVersionIn rows.now result }
 {
@@ -44,7 +44,7 @@ pub(crate) fn version_in(rows: &[Row]) -> Option<u64>
     }
 }
 
-/// The version that the store tells, whose tables are ours, where it does.
+/// The version of the store, if it has one. Its tables are ours.
 pub(crate) fn read_version<S: Alter>(conn: &mut Connection<S>) -> Result<Option<u64>, Error>
     ensures asks { IsQuerying (state S.Store conn.old) (state S.Store conn.new) result }
     ensures version { OverOurs (state S.Store conn.old) (state S.Store conn.new) (λ db. (n : ℕ) → HasVersion n db → IfOk result (λ told. told ≡ Some n)) }
@@ -55,7 +55,7 @@ pub(crate) fn read_version<S: Alter>(conn: &mut Connection<S>) -> Result<Option<
     Ok(version_in(rows.as_slice()))
 }
 
-/// The version that the store tells, whatever its tables are, where it does. Nothing is written.
+/// The version of the store, if it has one. Its tables may be any. Nothing is written.
 pub(crate) fn find_version<S: Alter>(conn: &mut Connection<S>) -> Result<Option<u64>, Error>
     requires autocommit { conn.old.in_transaction ≡ false }
     requires settled { LiesIdle (state S.Store conn.old) }
@@ -68,7 +68,7 @@ pub(crate) fn find_version<S: Alter>(conn: &mut Connection<S>) -> Result<Option<
     Ok(version_in(rows.as_slice()))
 }
 
-// The rows of `meta`, within a transaction that has written nothing.
+// The rows of `meta`, in a transaction that has written nothing.
 fn ask_version<S: Alter>(tx: &mut Transaction<'_, S>) -> Result<Vec<Row>, Error>
     ensures same_reference { tx.new.conn.ghost_name ≡ tx.old.conn.ghost_name }
     ensures asks { IsAskedInside (state S.Store tx.old.conn.now) (state S.Store tx.new.conn.now) result }
@@ -78,7 +78,7 @@ fn ask_version<S: Alter>(tx: &mut Transaction<'_, S>) -> Result<Vec<Row>, Error>
     tx.query_all(TableKind::Meta.select_text(), &[])
 }
 
-/// The version that the store tells, whose tables are those of version 1, where it does.
+/// The version of the store, if it has one. Its tables are those of version 1.
 pub(crate) fn read_first_version<S: Alter>(conn: &mut Connection<S>) -> Result<Option<u64>, Error>
     requires autocommit { conn.old.in_transaction ≡ false }
     requires settled { LiesIdle (state S.Store conn.old) }
@@ -93,7 +93,7 @@ pub(crate) fn read_first_version<S: Alter>(conn: &mut Connection<S>) -> Result<O
     Ok(version_in(rows.as_slice()))
 }
 
-// The rows of `meta`, where the tables are those of version 1.
+// The rows of `meta`. The tables are those of version 1.
 fn first_rows<S: Alter>(conn: &mut Connection<S>) -> Result<Vec<Row>, Error>
     requires autocommit { conn.old.in_transaction ≡ false }
     requires settled { LiesIdle (state S.Store conn.old) }

@@ -1,4 +1,4 @@
-//! Rows put into the tables.
+//! Writing rows into the tables.
 ghost use Rattle.std.specs.Prelude.{◌≡◌, ◌≢◌, false, Err, IsTrue, OnOk};
 ghost use Rattle.sqlite.specs.Held.{state};
 ghost use Rattle.sqlite.specs.State.{HasCleanDisk, Survives};
@@ -54,14 +54,14 @@ fn put_or_none<S: Alter>(conn: &mut Connection<S>, changes: &[Change]) -> Result
     requires { conn.old.in_transaction ≡ false }
     ensures whole { IsWhole IsReady (IsApplied changes.now (state S.Store conn.old).now) (state S.Store conn.old) (state S.Store conn.new) result }
 {
-    // Asked for the proof alone: outside a transaction nothing is pending.
+    // This question is for the proof alone: outside a transaction nothing is pending.
     let _autocommit = conn.is_autocommit();
     let mut tx = conn.transaction();
     put_all(&mut tx, changes)?;
     tx.commit()
 }
 
-// Makes each change, the first of them first.
+// Makes each change, in order.
 fn put_all<S: Alter>(tx: &mut Transaction<'_, S>, changes: &[Change]) -> Result<(), Error>
     ensures same_reference { tx.new.conn.ghost_name ≡ tx.old.conn.ghost_name }
     ensures writes { IsWriting (MakesAll changes.now) (state S.Store tx.old.conn.now) (state S.Store tx.new.conn.now) result }
@@ -77,7 +77,7 @@ fn put_change<S: Alter>(tx: &mut Transaction<'_, S>, change: &Change) -> Result<
     ensures same_reference { tx.new.conn.ghost_name ≡ tx.old.conn.ghost_name }
     ensures writes { IsWriting (MakesPut change.now) (state S.Store tx.old.conn.now) (state S.Store tx.new.conn.now) result }
 {
-    // Named for the proof: a change may have a row.
+    // This names the type for the proof: a change may have a row.
     let _row: Option<Row> = None;
     match change {
         Change::Owner(row) => put(tx, TableKind::Owners, &owner_values(row)),
@@ -86,7 +86,7 @@ fn put_change<S: Alter>(tx: &mut Transaction<'_, S>, change: &Change) -> Result<
     }
 }
 
-// Puts the owner's row; an amount or a number that no column can have, which no rules allow, is out of range.
+// Puts the owner's row. An amount or a number too great for a column, which no rules allow, is out of range.
 fn put_row<S: Alter>(tx: &mut Transaction<'_, S>, owner: &Name, row: &Row) -> Result<(), Error>
     ensures same_reference { tx.new.conn.ghost_name ≡ tx.old.conn.ghost_name }
     ensures writes { IsWriting (MakesPut (Put owner.now row.now)) (state S.Store tx.old.conn.now) (state S.Store tx.new.conn.now) result }
@@ -108,7 +108,7 @@ fn put_row<S: Alter>(tx: &mut Transaction<'_, S>, owner: &Name, row: &Row) -> Re
     }
 }
 
-/// Puts a row of these cells into the table, in place of the one with its key.
+/// Puts a row of these cells into the table, or replaces the one with its key.
 pub fn put<S: Alter>(
     tx: &mut Transaction<'_, S>,
     table: TableKind,
