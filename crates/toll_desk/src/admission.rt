@@ -1,4 +1,4 @@
-//! Who is admitted: an owner that was added, with its key.
+//! Admission: an added owner is admitted with its key.
 ghost use Rattle.std.specs.Prelude.{◌≡◌, IfOk, IfSome};
 ghost use Rattle.toll_base.specs.Bytes.{bytes_cmp, same_bytes};
 ghost use Rattle.toll_base.specs.Table.{row_at};
@@ -52,7 +52,7 @@ fn admitted(rows: &[OwnerRow], owner: &[u8], key: &[u8]) -> Option<Name>
     }
 }
 
-/// The owner, where it is one that was added with that key. HOUSE is none.
+/// The owner, if it was added with that key. HOUSE wasn't added.
 pub fn admit<K: Keep>(
     alloc: Global,
     keep: &mut K,

@@ -1,4 +1,4 @@
-//! What the plant does.
+//! Commands of the plant.
 ghost use Rattle.std.specs.Prelude.{◌≡◌, [], false, OnErr};
 ghost use Rattle.toll_history.specs.Verdict.{IsValid};
 ghost use Rattle.toll_keep.specs.Goes.{FindsNoDamage, Goes, IsReading};
@@ -14,7 +14,7 @@ use crate::plant_cmd::{PlantCmd, PlantPlan, PlantReply};
 use std::alloc::Global;
 use toll_keep::{Keep, KeepFault};
 
-/// Does what a command of the plant says, where it is accepted.
+/// Decides a command of the plant, and does it if it is accepted.
 pub fn run_command<K: Keep>(alloc: Global, keep: &mut K, command: &PlantCmd) -> PlantReply
     requires { IsCommandSuchThat IsValid (asked_by command.now) }
     ensures goes { Goes K.meaning keep.old keep.new (plant_told result) }
@@ -27,7 +27,7 @@ pub fn run_command<K: Keep>(alloc: Global, keep: &mut K, command: &PlantCmd) -> 
     planned.finished(made)
 }
 
-// The reply as it will stand, and what must be applied for it. Nothing is changed.
+// The reply if its changes succeed, and these changes. Nothing is changed yet.
 fn plan<K: Keep>(alloc: Global, keep: &mut K, command: &PlantCmd) -> PlantPlan
     requires { IsCommandSuchThat IsValid (asked_by command.now) }
     ensures reads { IsReading K.meaning keep.old keep.new (plant_told result.reply) }

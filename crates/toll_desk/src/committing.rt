@@ -8,7 +8,7 @@ use std::alloc::Global;
 use toll_base::Change;
 use toll_keep::{Keep, KeepFault};
 
-/// Makes the changes of a plan. Where there are none, the keep isn't called.
+/// Makes the changes of a plan. If there are none, it doesn't call the keep.
 pub fn commit<K: Keep>(alloc: Global, keep: &mut K, changes: &[Change]) -> Result<(), KeepFault>
     ensures honest { K.meaning.is_honest keep.new → K.meaning.is_honest keep.old }
     ensures idle { changes.now ≡ [] → (keep.new ≡ keep.old) × (result ≡ Ok tt) }

@@ -21,8 +21,8 @@ use toll_base::{Decision, Name, Refusal, Slice};
 use toll_keep::{Keep, KeepFault, PendingChanges};
 use toll_work::open_batch;
 
-/// The decision on a command. [`Refusal::UnknownOwner`] comes before the checks of all but the adding
-/// of owners and units.
+/// The decision on a command. [`Refusal::UnknownOwner`] comes before all other checks, except for
+/// adding owners and units.
 pub fn decide<K: Keep>(
     alloc: Global,
     keep: &mut K,
@@ -72,7 +72,7 @@ pub struct Both {
     pub house: Slice,
 }
 
-/// By hand, since what is derived is written out at every exit of every function that owns it.
+/// Written by hand: a derived `Drop` is expanded at every exit of every function that owns it.
 impl Drop for Both {
     fn drop(self) {
         let Both { own: _, house: _ } = self;
@@ -100,7 +100,7 @@ fn decide_both<K: Keep>(
     }
 }
 
-/// The rows of the owner, where it is known, and HOUSE's: those of the keep with the pending changes put.
+/// The rows of the owner, if it is known, and HOUSE's: those of the keep with the pending changes put.
 pub fn both_over<K: Keep>(
     alloc: Global,
     keep: &mut K,
@@ -138,7 +138,7 @@ fn house_over<K: Keep>(
     }
 }
 
-// The same with no changes held back.
+// The same without pending changes.
 fn both_of<K: Keep>(alloc: Global, keep: &mut K, owner: &Name) -> Result<Option<Both>, KeepFault>
     ensures reads { IsReading K.meaning keep.old keep.new result }
     ensures both { OverHeld K.meaning keep.old keep.new (λ c. IfOk result (AreBoth c owner.now)) }
@@ -155,7 +155,7 @@ struct UnitState {
     free: bool,
 }
 
-// The decision on a batch to be opened.
+// The decision on opening a batch.
 fn decide_opening<K: Keep>(
     alloc: Global,
     keep: &mut K,
@@ -173,7 +173,7 @@ fn decide_opening<K: Keep>(
     }
 }
 
-// The decision on a batch to be opened, over these rows of its owner.
+// The decision on opening a batch, over these rows of its owner.
 fn open_on<K: Keep>(
     alloc: Global,
     keep: &mut K,
@@ -208,7 +208,7 @@ fn unit_state<K: Keep>(alloc: Global, keep: &mut K, unit: &Name) -> Result<UnitS
     }
 }
 
-// Whether no batch holds the unit, of which this is known.
+// Adds whether no batch holds the unit.
 fn holding<K: Keep>(
     alloc: Global,
     keep: &mut K,

@@ -1,4 +1,4 @@
-//! Decisions over rows, with no keep.
+//! Decisions over rows, without a keep.
 ghost use Rattle.std.specs.Prelude.{◌≡◌, true, false, IfOk};
 ghost use Rattle.toll_base.specs.Bytes.{same_bytes};
 ghost use Rattle.toll_base.specs.Changes.{changes_of};
@@ -69,7 +69,7 @@ pub fn decide_own(alloc: Global, slice: &Slice, command: &PlantCmd) -> Result<De
     }
 }
 
-// The same of a movement, and of a lot's release and rejection.
+// The same for a movement, and for a lot's release and rejection.
 fn decide_lot(alloc: Global, slice: &Slice, command: &PlantCmd) -> Result<Decision, AllocError>
     requires { IsCommandSuchThat IsOfLot (asked_by command.now) }
     ensures decides { DecidesCommand slice.now (asked_by command.now) result }
@@ -117,7 +117,7 @@ fn decide_lot(alloc: Global, slice: &Slice, command: &PlantCmd) -> Result<Decisi
     }
 }
 
-/// The decision that looks at HOUSE's rows too, which `house` has.
+/// The decision on a command that looks at HOUSE's rows too. `house` has these rows.
 pub fn decide_shared(
     alloc: Global,
     own: &Slice,
@@ -130,7 +130,7 @@ pub fn decide_shared(
     ensures house_rules { same_bytes own.now.owner house.now.owner ≡ false → IfOk result (DecisionKeepsRules house.now) }
     ensures own { IfOk result (λ d. PutsShared own.now.owner (changes_of d)) }
 {
-    // What its owner keeps holds of HOUSE's slice too.
+    // For the proof: HOUSE's slice keeps the rules of a slice too.
     let _house = house.owner();
     match *command {
         PlantCmd::Require { row, .. } => require(alloc, own, house, row),

@@ -1,4 +1,4 @@
-//! What each request looks at, and what it then does.
+//! The rows that each request looks at, and what it does with them.
 ghost use Rattle.std.specs.Prelude.{◌≡◌};
 ghost use Rattle.toll_desk.specs.Forms.{asked_in};
 ghost use Rattle.toll_desk.specs.Translations.{asked_of};
@@ -9,15 +9,15 @@ use toll_base::{BatchNo, Name};
 /// The form of a request.
 #[derive(Clone, Copy)]
 pub enum Form {
-    /// The owner's rows are read, and shown.
+    /// Reads the owner's rows, and shows them.
     Read(ReadRequest),
-    /// The edges of the owner's batches are followed.
+    /// Follows the edges of the owner's batches.
     Trace(TraceRequest),
-    /// It is decided over the owner's rows, and changes them.
+    /// Decides over the owner's rows, and changes them.
     Write(WriteRequest),
 }
 
-/// What is read of the owner's rows.
+/// A question about the owner's rows.
 #[derive(Clone, Copy)]
 pub enum ReadRequest {
     Orders,
@@ -27,7 +27,7 @@ pub enum ReadRequest {
     Lot(Name),
 }
 
-/// From which lot edges are followed, and which way.
+/// The lot that a trace starts from, and its way.
 #[derive(Clone, Copy)]
 pub enum TraceRequest {
     Back(Name),
@@ -35,7 +35,7 @@ pub enum TraceRequest {
     HouseForward(Name),
 }
 
-/// What is decided.
+/// A request that needs a decision.
 #[derive(Clone, Copy)]
 pub enum WriteRequest {
     Place {

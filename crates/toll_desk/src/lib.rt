@@ -1,6 +1,6 @@
-//! The office's desk: owners' requests and the plant's commands and questions, over any keep. What a
-//! request looks at is its form; a command is matched where it is decided. How each goes is `owner.rt`
-//! and `plant.rt`; what the rows of a keep stand for, `standing.rt`.
+//! The office's desk: owners' requests and the plant's commands and questions, over any keep. The form
+//! of a request says which rows it looks at. The code that decides a command matches it. `owner.rt` and
+//! `plant.rt` run them. `standing.rt` has the laws of the history that the rows of a keep stand for.
 #![tactic(auto)]
 
 mod admission;

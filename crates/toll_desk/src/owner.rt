@@ -16,9 +16,9 @@ use std::alloc::Global;
 use toll_base::Name;
 use toll_keep::{Keep, KeepFault};
 
-/// The reply to an owner's request as it will stand, and what must be applied for it. Nothing is
-/// changed. A question, and what is forbidden or refused, asks for no change, and neither does an
-/// order that is there already.
+/// The reply to an owner's request if its changes succeed, and these changes. Nothing is changed
+/// yet. A question, a forbidden or refused request, and an order that already exists have no
+/// changes.
 pub fn owner_plan<K: Keep>(
     alloc: Global,
     keep: &mut K,
@@ -37,7 +37,7 @@ pub fn owner_plan<K: Keep>(
     }
 }
 
-// The same for an owner that was admitted.
+// The same for an admitted owner.
 fn plan_for<K: Keep>(alloc: Global, keep: &mut K, owner: &Name, request: &Request) -> Planned
     ensures reads { IsReading K.meaning keep.old keep.new (told_of result.reply) }
     ensures idle { ChangesIfAsked (OverHeldRows K.meaning keep.old keep.new owner.now) (asked_of request.now) result }
@@ -54,7 +54,7 @@ fn plan_for<K: Keep>(alloc: Global, keep: &mut K, owner: &Name, request: &Reques
     }
 }
 
-/// The reply to an owner's request, which is done. Behind want of memory nothing changed.
+/// Does an owner's request, and returns the reply. After [`KeepFault::Memory`] nothing has changed.
 pub fn owner_do<K: Keep>(
     alloc: Global,
     keep: &mut K,

@@ -9,13 +9,13 @@ use toll_keep::{Keep, KeepFault};
 
 /// Does a command of the plant, or answers a question.
 ///
-/// Only an accepted command changes rows, and behind want of memory nothing changed. A recall is answered
-/// [`KeepFault::Damaged`] too where one of its lots has no row, which no history has; the keep goes on after
-/// that.
+/// Only an accepted command changes rows. After [`KeepFault::Memory`] nothing has changed. A recall also
+/// answers [`KeepFault::Damaged`] if one of its lots has no row. No history has such a lot, and the keep goes
+/// on after this fault.
 pub fn plant_do<K: Keep>(alloc: Global, keep: &mut K, command: &PlantCmd) -> PlantReply
     ensures { IsPlantServed K.meaning keep.old keep.new command.now result }
 {
-    // For the proof: what types say of the values.
+    // For the proof: the bounds that the types give the values.
     command.keeps_bounds();
     match *command {
         PlantCmd::Unread(why) => PlantReply::Refused(why),

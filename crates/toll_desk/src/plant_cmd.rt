@@ -16,13 +16,13 @@ use toll_base::{
 use toll_keep::KeepFault;
 use toll_trace::Way;
 
-/// A command of the plant, or a question of it.
+/// A command or a question of the plant.
 ///
-/// Each but [`PlantCmd::OwnerAdd`] and [`PlantCmd::UnitAdd`] is refused as [`Refusal::UnknownOwner`]
-/// where its owner is not known, before all else. Without an owner it concerns HOUSE.
+/// [`Refusal::UnknownOwner`] comes first if its owner isn't known, except for [`PlantCmd::OwnerAdd`]
+/// and [`PlantCmd::UnitAdd`]. Without an owner it concerns HOUSE.
 #[derive(Clone, Copy)]
 pub enum PlantCmd {
-    /// Adds an owner with its key: [`Refusal::OwnerExists`] where there is one of this name, HOUSE
+    /// Adds an owner with its key: [`Refusal::OwnerExists`] if there is one of this name, HOUSE
     /// included, then [`Refusal::LimitReached`] at 64 owners besides HOUSE.
     OwnerAdd {
         owner: Name,
@@ -67,7 +67,7 @@ pub enum PlantCmd {
         order: Name,
     },
     /// Opens the next batch of an order on a unit, as [`toll_work::open_batch`] says:
-    /// [`Refusal::UnitBusy`] where a batch of any owner holds the unit.
+    /// [`Refusal::UnitBusy`] if a batch of any owner holds the unit.
     Open {
         owner: Name,
         order: Name,
@@ -154,7 +154,7 @@ pub enum PlantCmd {
         amount: Amount,
         day: Day,
     },
-    /// Takes back an actual, as [`toll_work::void_actual`] says.
+    /// Voids an actual, as [`toll_work::void_actual`] says.
     Void {
         owner: Name,
         key: Name,
@@ -163,7 +163,7 @@ pub enum PlantCmd {
     Orders {
         owner: Name,
     },
-    /// The text of what an owner has in stock.
+    /// The text of an owner's stock.
     Stock {
         owner: Name,
     },
@@ -173,23 +173,23 @@ pub enum PlantCmd {
         order: Name,
         number: BatchNo,
     },
-    /// The text of the lots that a lot is joined to over the batches of all owners:
+    /// The text of a lot's trace, back or forward, over the batches of all owners:
     /// [`Refusal::UnknownLot`].
     Trace {
         lot: LotId,
         way: Way,
     },
-    /// The text of the lots that a lot went into over the batches of all owners, with what is on hand
-    /// and was shipped of each: [`Refusal::UnknownLot`].
+    /// The text of the lots that a lot went into over the batches of all owners, with the amounts on
+    /// hand and shipped of each: [`Refusal::UnknownLot`].
     Recall {
         lot: LotId,
     },
-    /// A value of the command couldn't be read. It is refused so, and the keep isn't asked.
+    /// A value of the command couldn't be read. The reply is this refusal, and the keep isn't asked.
     Unread(Refusal),
 }
 
 impl PlantCmd {
-    /// Whom it concerns: HOUSE, where it names nobody.
+    /// The owner that it concerns: HOUSE, if it names no owner.
     pub(crate) fn owner(&self) -> Name
         ensures { result ≡ concerned (asked_by self.now) }
     {
@@ -217,7 +217,7 @@ impl PlantCmd {
         }
     }
 
-    /// A law: its values are within the bounds of their types. A proof learns so of a number from its
+    /// A law: its values are within the bounds of their types. A proof learns this of a number from its
     /// [`get`](toll_base::Bounded::get).
     pub fn keeps_bounds(&self)
         ensures { IsValidCommand (asked_by self.now) }
@@ -244,12 +244,12 @@ pub enum PlantReply {
     Accepted,
     Repeated,
     Refused(Refusal),
-    /// The text that was asked for.
+    /// The requested text.
     Text(Vec<u8>),
     Fault(KeepFault),
 }
 
-/// The reply as it will stand, and what must be applied for it.
+/// The reply if its changes succeed, and these changes.
 #[derive(Drop)]
 pub struct PlantPlan {
     pub reply: PlantReply,
@@ -257,7 +257,7 @@ pub struct PlantPlan {
 }
 
 impl PlantPlan {
-    /// What a decision comes to.
+    /// The plan of a decision.
     pub fn of(alloc: Global, decision: Decision) -> Self
         ensures told { plant_told result.reply ≡ Ok (Judged (verdict_of decision)) }
         ensures changes { result.changes.items ≡ changes_of decision }
@@ -284,7 +284,7 @@ impl PlantPlan {
         }
     }
 
-    /// What is told once the changes were made, or not.
+    /// The reply after the attempt to make the changes.
     pub fn finished(self, made: Result<(), KeepFault>) -> PlantReply
         ensures { plant_told result ≡ finished (plant_told self.reply) made }
     {

@@ -11,8 +11,9 @@ use toll_base::{LotId, Name, OwnerRow};
 use toll_keep::{Keep, KeepFault};
 use toll_trace::{Step, Way};
 
-/// The trace over the batches of all owners. It asks for those alone that can lead on from the lot: forward
-/// from a lot of an owner, the owner's own; back, HOUSE's too; and forward from a lot of HOUSE, all.
+/// The trace over the batches of all owners. It asks only for batches that can lead on from the lot. Forward
+/// from an owner's lot these are the owner's own. Back, they are HOUSE's too. Forward from a lot of HOUSE,
+/// they are all batches.
 pub fn trace_plant<K: Keep>(
     alloc: Global,
     keep: &mut K,

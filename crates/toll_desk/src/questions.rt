@@ -22,10 +22,10 @@ use toll_keep::{Keep, KeepFault};
 use toll_trace::Way;
 use toll_work::batch_view;
 
-/// The text that is asked for. Rows are refused as [`Refusal::UnknownOwner`]; a batch then as
-/// [`Refusal::UnknownOrder`] and [`Refusal::UnknownBatch`], a trace and a recall as
-/// [`Refusal::UnknownLot`]. A recall answers [`KeepFault::Damaged`] where a lot of it has no row, and
-/// the keep goes on then.
+/// The requested text. The first refusal is [`Refusal::UnknownOwner`]. A batch then has
+/// [`Refusal::UnknownOrder`] and [`Refusal::UnknownBatch`]. A trace and a recall have
+/// [`Refusal::UnknownLot`]. A recall answers [`KeepFault::Damaged`] if one of its lots has no row. The
+/// keep goes on after this fault.
 pub fn ask<K: Keep>(alloc: Global, keep: &mut K, command: &PlantCmd) -> PlantReply
     requires { IsQuestion (asked_by command.now) }
     ensures stays { (H : History) → after_plant H (asked_by command.now) ≡ H }
@@ -45,8 +45,8 @@ pub fn ask<K: Keep>(alloc: Global, keep: &mut K, command: &PlantCmd) -> PlantRep
 
 // ---- an owner's rows
 
-// The text of an owner's rows: [`Refusal::UnknownOwner`]; of a batch [`Refusal::UnknownOrder`], then
-// [`Refusal::UnknownBatch`].
+// The text of an owner's rows: [`Refusal::UnknownOwner`]. For a batch then [`Refusal::UnknownOrder`]
+// and [`Refusal::UnknownBatch`].
 fn ask_rows<K: Keep>(alloc: Global, keep: &mut K, command: &PlantCmd) -> PlantReply
     requires { AsksRows (asked_by command.now) }
     ensures reads { IsReading K.meaning keep.old keep.new (plant_told result) }
@@ -64,7 +64,7 @@ fn ask_rows<K: Keep>(alloc: Global, keep: &mut K, command: &PlantCmd) -> PlantRe
     }
 }
 
-// The text of the rows of the slice's owner, or why there is none.
+// The text of the rows of the slice's owner, or the refusal.
 fn show(
     alloc: Global,
     slice: &Slice,
@@ -130,7 +130,7 @@ fn ask_trace<K: Keep>(alloc: Global, keep: &mut K, lot: &LotId, way: Way) -> Pla
     }
 }
 
-// The same of a lot that is known.
+// The same for a known lot.
 fn show_trace<K: Keep>(alloc: Global, keep: &mut K, lot: &LotId, way: Way) -> PlantReply
     ensures reads { IsReading K.meaning keep.old keep.new (plant_told result) }
     ensures shown { is_accepted (plant_told result) ≡ false }
@@ -164,7 +164,7 @@ fn ask_recall<K: Keep>(alloc: Global, keep: &mut K, lot: &LotId) -> PlantReply
     }
 }
 
-// What a lot that is not known is refused for.
+// The refusal of an unknown lot.
 fn refuse_lot<K: Keep>(alloc: Global, keep: &mut K, lot: &LotId) -> PlantReply
     ensures reads { IsReading K.meaning keep.old keep.new (plant_told result) }
     ensures shown { is_accepted (plant_told result) ≡ false }

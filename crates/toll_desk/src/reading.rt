@@ -1,4 +1,4 @@
-//! What owners are told of their rows.
+//! Replies to owners about their rows.
 ghost use Rattle.std.specs.Prelude.{◌≡◌, true, IfOk, is_ok};
 ghost use Rattle.toll_history.specs.History.{History};
 ghost use Rattle.toll_history.specs.OverRows.{OverRows};
@@ -17,7 +17,7 @@ use toll_base::{BatchNo, Name, OrderRow, Refusal, Slice};
 use toll_keep::{Keep, KeepFault};
 use toll_work::batch_view;
 
-/// What an owner is told of its rows.
+/// The reply to an owner about its rows.
 pub fn read_rows<K: Keep>(alloc: Global, keep: &mut K, owner: &Name, reading: &ReadRequest) -> Reply
     ensures reads { IsReading K.meaning keep.old keep.new (told_of result) }
     ensures over { OverKnown K.meaning keep.old keep.new owner.now (λ c H. IsToldAs H owner.now (asked_to_read reading.now) (told_of result)) }
@@ -64,7 +64,7 @@ fn copied(alloc: Global, orders: &[OrderRow]) -> Result<Vec<OrderRow>, AllocErro
     orders.to_vec(alloc)
 }
 
-/// The order as it stands.
+/// The order as it is now.
 pub fn order_shown(slice: &Slice, order: &Name) -> Reply
     ensures told { is_ok (told_of result) ≡ true }
     ensures over { (H : History) → IsRowsOf H slice.now → IsOrderShown H slice.now.owner order.now result }
@@ -94,7 +94,7 @@ fn batch_shown(
     }
 }
 
-/// The lot as it stands.
+/// The lot as it is now.
 pub fn lot_shown(alloc: Global, slice: &Slice, lot: &Name) -> Result<Reply, AllocError>
     ensures told { IfOk result (λ reply. is_ok (told_of reply) ≡ true) }
     ensures over { OverRows slice.now (λ H. IsLotShown H slice.now.owner lot.now result) }

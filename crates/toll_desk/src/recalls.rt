@@ -24,9 +24,9 @@ use toll_keep::{Keep, KeepFault};
 use toll_stock::LotTotals;
 use toll_trace::{Step, Way};
 
-/// The lots that a lot went into over the batches of all owners, with what is on hand and was shipped
-/// of each; `None` where the lot is not known, or its owner. [`KeepFault::Damaged`] where a lot of it
-/// has no row, which no history has, and after which the keep goes on.
+/// The lots that a lot went into over the batches of all owners, with the amounts on hand and shipped
+/// of each. `None` if the lot or its owner isn't known. [`KeepFault::Damaged`] if one of these lots has
+/// no row. No history has such a lot, and the keep goes on after this fault.
 pub fn recall<K: Keep>(
     alloc: Global,
     keep: &mut K,
@@ -51,7 +51,7 @@ pub fn recall<K: Keep>(
     }
 }
 
-// The same of a lot that is known, with the rows of its owner.
+// The same for a known lot, with the rows of its owner.
 fn recall_known<K: Keep>(
     alloc: Global,
     keep: &mut K,
@@ -92,7 +92,7 @@ fn recall_steps<K: Keep>(
 
 // ---- the rows of the owners of the lots
 
-// The rows of the owners of the lots, each owner's once, where these are those of one of them.
+// The rows of the owners of the lots, each owner's once. `own` has the rows of one of them.
 fn slices_of<K: Keep>(
     alloc: Global,
     keep: &mut K,
@@ -113,7 +113,7 @@ fn slices_of<K: Keep>(
     Ok(slices)
 }
 
-// Adds the rows of the owner of the step's lot, where they are not there and the owner is known.
+// Adds the rows of the owner of the step's lot, if they are missing and the owner is known.
 fn add_slice<K: Keep>(
     alloc: Global,
     keep: &mut K,
@@ -147,7 +147,7 @@ fn add_totals(alloc: Global, slices: &mut Vec<LotTotals>, slice: Slice) -> Resul
     Ok(())
 }
 
-// Where the rows of this owner are.
+// The place of the rows of this owner.
 fn index_of_owner(slices: &[LotTotals], owner: &Name) -> Option<usize>
     ensures { result ≡ position (is_of owner.now) slices.now }
 {
@@ -158,7 +158,7 @@ fn index_of_owner(slices: &[LotTotals], owner: &Name) -> Option<usize>
 
 // ---- lines
 
-// The lines of the steps, over these rows; `None` where a step's lot has none.
+// The lines of the steps, over these rows. `None` if a step's lot has no row.
 fn lines_of(
     alloc: Global,
     slices: &[LotTotals],
@@ -185,7 +185,7 @@ fn line_of(slices: &[LotTotals], step: &Step) -> Option<RecallLine>
     }
 }
 
-// The line of a step at a lot of the owner whose rows these are.
+// The line of a step. Its lot belongs to the owner of these rows.
 fn line_in(totals: &LotTotals, step: &Step) -> Option<RecallLine>
     ensures { (H : History) → IsLawful H → IsRowsOf H totals.now → totals.now.owner ≡ step.now.lot.owner → result ≡ recall_line H step.now }
 {

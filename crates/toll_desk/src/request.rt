@@ -15,56 +15,56 @@ use toll_work::BatchView;
 pub enum Request {
     /// All orders, by name.
     Orders,
-    /// One order: [`Refusal::UnknownOrder`] where there is none of this name.
+    /// One order: [`Refusal::UnknownOrder`] if there is none of this name.
     Order(Name),
-    /// An order is to be placed, as [`toll_work::place_order`] says.
+    /// Placing an order, as [`toll_work::place_order`] says.
     Place {
         order: Name,
         recipe: Name,
         batches: BatchNo,
     },
-    /// An order is to be cancelled, as [`toll_work::cancel_order`] says.
+    /// Cancelling an order, as [`toll_work::cancel_order`] says.
     Cancel(Name),
-    /// A batch, with what it did of each requirement: [`Refusal::UnknownOrder`], then
-    /// [`Refusal::UnknownBatch`].
+    /// A batch, with the amounts it consumed or produced for each requirement:
+    /// [`Refusal::UnknownOrder`], then [`Refusal::UnknownBatch`].
     Batch {
         order: Name,
         number: BatchNo,
     },
-    /// All lots of the owner, by name, with what is on hand of each.
+    /// All lots of the owner, by name, with the amount on hand of each.
     Stock,
-    /// One lot: [`Refusal::UnknownLot`] where the owner has none of this name.
+    /// One lot: [`Refusal::UnknownLot`] if the owner has none of this name.
     Lot(Name),
-    /// A lot is to be released, as [`toll_stock::release`] says.
+    /// Releasing a lot, as [`toll_stock::release`] says.
     Release(Name),
-    /// A lot is to be rejected, as [`toll_stock::reject`] says.
+    /// Rejecting a lot, as [`toll_stock::reject`] says.
     Reject(Name),
-    /// What went into a lot of the owner: [`Refusal::UnknownLot`].
+    /// The lots that went into a lot of the owner: [`Refusal::UnknownLot`].
     Back(Name),
-    /// What a lot of the owner went into: [`Refusal::UnknownLot`].
+    /// The lots that a lot of the owner went into: [`Refusal::UnknownLot`].
     Forward(Name),
-    /// What a lot of HOUSE went into: [`Refusal::UnknownLot`] where no batch of the owner consumed
-    /// it.
+    /// The lots that a lot of HOUSE went into: [`Refusal::UnknownLot`] if no batch of the owner
+    /// consumed it.
     HouseForward(Name),
 }
 
 /// The reply to an owner's request.
 #[derive(Drop)]
 pub enum Reply {
-    /// Who asks is no owner with that key.
+    /// The client isn't an owner with that key.
     Forbidden,
     Orders(Vec<OrderRow>),
     Order(OrderRow),
     Batch(BatchView),
     Stock(Vec<StockLine>),
     Lot(LotView),
-    /// The lots that were asked for, by steps, owner and name.
+    /// The requested lots, by steps, owner and name.
     Trace(Vec<Step>),
     Refused(Refusal),
     Fault(KeepFault),
 }
 
-/// The reply as it will stand, and what must be applied for it.
+/// The reply if its changes succeed, and these changes.
 #[derive(Drop)]
 pub struct Planned {
     pub reply: Reply,
@@ -83,7 +83,7 @@ impl Planned {
         }
     }
 
-    /// What is told once the changes were made, or not.
+    /// The reply after the attempt to make the changes.
     pub fn finished(self, made: Result<(), KeepFault>) -> Reply
         ensures { told_of result ≡ finished (told_of self.reply) made }
     {

@@ -15,12 +15,12 @@ use std::alloc::Global;
 use toll_base::Refusal;
 use toll_keep::{Keep, KeepFault, PendingChanges};
 
-/// Does a command that is decided over its owner's rows and HOUSE's: a requirement, an actual or a void; or
-/// refuses one that couldn't be read. The rows are those of the keep with the pending changes put. What the
-/// command changes is pending with them, and the keep does not have it yet.
+/// Does a command that is decided over its owner's rows and HOUSE's: a requirement, an actual or a void. It
+/// refuses a command that couldn't be read. The rows are those of the keep with the pending changes put. The
+/// command's changes are then pending too, and the keep doesn't have them yet.
 ///
-/// An `Err` means that the rows couldn't be read. Where there is no memory to decide, or to hold the changes
-/// back, the reply is [`KeepFault::Memory`], and nothing more is held.
+/// `Err` means that the rows couldn't be read. If there is no memory to decide, or to hold the changes, the
+/// reply is [`KeepFault::Memory`], and no more changes are pending.
 pub fn plant_stage<K: Keep>(
     alloc: Global,
     keep: &mut K,
@@ -31,7 +31,7 @@ pub fn plant_stage<K: Keep>(
     ensures held { IsPlantStaged K.meaning keep.old keep.new pending.old pending.new (asked_by command.now) result }
     ensures valid { IsValidCommand (asked_by command.now) }
 {
-    // Its types say so, and the proof has to be told.
+    // For the proof: the bounds that the types give the values.
     command.keeps_bounds();
     match command {
         PlantCmd::Unread(why) => Ok(PlantReply::Refused(*why)),
@@ -58,7 +58,7 @@ fn stage_shared<K: Keep>(
     }
 }
 
-// The reply as it will stand, and what must be applied for it, over these rows of its owner and of HOUSE.
+// The reply if its changes succeed, and these changes, over these rows of its owner and of HOUSE.
 fn plan_on(alloc: Global, both: Option<Both>, command: &PlantCmd) -> PlantPlan
     requires shared { IsCommandSuchThat (λ a. is_shared a ≡ true) (asked_by command.now) }
     requires valid { IsCommandSuchThat IsValid (asked_by command.now) }
@@ -75,7 +75,7 @@ fn plan_on(alloc: Global, both: Option<Both>, command: &PlantCmd) -> PlantPlan
     }
 }
 
-// Holds the changes of a plan back, and gives its reply.
+// Adds the changes of a plan to the pending ones, and gives its reply.
 fn stage_changes(alloc: Global, pending: &mut PendingChanges, planned: PlantPlan) -> PlantReply
     ensures held { IsStagedAs pending.old pending.new planned result }
     ensures over { (c : Content) → IsOver c pending.old → IsOver c pending.new }

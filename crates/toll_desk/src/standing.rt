@@ -1,4 +1,4 @@
-//! Laws of contents.
+//! Laws of contents, and of the histories that they stand for.
 ghost use Rattle.std.specs.Prelude.{◌≡◌, Option, List, []};
 ghost use Rattle.toll_base.specs.Bytes.{Bytes};
 ghost use Rattle.toll_base.specs.declared.decision.Change.{Change};
@@ -14,44 +14,44 @@ ghost use Rattle.toll_desk.specs.Held.{AreEdgesHeld, EachKeepsRules, HasOwnersRo
 ghost use Rattle.toll_desk.specs.Standing.{StandsFor};
 ghost use Rattle.toll_keep.specs.declared.holder.Holder.{Holder};
 
-/// No rows at all stand for the history in which nothing was done.
+/// A content without rows stands for the history without commands.
 pub fn nothing_stands_for_no_commands()
     ensures { StandsFor nothing [] }
 {}
 
-/// The rows that a lawful history gives keep the rules.
+/// The rows of a lawful history keep the rules.
 pub fn lawful_rows_keep_the_rules()
     ensures { (H : History) (c : Content) → IsLawful H → StandsFor c H → ContentKeepsRules c }
 {}
 
-/// The owners that are known are those that the history knows.
+/// A content knows the same owners as its history.
 pub fn owners_are_known_alike()
     ensures { (H : History) (c : Content) → StandsFor c H → (o : Bytes) → knows c o ≡ owner_known H o }
 {}
 
-/// Over a lawful history a unit is held by one batch at most: two that were opened on it and are not
-/// closed, of whatever owners, are one.
+/// In a lawful history at most one batch holds a unit: two batches, of any owners, that were opened on
+/// it and aren't closed are the same.
 pub fn a_unit_is_held_by_one_batch()
     ensures { (H : History) (unit : Bytes) (a b : OpenedBatch) → IsLawful H → HoldsUnit H unit a → HoldsUnit H unit b → a ≡ b }
 {}
 
-/// The batch that holds a unit is the one that holds it in the history, and none does where none does
-/// there.
+/// The batch that holds a unit is the one that holds it in the history. If no batch holds it there, no
+/// batch holds it here.
 pub fn units_are_held_alike()
     ensures { (H : History) (c : Content) (unit : Bytes) (answer : Option Holder) → IsLawful H → StandsFor c H → IsHolder c unit answer → IsHeldIn H unit answer }
 {}
 
-/// The edges of an owner's rows are the owner's in the history: none for who is not known.
+/// The edges of an owner's rows are the owner's edges in the history: none for an unknown owner.
 pub fn edges_are_the_owners()
     ensures { (H : History) (c : Content) (o : Bytes) (edges : List Edge) → IsLawful H → StandsFor c H → AreEdgesHeld c o edges → AreOwnEdges H o edges }
 {}
 
-/// The edges of all rows are the plant's in the history.
+/// The edges of all rows are the plant's edges in the history.
 pub fn all_edges_are_the_plants()
     ensures { (H : History) (c : Content) (edges : List Edge) → IsLawful H → StandsFor c H → AreEdges (IsEdgeOfSome c) edges → AreEdges (IsPlantEdge H) edges }
 {}
 
-/// Changes fit where they keep the rules of each owner's rows, and put rows of known owners alone.
+/// Changes fit if they keep the rules of each owner's rows and put rows of known owners only.
 pub fn changes_that_keep_the_rules_fit()
     ensures { (c : Content) (changes : List Change) → HasOwnersRows c → EachKeepsRules c changes → PutsToKnown c changes → Fits c changes }
 {}

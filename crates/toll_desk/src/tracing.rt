@@ -17,8 +17,8 @@ use toll_base::{LotId, Name, Refusal, Slice};
 use toll_keep::Keep;
 use toll_trace::Way;
 
-/// The trace of an owner that was admitted, over the edges of its own batches. [`Refusal::UnknownLot`]
-/// where the owner has no such lot; of a lot of HOUSE, where no batch of the owner consumed it.
+/// The trace of an admitted owner, over the edges of its own batches. [`Refusal::UnknownLot`] if the
+/// owner has no such lot, or, for a lot of HOUSE, if no batch of the owner consumed it.
 pub fn trace_own<K: Keep>(
     alloc: Global,
     keep: &mut K,
@@ -40,7 +40,7 @@ pub fn trace_own<K: Keep>(
     }
 }
 
-// The same of a lot that the owner may trace.
+// The same for a lot that the owner may trace.
 fn trace_known<K: Keep>(alloc: Global, keep: &mut K, owner: &Name, tracing: &TraceRequest) -> Reply
     ensures reads { IsReading K.meaning keep.old keep.new (told_of result) }
     ensures over { OverKnown K.meaning keep.old keep.new owner.now (λ c H. may_trace H owner.now tracing.now ≡ true → IsToldAs H owner.now (asked_to_trace tracing.now) (told_of result)) }
@@ -52,7 +52,7 @@ fn trace_known<K: Keep>(alloc: Global, keep: &mut K, owner: &Name, tracing: &Tra
     }
 }
 
-// Whether the slice's owner has the lot; of a lot of HOUSE, whether a batch of the owner consumed it.
+// Whether the slice's owner has the lot, or, for a lot of HOUSE, whether a batch of the owner consumed it.
 fn may_trace(slice: &Slice, tracing: &TraceRequest) -> bool
     ensures { (H : History) → IsLawful H → IsRowsOf H slice.now → result ≡ may_trace H slice.now.owner tracing.now }
 {

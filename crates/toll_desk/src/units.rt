@@ -1,4 +1,4 @@
-//! Decisions on owners and units to be added.
+//! Decisions on adding owners and units.
 ghost use Rattle.std.specs.Prelude.{◌≡◌, [], ◌∷◌, IfOk};
 ghost use Rattle.toll_base.specs.Bytes.{bytes_cmp};
 ghost use Rattle.toll_base.specs.Table.{row_at};
@@ -18,7 +18,7 @@ use toll_base::{
 };
 use toll_keep::{Keep, KeepFault};
 
-/// The decision on an owner to be added.
+/// The decision on adding an owner.
 pub fn decide_owner<K: Keep>(
     alloc: Global,
     keep: &mut K,
@@ -40,7 +40,7 @@ pub fn decide_owner<K: Keep>(
 fn judge_owner(alloc: Global, rows: &[OwnerRow], row: OwnerRow) -> Result<Decision, AllocError>
     ensures { IfOk result (IsDecided (owner_row_checks rows.now row) (Change.Owner row ∷ [])) }
 {
-    // The type of rows has to be named where changes are made.
+    // Code that makes changes must name the type of rows.
     let _row: Option<Row> = None;
     let name = row.owner;
     if is_house(name.as_bytes()) || find_owner(rows, name.as_bytes()).is_some() {
@@ -52,7 +52,7 @@ fn judge_owner(alloc: Global, rows: &[OwnerRow], row: OwnerRow) -> Result<Decisi
     Decision::accept(alloc, Change::Owner(row))
 }
 
-/// The decision on a unit to be added.
+/// The decision on adding a unit.
 pub fn decide_unit<K: Keep>(alloc: Global, keep: &mut K, unit: Name) -> Result<Decision, KeepFault>
     ensures reads { IsReading K.meaning keep.old keep.new result }
     ensures over { IsDecidedOver K.meaning keep.old keep.new (Does (by house_name (AddUnit unit))) result }
@@ -69,7 +69,7 @@ pub fn decide_unit<K: Keep>(alloc: Global, keep: &mut K, unit: Name) -> Result<D
 fn judge_unit(alloc: Global, rows: &[UnitRow], row: UnitRow) -> Result<Decision, AllocError>
     ensures { IfOk result (IsDecided (unit_row_checks rows.now row) (Change.Unit row ∷ [])) }
 {
-    // The type of rows has to be named where changes are made.
+    // Code that makes changes must name the type of rows.
     let _row: Option<Row> = None;
     let name = row.unit;
     if find_unit(rows, name.as_bytes()).is_some() {

@@ -1,4 +1,4 @@
-//! Owners' requests that are decided.
+//! Decisions on owners' requests.
 ghost use Rattle.std.specs.Prelude.{◌≡◌, true, false, [], IfOk, is_ok};
 ghost use Rattle.toll_history.specs.OverRows.{OverOwnRows};
 ghost use Rattle.toll_answers.specs.OwnerRequests.{AskCancel, AskPlace};
@@ -17,7 +17,7 @@ use toll_keep::{Keep, KeepFault};
 use toll_stock::{reject, release};
 use toll_work::{cancel_order, place_order};
 
-/// The reply to an owner as it will stand, and what must be applied for it. Nothing is changed.
+/// The reply to an owner if its changes succeed, and these changes. Nothing is changed yet.
 pub fn plan_write<K: Keep>(
     alloc: Global,
     keep: &mut K,
@@ -74,7 +74,7 @@ fn plan_order(
     ensures idle { IfOk result (ChangesIfAsked (OverSlice slice.now) (AskPlace order recipe batches)) }
     ensures over { OverOwnRows slice.now (λ H. IsPlannedOver H slice.now (AskPlace order recipe batches) result) }
 {
-    // The proof is told of the bounds.
+    // This names the bounds for the proof.
     let _within = batches.get();
     match place_order(alloc, slice, order, recipe, batches) {
         Ok(Decision::Accept(changes)) => Ok(Planned {
@@ -86,7 +86,7 @@ fn plan_order(
             }),
             changes,
         }),
-        // An order that was cancelled is answered as it stands.
+        // The answer for a cancelled order is the order as it is now.
         Ok(Decision::Repeated) => Ok(Planned::unchanged(alloc, order_shown(slice, &order))),
         Ok(Decision::Refuse(why)) => Ok(Planned::unchanged(alloc, Reply::Refused(why))),
         Err(error) => Err(error),
@@ -117,7 +117,7 @@ fn plan_cancelling(alloc: Global, slice: &Slice, order: Name) -> Result<Planned,
 
 // ---- lots
 
-// The lot as it stands once the decision gave it this disposition.
+// The lot with the disposition that the decision gave it.
 fn disposed(
     alloc: Global,
     slice: &Slice,
