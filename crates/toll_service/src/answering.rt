@@ -1,4 +1,4 @@
-//! Answering what comes in at a listener.
+//! Answering requests at the two listeners.
 ghost use Rattle.std.specs.Prelude.{◌≡◌, IfOk, OnErr};
 ghost use Rattle.toll_server.specs.declared.listener.Listener.{Listener};
 ghost use Rattle.toll_service.specs.Listeners.{IsOwnerServed, IsReadyWith, IsServed};
@@ -10,22 +10,22 @@ use toll_keep::Keep;
 use toll_server::{Listener, Poll};
 use toll_wire::{OfficeRouter, Out, answer_with_router};
 
-/// Answers what came in at a listener, over a keep.
+/// Answers the bytes that a client sent to a listener, over a keep.
 ///
-/// At the owners' listener that is a request over HTTP, and the reply is that of
-/// [`answer`](toll_wire::answer), by the router. At the plant's it is a frame as
-/// [`Call`](toll_protocol::Call) packs it, and the reply is one as
-/// [`Response`](toll_protocol::Response) packs it: what the program itself would have printed, and its exit
-/// status. Words of which the first is `import`, where a file came with them, are an import of that file,
-/// and all others a command or a question. What is no frame, or one that was cut, does nothing and is told
-/// nothing.
+/// At the owners' listener, the bytes are an HTTP request, and the reply is that of
+/// [`answer`](toll_wire::answer), by the router. At the plant's listener, the bytes are a frame as
+/// [`Call`](toll_protocol::Call) packs it. The reply is a frame as [`Response`](toll_protocol::Response)
+/// packs it: what the program itself would have printed, and its exit status. If the first word is `import`
+/// and a file came with the words, the call is an import of that file. All other calls are a command or a
+/// question. Bytes that are no frame, or a frame that was cut, do nothing and get no reply.
 ///
-/// An import takes several turns: all records of its file are read, and what is left is to go on with it
-/// ([`Importing::resume`](crate::PendingImport)). A file that can't be imported is told at once.
+/// An import takes several turns. The first turn reads all records of its file, and leaves the import to be
+/// resumed ([`Importing::resume`](crate::PendingImport)). If the file can't be imported, the reply comes at
+/// once.
 ///
-/// An `Err` means that there was no memory: nothing was done, and nothing is told. Memory for the shortest
-/// reply is taken before anything is done; where there is none for all that is printed, the plant is told
-/// the exit status of a program that can't write.
+/// An `Err` means that there was no memory: nothing was done, and there is no reply. Memory for the shortest
+/// reply is taken before anything is done. If there is none for all of the output, the plant gets the exit
+/// status of a program that can't write.
 pub fn answer_at<K: Keep>(
     alloc: Global,
     router: &mut OfficeRouter,
@@ -42,7 +42,7 @@ pub fn answer_at<K: Keep>(
     }
 }
 
-// Answers a request. There is memory for a 503 before the keep is asked.
+// Answers a request. Memory for a 503 is taken before the keep is asked.
 fn answer_owner<K: Keep>(
     alloc: Global,
     router: &mut OfficeRouter,

@@ -13,16 +13,16 @@ use toll_server::Listener;
 /// How many owners are remembered, and how many calls.
 const MOST: usize = 100;
 
-/// How long a call is at most that is remembered.
+/// The length limit in bytes of a call that is remembered.
 const MOST_CALL_BYTES: usize = 4096;
 
-/// What is known of damage in a file since somebody else last wrote it: who met it needs not be answered
-/// from the file again.
+/// What is known of damage in a file since another program last wrote it. A client that met damage gets its
+/// reply from this, without another look at the file.
 #[derive(Drop)]
 pub struct Damage {
     /// Owners whose rows are damaged.
     pub owners: Vec<Name>,
-    /// Owners whose rows were looked at and are not.
+    /// Owners whose rows were read and are sound.
     pub sound: Vec<Name>,
     /// Calls of the plant that met damage.
     pub calls: Vec<Vec<u8>>,
@@ -41,7 +41,7 @@ impl Damage {
         }
     }
 
-    /// Nothing is known any more.
+    /// Forgets all that was known.
     pub fn forget(&mut self)
         ensures owners { self.new.owners.items ≡ [] }
         ensures calls { self.new.calls.items ≡ [] }
@@ -51,8 +51,8 @@ impl Damage {
         self.calls.clear();
     }
 
-    /// Whether what came in at a listener is known to meet damage: a request of an owner whose rows are
-    /// damaged, or a call that met it.
+    /// Whether a request or call at a listener is known to meet damage: a request of an owner whose rows are
+    /// damaged, or a call that met damage.
     pub fn is_known(&self, listener: Listener, asked: &[u8]) -> bool
         ensures { result ≡ true → IsKnown self.now listener asked.now }
     {
@@ -78,12 +78,12 @@ impl Damage {
         self.calls.iter().any(|call| call.as_slice() == asked)
     }
 
-    /// Whether the owner's rows were looked at.
+    /// Whether the owner's rows were read.
     pub fn was_looked_at(&self, owner: &Name) -> bool {
         self.has_owner(owner) || self.sound.contains(owner)
     }
 
-    /// Notes that an owner's rows were looked at, and whether they are damaged, if there is room.
+    /// Notes that an owner's rows were read, and whether they are damaged, if there is room.
     pub fn note_owner(&mut self, owner: Name, is_damaged: bool)
         ensures owners { (o : Bytes) → Contains self.new.owners.items o → Contains self.old.owners.items o ⊎ ((o ≡ owner) × (is_damaged ≡ true)) }
         ensures calls { self.new.calls ≡ self.old.calls }

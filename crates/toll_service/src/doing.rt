@@ -1,4 +1,4 @@
-//! What is done over an office that is opened for it alone.
+//! Doing one thing over an office that is opened for it alone.
 ghost use Rattle.std.specs.Prelude.{IfOk, OnErr, OnOk};
 ghost use Rattle.std.specs.Fn.{FnOnceReturnsAtMut};
 ghost use Rattle.toll_service.specs.Doing.{IsDoneOver, IsRequestOver};
@@ -11,7 +11,7 @@ use toll_keep::Keep;
 use toll_wire::{Out, answer};
 
 /// Takes the lock of the file, `FILE.lock`, without waiting, opens the office in it, does this over its keep,
-/// closes the file, and then gives back the lock: so nobody else uses the file meanwhile.
+/// closes the file, and then releases the lock. So no other program uses the file meanwhile.
 pub fn with_keep<K: Keep, O: KeepOpener<K>, T, F: FnOnce(&mut K) -> T + Drop>(
     office_path: &mut OfficePath<'_, O>,
     act: F,
@@ -30,8 +30,8 @@ pub fn with_keep<K: Keep, O: KeepOpener<K>, T, F: FnOnce(&mut K) -> T + Drop>(
     Ok(done)
 }
 
-/// The answer to a request over the office at this path, as [`answer`] gives it. Where no office is opened,
-/// the answer is 503.
+/// The answer to a request over the office at this path, as [`answer`] gives it. The answer is 503 if no
+/// office is opened.
 pub fn answer_once<K: Keep, O: KeepOpener<K>>(
     office_path: &mut OfficePath<'_, O>,
     request: &[u8],

@@ -11,7 +11,7 @@ pub enum ServingFault {
     /// The office was not opened.
     #[error("{0}")]
     Office(OfficeFault),
-    /// What was asked met a fault.
+    /// A request or call met a fault.
     #[error("Unavailable")]
     Unavailable,
     /// The socket file of the plant could not be made.
@@ -22,7 +22,7 @@ pub enum ServingFault {
     Room,
 }
 
-/// The fault that a server meets now, if it meets one.
+/// The fault that a server has now, if it has one.
 #[derive(Clone, Copy, Debug, PartialEq, Eq)]
 pub struct FaultLog {
     pub fault: Option<ServingFault>,
@@ -30,7 +30,7 @@ pub struct FaultLog {
 }
 
 impl FaultLog {
-    /// All is well.
+    /// No fault is met yet.
     pub fn new() -> Self
         ensures { result.fault ≡ None }
     {
@@ -40,8 +40,8 @@ impl FaultLog {
         }
     }
 
-    /// Notes the fault that is met now, or that all is well, and writes a line on standard error where that
-    /// is new: that the fault before it ended, and that this one began.
+    /// Notes the fault that the server has now, or that it has none. If that is new, writes a line on
+    /// standard error: that the fault before it ended, and that this one began.
     pub fn update(&mut self, rt: &HostRuntime, found: Option<ServingFault>)
         ensures { self.new.fault ≡ found }
     {

@@ -1,4 +1,4 @@
-//! What became of an office's files since a server left them.
+//! How an office's files have changed since a server left them.
 ghost use Rattle.std.specs.Prelude.{◌≡◌, ◌↔◌, true};
 ghost use Rattle.toll_service.specs.FileChanges.{AreUntouched, HasContentOf, IsLost, IsUntouched};
 
@@ -8,11 +8,11 @@ use std::io::{ErrorKind, Read};
 use std::os::unix::fs::MetadataExt;
 use std::{fs, io};
 
-/// How long a log's header and the header of its first frame are together.
+/// The length in bytes of a log's header and the header of its first frame together.
 const FRONT_BYTES: usize = 56;
 
-/// Which file it is, how long, when it was written, and when that or its name or mode changed. All is 0 for
-/// a file that isn't there.
+/// Which file it is, its length, when it was written, and when that or its name or mode changed. All fields
+/// are 0 for a file that isn't there.
 #[derive(Clone, Copy)]
 pub struct Stamp {
     pub device: u64,
@@ -22,7 +22,7 @@ pub struct Stamp {
     pub changed: (i64, i64),
 }
 
-/// Of a file that isn't there.
+/// The stamp of a file that isn't there.
 const ABSENT: Stamp = Stamp {
     device: 0,
     inode: 0,
@@ -73,7 +73,7 @@ pub struct FileStamps {
 }
 
 impl FileStamps {
-    /// Those of the office at this path.
+    /// The stamps of the office at this path.
     pub fn of(rt: &HostRuntime, path: &str) -> io::Result<Self> {
         let log = log_path(rt, path)?;
         Ok(FileStamps {
@@ -83,18 +83,18 @@ impl FileStamps {
     }
 }
 
-/// What others did to the files of an office.
+/// What other programs did to the files of an office.
 #[derive(Clone, Copy, Debug, PartialEq, Eq)]
 pub enum FileChange {
     /// Nothing.
     Same,
-    /// They wrote them.
+    /// They wrote the files.
     ByOthers,
-    /// What was committed is gone: the files are not those of the office that was open.
+    /// Committed changes are gone: the files are not those of the office that was open.
     NotOurs,
 }
 
-/// How a server left the files of its office.
+/// The state in which a server left the files of its office.
 #[derive(Clone, Copy)]
 pub struct LeftFiles {
     pub stamps: FileStamps,
@@ -103,7 +103,7 @@ pub struct LeftFiles {
 }
 
 impl LeftFiles {
-    /// How they are now. The log is read only if it isn't as it was left before.
+    /// The state of the files now. The log is read only if it has changed since `before`.
     pub fn of(rt: &HostRuntime, path: &str, before: &Option<LeftFiles>) -> io::Result<Self> {
         let stamps = FileStamps::of(rt, path)?;
         let has_commits = match before {
@@ -116,8 +116,8 @@ impl LeftFiles {
         })
     }
 
-    /// Whether nobody else has changed the files of the office at this path since they were left so. Files
-    /// that can't be looked at are taken for changed. NotOurs if what was committed is gone.
+    /// Whether no other program has changed the files of the office at this path since they were left so. If
+    /// the files can't be read, they count as changed. NotOurs if committed changes are gone.
     pub fn is_unchanged(&self, rt: &HostRuntime, path: &str) -> Result<bool, OfficeFault> {
         match self.compare(rt, path) {
             FileChange::Same => Ok(true),
@@ -126,8 +126,8 @@ impl LeftFiles {
         }
     }
 
-    /// What others did to the files of the office at this path since they were left so. Files that can't be
-    /// looked at count as written.
+    /// What other programs did to the files of the office at this path since they were left so. If the files
+    /// can't be read, they count as written.
     pub fn compare(&self, rt: &HostRuntime, path: &str) -> FileChange {
         match FileStamps::of(rt, path) {
             Ok(found) => self.change_to(&found),
@@ -135,7 +135,7 @@ impl LeftFiles {
         }
     }
 
-    /// What others did if the files have these stamps now.
+    /// What other programs did if the files have these stamps now.
     pub fn change_to(&self, found: &FileStamps) -> FileChange
         ensures same { (result ≡ FileChange.Same) ↔ AreUntouched self.now.stamps found.now }
         ensures lost { (result ≡ FileChange.NotOurs) ↔ IsLost self.now found.now }
@@ -149,14 +149,14 @@ impl LeftFiles {
         }
     }
 
-    // Whether neither file changed.
+    // Whether neither file has changed.
     fn are_untouched(&self, found: &FileStamps) -> bool
         ensures { (result ≡ true) ↔ AreUntouched self.now.stamps found.now }
     {
         found.database.is_same(&self.stamps.database) && found.log.is_same(&self.stamps.log)
     }
 
-    // Whether what was committed is gone.
+    // Whether committed changes are gone.
     fn is_lost(&self, found: &FileStamps) -> bool
         ensures { (result ≡ true) ↔ IsLost self.now found.now }
     {
@@ -174,8 +174,8 @@ fn log_path(rt: &HostRuntime, path: &str) -> io::Result<String> {
     Ok(format!(in rt.alloc(); "{path}-wal")?)
 }
 
-// Whether the log of the office at this path holds a commit: its first frame has the salts of the header, and
-// those of a frame that was taken into the file are older ones.
+// Whether the log of the office at this path holds a commit: its first frame then has the salts of the
+// header. A frame that was already copied into the file has older salts.
 fn has_commits(rt: &HostRuntime, path: &str) -> io::Result<bool> {
     let log = log_path(rt, path)?;
     let mut front = [0u8; FRONT_BYTES];

@@ -11,7 +11,7 @@ use toll_keep::Keep;
 use toll_server::{Listener, Poll, Service};
 use toll_wire::OfficeRouter;
 
-/// A keep, which clients ask at both listeners.
+/// A keep that answers clients at both listeners.
 #[derive(Drop)]
 pub struct KeepService<K> {
     pub keep: K,
@@ -47,7 +47,7 @@ impl<K: Keep> Service for KeepService<K> {
         Party::of(listener, asked)
     }
 
-    /// The reply, or the import that is left; no bytes where there was no memory, and nothing was done.
+    /// The reply, or the import that is left. No bytes if there was no memory; nothing was done then.
     fn answer(&mut self, alloc: Global, listener: Listener, asked: &[u8]) -> Poll<PendingImport> {
         match answer_at(alloc, &mut self.router, &mut self.keep, listener, asked) {
             Ok(reply) => reply.poll,

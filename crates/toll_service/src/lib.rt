@@ -1,6 +1,6 @@
-//! A server's answers at its two listeners, over any keep: owners' requests, and what the plant asks in
-//! frames. What clients ask, side by side, is a run of events; so it is over an office that stands in a
-//! file, which is opened under its lock and stays open while nobody else changes it.
+//! A server's answers at its two listeners, over any keep: owners' requests, and the plant's calls in frames.
+//! What clients ask, side by side, is a run of events. The same holds over an office in a file, which is
+//! opened under its lock and stays open while no other program changes it.
 #![tactic(auto)]
 
 mod answering;

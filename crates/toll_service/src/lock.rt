@@ -3,10 +3,10 @@ use crate::office_fault::OfficeFault;
 use std::fs::{File, OpenOptions};
 use std::os::unix::fs::OpenOptionsExt;
 
-/// The mode of each file of an office that is made: only its user may read and write it.
+/// The mode of each file that is made for an office: only its user may read and write it.
 pub const FILE_MODE: u32 = 0o600;
 
-/// The lock of the file, `FILE.lock`, asked for once.
+/// Takes the lock of the file, `FILE.lock`, without waiting.
 pub fn take_lock(rt: &HostRuntime, path: &str) -> Result<File, OfficeFault> {
     let Ok(name) = format!(in rt.alloc(); "{path}.lock") else {
         return Err(OfficeFault::Memory);

@@ -7,8 +7,9 @@ use std::time::Duration;
 
 const STANDARD_ERROR: i32 = 2;
 
-/// Writes lines for the operator on standard error. A line that would have to wait, since nobody reads what
-/// is there, is dropped, and how many were is told before the next one that is written.
+/// Writes lines for the operator on standard error. A line is dropped if writing it would have to wait
+/// because standard error is full and isn't read. The next line that is written is preceded by the number of
+/// dropped lines.
 #[derive(Clone, Copy, Debug, PartialEq, Eq)]
 pub struct Notes {
     dropped: u64,
@@ -35,8 +36,8 @@ impl Notes {
     }
 }
 
-// Whether standard error takes a line without waiting. A file always does, of which the system tells no
-// readiness.
+// Whether standard error takes a line without waiting. A file always does; the system reports no readiness
+// for it.
 fn takes_lines(rt: &HostRuntime) -> bool {
     let (Ok(mut poll), Ok(mut events)) = (Poll::new(rt), Events::with_capacity(rt.alloc(), 1))
     else {

@@ -4,28 +4,28 @@ ghost use Rattle.toll_service.specs.Faults.{fault_text};
 
 use thiserror::Error;
 
-/// Why an office on a file was not opened. Nothing changed, but that the file may have been made.
+/// Why an office on a file was not opened. Nothing changed, except that the file may have been made.
 #[derive(Clone, Copy, Debug, PartialEq, Eq, Error)]
 pub enum OfficeFault {
-    /// Somebody else has the lock, or the file of the lock can't be opened.
+    /// Another program has the lock, or the lock's file can't be opened.
     #[error("Locked")]
     Locked,
     /// There was no memory.
     #[error("Memory")]
     Memory,
-    /// The disk failed, or refused.
+    /// The disk failed, or refused access.
     #[error("Disk")]
     Disk,
-    /// The file has the office's version, but what is in it is not as the office leaves it.
+    /// The file has the office's version, but its content is not as the office leaves it.
     #[error("Damaged")]
     Damaged,
-    /// The file is no office's, or one of another version. Nothing was written.
+    /// The file belongs to no office, or to one of another version. Nothing was written.
     #[error("NotOurs")]
     NotOurs,
 }
 
 impl OfficeFault {
-    /// The line that tells it. It takes no memory.
+    /// The line that reports it. It takes no memory.
     pub fn line(self) -> &'static [u8]
         ensures { result.now ≡ fault_text self }
     {

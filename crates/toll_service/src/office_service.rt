@@ -18,8 +18,8 @@ use toll_protocol::Response;
 use toll_server::{Listener, Poll, Service};
 use toll_wire::Out;
 
-/// The office in a file as a service. What it is asked it answers by its session, and a fault that it meets
-/// it tells the operator.
+/// The office in a file as a service. It answers requests and calls by its session, and reports the faults
+/// that it meets to the operator.
 pub struct OfficeService<'a, K, O> {
     office_path: OfficePath<'a, O>,
     session: OfficeSession<K>,
@@ -38,7 +38,8 @@ impl<K: Drop, O: Drop> Drop for OfficeService<'_, K, O> {
 }
 
 impl<'a, K: Keep + Drop, O: KeepOpener<K>> OfficeService<'a, K, O> {
-    /// Of the office at this path, which is opened for the first request, unless it is opened ahead.
+    /// A service of the office at this path, which is opened for the first request, unless it is opened
+    /// ahead.
     pub fn new(office_path: OfficePath<'a, O>) -> Self
         ensures { IsUnopened (state_of_session result.session) }
     {
@@ -50,8 +51,8 @@ impl<'a, K: Keep + Drop, O: KeepOpener<K>> OfficeService<'a, K, O> {
         }
     }
 
-    /// Opens the office before the first request, if its file is there. Where it can't be, the operator is
-    /// told the fault, and each request tries it again.
+    /// Opens the office before the first request, if its file is there. If that fails, the fault is reported
+    /// to the operator, and each request tries to open it again.
     pub fn open_ahead(&mut self) {
         let OfficePath { rt, path, .. } = self.office_path;
         if fs::metadata(rt, path).is_err() {
@@ -74,7 +75,7 @@ impl<'a, K: Keep + Drop, O: KeepOpener<K>> OfficeService<'a, K, O> {
 }
 
 impl<K: Drop, O: Drop> OfficeService<'_, K, O> {
-    // What a turn of the session came to, of which the operator is told a fault.
+    // The result of a turn of the session. A fault in it is reported to the operator.
     fn logged(&mut self, reply: TurnResult) -> Poll<PendingImport>
         ensures poll { result ≡ reply.poll }
         ensures session { self.new.session ≡ self.old.session }
@@ -85,7 +86,7 @@ impl<K: Drop, O: Drop> OfficeService<'_, K, O> {
         reply.poll
     }
 
-    // The operator is told of an office that can't be opened.
+    // Reports to the operator that the office can't be opened.
     fn log_closed(&mut self, fault: OfficeFault)
         ensures session { self.new.session ≡ self.old.session }
         ensures office_path { self.new.office_path ≡ self.old.office_path }
@@ -114,8 +115,8 @@ impl<K: Keep + Drop, O: KeepOpener<K>> Service for OfficeService<'_, K, O> {
         Party::of(listener, asked)
     }
 
-    // Who came in at the plant's listener and asked nothing only looked whether somebody is there. What is known
-    // to meet damage is told so without asking.
+    // A client of the plant's listener that asked nothing only looked whether a server is there. A request or
+    // call that is known to meet damage gets that reply without asking the keep.
     fn answer(&mut self, alloc: Global, listener: Listener, asked: &[u8]) -> Poll<PendingImport> {
         if listener == Listener::Plant && asked.is_empty() {
             return Poll::Ready(Vec::new(alloc));
@@ -150,7 +151,7 @@ impl<K: Keep + Drop, O: KeepOpener<K>> Service for OfficeService<'_, K, O> {
     }
 }
 
-// What is told at a listener where no office could be asked; nothing, where there is no memory for it.
+// The reply at a listener if no office could be asked; no bytes if there is no memory for it.
 fn refusal(alloc: Global, listener: Listener, fault: OfficeFault) -> Vec<u8>
     ensures { IsTurnedAway listener result.items }
 {

@@ -1,4 +1,4 @@
-//! An office that stays open between requests, while others may use its file.
+//! An office that stays open between requests, while other programs may use its file.
 ghost use Rattle.std.specs.Prelude.{◌≡◌, ◌+◌, ◌-◌, ◌<◌, false, true, [], None, Some, IfErr, IfOk, IfSome, IsSome, OnErr, OnOk};
 ghost use Rattle.toll_server.specs.Runs.{Request, Task};
 ghost use Rattle.toll_service.specs.Damages.{AreCallsMet, AreOwnersFound, HasFoundDamage, IsKnown, IsNoted, KnowsNoMore};
@@ -32,9 +32,9 @@ use toll_protocol::Response;
 use toll_server::{Listener, Poll};
 use toll_wire::OfficeRouter;
 
-/// Serves requests over a file. It is opened for the first one, and stays open as long as nobody else
-/// changes it. What others write between two requests is seen, since the file is opened anew then. While an
-/// import is under way, nobody else may: the lock of the file is kept.
+/// Serves requests over a file. It is opened for the first one, and stays open as long as no other program
+/// changes it. If another program writes it between two requests, the file is opened anew, so the change is
+/// seen. While an import is under way, no other program may use the file: its lock is kept.
 pub struct OfficeSession<K> {
     opened: Option<OpenOffice<K>>,
     openings: u64,
@@ -46,7 +46,7 @@ pub struct OfficeSession<K> {
     notes: Notes,
 }
 
-/// By hand, since what is derived is written out at every exit of every function that owns a session.
+/// By hand, since derived code is written out at every exit of every function that owns a session.
 impl<K: Drop> Drop for OfficeSession<K> {
     fn drop(self) {
         let OfficeSession {
@@ -80,7 +80,7 @@ impl<K: Keep + Drop> OfficeSession<K> {
         }
     }
 
-    /// Opens the office before anything is asked. An `Err` where the lock isn't got or the file isn't opened.
+    /// Opens the office before the first request. An `Err` if the lock isn't taken or the file isn't opened.
     pub fn open_ahead<O: KeepOpener<K>>(
         &mut self,
         office_path: &mut OfficePath<'_, O>,
@@ -102,9 +102,9 @@ impl<K: Keep + Drop> OfficeSession<K> {
         }
     }
 
-    /// The answer to what came in at a listener, over the office in the file, or the import that it begins;
-    /// nothing, where there is no memory. An `Err` where the lock isn't got or the file isn't opened. After
-    /// an answer that tells a fault, the file is opened anew.
+    /// The answer at a listener to these bytes, over the office in the file, or the import that they begin.
+    /// No bytes if there is no memory. An `Err` if the lock isn't taken or the file isn't opened. After an
+    /// answer that reports a fault, the file is opened anew.
     pub fn answer<O: KeepOpener<K>>(
         &mut self,
         office_path: &mut OfficePath<'_, O>,
@@ -141,9 +141,9 @@ impl<K: Keep + Drop> OfficeSession<K> {
         }
     }
 
-    /// Goes on with an import that an answer or a turn before left, over the office in the file. An `Err`
-    /// where that isn't opened: the import is under way no more. After a turn that tells a fault, the file is
-    /// opened anew.
+    /// Resumes an import that an answer or an earlier turn left, over the office in the file. An `Err` if the
+    /// office isn't opened: the import is then no longer under way. After a turn that reports a fault, the
+    /// file is opened anew.
     pub fn resume<O: KeepOpener<K>>(
         &mut self,
         office_path: &mut OfficePath<'_, O>,
@@ -195,8 +195,8 @@ impl<K: Keep + Drop> OfficeSession<K> {
         }
     }
 
-    // The office as it was left, under the lock, if one was left open and nobody else has changed it. What
-    // was known of damage is forgotten where somebody has.
+    // The office as it was left, under the lock, if one was left open and no other program has changed it. If
+    // another program has changed it, the known damage is forgotten.
     fn take_left<O: KeepOpener<K>>(
         &mut self,
         office_path: &mut OfficePath<'_, O>,
@@ -227,7 +227,7 @@ impl<K: Keep + Drop> OfficeSession<K> {
         Ok(None)
     }
 
-    // Whether nobody else has changed the files since they were left.
+    // Whether no other program has changed the files since they were left.
     fn is_as_left<O: KeepOpener<K>>(
         &self,
         office_path: &mut OfficePath<'_, O>,
@@ -271,7 +271,8 @@ impl<K: Keep + Drop> OfficeSession<K> {
         }
     }
 
-    // Leaves the office open where it goes on: to others too, where no import is under way.
+    // Keeps the office open if it can still be used, and releases it to other programs if no import is under
+    // way.
     fn leave<O: KeepOpener<K>>(
         &mut self,
         office_path: &mut OfficePath<'_, O>,
@@ -294,7 +295,7 @@ impl<K: Keep + Drop> OfficeSession<K> {
         self.unlock();
     }
 
-    // Notes how the files are left.
+    // Notes the state in which the files are left.
     fn note_files(&mut self, rt: &HostRuntime, path: &str)
         ensures { self.new ≡ record self.old { left = self.new.left } }
     {
@@ -315,7 +316,7 @@ impl<K: Keep + Drop> OfficeSession<K> {
         }
     }
 
-    // Gives back the lock, where no import is under way.
+    // Releases the lock, if no import is under way.
     fn unlock(&mut self)
         ensures same { self.new ≡ record self.old { lock = self.new.lock } }
         ensures kept { 0 < self.old.imports → self.new.lock ≡ self.old.lock }
@@ -341,8 +342,8 @@ impl<K: Keep + Drop> OfficeSession<K> {
         }
     }
 
-    /// Whether what came in at a listener is known to meet damage, and nobody else has written the files since
-    /// that was found out.
+    /// Whether a request or call at a listener is known to meet damage, and no other program has written the
+    /// files since that was found out.
     pub fn is_damaged(&self, rt: &HostRuntime, path: &str, listener: Listener, asked: &[u8]) -> bool
         ensures { result ≡ true → IsKnown self.now.damage listener asked.now }
     {
@@ -357,9 +358,9 @@ impl<K: Keep + Drop> OfficeSession<K> {
         }
     }
 
-    /// After a turn that met a fault, finds out whether damage was met, and remembers that: of an owner's
-    /// request, whether that owner's rows are damaged, for which the file is opened once more; of a call of
-    /// the plant, whether it was told so.
+    /// After a turn that met a fault, finds out whether the fault was damage, and remembers it. For an
+    /// owner's request that is whether the owner's rows are damaged, for which the file is opened once more.
+    /// For a call of the plant it is whether its reply says so.
     pub fn note_damage<O: KeepOpener<K>>(
         &mut self,
         office_path: &mut OfficePath<'_, O>,
@@ -382,7 +383,7 @@ impl<K: Keep + Drop> OfficeSession<K> {
         }
     }
 
-    // Notes a call of the plant that was told damage.
+    // Notes a call of the plant whose reply reports damage.
     fn note_call(&mut self, alloc: Global, asked: &[u8], poll: &Poll<PendingImport>)
         ensures beside { self.new ≡ record self.old { damage = self.new.damage } }
         ensures owners { self.new.damage.owners ≡ self.old.damage.owners }
@@ -395,7 +396,7 @@ impl<K: Keep + Drop> OfficeSession<K> {
         }
     }
 
-    // Looks at an owner's rows, if nobody did and the files are as they were left.
+    // Reads an owner's rows, if that wasn't done yet and the files are as they were left.
     fn look_at<O: KeepOpener<K>>(&mut self, office_path: &mut OfficePath<'_, O>, owner: Name)
         ensures state { state_of_session self.new ≡ state_of_session self.old }
         ensures imports { self.new.imports ≡ self.old.imports }
@@ -412,7 +413,7 @@ impl<K: Keep + Drop> OfficeSession<K> {
         self.unlock();
     }
 
-    // Takes the lock, if it isn't kept, and tells whether it is there and the files are as they were left.
+    // Takes the lock, if it isn't kept. Returns whether it is held and the files are as they were left.
     fn relock<O: KeepOpener<K>>(&mut self, office_path: &mut OfficePath<'_, O>) -> bool
         ensures beside { self.new ≡ record self.old { lock = self.new.lock } }
         ensures kept { IsSome self.old.lock → IsSome self.new.lock }
@@ -427,7 +428,7 @@ impl<K: Keep + Drop> OfficeSession<K> {
         self.are_files_as_left(office_path.rt, office_path.path)
     }
 
-    // Opens the file, to look at an owner's rows alone, and closes it.
+    // Opens the file, only to read an owner's rows, and closes it.
     fn learn<O: KeepOpener<K>>(&mut self, office_path: &mut OfficePath<'_, O>, owner: Name)
         ensures beside { self.new ≡ record self.old { left = self.new.left; damage = self.new.damage; notes = self.new.notes } }
         ensures owners { AreOwnersFound K.meaning O.is_opened self.old.damage self.new.damage owner }
@@ -439,7 +440,7 @@ impl<K: Keep + Drop> OfficeSession<K> {
         self.note_files(office_path.rt, office_path.path);
     }
 
-    /// Closes the file, if it is open and the lock is got. What was answered stands in the file whether or
+    /// Closes the file, if it is open and the lock is taken. All answered changes are in the file whether or
     /// not it is closed.
     pub fn close<O: KeepOpener<K>>(mut self, office_path: &mut OfficePath<'_, O>) {
         if let Ok(Some(opened)) = self.take_left(office_path) {
@@ -451,7 +452,7 @@ impl<K: Keep + Drop> OfficeSession<K> {
     }
 }
 
-// The answer over a keep; nothing, where there is no memory, after which the keep is to be let go.
+// The answer over a keep; no bytes if there is no memory. The keep is then to be dropped.
 fn reply_over<K: Keep>(
     alloc: Global,
     router: &mut OfficeRouter,
@@ -485,7 +486,7 @@ fn finds_damage<K: Keep + Drop, O: KeepOpener<K>>(
     matches!(read, Err(KeepFault::Damaged))
 }
 
-// Whether the plant is told that damage was met, and nothing else.
+// Whether the reply to the plant reports damage, and nothing else.
 fn tells_damage(alloc: Global, told: &[u8]) -> bool
     ensures { result ≡ true → IsResponse told.now (code_of Failed) [] (fault_text OfficeFault.Damaged) }
 {

@@ -7,7 +7,7 @@ use crate::office_path::{KeepOpener, OfficePath};
 use crate::shared_file::SharedFile;
 use std::io;
 
-/// An open office, and its files where they can be released.
+/// An open office, and its files if they can be released.
 pub struct OpenOffice<K> {
     pub keep: K,
     files: Option<Files>,
@@ -39,7 +39,7 @@ impl<K: Drop> OpenOffice<K> {
         })
     }
 
-    /// Releases the files to others: none is left open where they can't be released.
+    /// Releases the files to other programs. The office is closed if they can't be released.
     pub fn release<O: KeepOpener<K>>(self, office_path: &mut OfficePath<'_, O>) -> Option<Self>
         ensures { IfSome result (λ released. released.keep ≡ self.keep) }
     {
@@ -54,7 +54,7 @@ impl<K: Drop> OpenOffice<K> {
         None
     }
 
-    /// Locks the files again, and tells whether nobody else has them.
+    /// Locks the files again. Returns whether no other program has them.
     pub fn reacquire(&self) -> bool {
         match &self.files {
             Some(Files { database, log }) => database.lock().is_ok() && log.lock().is_ok(),

@@ -1,4 +1,4 @@
-//! What is done over an office that has no server.
+//! Operations over an office that has no server.
 ghost use Rattle.toll_programs.specs.Outputs.{printout_of};
 ghost use Rattle.toll_service.specs.Doing.{IsOperationDone};
 

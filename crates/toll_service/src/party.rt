@@ -1,4 +1,4 @@
-//! Whose turn a request takes.
+//! The party whose turn a request takes.
 ghost use Rattle.std.specs.Prelude.{◌≡◌, option_map};
 ghost use Rattle.toll_protocol.specs.Parsing.{IsParsedAs, ParseResult};
 ghost use Rattle.toll_service.specs.Parties.{IsBy, claimed, party_named};
@@ -7,8 +7,8 @@ use toll_base::Name;
 use toll_protocol::parse_http;
 use toll_server::Listener;
 
-/// Whose requests a server answers in turn: the plant's, those of each owner that is claimed, and those that
-/// claim none.
+/// The parties whose requests a server answers in turn: the plant, each owner that a request claims, and all
+/// clients that claim no owner.
 #[derive(Clone, Copy, Debug, PartialEq, Eq)]
 pub enum Party {
     Plant,
@@ -17,8 +17,8 @@ pub enum Party {
 }
 
 impl Party {
-    /// Whose turn a request takes that came in by this listener. What an owner claims is believed here: its
-    /// key is looked at in the turn.
+    /// The party whose turn a request takes that came in by this listener. The owner that a request claims is
+    /// believed here: its key is checked in the turn.
     pub fn of(listener: Listener, asked: &[u8]) -> Self
         ensures { IsBy listener asked.now result }
     {
@@ -29,7 +29,7 @@ impl Party {
     }
 }
 
-// That of the owner that a request claims to be of.
+// The party of the owner that a request claims.
 fn claimed_by(asked: &[u8]) -> Party
     ensures { (o : ParseResult) × IsParsedAs asked.now o × (result ≡ party_named (claimed o)) }
 {
@@ -39,7 +39,7 @@ fn claimed_by(asked: &[u8]) -> Party
     }
 }
 
-// That of this owner, if these bytes are a name.
+// The party of this owner, if these bytes are a name.
 fn named(owner: Option<&[u8]>) -> Party
     ensures { result ≡ party_named (option_map (λ bytes. bytes.now) owner.entry) }
 {

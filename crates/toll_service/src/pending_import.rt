@@ -13,7 +13,7 @@ use toll_plant::Import;
 use toll_programs::{output_of_import, output_of_stopped_import};
 use toll_server::Poll;
 
-/// An import that is under way, and memory for the exit status that the plant is told at the end.
+/// An import that is under way, and memory for the exit status that the plant gets at the end.
 #[derive(Drop)]
 pub struct PendingImport {
     import: Import,
@@ -30,15 +30,15 @@ impl Model for PendingImport {
 }
 
 impl PendingImport {
-    /// Of this import, which has not gone on yet.
+    /// This import, of which no record has acted yet.
     pub(crate) fn new(import: Import, reserved: ReservedReply) -> Self
         ensures { result ≡ import }
     {
         PendingImport { import, reserved }
     }
 
-    /// Goes on with the import over a keep: the next group of its records acts. Where no record is left then,
-    /// the plant is told what the program prints of all of them, and the exit status.
+    /// Resumes the import over a keep: the next group of its records acts. If no record is left then, the
+    /// reply to the plant is the program's output for all of them, and the exit status.
     pub fn resume<K: Keep>(mut self, alloc: Global, keep: &mut K) -> TurnResult
         ensures { ImportResumed K.meaning keep.old keep.new self result.poll result.keep_usable }
     {
@@ -55,9 +55,9 @@ impl PendingImport {
         }
     }
 
-    /// Ends the import, which can't go on for such a fault: the plant is told what came of the records so far,
-    /// the line of the fault on standard error, and the exit status of a failure. What there is no memory for is
-    /// left out.
+    /// Ends an import that can't be resumed because of such a fault. The reply to the plant is the outcomes
+    /// of the records so far, the line of the fault on standard error, and the exit status of a failure.
+    /// Output for which there is no memory is left out.
     pub fn abort(self, alloc: Global, fault: OfficeFault) -> TurnResult
         ensures { IsReadyWith result.poll (λ told. IsImportAborted self.lines (fault_text fault) told result.keep_usable) }
     {

@@ -16,8 +16,8 @@ use toll_programs::{Output, Status, execute, output_of_import};
 use toll_protocol::Call;
 use toll_server::Poll;
 
-/// Answers a frame, or begins the import that it asks for. There is memory for an exit status before
-/// anything is done.
+/// Answers a frame, or begins the import that it asks for. Memory for an exit status is taken before anything
+/// is done.
 pub fn answer_plant<K: Keep>(
     alloc: Global,
     keep: &mut K,
@@ -53,7 +53,7 @@ fn import_in<'a>(asked: &Call<'a>) -> Option<&'a [u8]>
     }
 }
 
-// Begins an import, or tells why there is none.
+// Begins an import, or replies why there is none.
 fn begin(alloc: Global, file: &[u8], reserved: ReservedReply) -> TurnResult
     ensures { BeginsOrTells file.now result.poll result.keep_usable }
 {
@@ -66,7 +66,7 @@ fn begin(alloc: Global, file: &[u8], reserved: ReservedReply) -> TurnResult
     }
 }
 
-// Does what words ask for but an import, once they are read.
+// Does what words ask for, except an import, once they are read.
 fn execute_words<K: Keep>(alloc: Global, keep: &mut K, words: &[&str]) -> Result<Output, AllocError>
     ensures err { OnErr result (keep.new ≡ keep.old) }
     ensures done { IfOk result (λ done. IsDone K.meaning keep.old keep.new (requested_by_words (map (λ w. w.now) words.now)) (printout_of done)) }

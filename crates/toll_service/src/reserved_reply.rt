@@ -8,10 +8,10 @@ use toll_programs::{Output, Status};
 use toll_protocol::Response;
 use toll_server::Poll;
 
-/// Where the exit status stands in a frame: behind its length.
+/// The place of the exit status in a frame: behind its length.
 const STATUS_PLACE: usize = 4;
 
-/// A frame with an exit status and nothing printed, in which another status can be put without memory.
+/// A frame with an exit status and no output, in which the status can be replaced without memory.
 #[derive(Drop)]
 pub struct ReservedReply {
     frame: Vec<u8>,
@@ -37,8 +37,8 @@ impl ReservedReply {
         }
     }
 
-    /// What the plant is told. Where there is no memory for all that is to be printed, that is the exit status,
-    /// as where the program can write nothing.
+    /// The reply to the plant. If there is no memory for all of the output, it is the exit status alone, as
+    /// of a program that can write nothing.
     pub fn tell(self, alloc: Global, done: &Output) -> TurnResult
         ensures { IsReadyWith result.poll (IsTellingIfRoom result.keep_usable (printout_of done.now)) }
     {
@@ -51,7 +51,7 @@ impl ReservedReply {
         }
     }
 
-    // Tells this exit status, and nothing printed.
+    // The reply with this exit status and no output.
     fn tell_status(self, status: u8) -> TurnResult
         ensures { IsReadyWith result.poll (IsTelling result.keep_usable (status_alone status)) }
     {
@@ -63,7 +63,7 @@ impl ReservedReply {
         }
     }
 
-    // The exit status where nothing can be written: a failure, if something goes to standard output.
+    // The exit status if nothing can be written: a failure, if there is text for standard output.
     fn code_unwritten(done: &Output) -> u8
         ensures { let p = printout_of done.now in result ≡ status_unwritten p.output p.status }
     {

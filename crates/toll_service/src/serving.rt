@@ -14,10 +14,10 @@ use std::io;
 use toll_keep::Keep;
 use toll_server::{Network, ServingEnd, serve};
 
-/// Serves so many owners side by side over a keep, and the plant meanwhile, whose imports go on group by group
-/// with others in between. What they ask is a list of events, in the order in which it was done, and the keep
-/// changes by nothing else: a run, in which each owner's replies are those that its own events give by
-/// themselves.
+/// Serves this number of owners side by side over a keep, and the plant meanwhile. The plant's imports go on
+/// group by group, with other turns in between. All that clients ask is a list of events, in the order in
+/// which they were done, and nothing else changes the keep. So it is a run, in which each owner's replies are
+/// those that its own events give by themselves.
 pub fn serve_keep<W: Network, K: Keep>(
     alloc: Global,
     world: &mut W,
@@ -32,16 +32,16 @@ pub fn serve_keep<W: Network, K: Keep>(
     serve(alloc, world, service, count)
 }
 
-/// A network that tells that it listens.
+/// A network that announces that it listens.
 pub trait Announcing: Network {
-    /// Tells whoever began the serving that clients may come.
+    /// Announces that clients may connect, to the program or user that started the server.
     fn announce(&self, rt: &HostRuntime) -> io::Result<()>;
 }
 
-/// Serves so many owners side by side over the office at this path, and the plant meanwhile. It is opened
-/// before the network tells that it listens, if its file is there, and else for the first request; it stays
-/// open between requests while nobody else changes it, and is closed in the end. An `Err` if the network
-/// can't tell that it listens: nobody was served.
+/// Serves this number of owners side by side over the office at this path, and the plant meanwhile. If its
+/// file is there, the office is opened before the network announces that it listens, and otherwise for the
+/// first request. It stays open between requests while no other program changes it, and is closed in the end.
+/// An `Err` if the network can't announce that it listens: no client was served.
 pub fn serve_place<W: Announcing, K: Keep + Drop, O: KeepOpener<K>>(
     world: &mut W,
     office_path: OfficePath<'_, O>,

@@ -1,18 +1,18 @@
-//! A file of `sqlite`'s that others may use while it stays open.
+//! A file of `sqlite` that other programs may use while it stays open.
 use os::RangeLock;
 use std::io::ErrorKind;
 use std::os::unix::fs::MetadataExt;
 use std::{fs, io};
 
-/// Where `sqlite` locks each of its files, and how many bytes.
+/// The first byte that `sqlite` locks in each of its files, and the number of bytes.
 const LOCKED_FROM: u64 = 1 << 30;
 
 const LOCKED_BYTES: u64 = 512;
 
-/// How many descriptors are looked at for the one of a file, of which each connection of a server has one.
+/// How many descriptors are searched for that of a file. Each connection of a server takes one descriptor.
 const MOST_DESCRIPTORS: i32 = 1024;
 
-/// A file that `sqlite` has open and locked, which is unlocked for others and locked again.
+/// A file that `sqlite` has open and locked. It can be unlocked for other programs and locked again.
 #[derive(Drop)]
 pub struct SharedFile {
     descriptor: i32,
@@ -25,7 +25,7 @@ impl SharedFile {
         Ok(SharedFile { descriptor })
     }
 
-    /// Locks the file, unless another has it.
+    /// Locks the file, unless another program has it.
     pub fn lock(&self) -> io::Result<()> {
         set_lock(self.descriptor, RangeLock::Exclusive)
     }
@@ -44,8 +44,8 @@ fn set_lock(descriptor: i32, kind: RangeLock) -> io::Result<()> {
     }
 }
 
-// The descriptor by which `sqlite` has the file open. Another one of the file, as one that the program was
-// begun with, can't lock what that one has locked.
+// The descriptor by which `sqlite` has the file open. Another descriptor of the file, such as one that the
+// program was started with, can't lock what that one has locked.
 fn descriptor_of(rt: &HostRuntime, path: &str) -> io::Result<i32> {
     let file = fs::metadata(rt, path)?;
     for descriptor in 0..MOST_DESCRIPTORS {

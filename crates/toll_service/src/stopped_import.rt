@@ -15,7 +15,7 @@ pub struct StoppedImport {
 }
 
 impl StoppedImport {
-    /// What the plant is told of it: what came of the records so far, and the line of the fault.
+    /// The reply to the plant: the outcomes of the records so far, and the line of the fault.
     pub fn give_up(self, alloc: Global) -> Poll<PendingImport>
         ensures { IsReadyWith result (IsGivenUp self.import) }
     {

@@ -1,14 +1,14 @@
-//! What comes of a turn.
+//! The result of a turn.
 use crate::pending_import::PendingImport;
 use toll_server::Poll;
 
-/// What a client is told, or the import that is left to do before, and whether the keep that was asked can
-/// be asked again.
+/// The reply to a client, or the import that is left to do before it, and whether the keep can be asked
+/// again.
 #[derive(Drop)]
 pub struct TurnResult {
-    /// The bytes of an HTTP reply, or a frame with what the plant is told. Nothing for bytes that ask the
+    /// The bytes of an HTTP reply, or a frame with the reply to the plant. No bytes for bytes that ask the
     /// plant's listener for nothing.
     pub poll: Poll<PendingImport>,
-    /// Not after a 503 or an exit status of 3: who keeps a file open then opens it anew.
+    /// False after a 503 or an exit status of 3: a server that keeps the file open then opens it anew.
     pub keep_usable: bool,
 }

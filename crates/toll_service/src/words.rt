@@ -1,4 +1,4 @@
-//! What the plant's words ask for, which a server of the office does, or else the program itself.
+//! What the plant's words ask for. The server of the office does it, or else the program itself.
 ghost use Rattle.std.specs.Prelude.{map};
 ghost use Rattle.toll_programs.specs.Outputs.{printout_of};
 ghost use Rattle.toll_programs.specs.StreamOutput.{streams_of};
@@ -12,11 +12,11 @@ use toll_plant::{WordsFault, command_of};
 use toll_programs::{Connector, Output, Status, TracksReads, tell, try_server};
 use toll_protocol::Sink;
 
-/// Does what these words of the plant ask for, and gives the exit status: the server of the office does it,
-/// if it has one, and else it is done over the office, as [`plant_line`](toll_programs::plant_line) does it,
-/// and printed once the lock of its file was given back. Of words that are no command the usage is written to
-/// `error`, and the status is 2. Why no office was opened, or that there was no memory to read the words, is
-/// written to `error`, and the status is 3.
+/// Does what these words of the plant ask for, and gives the exit status. If the office has a server, the
+/// server does it. Otherwise it is done over the office, as [`plant_line`](toll_programs::plant_line) does
+/// it, and printed after the lock of its file is released. If the words are no command, the usage is written
+/// to `error`, and the status is 2. If no office was opened, or there was no memory to read the words, the
+/// fault is written to `error`, and the status is 3.
 pub fn do_words<
     K: Keep,
     O: KeepOpener<K>,
@@ -52,9 +52,10 @@ pub fn do_words<
     }
 }
 
-/// Imports a file of actuals, and gives the exit status: the server of the office does it, if it has one, and
-/// else it is done over the office, as [`plant_import`](toll_programs::plant_import) does it, and printed once
-/// the lock of its file was given back. Why no office was opened is written to `error`, and the status is 3.
+/// Imports a file of actuals, and gives the exit status. If the office has a server, the server does it.
+/// Otherwise it is done over the office, as [`plant_import`](toll_programs::plant_import) does it, and
+/// printed after the lock of its file is released. If no office was opened, the fault is written to `error`,
+/// and the status is 3.
 pub fn do_file<K: Keep, O: KeepOpener<K>, S: TracksReads + Drop, C: Connector<S>, W: Sink, E: Sink>(
     office_path: &mut OfficePath<'_, O>,
     connector: &mut C,
@@ -77,7 +78,7 @@ pub fn do_file<K: Keep, O: KeepOpener<K>, S: TracksReads + Drop, C: Connector<S>
     )
 }
 
-// Has the server do what these words and the file with them ask for, or does it: so much is it over a keep.
+// Has the server do what these words and the file with them ask for, or does it over a keep.
 fn ask<K: Keep, O: KeepOpener<K>, S: TracksReads + Drop, C: Connector<S>, W: Sink, E: Sink>(
     office_path: &mut OfficePath<'_, O>,
     connector: &mut C,
