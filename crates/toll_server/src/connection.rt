@@ -20,9 +20,8 @@ use toll_protocol::{ReadStatus, ResponseWriter, Stream};
 /// How many milliseconds a connection may take for its request, and again for taking the reply.
 pub const MOST_MILLISECONDS: u64 = 10_000;
 
-/// A connection: what was received of its request, how far it has come since, and the millisecond at which
-/// its time for its request or its reply is over. No time is over for one that waits for a turn of its
-/// service.
+/// A connection: the bytes received of its request, its state, and the millisecond at which its time for its
+/// request or its reply is over. The time of a connection that waits for a turn of its service isn't over.
 #[derive(Drop)]
 pub struct Connection<S, T, P> {
     pub stream: S,
@@ -31,7 +30,7 @@ pub struct Connection<S, T, P> {
     pub deadline: u64,
 }
 
-/// What came of a turn of the service for who had this place in the queue.
+/// The result of a turn of the service for the connection that had this place in the queue.
 #[derive(Drop)]
 pub struct Outcome<T, P> {
     pub ticket: Ticket<P>,
@@ -39,7 +38,7 @@ pub struct Outcome<T, P> {
 }
 
 impl<S: Stream, T: Drop, P: Drop> Connection<S, T, P> {
-    /// Nothing was received from it yet.
+    /// A connection from which nothing was received yet.
     pub fn new(alloc: Global, listener: Listener, stream: S, now: u64) -> Result<Self, AllocError>
         ensures stream { IfOk result (λ connection. connection.stream ≡ stream) }
         ensures request { IfOk result (λ connection. (bytes_received connection.request ≡ []) × (listener_of connection.request ≡ listener)) }
@@ -57,8 +56,8 @@ impl<S: Stream, T: Drop, P: Drop> Connection<S, T, P> {
         }
     }
 
-    /// Goes on as far as the stream does: reads on, and joins the queue for its service once its request is
-    /// whole; or writes on. While it waits for its turn, nothing is read or written.
+    /// Advances as far as the stream does: reads on, and joins the queue for its service once its request is
+    /// whole; or writes on. While the connection waits for its turn, nothing is read or written.
     pub fn advance<O: Service<Task = T, Party = P>>(&mut self, moment: u128) -> StepResult
         ensures joins { JoinsAs O.is_by moment self.old self.new result }
         ensures same { last_poll self.new.state ≡ last_poll self.old.state }
@@ -78,8 +77,8 @@ impl<S: Stream, T: Drop, P: Drop> Connection<S, T, P> {
         }
     }
 
-    /// Has the service take a turn for it, if it waits for one: its request is answered, or what is left to
-    /// do for it is gone on with. What came of it is to be [stored](Connection::store_poll).
+    /// Has the service take a turn for the connection, if it waits for one: its request is answered, or its
+    /// task is resumed. The outcome is to be [stored](Connection::store_poll).
     pub fn ask<O: Service<Task = T, Party = P>>(
         &mut self,
         alloc: Global,
@@ -107,8 +106,8 @@ impl<S: Stream, T: Drop, P: Drop> Connection<S, T, P> {
         }
     }
 
-    /// Stores what came of a turn of the service: begins to write the reply, if there is one, and else
-    /// waits for its next turn.
+    /// Stores the outcome of a turn of the service: begins to write the reply, if there is one, and otherwise
+    /// waits for the next turn.
     pub fn store_poll(&mut self, outcome: Outcome<T, P>, moment: u128, now: u64) -> StepResult
         requires { reply_of self.old.state ≡ None }
         ensures taken { last_poll self.new.state ≡ Some outcome.poll }

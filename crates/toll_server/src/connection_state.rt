@@ -1,4 +1,4 @@
-//! How far a connection has come.
+//! The state of a connection.
 ghost use Rattle.std.specs.Prelude.{◌≡◌, Some, IfSome, option_copied};
 ghost use Rattle.toll_server.specs.ConnectionStates.{last_poll, reply_of, state_behind, ticket_after, ticket_of};
 
@@ -6,21 +6,22 @@ use crate::poll::Poll;
 use crate::ticket::Ticket;
 use toll_protocol::ResponseWriter;
 
-/// How far a connection has come.
+/// The state of a connection.
 #[derive(Drop)]
 pub enum ConnectionState<T, P> {
     /// Its request is not whole.
     Reading,
     /// Its request is whole, and waits for its turn.
     Queued(Ticket<P>),
-    /// Its service has this left to do before there is a reply, which waits for its turn.
+    /// Its service has this task left before there is a reply. The task waits for its turn.
     Working(Ticket<P>, T),
-    /// Its reply is written.
+    /// Its reply is being written.
     Writing(ResponseWriter),
 }
 
 impl<T: Drop, P: Drop> ConnectionState<T, P> {
-    /// What a turn comes to for who had that place in the queue: the reply, or a place at the queue's end.
+    /// The state after a turn of the connection that had that place in the queue: its reply, or a place at
+    /// the queue's end.
     pub fn after(poll: Poll<T>, ticket: Ticket<P>, moment: u128) -> Self
         ensures poll { last_poll result ≡ Some poll }
         ensures ticket { ticket_of result ≡ ticket_after poll moment ticket }
@@ -47,7 +48,7 @@ impl<T: Drop, P: Drop> ConnectionState<T, P> {
 }
 
 impl<T: Drop, P: PartialEq + Drop> ConnectionState<T, P> {
-    /// That party has a turn now.
+    /// Notes that this party has a turn now.
     pub fn put_behind(&mut self, party: &P, moment: u128)
         ensures { self.new ≡ state_behind P.eq party.now moment self.old }
     {

@@ -20,25 +20,25 @@ use toll_protocol::Stream;
 /// How many connections are open at once.
 pub const MOST_CONNECTIONS: usize = 900;
 
-/// How many are accepted between two waits, so that those that are open are served.
+/// How many connections are accepted between two waits, so that the open ones are served.
 const MOST_ACCEPTS: usize = 64;
 
-/// For how many milliseconds none is accepted where there were no resources, unless a connection closes
-/// before.
+/// For how many milliseconds no connection is accepted after there were no resources, unless a connection
+/// closes before.
 const PAUSE_MILLISECONDS: u64 = 1000;
 
 /// Whether connections are accepted.
 #[derive(Clone, Copy, Debug, PartialEq, Eq)]
 pub enum AcceptState {
     Open,
-    /// Others may wait, which are accepted once those that are open were served.
+    /// More connections may be waiting. They are accepted after the open ones were served.
     Backlogged,
-    /// There were no resources. It is tried again when a connection has closed, or at this millisecond.
+    /// There were no resources. The next attempt is when a connection has closed, or at this millisecond.
     Paused(u64),
 }
 
-/// The open connections, how many owners are still to be accepted, and how much has happened: how many
-/// requests became whole, and how many turns the service took.
+/// The open connections, how many owners are still to be accepted, and the number of events so far: requests
+/// that became whole, and turns that the service took.
 #[derive(Drop)]
 pub struct Connections<S, T, P> {
     pub slots: Slab<Connection<S, T, P>>,
@@ -48,7 +48,7 @@ pub struct Connections<S, T, P> {
 }
 
 impl<S: Stream, T: Drop, P: Eq + Drop> Connections<S, T, P> {
-    /// No connection is open yet, and so many owners are to be accepted.
+    /// No connection is open yet, and this number of owners is to be accepted.
     pub fn new(alloc: Global, owners_left: u64) -> Self
         ensures empty { slab_len result.slots ≡ 0 }
         ensures owners_left { result.owners_left ≡ owners_left }
@@ -62,15 +62,15 @@ impl<S: Stream, T: Drop, P: Eq + Drop> Connections<S, T, P> {
         }
     }
 
-    /// Whether all were accepted, and all connections are closed.
+    /// Whether all owners were accepted, and all connections are closed.
     pub fn is_over(&self) -> bool
         ensures { IsTrue result ↔ ((self.now.owners_left ≡ 0) × (slab_len self.now.slots ≡ 0)) }
     {
         self.owners_left == 0 && self.slots.is_empty()
     }
 
-    /// How many milliseconds to wait at most, so that nobody stays longer than its time: none while somebody
-    /// waits for its turn.
+    /// How many milliseconds to wait at most, so that no connection stays longer than its time. The limit is
+    /// 0 while a connection waits for its turn.
     pub fn wait_limit(&self, now: u64) -> Option<u64>
         ensures in_time { IsInTime result now self.now.slots }
         ensures cause { IfSome result (λ most. IsDueAt self.now.accept_state now most ⊎ IsDueTo self.now.slots now most) }
@@ -89,10 +89,10 @@ impl<S: Stream, T: Drop, P: Eq + Drop> Connections<S, T, P> {
         }
     }
 
-    /// Accepts those that wait at a listener, while owners are still to be accepted, and times them from now
-    /// on. Where too many are open then, the one is closed that has been reading longest. So it is where there
-    /// are no resources for one more, once those who came were heard; and where none is reading then, none is
-    /// accepted for a while.
+    /// Accepts connections that wait at a listener, while owners are still to be accepted, and times them
+    /// from now on. If too many are open then, the connection that has been reading longest is closed. It is
+    /// also closed if there are no resources for one more, after the connections that came just now were
+    /// read. If no connection is reading then, none is accepted for a while.
     pub fn accept<W: Network<Stream = S>>(
         &mut self,
         alloc: Global,
@@ -145,8 +145,8 @@ impl<S: Stream, T: Drop, P: Eq + Drop> Connections<S, T, P> {
         }
     }
 
-    // Adds a connection, if there is memory for it. Where that is one too many, the one is closed that has
-    // been reading longest.
+    // Adds a connection, if there is memory for it. If too many are open then, the connection that has been
+    // reading longest is closed.
     fn add_connection(
         &mut self,
         alloc: Global,
@@ -176,7 +176,7 @@ impl<S: Stream, T: Drop, P: Eq + Drop> Connections<S, T, P> {
         Ok(())
     }
 
-    // One owner less is to be accepted, if it is one.
+    // Counts down the owners to be accepted, if the connection is an owner's.
     fn count_owner(&mut self, listener: Listener)
         requires { 0 < self.old.owners_left }
         ensures owners_left { self.new.owners_left + owners_at listener ≡ self.old.owners_left }
@@ -189,8 +189,8 @@ impl<S: Stream, T: Drop, P: Eq + Drop> Connections<S, T, P> {
         }
     }
 
-    // Where there are no resources for one more, the one is closed that has been reading longest, unless so
-    // many came just now and were not heard yet.
+    // If there are no resources for one more, closes the connection that has been reading longest, unless
+    // connections came just now (`came` is above 0) and were not read yet.
     fn make_room(&mut self, came: usize, now: u64)
         ensures room { MakesRoom came now self.old.slots self.new.slots self.new.accept_state }
         ensures fewer { slab_len self.new.slots ≤ slab_len self.old.slots }
@@ -204,9 +204,9 @@ impl<S: Stream, T: Drop, P: Eq + Drop> Connections<S, T, P> {
         self.accept_state = AcceptState::Paused(now.saturating_add(PAUSE_MILLISECONDS));
     }
 
-    /// Takes the connection with this key as far as its stream goes. It is closed once it has its reply, or
-    /// where a read or a write failed; where one would wait, or its request is whole and waits for its
-    /// turn, it stays.
+    /// Advances the connection with this key as far as its stream goes. It is closed after its reply is
+    /// written, or if a read or a write failed. It stays if a read or a write would wait, or if its request
+    /// is whole and waits for its turn.
     pub fn advance<O: Service<Task = T, Party = P>>(&mut self, key: usize)
         requires { self.old.moment + 1 < 2 ^ 128 }
         ensures joins { JoinsAt O.is_by key self.old.moment self.new.moment self.old.slots self.new.slots }
@@ -224,9 +224,9 @@ impl<S: Stream, T: Drop, P: Eq + Drop> Connections<S, T, P> {
         self.keep(connection, step);
     }
 
-    /// Has the service take a turn for who has waited longest, if somebody waits: for each party, the wait
-    /// begins with its latest turn, or when a request of it was whole. Who was told goes once it has its
-    /// reply, or where a write of that failed.
+    /// Has the service take a turn for the connection that has waited longest, if one waits. A party's wait
+    /// begins with its latest turn, or when a request of it became whole. A connection with a reply is closed
+    /// after the reply is written, or if a write of it failed.
     pub fn take_turn<O: Service<Task = T, Party = P>>(
         &mut self,
         alloc: Global,
@@ -256,8 +256,8 @@ impl<S: Stream, T: Drop, P: Eq + Drop> Connections<S, T, P> {
         self.keep(connection, step);
     }
 
-    /// Closes those that are reading, once no owner is to be accepted and none is connected, so that nobody of
-    /// the plant who sends nothing holds up the end.
+    /// Closes the connections that are reading, once no owner is to be accepted and none is connected. So an
+    /// idle client of the plant doesn't delay the end.
     pub fn wind_down(&mut self)
         ensures readers { WindsDown self.old.owners_left self.old.slots self.new.slots }
         ensures none_new { NoneNew self.old.slots self.new.slots }
@@ -272,7 +272,7 @@ impl<S: Stream, T: Drop, P: Eq + Drop> Connections<S, T, P> {
         close_readers(&mut self.slots);
     }
 
-    // The connection, which was taken out, stays where it waits, and is closed else.
+    // Puts back a connection that was taken out, if it waits, and closes it otherwise.
     fn keep(&mut self, connection: Connection<S, T, P>, step: StepResult)
         requires room { HasRoomFor self.old.slots 1 }
         requires out { get self.old.slots self.old.slots.vacant_key ≡ None }
@@ -288,7 +288,7 @@ impl<S: Stream, T: Drop, P: Eq + Drop> Connections<S, T, P> {
         self.accept_state = AcceptState::Open;
     }
 
-    /// Closes those whose time is over, and no others.
+    /// Closes the connections whose time is over, and no others.
     pub fn close_expired(&mut self, now: u64)
         ensures gone { ClosesExpired now self.old.slots self.new.slots }
         ensures owners_left { self.new.owners_left ≡ self.old.owners_left }

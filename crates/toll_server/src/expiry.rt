@@ -1,4 +1,4 @@
-//! Looking through the open connections.
+//! Searching the open connections.
 ghost use Rattle.std.specs.Prelude.{◌≡◌, ◌↔◌, ◌+◌, ℕ, IfSome, IfNone, IsTrue, option_map};
 ghost use Rattle.slab.specs.Slab.{get, slab_len};
 ghost use Rattle.toll_server.specs.Connections.{ClosesExpired, ClosesReaders, EvictsOldest, IsBefore, IsEarliest, IsExpired, IsLonger, NobodyWaits, NoneIncluded, OnlyAt, connection_behind, queue_in, wait_in};
@@ -10,14 +10,14 @@ use crate::filter::Filter;
 use slab::Slab;
 use toll_protocol::Stream;
 
-/// Which of these connections has the least time left, and until when.
+/// The connection with the least time left, and when its time is over.
 #[derive(Clone, Copy)]
 pub struct Earliest {
     pub key: usize,
     pub deadline: u64,
 }
 
-/// That of these connections whose time is over first.
+/// The connection, of these, whose time is over first.
 pub fn earliest_of<S: Stream, T: Drop, P: Drop>(
     connections: &Slab<Connection<S, T, P>>,
     filter: Filter,
@@ -44,7 +44,7 @@ pub fn earliest_of<S: Stream, T: Drop, P: Drop>(
     first
 }
 
-// Whether this moment comes before the other one, if there is one.
+// Whether this moment comes before that of the other one, if there is one.
 fn is_before(deadline: u64, first: Option<Earliest>) -> bool
     ensures { IsTrue result ↔ IsBefore deadline first }
 {
@@ -54,7 +54,7 @@ fn is_before(deadline: u64, first: Option<Earliest>) -> bool
     }
 }
 
-/// Those go whose time is over, which that of one who waits for its turn is not.
+/// Closes the connections whose time is over. The time of one that waits for its turn never is.
 pub fn close_expired<S: Stream, T: Drop, P: Drop>(
     connections: &mut Slab<Connection<S, T, P>>,
     now: u64,
@@ -82,7 +82,7 @@ fn is_expired<S: Stream, T: Drop, P: Drop>(
     }
 }
 
-/// The one is closed that has been reading longest, if one is reading, and whether one was is told.
+/// Closes the connection that has been reading longest, if one is reading. Returns whether one was closed.
 pub fn evict_oldest<S: Stream, T: Drop, P: Drop>(
     connections: &mut Slab<Connection<S, T, P>>,
 ) -> bool
@@ -96,28 +96,28 @@ pub fn evict_oldest<S: Stream, T: Drop, P: Drop>(
     }
 }
 
-/// All those are closed that are reading.
+/// Closes all connections that are reading.
 pub fn close_readers<S: Stream, T: Drop, P: Drop>(connections: &mut Slab<Connection<S, T, P>>)
     ensures { ClosesReaders connections.old connections.new }
 {
     while evict_oldest(connections) {}
 }
 
-/// Since when somebody waits for its turn, and when it joined the queue.
+/// When a connection's wait for its turn began, and when it joined the queue.
 #[derive(Clone, Copy)]
 pub struct Wait {
     pub since: u128,
     pub queued: u128,
 }
 
-/// Whose turn is next, and how long it has waited.
+/// The connection that has the next turn, and how long it has waited.
 #[derive(Clone, Copy)]
 pub struct Next {
     pub key: usize,
     pub wait: Wait,
 }
 
-/// Who has waited longest for its turn.
+/// The connection that has waited longest for its turn.
 pub fn next_of<S: Stream, T: Drop, P: Drop>(connections: &Slab<Connection<S, T, P>>) -> Option<Next>
     ensures found { IfSome result (λ next. IsNext (queue_in connections.now) next.key) }
     ensures none { IfNone result (NobodyWaits connections.now) }
@@ -135,7 +135,7 @@ pub fn next_of<S: Stream, T: Drop, P: Drop>(connections: &Slab<Connection<S, T, 
     next
 }
 
-// How long the one with this key waits, if it does.
+// How long the connection with this key has waited, if it waits.
 fn wait_of<S: Stream, T: Drop, P: Drop>(
     connections: &Slab<Connection<S, T, P>>,
     key: usize,
@@ -167,7 +167,7 @@ fn is_longer(wait: Wait, next: Option<Next>) -> bool
     }
 }
 
-/// That party has a turn now: the wait of each of it begins anew.
+/// Notes that this party has a turn now: the wait of each of its connections begins anew.
 pub fn put_behind<S: Stream, T: Drop, P: PartialEq + Drop>(
     connections: &mut Slab<Connection<S, T, P>>,
     party: &P,
@@ -183,7 +183,7 @@ pub fn put_behind<S: Stream, T: Drop, P: PartialEq + Drop>(
     }
 }
 
-// The wait of the one with this key begins anew, if it waits and is of that party.
+// Begins the wait of the connection with this key anew, if it waits and is of that party.
 fn put_one_behind<S: Stream, T: Drop, P: PartialEq + Drop>(
     connections: &mut Slab<Connection<S, T, P>>,
     key: usize,

@@ -6,16 +6,16 @@ use crate::connection::Connection;
 use crate::connection_state::ConnectionState;
 use crate::listener::Listener;
 
-/// Which of the open connections.
+/// A selection of the open connections.
 #[derive(Clone, Copy, Debug, PartialEq, Eq)]
 pub enum Filter {
-    /// Those whose requests are not whole.
+    /// Connections whose requests are not whole.
     Reading,
-    /// Those who wait for a turn of the service.
+    /// Connections that wait for a turn of the service.
     Queued,
-    /// Those whose time may be over: all others.
+    /// Connections whose time may be over: all that don't wait for a turn.
     Timed,
-    /// Those that came at the owners' listener.
+    /// Connections that were accepted at the owners' listener.
     Owners,
 }
 

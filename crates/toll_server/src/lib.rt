@@ -1,6 +1,5 @@
-//! Many connections side by side, and one service that answers their requests one after another. The
-//! streams, the clock and the waiting are a `Network`'s, so that all that is decided here is proved over
-//! any.
+//! Many connections side by side, and one service that answers their requests one after another. A `Network`
+//! gives the streams, the clock and the waiting, so all decisions here are proved over any network.
 #![tactic(auto)]
 
 mod connection;

@@ -3,7 +3,7 @@
 /// The listener at which a connection was accepted.
 #[derive(Clone, Copy, Debug, PartialEq, Eq)]
 pub enum Listener {
-    /// For owners, who ask over HTTP.
+    /// For owners, which ask over HTTP.
     Owners,
     /// For the plant, which asks by frames.
     Plant,

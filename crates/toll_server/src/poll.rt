@@ -1,6 +1,6 @@
-//! What comes of a turn of the service.
+//! The result of a turn of the service.
 
-/// What came of one turn of the service.
+/// The result of one turn of the service.
 #[derive(Drop)]
 pub enum Poll<T> {
     /// The reply, all of it.

@@ -9,7 +9,7 @@ use crate::listener::Listener;
 use std::alloc::{AllocError, Global};
 use toll_protocol::{Frame, MOST_CALL_BYTES, ReadStatus, RequestReader, Source};
 
-/// What was received of a request.
+/// The bytes received of a request.
 #[derive(Drop)]
 pub enum RequestBuffer {
     Owner(RequestReader),
@@ -17,7 +17,7 @@ pub enum RequestBuffer {
 }
 
 impl RequestBuffer {
-    /// Nothing was received yet.
+    /// No byte was received yet.
     pub fn new(alloc: Global, listener: Listener) -> Result<Self, AllocError>
         ensures { IfOk result (λ request. (bytes_received request ≡ []) × (listener_of request ≡ listener)) }
     {
@@ -30,7 +30,7 @@ impl RequestBuffer {
         }
     }
 
-    /// At which listener it was accepted.
+    /// The listener at which it was accepted.
     pub fn listener(&self) -> Listener
         ensures { result ≡ listener_of self.now }
     {
@@ -50,7 +50,8 @@ impl RequestBuffer {
         }
     }
 
-    /// Reads on until it is whole, or a read fails, as one does that would wait, or there is no memory.
+    /// Reads on until the request is whole, or a read fails, as one does that would wait, or there is no
+    /// memory.
     pub fn read_on<R: Source>(&mut self, reader: &mut R) -> ReadStatus
         ensures given { AppendsRead (R.unread reader.old) (R.unread reader.new) (bytes_received self.old) (bytes_received self.new) }
         ensures listener { listener_of self.new ≡ listener_of self.old }

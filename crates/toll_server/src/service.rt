@@ -1,4 +1,4 @@
-//! Who answers.
+//! The service that answers requests.
 ghost use Rattle.std.specs.Prelude.{ℕ, List};
 ghost use Rattle.toll_server.specs.declared.listener.Listener.{Listener};
 ghost use Rattle.toll_server.specs.declared.poll.Poll.{Poll};
@@ -7,26 +7,26 @@ use crate::listener::Listener;
 use crate::poll::Poll;
 use std::alloc::Global;
 
-/// Who answers requests, one turn after another. A reply may take several turns, between which others are
-/// answered.
+/// Answers requests, one turn after another. A reply may take several turns, and other requests are answered
+/// between them.
 pub trait Service {
-    /// What is left to do of something that was asked.
+    /// The rest of a request that was begun.
     type Task: Drop;
 
-    /// Whose requests are answered in turn.
+    /// The party of a request. Requests are answered party by party, in turn.
     type Party: Eq + Drop;
 
-    // Such a request, which came in at that listener, is of that party.
+    // This request, which came in at this listener, is of this party.
     ghost is_by: { Listener → List ℕ → Self.Party → Type 0 };
 
-    // From this service such a request, which came in at that listener, comes to that, which leaves such a
-    // service.
+    // This service answers such a request, which came in at this listener, with this result, and leaves such
+    // a service.
     ghost answers: { Self → Listener → List ℕ → Poll Self.Task → Self → Type 0 };
 
-    // From this service such a task comes to that, which leaves such a service.
+    // This service resumes such a task with this result, and leaves such a service.
     ghost resumes: { Self → Self.Task → Poll Self.Task → Self → Type 0 };
 
-    /// Whose a request is.
+    /// The party of a request.
     fn party(listener: Listener, request: &[u8]) -> Self::Party
         ensures { is_by listener request.now result };
 
@@ -34,7 +34,7 @@ pub trait Service {
     fn answer(&mut self, alloc: Global, listener: Listener, request: &[u8]) -> Poll<Self::Task>
         ensures { answers self.old listener request.now result self.new };
 
-    /// Resumes what a turn left.
+    /// Resumes the task that a turn left.
     fn resume(&mut self, alloc: Global, task: Self::Task) -> Poll<Self::Task>
         ensures { resumes self.old task result self.new };
 }

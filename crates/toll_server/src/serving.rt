@@ -14,22 +14,23 @@ use std::alloc::Global;
 /// How serving ended.
 #[derive(Clone, Copy, Debug, PartialEq, Eq)]
 pub enum ServingEnd {
-    /// So many owners as were to be accepted were, and all connections are closed.
+    /// This number of owners was accepted, and all connections are closed.
     All,
-    /// There was nothing to wait for, or no connection could ever be taken again.
+    /// There was nothing to wait for, or no connection could ever be accepted again.
     Fault,
     /// The network was waited for 18,446,744,073,709,551,615 times.
     Spent,
 }
 
-/// Serves so many owners side by side, and those of the plant that come meanwhile. A request that is whole
-/// joins a queue. After each wait, all who may go on are heard, and then the service takes one turn, for
-/// who has waited longest: it answers a request, or goes on with what an earlier turn left. A party's wait
-/// begins anew with each of its turns, so that none has two while another one waits. The service changes by
-/// nothing else. Once all owners were served, those of the plant that have not sent theirs are closed.
+/// Serves this number of owners side by side, and the clients of the plant that connect meanwhile. A request
+/// that is whole joins a queue. After each wait, all connections that may advance do so, and then the service
+/// takes one turn for the connection that has waited longest: it answers a request, or resumes the task that
+/// an earlier turn left. A party's wait begins anew with each of its turns, so no party has two turns while
+/// another one waits. The service changes by nothing else. After all owners were served, connections of the
+/// plant whose requests aren't whole are closed.
 ///
-/// Before its turn a connection costs the reading of at most a whole request, and after it the writing of
-/// its reply, each in no more than [`MOST_MILLISECONDS`](crate::MOST_MILLISECONDS).
+/// Before its turn a connection costs the reading of at most a whole request, and after it the writing of its
+/// reply, each in no more than [`MOST_MILLISECONDS`](crate::MOST_MILLISECONDS).
 pub fn serve<W: Network, O: Service>(
     alloc: Global,
     network: &mut W,
@@ -58,8 +59,8 @@ pub fn serve<W: Network, O: Service>(
     ServingEnd::Spent
 }
 
-// Waits, takes those as far as they go who may go on then, and closes those whose time was over when the wait
-// was, which is told.
+// Waits, advances the connections that may advance then, and closes those whose time was over at the end of
+// the wait. Returns the clock's time at that end.
 fn wait_and_advance<W: Network, O: Service>(
     network: &mut W,
     connections: &mut Connections<W::Stream, O::Task, O::Party>,
@@ -78,7 +79,7 @@ fn wait_and_advance<W: Network, O: Service>(
     Ok(now)
 }
 
-// Takes those as far as they go who may go on.
+// Advances the connections that may advance.
 fn advance_all<W: Network, O: Service>(
     network: &mut W,
     connections: &mut Connections<W::Stream, O::Task, O::Party>,

@@ -1,25 +1,25 @@
-//! What a step of a connection comes to.
+//! The result of a step of a connection.
 ghost use Rattle.std.specs.Prelude.{◌≡◌, ◌≢◌, ◌↔◌, ◌<◌, ◌+◌, ◌^◌};
 ghost use Rattle.toll_server.specs.Steps.{moment_after};
 ghost use Rattle.toll_protocol.specs.declared.streams.write_status.WriteStatus.{WriteStatus};
 
 use toll_protocol::WriteStatus;
 
-/// What became of a connection by a step.
+/// The result of a step of a connection.
 #[derive(Clone, Copy, Debug, PartialEq, Eq)]
 pub enum StepResult {
-    /// It goes on when its stream does, or at its turn.
+    /// It advances when its stream does, or at its turn.
     Waits,
     /// Its request is whole, and joins the queue for the service.
     Joins,
-    /// It has its reply.
+    /// Its reply is written.
     Answered,
     /// A read or a write failed, or there was no memory.
     Failed,
 }
 
 impl StepResult {
-    /// What a step comes to in which so much of the reply was written.
+    /// The result of a step with this status of the reply's writing.
     pub fn after(status: WriteStatus) -> Self
         ensures answered { result ≡ StepResult.Answered ↔ status ≡ WriteStatus.Written }
         ensures waits { result ≡ StepResult.Waits ↔ status ≡ WriteStatus.Waiting }
@@ -32,7 +32,7 @@ impl StepResult {
         }
     }
 
-    /// How much has happened once this did, of which a request that is whole is one more.
+    /// The number of events after this result: a request that became whole adds one.
     pub fn count(self, moment: u128) -> u128
         requires { moment + 1 < 2 ^ 128 }
         ensures { result ≡ moment_after self moment }

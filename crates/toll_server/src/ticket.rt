@@ -2,8 +2,9 @@
 ghost use Rattle.std.specs.Prelude.{◌≡◌};
 ghost use Rattle.toll_server.specs.ConnectionStates.{ticket_behind};
 
-/// A place in the queue for the service: of which party it is, and the numbers of what had happened when it
-/// joined the queue, and when its wait began, which is then or at its party's latest turn since.
+/// A place in the queue for the service: its party, the number of events when it joined the queue, and the
+/// number of events when its wait began. The wait begins when it joins, or anew at its party's latest turn
+/// since.
 #[derive(Drop)]
 pub struct Ticket<P> {
     pub party: P,
@@ -27,7 +28,7 @@ impl<P: Drop> Ticket<P> {
 }
 
 impl<P: PartialEq + Drop> Ticket<P> {
-    /// That party has a turn now. If it is this one's, the wait begins anew.
+    /// Notes that this party has a turn now. If it is this ticket's party, the wait begins anew.
     pub fn put_behind(&mut self, party: &P, moment: u128)
         ensures { self.new ≡ ticket_behind P.eq party.now moment self.old }
     {
