@@ -1,4 +1,4 @@
-//! Scripts. What is done to a keep stays in here, so that who calls owns none.
+//! Scripts. The keep stays inside these functions, so that callers own none.
 ghost use Rattle.toll_office.specs.Doing.{IsScriptDone};
 
 use sqlite::MemStore;
@@ -11,8 +11,8 @@ use toll_sql::SqlKeep;
 /// The keep of an office in memory.
 type MemoryKeep = CachedKeep<SqlKeep<MemStore>>;
 
-/// Runs a script over an office that is empty at first and kept in memory. Memory too where there is none
-/// for the office.
+/// Runs a script over an office that is empty at first and kept in memory. The end is also `Memory` if there
+/// is no memory for the office.
 pub fn do_script<R: Source, W: Sink>(alloc: Global, reader: &mut R, writer: &mut W) -> ScriptEnd
     ensures { IsScriptDone ⟦<MemoryKeep as Keep>⟧ R.Source W.Sink reader.old reader.new writer.old writer.new result }
 {

@@ -1,4 +1,4 @@
-//! The server of a file, as a command asks it.
+//! A command's connection to the server of a file.
 use crate::plant_listener::socket_path;
 use std::io::{Read, Write};
 use std::os::unix::fs::{FileTypeExt, MetadataExt};
@@ -14,8 +14,8 @@ pub struct FileServer;
 /// How many seconds a server may take for its handshake.
 const HANDSHAKE_SECONDS: u64 = 5;
 
-/// A connection to a server. A read of it that waits longer than five seconds fails until something was
-/// written, which is once the handshake was read; then it waits as long as it takes.
+/// A connection to a server. Until the first write, a read that waits longer than five seconds fails; the
+/// first write comes after the handshake was read. After that, a read waits as long as it takes.
 #[derive(Drop)]
 pub struct ServerStream {
     stream: UnixStream,
@@ -63,8 +63,8 @@ fn connect(rt: &HostRuntime, office: &str) -> Option<UnixStream> {
     UnixStream::connect(rt, path.as_str()).ok()
 }
 
-// Whether a socket file stands there that belongs to the user whose file the office's is: whoever may put
-// files beside it might else be told what is asked.
+// Whether there is a socket file that belongs to the owner of the office's file. Without this check, any user
+// that may put files beside the office's file could receive the commands.
 fn is_of_its_owner(rt: &HostRuntime, office: &str, path: &str) -> bool {
     match (fs::metadata(rt, office), fs::symlink_metadata(rt, path)) {
         (Ok(file), Ok(socket)) => { socket.file_type().is_socket() && socket.uid() == file.uid() }

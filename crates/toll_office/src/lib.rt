@@ -1,6 +1,6 @@
-//! The program on files and sockets: what its words ask for, over the office in a file, which is opened under
-//! its lock for a command, an import, or owners on sockets, for whom it stays open between requests while
-//! nobody else changes it; and an office in memory for a script.
+//! The program on files and sockets: what its words ask for, over the office in a file, and an office in
+//! memory for a script. The office in a file is opened under its lock for a command, an import, or owners on
+//! sockets. For owners it stays open between requests while no other program changes it.
 #![tactic(auto)]
 
 mod doing;

@@ -19,11 +19,11 @@ pub type FileKeep = CachedKeep<SqlKeep<FileStore<StoreFile>>>;
 /// The path that names no file for `sqlite`.
 const NO_FILE: &str = ":memory:";
 
-/// Opens an office whose rows stand in tables. Where there is no office in the file yet, one is made.
+/// Opens an office whose rows are in tables. If there is no office in the file yet, one is made.
 #[derive(Clone, Copy)]
 pub struct SqlOpener;
 
-/// Where the office in this file stands.
+/// The place of the office in this file.
 pub fn office_at<'a>(rt: &'a HostRuntime, path: &'a str) -> OfficePath<'a, SqlOpener> {
     OfficePath {
         rt,
@@ -32,10 +32,10 @@ pub fn office_at<'a>(rt: &'a HostRuntime, path: &'a str) -> OfficePath<'a, SqlOp
     }
 }
 
-/// An office whose making was stopped may have its tables in the log alone, or no tables in a file that is
-/// not empty: so where the file is not as its length says, it is looked at the other way. A file that isn't
-/// there beside a log that has bytes was moved away, and its log would be written anew: it is NotOurs. So is
-/// what is no file, as a device, of which a read might never end.
+/// If the making of an office was stopped, its tables may be in the log alone, or a file that is not empty
+/// may have no tables. So if the file isn't what its length says, it is opened the other way. If a file isn't
+/// there and its log has bytes, the file was moved away, and opening it would write the log anew: that is
+/// NotOurs. A path that is no file is NotOurs too, such as a device, whose reads might never end.
 impl KeepOpener<FileKeep> for SqlOpener {
     ghost is_opened = { λ keep. IsOpened keep };
 
@@ -77,8 +77,8 @@ impl KeepOpener<FileKeep> for SqlOpener {
     }
 }
 
-// Makes a file that isn't there, which only its user may read and write, whatever the umask: `sqlite` gives
-// its log the same mode. Where it can't be made, opening it tells why.
+// Makes a file that isn't there, with access for its user alone, whatever the umask: `sqlite` gives its log
+// the same mode. If the file can't be made, opening it reports why.
 fn make_private(rt: &HostRuntime, path: &str) {
     if path == NO_FILE {
         return;
@@ -90,7 +90,7 @@ fn make_private(rt: &HostRuntime, path: &str) {
         .open(rt, path);
 }
 
-// The keep in a file whose tables are to be made, where it is fresh, or to be found.
+// The keep in a file whose tables are to be made if `is_fresh`, and to be found otherwise.
 fn open_as(rt: &HostRuntime, path: &str, is_fresh: bool) -> Result<FileKeep, OfficeFault>
     ensures { IfOk result IsOpened }
 {
@@ -112,7 +112,7 @@ fn office_fault_of(fault: OpenFault) -> OfficeFault
     }
 }
 
-// Whether something stands there that is neither a file nor a folder.
+// Whether something is at this path that is neither a file nor a folder.
 fn is_device(rt: &HostRuntime, path: &str) -> bool {
     match fs::metadata(rt, path) {
         Ok(found) => !found.is_file() && !found.is_dir(),

@@ -1,4 +1,4 @@
-//! The plant's way in to a server.
+//! The plant's listener of a server.
 use crate::socket_file::{SocketFile, is_taken};
 use mio::net::UnixStream;
 use mio::{Registry, Token};
@@ -10,31 +10,32 @@ use toll_programs::VERSION;
 use toll_protocol::handshake;
 use toll_service::take_lock;
 
-/// The socket file `FILE.sock` beside an office's file, where the plant's commands come to its server. Who
-/// connects is sent a handshake with the server's build.
+/// The socket file `FILE.sock` beside an office's file, by which the plant's commands reach its server. Each
+/// client that connects is sent a handshake with the server's build.
 #[derive(Drop)]
 pub struct PlantListener<'a> {
     file: SocketFile<'a>,
     handshake: Vec<u8>,
 }
 
-/// Why a server has no listener for the plant, which opens the office's file by itself then.
+/// Why a server has no listener for the plant. The plant's commands then open the office's file themselves.
 #[derive(Clone, Copy, Debug, PartialEq, Eq)]
 pub enum ListenerFault {
-    /// Somebody else has the lock of the office's file: it may be tried again.
+    /// Another program has the lock of the office's file. A retry may succeed.
     Locked,
-    /// At this moment another server listened there, or something else stood there: it may be tried again.
+    /// At this moment another server listened there, or something else was in the place of the socket file. A
+    /// retry may succeed.
     Taken(Instant),
     /// The socket file can't be made, or there is no memory.
     Socket,
 }
 
-/// After how many seconds it is tried again where something else stands.
+/// After how many seconds it is retried if something else is in the place of the socket file.
 const PAUSE_SECONDS: u64 = 1;
 
 impl<'a> PlantListener<'a> {
-    /// Whether a listener is to be opened, since none is there yet or its socket file is gone. It is asked
-    /// whenever somebody comes, so where something else stands there that is so once a second at most.
+    /// Whether a listener is to be opened, because none is there yet or its socket file is gone. This is
+    /// asked after each wait, so if something else is in its place, the answer is true once a second at most.
     pub fn is_wanted(rt: &HostRuntime, listener: &Result<Self, ListenerFault>) -> bool {
         match listener {
             Ok(listener) => !listener.file.is_there(),
@@ -46,7 +47,8 @@ impl<'a> PlantListener<'a> {
         }
     }
 
-    /// Listens for the office in this file, under its lock, which isn't taken where something else stands.
+    /// Listens for the office in this file, under its lock. The lock isn't taken if something else is in the
+    /// place of the socket file.
     pub fn open(rt: &'a HostRuntime, office: &str) -> Result<Self, ListenerFault> {
         let Ok(path) = socket_path(rt, office) else {
             return Err(ListenerFault::Socket);
@@ -75,13 +77,13 @@ impl<'a> PlantListener<'a> {
         }
     }
 
-    /// Registers it by this token, to be told when somebody connects.
+    /// Registers the listener by this token, which reports that a client connects.
     pub fn register(&mut self, registry: &Registry, token: Token) -> io::Result<()> {
         self.file.register(registry, token)
     }
 
-    /// The next connection, which was sent the handshake, or `WouldBlock` where none waits. One that can't
-    /// be sent it has gone, which is `ConnectionAborted`.
+    /// The next connection, which was sent the handshake, or `WouldBlock` if none waits. A client that can't
+    /// be sent the handshake has gone, which is `ConnectionAborted`.
     pub fn accept(&self) -> io::Result<UnixStream> {
         let mut stream = self.file.accept()?;
         match stream.write(&self.handshake) {
@@ -91,7 +93,7 @@ impl<'a> PlantListener<'a> {
     }
 }
 
-// That something else stands there now.
+// The fault that something else is in the place of the socket file now.
 fn taken(rt: &HostRuntime) -> ListenerFault {
     match Instant::now(rt) {
         Ok(now) => ListenerFault::Taken(now),
@@ -99,7 +101,7 @@ fn taken(rt: &HostRuntime) -> ListenerFault {
     }
 }
 
-/// Where the socket file of the office in this file stands.
+/// The path of the socket file of the office in this file.
 pub fn socket_path(rt: &HostRuntime, office: &str) -> Result<String, AllocError> {
     format!(in rt.alloc(); "{office}.sock")
 }

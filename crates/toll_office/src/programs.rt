@@ -19,7 +19,7 @@ use toll_service::{OfficeFault, do_file, do_words};
 /// How many standard streams there are.
 const STREAMS: usize = 3;
 
-/// Does what the program's words ask for, and gives the exit status. Where there is no memory to hold the
+/// Does what the program's words ask for, and gives the exit status. If there is no memory to hold the
 /// standard streams, nothing is done.
 pub fn run(rt: &HostRuntime) -> u64 {
     match hold_streams(rt) {
@@ -55,8 +55,8 @@ fn run_task(rt: &HostRuntime) -> u64 {
     }
 }
 
-// Files in the place of standard streams that are closed, from which nothing is read and to which no write
-// succeeds: so no file of the office is taken for a stream.
+// Files in the place of standard streams that are closed. Nothing is read from them and no write to them
+// succeeds, so no file of the office is taken for a stream.
 fn hold_streams(rt: &HostRuntime) -> io::Result<Vec<File>> {
     let mut held = Vec::new(rt.alloc());
     for _ in 0..STREAMS {
@@ -119,7 +119,7 @@ fn run_import(rt: &HostRuntime, file: &str, actuals: &str) -> Result<u64, Office
     ))
 }
 
-// A file of actuals, of which no more is read than shows that it is too long.
+// A file of actuals. No more of it is read than shows that it is too long.
 fn read_file(rt: &HostRuntime, path: &str) -> Result<Vec<u8>, FrontFault> {
     match File::open(rt, path) {
         Ok(mut file) => read_front(rt.alloc(), &mut file, MOST_FILE_BYTES),

@@ -2,8 +2,8 @@
 use std::fs;
 use toll_service::OfficeFault;
 
-/// The path of the office's file without a symbolic link at its end: all that lies beside the file has a name
-/// that is made of this one. Disk for a link that leads to no file.
+/// The path of the office's file without a symbolic link at its end. The names of all files beside the
+/// office's are made from this path. Disk for a link that leads to no file.
 pub fn resolved(rt: &HostRuntime, file: &str) -> Result<String, OfficeFault> {
     match fs::symlink_metadata(rt, file) {
         Ok(found) if found.file_type().is_symlink() => match fs::canonicalize(rt, file) {

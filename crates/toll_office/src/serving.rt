@@ -8,10 +8,10 @@ use toll_protocol::{ReadFault, read_request, write_whole};
 use toll_server::ServingEnd as Ended;
 use toll_service::{Announcing, Out, answer_once, serve_place};
 
-/// What came of one connection.
+/// The outcome of one connection.
 #[derive(Clone, Copy)]
 pub enum Served {
-    /// A reply was written, which may be that the office is unavailable.
+    /// A reply was written. It may say that the office is unavailable.
     Answered,
     /// The request did not come, or not in time, or there was no memory to read it. No reply was written.
     ReadFault,
@@ -22,8 +22,8 @@ pub enum Served {
 }
 
 /// Serves one connection over the office in the file: reads the request, takes the lock, opens the file,
-/// answers, closes it, gives back the lock, and writes the reply. Where the lock isn't got or the file
-/// isn't opened, the reply is 503.
+/// answers, closes the file, releases the lock, and writes the reply. The reply is 503 if the lock isn't
+/// taken or the file isn't opened.
 pub fn serve_one(rt: &HostRuntime, listener: &TcpListener, path: &str) -> Served {
     let Ok((socket, _)) = listener.accept() else {
         return Served::AcceptFault;
@@ -38,11 +38,11 @@ pub fn serve_one(rt: &HostRuntime, listener: &TcpListener, path: &str) -> Served
     }
 }
 
-/// Serves so many owners side by side over the office in the file, and the plant meanwhile, as
-/// [`toll_server::serve`] does. Each is answered as [`serve_one`] answers it, and the plant as the program
-/// itself does it, but for how often the file is opened: it is opened before `listening` and the port are
-/// printed, if it is there, and stays open between requests while nobody else changes it. An `Err` if that
-/// line can't be printed: nobody was served.
+/// Serves this number of owners side by side over the office in the file, and the plant meanwhile, as
+/// [`toll_server::serve`] does. Each owner is answered as [`serve_one`] answers it, and the plant as the
+/// program itself answers it, except for how often the file is opened. If the file is there, it is opened
+/// before `listening` and the port are printed. It stays open between requests while no other program changes
+/// it. An `Err` if that line can't be printed: no client was served.
 pub fn serve_all(
     rt: &HostRuntime,
     sockets: &mut Sockets<'_>,
@@ -60,7 +60,7 @@ impl Announcing for Sockets<'_> {
     }
 }
 
-// The request that the client sends, which it must within the time.
+// Reads the request, which the client must send within the time.
 fn take_request(rt: &HostRuntime, socket: &TcpStream) -> Result<Vec<u8>, ReadFault> {
     match Timed::new(rt, socket) {
         Ok(mut timed) => read_request(rt.alloc(), &mut timed),
@@ -68,7 +68,7 @@ fn take_request(rt: &HostRuntime, socket: &TcpStream) -> Result<Vec<u8>, ReadFau
     }
 }
 
-// Gives the client its reply, which it must take within the time.
+// Writes the reply, which the client must take within the time.
 fn give(rt: &HostRuntime, socket: &TcpStream, reply: &Out) -> Served {
     let Ok(mut timed) = Timed::new(rt, socket) else {
         return Served::WriteFault;

@@ -7,10 +7,11 @@ use std::os::unix::fs::{FileTypeExt, MetadataExt, PermissionsExt};
 use std::{fs, io};
 use toll_service::FILE_MODE;
 
-/// How many may wait before the file has its mode.
+/// How many connections may wait before the file has its mode.
 const MOST_EARLY: usize = 8192;
 
-/// A socket file at which a server listens, where only the user may connect whose server it is. It is removed when the listening ends.
+/// A socket file at which a server listens, and to which only the server's user may connect. It is removed
+/// when the listening ends.
 pub struct SocketFile<'a> {
     rt: &'a HostRuntime,
     path: String,
@@ -18,7 +19,7 @@ pub struct SocketFile<'a> {
     listener: UnixListener,
 }
 
-/// Where a file lies on which disk.
+/// The disk on which a file lies, and its place there.
 #[derive(Clone, Copy, PartialEq, Eq)]
 struct FileId {
     device: u64,
@@ -50,9 +51,9 @@ impl Drop for SocketFile<'_> {
 }
 
 impl<'a> SocketFile<'a> {
-    /// Listens at this path, where a file is made. One that was left there by a server that is gone is
-    /// replaced. Where somebody listens there, where what is there is no such file, or another user's, or
-    /// where the path is longer than 107 bytes, that is a fault, and what is there stays.
+    /// Listens at this path, and makes the socket file there. A socket file that a stopped server left there
+    /// is replaced. It is a fault if a server listens there, if the file there is not a socket file or
+    /// belongs to another user, or if the path is longer than 107 bytes. The file there then stays.
     pub fn listen(rt: &'a HostRuntime, path: String) -> io::Result<Self> {
         clear(rt, path.as_str())?;
         let listener = UnixListener::bind(rt, path.as_str())?;
@@ -73,7 +74,7 @@ impl<'a> SocketFile<'a> {
         is_at(self.rt, self.path.as_str(), self.made)
     }
 
-    // Who connected before the file had its mode may be anybody.
+    // Closes connections that came before the file had its mode, because any user may have made them.
     fn turn_away_early(&self) {
         for _ in 0..MOST_EARLY {
             if self.listener.accept().is_err() {
@@ -82,24 +83,25 @@ impl<'a> SocketFile<'a> {
         }
     }
 
-    /// Registers it by this token, to be told when somebody connects.
+    /// Registers the listener by this token, which reports that a client connects.
     pub fn register(&mut self, registry: &Registry, token: Token) -> io::Result<()> {
         registry.register(&mut self.listener, token, Interest::READABLE)
     }
 
-    /// The next connection, or `WouldBlock` where none waits.
+    /// The next connection, or `WouldBlock` if none waits.
     pub fn accept(&self) -> io::Result<UnixStream> {
         let (stream, _) = self.listener.accept()?;
         Ok(stream)
     }
 }
 
-// Whether the file that was made stands at this path.
+// Whether the file that was made is at this path.
 fn is_at(rt: &HostRuntime, path: &str, made: FileId) -> bool {
     matches!(FileId::of(rt, path), Ok(found) if found == made)
 }
 
-/// Whether something stands at this path that stays: another's listener, or what is no socket file.
+/// Whether a file is at this path that stays: one at which another server listens, or one that is no socket
+/// file.
 pub fn is_taken(rt: &HostRuntime, path: &str) -> bool {
     match fs::symlink_metadata(rt, path) {
         Ok(found) if found.file_type().is_socket() => UnixStream::connect(rt, path).is_ok(),
@@ -108,7 +110,7 @@ pub fn is_taken(rt: &HostRuntime, path: &str) -> bool {
     }
 }
 
-// Removes the file that a server left there that is gone.
+// Removes the socket file that a stopped server left there.
 fn clear(rt: &HostRuntime, path: &str) -> io::Result<()> {
     let found = match fs::symlink_metadata(rt, path) {
         Ok(found) => found,

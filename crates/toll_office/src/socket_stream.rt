@@ -5,7 +5,7 @@ use std::io;
 use std::io::{Read, Write};
 use toll_protocol::Stream;
 
-/// A connection that never waits: what would wait fails with `WouldBlock`.
+/// A connection that never waits: a read or a write that would wait fails with `WouldBlock`.
 #[derive(Drop)]
 pub enum SocketStream {
     Owner(TcpStream),
@@ -13,7 +13,7 @@ pub enum SocketStream {
 }
 
 impl SocketStream {
-    /// Has it be told from now on, by this token, when it may go on.
+    /// Registers the connection by this token, which from now on reports that it may advance.
     pub fn register(&mut self, registry: &Registry, token: Token) -> io::Result<()> {
         let both = Interest::READABLE | Interest::WRITABLE;
         match self {

@@ -13,18 +13,18 @@ use toll_service::{FaultLog, ServingFault};
 /// How many events one wait gives.
 const MOST_EVENTS: usize = 256;
 
-/// How many connections in a row may have left before they are accepted, which is more than can wait at a
+/// How many connections in a row may have closed before they are accepted. That is more than can wait at a
 /// listener.
 const MOST_ABORTED: usize = 65_536;
 
-/// The listeners' tokens. A connection's is its key behind them.
+/// The listeners' tokens. A connection's token is its key behind them.
 const OWNERS: usize = 0;
 
 const PLANT: usize = 1;
 
 const FIRST_CONNECTION: usize = 2;
 
-/// A port of this machine, a socket file for the plant, and those who came in by them.
+/// A port of this machine, a socket file for the plant, and the connections accepted at them.
 #[derive(Drop)]
 pub struct Sockets<'a> {
     rt: &'a HostRuntime,
@@ -40,9 +40,9 @@ pub struct Sockets<'a> {
 }
 
 impl<'a> Sockets<'a> {
-    /// Listens at this port of this machine alone, at a free one where it is 0; and for the plant at the
-    /// socket file beside the office's, if one can be made. Where somebody else has the office's lock or
-    /// listens there, or the socket file is gone later, that is tried again whenever somebody comes.
+    /// Listens at this port of this machine alone, or at a free port if it is 0. Listens also for the plant
+    /// at the socket file beside the office's file, if one can be made. If another program has the office's
+    /// lock or listens there, or the socket file is gone later, that is retried after each wait.
     pub fn listen(rt: &'a HostRuntime, port: u16, office: &'a str) -> io::Result<Self> {
         let address = SocketAddr::V4(SocketAddrV4::new(Ipv4Addr::LOCALHOST, port));
         let mut owners = TcpListener::bind(rt, address)?;
@@ -65,12 +65,12 @@ impl<'a> Sockets<'a> {
         Ok(sockets)
     }
 
-    /// The port that it listens at.
+    /// The port of the owners' listener.
     pub fn port(&self) -> io::Result<u16> {
         Ok(self.owners.local_addr()?.port())
     }
 
-    // Opens the plant's listener, unless it is there or was found that it can't be.
+    // Opens the plant's listener, unless it is open or can't be made.
     fn open_plant_listener(&mut self) {
         if !PlantListener::is_wanted(self.rt, &self.plant) {
             return;
@@ -91,7 +91,7 @@ impl<'a> Sockets<'a> {
         self.listener.update(self.rt, fault);
     }
 
-    // The next connection, of the plant first.
+    // The next connection. Connections of the plant come first.
     fn accept(&self) -> io::Result<(Listener, SocketStream)> {
         if let Ok(listener) = &self.plant {
             match listener.accept() {
@@ -104,7 +104,7 @@ impl<'a> Sockets<'a> {
         Ok((Listener::Owners, SocketStream::Owner(stream)))
     }
 
-    // The next connection, which is known by this key from then on.
+    // The next connection, which has this key from then on.
     fn take(&self, key: usize) -> io::Result<(Listener, SocketStream)> {
         let (listener, mut stream) = self.accept()?;
         let token = Token(key.saturating_add(FIRST_CONNECTION));
@@ -140,7 +140,8 @@ impl Network for Sockets<'_> {
         None
     }
 
-    // One that left before it was taken is passed over, since who waits behind it is not told again.
+    // A connection that closed before it was accepted is skipped, because those behind it are not reported
+    // again.
     fn accept_next(&mut self, key: usize) -> Result<Accepted<SocketStream>, NetworkFault> {
         for _ in 0..MOST_ABORTED {
             match self.take(key) {

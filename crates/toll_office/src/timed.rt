@@ -7,7 +7,7 @@ use std::time::{Duration, Instant};
 /// How many seconds a client may take for its request, and again for taking the reply.
 const MOST_SECONDS: u64 = 10;
 
-/// A socket whose reads and writes fail once the time is up, however little they were given at a time.
+/// A socket whose reads and writes fail once the time is up, even if each of them moved a few bytes.
 #[derive(Drop)]
 pub struct Timed<'a> {
     rt: &'a HostRuntime,
