@@ -1,4 +1,4 @@
-//! Handing what is asked to a server.
+//! Sending a call to a server.
 ghost use Rattle.std.specs.Prelude.{◌≡◌, IsNone, IsTrue, map, option_map};
 ghost use Rattle.toll_protocol.specs.PlantMessages.{call_text};
 ghost use Rattle.toll_protocol.specs.Frames.{frame};
@@ -17,25 +17,24 @@ use toll_protocol::{
     is_handshake, write_whole,
 };
 
-/// What came of asking a server.
+/// The outcome of a call to a server.
 #[derive(Drop)]
 pub enum CallOutcome {
-    /// No server of this build took all that was asked: nothing was done.
+    /// No server of this build took the whole call: nothing was done.
     NotTaken,
-    /// It took all of it, and told nothing: a read failed, or what came is no answer, and no more will. What
-    /// was asked is done whole or not at all.
+    /// The server took the whole call and no response came: a read failed, or the bytes are no response and
+    /// no more will come. The call is done whole or not at all.
     Lost,
-    /// It took all of it, and there was no memory for what it told.
+    /// The server took the whole call, and there was no memory for its response.
     NoMemory,
-    /// It told this, a frame that [`Response::read`] reads.
+    /// The server sent this response, a frame that [`Response::read`] reads.
     Answered(Vec<u8>),
 }
 
-/// Hands words, and the file that they name, to the server behind a connection, if its handshake is that of
-/// this build; writes what it told, and gives the exit status: that which it told, or 3 where its output
-/// can't be written. Where it told nothing, or there was no memory for what it told, `fault Lost` is
-/// written to `error`, and the status is 3. `None` where it did not take all of it: nothing was done or
-/// written.
+/// Sends words, and the file that they name, to the server behind a connection, if its handshake is that of
+/// this build. Writes its response, and gives the exit status: that of the response, or 3 if its output can't
+/// be written. If no response came, or there was no memory for it, `fault Lost` is written to `error`, and
+/// the status is 3. `None` if the server did not take the whole call: nothing was done or written.
 pub fn run_on_server<S: TracksReads, W: Sink, E: Sink>(
     alloc: Global,
     stream: &mut S,
@@ -59,7 +58,7 @@ pub fn run_on_server<S: TracksReads, W: Sink, E: Sink>(
     }
 }
 
-// Writes what a server told.
+// Writes a server's response.
 fn write_response<W: Sink, E: Sink>(text: &[u8], output: &mut W, error: &mut E) -> u64
     requires { IsAnswer text.now }
     ensures { IsWrittenOf (streams_of W.Sink E.Sink output.old output.new error.old error.new) text.now result }
@@ -70,14 +69,14 @@ fn write_response<W: Sink, E: Sink>(text: &[u8], output: &mut W, error: &mut E) 
     }
 }
 
-// Writes that a server told nothing.
+// Writes that no response came.
 fn write_lost<E: Sink>(error: &mut E) -> u64
     ensures { IsWarned (stream_of E.Sink error.old error.new) lost_line Status.Failed result }
 {
     warn(error, b"fault Lost\n", Status::Failed)
 }
 
-// Hands what is asked to a server whose handshake is that of this build, and takes its answer.
+// Sends a call to a server whose handshake is that of this build, and takes its response.
 fn exchange<S: TracksReads>(
     alloc: Global,
     stream: &mut S,
@@ -106,7 +105,7 @@ fn has_handshake<S: TracksReads>(alloc: Global, stream: &mut S, version: &str) -
     }
 }
 
-// What the server tells, to whom all was sent.
+// The response of a server that was sent the whole call.
 fn read_response<S: TracksReads>(alloc: Global, stream: &mut S) -> CallOutcome
     ensures told { CanBeTold S.Source stream.old stream.new result }
     ensures unsent { S.Sink.held stream.new ≡ S.Sink.held stream.old }

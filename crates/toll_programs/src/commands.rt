@@ -14,9 +14,9 @@ use toll_desk::{PlantCmd, PlantReply, plant_do};
 use toll_keep::{Keep, KeepFault};
 use toll_protocol::Sink;
 
-/// Does a command of the plant or answers a question, writes the answer to `output`, or a fault to
-/// `error`, and gives the exit status: 0 for what is accepted, repeated or shown, 1 for what is refused,
-/// 3 for a fault and where a write fails. Where there is no memory for a refusal's line, that is a fault.
+/// Does a command of the plant or answers a question, writes the answer to `output`, or a fault to `error`,
+/// and gives the exit status: 0 if it is accepted, repeated or shown, 1 if it is refused, 3 for a fault or if
+/// a write fails. If there is no memory for a refusal's line, that is a fault.
 pub fn plant_line<K: Keep, W: Sink, E: Sink>(
     alloc: Global,
     keep: &mut K,
@@ -29,14 +29,14 @@ pub fn plant_line<K: Keep, W: Sink, E: Sink>(
     execute(alloc, keep, command).print(output, error)
 }
 
-/// Does a command of the plant or answers a question, and gives what [`plant_line`] prints of it.
+/// Does a command of the plant or answers a question, and gives what [`plant_line`] prints for it.
 pub fn execute<K: Keep>(alloc: Global, keep: &mut K, command: &PlantCmd) -> Output
     ensures { IsCommandDone K.meaning keep.old keep.new command.now (printout_of result) }
 {
     output_of(alloc, plant_do(alloc, keep, command))
 }
 
-// What is printed of an answer: a fault on standard error, and every other on standard output.
+// The output for an answer: a fault on standard error, and any other answer on standard output.
 fn output_of(alloc: Global, reply: PlantReply) -> Output
     ensures { IsReplyTold reply (printout_of result) }
 {

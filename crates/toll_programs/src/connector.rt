@@ -1,4 +1,4 @@
-//! Asking the server of an office.
+//! Connecting to the server of an office.
 ghost use Rattle.std.specs.Prelude.{◌≡◌, IfSome, IsNone};
 ghost use Rattle.toll_programs.specs.StreamOutput.{streams_of};
 ghost use Rattle.toll_programs.specs.ServerCalls.{IsServerTold};
@@ -7,15 +7,15 @@ use crate::calling::run_on_server;
 use crate::tracked_stream::TracksReads;
 use toll_protocol::Sink;
 
-/// Who connects to the server of the office in a file.
+/// Connects to the server of the office in a file.
 pub trait Connector<S> {
     /// A connection to the server, if the office has one.
     fn connect(&mut self, rt: &HostRuntime, path: &str) -> Option<S>;
 }
 
-/// Asks the server of an office, for whose answer it waits as long as it takes, writes what it told, and
-/// gives the exit status, as [`run_on_server`] does. `None` where no server of this build took what was
-/// asked: nothing was done or written.
+/// Sends a call to the server of an office, waits for its response as long as it takes, writes the response,
+/// and gives the exit status, as [`run_on_server`] does. `None` if no server of this build took the whole
+/// call: nothing was done or written.
 pub fn try_server<S: TracksReads + Drop, C: Connector<S>, W: Sink, E: Sink>(
     rt: &HostRuntime,
     path: &str,

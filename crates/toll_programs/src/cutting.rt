@@ -2,8 +2,7 @@
 ghost use Rattle.std.specs.Prelude.{◌≡◌, ◌==◌, ◌<◌, [], ◌∷◌, length, MatchOption, IfSome, position};
 ghost use Rattle.toll_programs.specs.Pieces.{pieces_at};
 
-/// What stands before the first of these bytes, and what stands behind it: `None` where there is
-/// none.
+/// The text before the first of these bytes, and the text behind it: `None` if there is no such byte.
 pub fn cut(text: &[u8], at: u8) -> Option<(&[u8], &[u8])>
     ensures pieces { MatchOption result (pieces_at at text.now ≡ text.now ∷ [])
         (λ parts. pieces_at at text.now ≡ parts.0.now ∷ pieces_at at parts.1.now) }

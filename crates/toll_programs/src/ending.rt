@@ -6,8 +6,8 @@ use crate::status::Status;
 use crate::telling::{numbered, warn};
 use toll_protocol::Sink;
 
-/// Writes why a script ended, but of one that is done, and gives the exit status: 0 for one that is done,
-/// 2 for one with a bad line or that is too long, 3 for a fault. A write that fails changes nothing.
+/// Writes why a script ended, unless it is done, and gives the exit status: 0 for a script that is done, 2
+/// for one with a bad line or that is too long, 3 for a fault. A write that fails changes nothing.
 pub fn tell_end<E: Sink>(end: ScriptEnd, error: &mut E) -> u64
     ensures { IsEndTold (stream_of E.Sink error.old error.new) end result }
 {

@@ -13,7 +13,7 @@ use toll_wire::Event;
 /// Why a script gave no events.
 #[derive(Clone, Copy)]
 pub enum ScriptFault {
-    /// There was no memory to read a line, before which none is bad.
+    /// There was no memory to read a line. No line before it is bad.
     Memory,
     /// The line of this number, counted from 1, is the first that is bad.
     BadLine(u64),
@@ -108,7 +108,7 @@ fn plant_of(alloc: Global, line: &[u8]) -> Result<Event, LineFault>
     }
 }
 
-// The words of a line: what stands between its spaces.
+// The words of a line: the texts between its spaces.
 fn words_of(alloc: Global, line: &str) -> Result<Vec<&str>, AllocError>
     ensures { IfOk result (λ words. map (λ w. w.now) words.items ≡ words_in line.now) }
 {

@@ -1,4 +1,4 @@
-//! A file of actuals, as the program imports it.
+//! Importing a file of actuals, as the program does it.
 ghost use Rattle.std.specs.Prelude.{◌≡◌};
 ghost use Rattle.std.specs.List.{list_any};
 ghost use Rattle.toll_plant.specs.ImportTexts.{import_text};
@@ -16,11 +16,11 @@ use toll_keep::Keep;
 use toll_plant::{ImportFault, ImportLine, ImportReport, Outcome, import_actuals, import_text};
 use toll_protocol::Sink;
 
-/// Imports a file of actuals, writes what came of its records to `output`, or why it was not imported to
-/// `error`, and gives the exit status: 0 where each record is accepted or repeated, 1 where one is refused
-/// or bad, 2 for a file that is too long or has another header, 3 where one met a fault, and where a write
-/// fails. Where there is no memory for what is written to `output`, all records may have acted, and
-/// `fault Memory` is written to `error`.
+/// Imports a file of actuals, writes the outcomes of its records to `output`, or why it was not imported to
+/// `error`, and gives the exit status: 0 if each record is accepted or repeated, 1 if a record is refused or
+/// bad, 2 for a file that is too long or has another header, 3 if a record met a fault or a write failed. If
+/// there is no memory for the text for `output`, all records may have acted, and `fault Memory` is written to
+/// `error`.
 pub fn plant_import<K: Keep, W: Sink, E: Sink>(
     alloc: Global,
     keep: &mut K,
@@ -33,14 +33,14 @@ pub fn plant_import<K: Keep, W: Sink, E: Sink>(
     import_file(alloc, keep, file).print(output, error)
 }
 
-/// Imports a file of actuals, and gives what [`plant_import`] prints of it.
+/// Imports a file of actuals, and gives what [`plant_import`] prints for it.
 pub fn import_file<K: Keep>(alloc: Global, keep: &mut K, file: &[u8]) -> Output
     ensures { IsImportDone K.meaning keep.old keep.new file.now (printout_of result) }
 {
     output_of_import(alloc, import_actuals(alloc, keep, file))
 }
 
-/// What [`plant_import`] prints of an import, or of why there was none.
+/// What [`plant_import`] prints for an import, or for a file that was not imported.
 pub fn output_of_import(alloc: Global, imported: Result<ImportReport, ImportFault>) -> Output
     ensures { IsImportTold imported (printout_of result) }
 {
@@ -50,8 +50,8 @@ pub fn output_of_import(alloc: Global, imported: Result<ImportReport, ImportFaul
     }
 }
 
-/// What is printed of an import that can't go on: what came of its records so far, unless there is no memory
-/// for it, and the line of why it can't, which takes none. The program has failed.
+/// The output for an import that can't go on: the outcomes of its records so far, unless there is no memory
+/// for them, and the line of the fault, which takes no memory. The program has failed.
 pub fn output_of_stopped_import(alloc: Global, report: &ImportReport, why: &'static [u8]) -> Output
     ensures { IsStoppedImportTold report.now.lines.items why.now (printout_of result) }
 {
@@ -76,7 +76,7 @@ fn output_of_report(alloc: Global, report: &ImportReport) -> Output
     }
 }
 
-// Why a file was not imported.
+// The output for a file that was not imported.
 fn output_of_fault(fault: ImportFault) -> Output
     ensures { printout_of result ≡ refused_file fault }
 {
@@ -93,7 +93,7 @@ fn output_of_fault(fault: ImportFault) -> Output
     }
 }
 
-// How the program ends after an import with these lines.
+// The exit status after an import with these lines.
 fn status_of(lines: &[ImportLine]) -> Status
     ensures { result ≡ after_lines lines.now }
 {
@@ -114,7 +114,7 @@ fn has_fault(lines: &[ImportLine]) -> bool
         .any(|line| matches!(line.outcome, Outcome::Fault(_)))
 }
 
-// Whether a record was refused, or is none.
+// Whether a record was refused, or is bad.
 fn has_refusal(lines: &[ImportLine]) -> bool
     ensures { result ≡ list_any (λ l. is_turned_away l.outcome) lines.now }
 {

@@ -23,7 +23,7 @@ pub enum InputFault {
     Read,
 }
 
-/// Why nothing was read of a stream.
+/// Why a stream was not read.
 #[derive(Clone, Copy, Debug, PartialEq, Eq, Drop, Error)]
 pub enum FrontFault {
     /// There was no memory. Nothing was read.
@@ -34,7 +34,7 @@ pub enum FrontFault {
     Read,
 }
 
-/// All that the reader gives up to its end.
+/// All bytes that the reader gives up to its end.
 pub fn read_input<R: Source>(alloc: Global, reader: &mut R) -> Result<Vec<u8>, InputFault>
     ensures whole { IfOk result (λ text. IsWhole (R.unread reader.old) (R.unread reader.new) text.items) }
     ensures unread { result ≡ Err InputFault.Memory → reader.new ≡ reader.old }
@@ -50,7 +50,7 @@ pub fn read_input<R: Source>(alloc: Global, reader: &mut R) -> Result<Vec<u8>, I
     }
 }
 
-/// What the reader gives up to its end, or one byte more than `most` where it gives more than that.
+/// The bytes that the reader gives up to its end, or `most + 1` bytes if it gives more than `most`.
 pub fn read_front<R: Source>(
     alloc: Global,
     reader: &mut R,
@@ -76,7 +76,7 @@ pub fn read_front<R: Source>(
     }
 }
 
-// Reads until the buffer is full or the reader ends, and tells how many bytes were filled.
+// Reads until the buffer is full or the reader ends, and returns how many bytes were filled.
 fn fill<R: Source>(reader: &mut R, buffer: &mut [u8]) -> io::Result<usize>
     ensures bound { IfOk result (λ n. n ≤ length buffer.new) }
     ensures given { IfOk result (λ n. Consumes (R.unread reader.old) (R.unread reader.new) (take n buffer.new)) }

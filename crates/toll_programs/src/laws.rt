@@ -5,7 +5,7 @@ ghost use Rattle.toll_plant.specs.Usages.{indented};
 ghost use Rattle.toll_programs.specs.Inputs.{script_limit};
 ghost use Rattle.toll_programs.specs.declared.task.TheConstants.{MOST_CONNECTIONS, USAGE};
 
-/// The limits of the program are those that the pages tell: a script of 1,048,576 bytes, and 1,000,000
+/// The limits of the program are those in its documentation: a script of 1,048,576 bytes, and 1,000,000
 /// connections that are served.
 pub fn limits_are_those_defined()
     ensures script { script_limit ≡ 1048576 }

@@ -1,6 +1,6 @@
 //! What the program does, over any keep and any streams: a script, a command or question of the plant, and
-//! the import of a file of actuals; what is written to which stream, and the exit status. And the other side
-//! of a server: what is asked is handed to it, and what it tells is printed.
+//! the import of a file of actuals; what it writes to which stream, and its exit status. Also the client's
+//! side of a server: the program sends the call to it, and prints its response.
 #![tactic(auto)]
 
 mod calling;

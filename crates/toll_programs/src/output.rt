@@ -1,4 +1,4 @@
-//! What the program has to print.
+//! The output of the program.
 ghost use Rattle.std.specs.Prelude.{◌≡◌, [], OnErr, OnOk};
 ghost use Rattle.std.specs.Cow.{cow_slice_items};
 ghost use Rattle.toll_programs.specs.Outputs.{on_error, on_output, printout_in, printout_of};
@@ -8,8 +8,8 @@ use crate::status::Status;
 use std::borrow::CowSlice;
 use toll_protocol::{Response, Sink, WriteFault, write_whole};
 
-/// How a command, a question or an import ends, and what it prints. A text that stands in the program takes no
-/// memory, so it can be told of what was changed.
+/// How a command, a question or an import ends, and its output. A text that is part of the program takes no
+/// memory, so it can always be printed after a change.
 #[derive(Drop)]
 pub struct Output {
     pub status: Status,
@@ -40,14 +40,14 @@ impl Output {
         }
     }
 
-    /// The line of a fault, which takes no memory, on standard error: the program has failed.
+    /// The line of a fault on standard error, which takes no memory. The program has failed.
     pub fn fault(line: &'static [u8]) -> Self
         ensures { printout_of result ≡ on_error Status.Failed line.now }
     {
         Output::on_stderr(Status::Failed, CowSlice::Borrowed(line))
     }
 
-    /// The same as a server tells it.
+    /// The same as a server's response.
     pub fn as_response(&self) -> Response<'_>
         ensures { printout_in result ≡ printout_of self.now }
     {
@@ -66,9 +66,9 @@ impl Output {
     }
 }
 
-/// Writes the output and then the error, and gives the exit status: that of the response, or 3 where its output
-/// can't be written. An error that can't be written changes nothing. A stream of which nothing is asked is left
-/// as it is.
+/// Writes the output and then the error, and gives the exit status: that of the response, or 3 if its output
+/// can't be written. An error that can't be written changes nothing. If there is no text for a stream, it
+/// isn't used.
 pub fn print<W: Sink, E: Sink>(response: &Response<'_>, output: &mut W, error: &mut E) -> u64
     ensures { IsPrinted (streams_of W.Sink E.Sink output.old output.new error.old error.new) (printout_in response.now) result }
 {
@@ -80,7 +80,7 @@ pub fn print<W: Sink, E: Sink>(response: &Response<'_>, output: &mut W, error: &
     }
 }
 
-// Writes a text, where there is one.
+// Writes a text, if it has bytes.
 fn write_text<W: Sink>(writer: &mut W, text: &[u8]) -> Result<(), WriteFault>
     ensures written { OnOk result (IsWritten (stream_of W.Sink writer.old writer.new) text.now) }
     ensures cut { OnErr result (IsCut (stream_of W.Sink writer.old writer.new) text.now) }

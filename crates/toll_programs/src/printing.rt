@@ -8,8 +8,7 @@ use toll_desk::PlantReply;
 use toll_keep::KeepFault;
 use toll_wire::Answer;
 
-/// The lines of the answers, in order: of a reply its status and its body, of the plant what it
-/// answered.
+/// The lines of the answers, in order: for a reply its status and its body, for the plant its answer.
 pub fn printed(alloc: Global, answers: &[Answer]) -> Result<Vec<u8>, AllocError>
     ensures { IfOk result (λ text. text.items ≡ spec.printed answers.now) }
 {
@@ -37,7 +36,7 @@ fn print_reply(text: &mut Vec<u8>, reply: &[u8]) -> Result<(), AllocError>
     text.extend_from_slice(b"\n")
 }
 
-// A space and the body, where there is one.
+// A space and the body, if it has bytes.
 fn print_body(text: &mut Vec<u8>, body: &[u8]) -> Result<(), AllocError>
     ensures { OnOk result (text.new.items ≡ text.old.items ++ spec.shown_body body.now) }
 {
@@ -61,7 +60,7 @@ fn status_of(reply: &[u8]) -> &[u8]
     status
 }
 
-// What stands behind the first empty line.
+// The text behind the first empty line.
 fn body_of(reply: &[u8]) -> &[u8]
     ensures { result.now ≡ spec.body_of reply.now }
 {

@@ -8,7 +8,7 @@ ghost use Rattle.toll_programs.specs.ShownRequest.{shown_request};
 use crate::cutting::cut;
 use std::alloc::{AllocError, Global};
 
-/// `OWNER KEY METHOD TARGET`, and the body, which stands behind one more space.
+/// `OWNER KEY METHOD TARGET`, and the body behind one more space.
 #[derive(Clone, Copy)]
 pub struct RequestLine<'a> {
     pub owner: &'a [u8],
@@ -19,7 +19,7 @@ pub struct RequestLine<'a> {
 }
 
 impl<'a> RequestLine<'a> {
-    /// The parts of a line: `None` where it has fewer than four words, or an empty one among them.
+    /// The parts of a line: `None` if it has fewer than four words, or an empty one among them.
     pub fn parse(line: &'a [u8]) -> Option<Self>
         ensures { option_map shown_request result ≡ request_of (pieces_at 32 line.now) }
     {
@@ -62,7 +62,7 @@ impl<'a> RequestLine<'a> {
     }
 }
 
-// The last word, and what stands behind it: nothing where the line ends.
+// The last word, and the text behind it: no bytes if the line ends there.
 fn target_and_body(line: &[u8]) -> (&[u8], &[u8])
     ensures { (pieces : List (List ℕ)) × (pieces_at 32 line.now ≡ result.0.now ∷ pieces)
         × (result.1.now ≡ join_with_byte 32 pieces) }
@@ -73,7 +73,7 @@ fn target_and_body(line: &[u8]) -> (&[u8], &[u8])
     }
 }
 
-// A field of the head, but for a value that is left out.
+// A field of the head, unless its value is left out.
 fn push_field(text: &mut Vec<u8>, name: &[u8], value: &[u8]) -> Result<(), AllocError>
     ensures { OnOk result (text.new.items ≡ text.old.items ++ field name.now value.now) }
 {

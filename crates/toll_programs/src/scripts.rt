@@ -14,13 +14,13 @@ use toll_wire::run_events;
 pub enum ScriptEnd {
     /// All events ran, and their answers were written.
     Done,
-    /// The line of this number, counted from 1, is the first that is no event, and not empty and no
-    /// comment either. Nothing ran, and nothing was written.
+    /// The line of this number, counted from 1, is the first that is not an event, a comment or empty.
+    /// Nothing ran, and nothing was written.
     BadLine(u64),
     /// The input has more than 1,048,576 bytes. Nothing ran, and nothing was written.
     TooLong,
-    /// There was no memory, and no read failed. Nothing was read; or nothing ran, and no line is bad before
-    /// the one for which there was none; or all events ran. Nothing was written.
+    /// There was no memory, and no read failed. Nothing was written. Either nothing was read; or nothing ran,
+    /// and no line is bad before the one that had no memory; or all events ran.
     Memory,
     /// A read failed. Nothing ran, and nothing was written.
     ReadFault,
@@ -28,13 +28,13 @@ pub enum ScriptEnd {
     WriteFault,
 }
 
-/// Runs a script: reads it whole, looks at all its lines, runs their events over the keep, and writes
-/// the answers.
+/// Runs a script: reads it whole, checks all its lines, runs their events over the keep, and writes the
+/// answers.
 ///
-/// Lines end in LF, which may be missing behind the last. Empty lines and lines that begin with `#`
-/// ask for nothing. `> OWNER KEY METHOD TARGET` is an owner's request, with its body after one more
-/// space; `-` for OWNER or KEY leaves that field out. Any other line is the words of a command of the
-/// plant, with spaces between them.
+/// Lines end in LF, which may be missing behind the last. Empty lines and lines that begin with `#` ask for
+/// nothing. `> OWNER KEY METHOD TARGET` is an owner's request, with its body after one more space; `-` for
+/// OWNER or KEY leaves that field out. Any other line is the words of a command of the plant, with spaces
+/// between them.
 pub fn script<R: Source, W: Sink, K: Keep>(
     alloc: Global,
     reader: &mut R,

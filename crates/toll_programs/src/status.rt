@@ -5,11 +5,11 @@ ghost use Rattle.toll_programs.specs.Statuses.{code_of};
 /// How the program ends.
 #[derive(Clone, Copy, PartialEq, Eq)]
 pub enum Status {
-    /// What was asked is done: exit status 0.
+    /// The program did what its words ask for: exit status 0.
     Done,
     /// A command is refused, or a record of a file is refused or bad: exit status 1.
     Refused,
-    /// The words, the script or the file are none that the program takes: exit status 2.
+    /// The program takes no such words, script or file: exit status 2.
     Unread,
     /// Memory, a file, a stream or the network failed: exit status 3.
     Failed,

@@ -1,11 +1,11 @@
-//! The words that the program is called with.
+//! The words of the program's command line.
 ghost use Rattle.std.specs.Prelude.{◌≡◌, map, option_map};
 ghost use Rattle.toll_programs.specs.ShownTask.{shown_task};
 ghost use Rattle.toll_programs.specs.Tasks.{import_task, office_task, requested_task, serving_task, usage_for, usage_for_form};
 
 use toll_base::number;
 
-/// What the program is asked for.
+/// What the program's words ask for.
 #[derive(Clone, Copy, PartialEq, Eq)]
 pub enum Task<'a> {
     /// A script, from standard input.
@@ -20,7 +20,7 @@ pub enum Task<'a> {
         file: &'a str,
         actuals: &'a str,
     },
-    /// So many connections on this port.
+    /// This number of connections on this port.
     Serve {
         file: &'a str,
         port: u16,
@@ -31,7 +31,7 @@ pub enum Task<'a> {
 /// How many connections may be asked for.
 pub const MOST_CONNECTIONS: u64 = 1_000_000;
 
-/// How the program is called.
+/// The usage of the program.
 pub const USAGE: &str = "toll 1.0, office format 2
 usage: toll script
        toll --db FILE import CSV
@@ -64,18 +64,18 @@ usage: toll script
 What each does is told by the manual: man toll, or docs/commands.md.
 ";
 
-/// How a file of actuals is imported.
+/// The usage of an import of a file of actuals.
 pub const IMPORT_USAGE: &str = "usage: toll --db FILE import CSV
 CSV is a file of actuals, of at most 1,048,576 bytes: man toll, or docs/csv.md.
 ";
 
-/// How owners are served.
+/// The usage of serving owners.
 pub const SERVE_USAGE: &str = "usage: toll --db FILE serve PORT COUNT
 PORT is 0 to 65535, and 0 takes a free one; COUNT, from 1 to 1000000, is how many connections are served.
 ";
 
-/// What the words behind the program's name ask for: `None` where they are none of its four forms.
-/// Words behind the file of which the first is `import` or `serve` are no command of the plant's.
+/// What the words behind the program's name ask for: `None` if they have none of its four forms. Words behind
+/// the file whose first is `import` or `serve` are no command of the plant.
 pub fn task_of<'a>(words: &'a [&'a str]) -> Option<Task<'a>>
     ensures { option_map shown_task result ≡ requested_task (map (λ w. w.now) words.entry.now) }
 {
@@ -86,7 +86,7 @@ pub fn task_of<'a>(words: &'a [&'a str]) -> Option<Task<'a>>
     }
 }
 
-// What is asked for over the office in a file.
+// What the words ask for over the office in a file.
 fn task_of_office<'a>(file: &'a str, words: &'a [&'a str]) -> Option<Task<'a>>
     ensures { option_map shown_task result ≡ office_task file.now (map (λ w. w.now) words.entry.now) }
 {
@@ -121,8 +121,8 @@ fn task_of_serving<'a>(file: &'a str, words: &'a [&'a str]) -> Option<Task<'a>>
     Some(Task::Serve { file, port, count })
 }
 
-/// How the program is called, for words that ask for nothing: of all its forms, or of the one that the
-/// words begin with.
+/// The usage of the program, for words that ask for nothing: all its forms, or the one form that the words
+/// begin with.
 pub fn usage_of(words: &[&str]) -> &'static str
     ensures { result.now ≡ usage_for (map (λ w. w.now) words.now) }
 {
@@ -132,7 +132,7 @@ pub fn usage_of(words: &[&str]) -> &'static str
     }
 }
 
-// How the form is called that the words begin with, if it has a usage of its own.
+// The usage of the form that the words begin with, if it has one of its own.
 fn usage_of_form(words: &[&str]) -> Option<&'static str>
     ensures { option_map (λ usage. usage.now) result ≡ usage_for_form (map (λ w. w.now) words.now) }
 {

@@ -1,4 +1,4 @@
-//! What the program writes, and how it ends.
+//! What the program writes, and its exit status.
 ghost use Rattle.std.specs.Prelude.{◌≡◌, ◌≤◌, ◌++◌, codes, decimal, length};
 ghost use Rattle.toll_programs.specs.Statuses.{code_of};
 ghost use Rattle.toll_programs.specs.StreamOutput.{IsTold, IsWarned, stream_of};
@@ -11,7 +11,7 @@ use toll_protocol::{Sink, write_whole};
 /// How many bytes a line with a number may have.
 const LINE_BYTES: usize = 32;
 
-/// Writes a text, and gives the exit status: that of `status`, or of a failure where a write fails.
+/// Writes a text, and gives the exit status: that of `status`, or of a failure if a write fails.
 pub fn tell<W: Sink>(writer: &mut W, text: &[u8], status: Status) -> u64
     ensures { IsTold (stream_of W.Sink writer.old writer.new) text.now (code_of status) result }
 {

@@ -1,9 +1,9 @@
-//! Connections that tell whether a read of them has failed.
+//! Connections that report whether a read of them has failed.
 use std::io;
 use std::io::{Read, Write};
 use toll_protocol::{Sink, Source, Stream};
 
-/// A connection that tells whether a read of it has failed.
+/// A connection that reports whether a read of it has failed.
 pub trait TracksReads: Stream {
     ghost use Rattle.std.specs.Prelude.{◌≡◌, Some};
 

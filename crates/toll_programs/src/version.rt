@@ -1,5 +1,5 @@
-//! Which build this is.
+//! The version of this build.
 
-/// Which build this is, as the first line of the program's usage tells it behind `toll`. A server and a
-/// command that differ in it hand nothing to one another.
+/// The version of this build, as in the first line of the program's usage behind `toll`. A server and a
+/// command of different versions exchange nothing.
 pub const VERSION: &str = "1.0, office format 2";
