@@ -1,5 +1,5 @@
-//! Parcels: bytes with their length before them, so that whoever reads them knows when all have come; and
-//! what the plant and the server of a file say to one another in them.
+//! Frames: bytes behind their length, so that a reader knows when all have come; and the messages that the
+//! plant and the server of a file exchange in them.
 
 mod call;
 mod encoding;

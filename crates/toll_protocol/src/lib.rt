@@ -1,5 +1,5 @@
-//! Bytes on streams: streams that may tell what was read, what was written and what failed; HTTP/1.1 over
-//! them; and the frames in which the plant and a server speak to one another.
+//! Bytes on streams: streams that may report what was read, what was written and what failed; HTTP/1.1 over
+//! them; and the frames that the plant and a server exchange.
 #![tactic(auto)]
 
 mod frames;

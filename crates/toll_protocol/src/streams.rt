@@ -1,5 +1,5 @@
-//! Streams of bytes that may tell what was read, what was written and what failed: reading behind what has come, and
-//! writing a text at once or bit by bit.
+//! Streams of bytes that may report what was read, what was written and what failed: reading behind the bytes
+//! that have come, and writing a text at once or bit by bit.
 
 mod laws;
 mod read_status;

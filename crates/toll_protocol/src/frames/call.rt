@@ -1,4 +1,4 @@
-//! What the plant asks of the server of a file.
+//! A call of the plant to the server of a file.
 ghost use Rattle.std.specs.Prelude.{◌≡◌, ◌++◌, Option, option_map, map, IfNone, IfOk, IfSome, OnOk, Err};
 ghost use Rattle.toll_base.specs.Bytes.{Bytes};
 ghost use Rattle.toll_protocol.specs.PlantMessages.{FitsCall, IsNoCall, IsReadCall, call_text, file_text};
@@ -21,8 +21,8 @@ pub struct Call<'a> {
 }
 
 impl Call<'_> {
-    /// What is asked, as a frame. It is unfit where a word has a zero byte in it, or all of it is longer
-    /// than a message of the plant may be.
+    /// The call as a frame. It is unfit if a word has a zero byte in it, or if the whole call is longer than
+    /// a message of the plant may be.
     pub fn encode(
         alloc: Global,
         words: &[&str],
@@ -41,7 +41,8 @@ impl Call<'_> {
         encode(alloc, &content, MOST_CALL_BYTES)
     }
 
-    /// What a frame asks; `None` just where the text is a frame of no call: one that is damaged, cut or too long.
+    /// The call in a frame. `None` only if the text is not the frame of a call: one that is damaged, cut or
+    /// too long.
     pub fn read(alloc: Global, text: &[u8]) -> Result<Option<Call<'_>>, AllocError>
         ensures found { IfOk result (λ found. IfSome found (IsReadCall text.now)) }
         ensures none { IfOk result (λ found. IfNone found (IsNoCall text.now)) }
@@ -73,7 +74,8 @@ fn add_file(content: &mut Vec<u8>, file: Option<&[u8]>) -> Result<(), AllocError
     Ok(())
 }
 
-// The file behind the words, if there is one; nothing where what is there begins with anything but a 1.
+// The file behind the words: `Some(None)` if no bytes are there, and `None` if they begin with anything but a
+// 1.
 fn file_of(text: &[u8]) -> Option<Option<&[u8]>>
     ensures found { IfSome result (λ file. text.now ≡ file_text (option_map (λ f. f.now) file)) }
     ensures none { IfNone result ((file : Option Bytes) → text.now ≡ file_text file → ⊥) }

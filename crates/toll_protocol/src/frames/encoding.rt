@@ -1,4 +1,4 @@
-//! Parcels as bytes.
+//! Frames as bytes.
 ghost use Rattle.std.specs.Prelude.{◌≡◌, ◌<◌, ◌↔◌, IfNone, IfOk, IfSome, IsTrue, Err, length};
 ghost use Rattle.toll_base.specs.Bytes.{Bytes};
 ghost use Rattle.toll_protocol.specs.Frames.{HasFrame, IsEnough, IsFrameOf, claimed, frame};
@@ -7,10 +7,10 @@ ghost use Rattle.toll_protocol.specs.declared.frames.fault.EncodeFault.{EncodeFa
 use crate::frames::fault::EncodeFault;
 use std::alloc::Global;
 
-/// How many bytes stand before the content.
+/// How many bytes the length has, before the content.
 pub const LENGTH_BYTES: usize = 4;
 
-/// A content of at most so many bytes, as a frame.
+/// A content of at most `most` bytes, as a frame. A longer one is unfit.
 pub fn encode(alloc: Global, content: &[u8], most: u32) -> Result<Vec<u8>, EncodeFault>
     ensures whole { IfOk result (λ bytes. bytes.items ≡ frame content.now) }
     ensures unfit { (result ≡ Err EncodeFault.Unfit) ↔ (most < length content.now) }
@@ -23,7 +23,7 @@ pub fn encode(alloc: Global, content: &[u8], most: u32) -> Result<Vec<u8>, Encod
     Ok(bytes)
 }
 
-/// Whether enough of a frame has come: all of it, or a length that is above the most.
+/// Whether enough of a frame has come: all of it, or a length that is above `most`.
 pub fn is_enough(text: &[u8], most: u32) -> bool
     ensures { IsTrue result ↔ IsEnough most text.now }
 {
@@ -33,7 +33,7 @@ pub fn is_enough(text: &[u8], most: u32) -> bool
     }
 }
 
-/// The content of the frame that a text is; `None` where it is none, or one of more bytes.
+/// The content of the frame that a text is; `None` if it is no frame, or one of more than `most` bytes.
 pub fn content_of(text: &[u8], most: u32) -> Option<&[u8]>
     ensures found { IfSome result (λ content. IsFrameOf most text.now content.now) }
     ensures none { IfNone result ((content : Bytes) → ¬ (IsFrameOf most text.now content)) }
@@ -47,8 +47,8 @@ pub fn content_of(text: &[u8], most: u32) -> Option<&[u8]>
     Some(content)
 }
 
-/// The content of the frame at the front of a text, and what stands behind it; `None` where none stands
-/// there, or one of more bytes.
+/// The content of the frame at the front of a text, and the text behind it; `None` if no frame is there, or
+/// one of more than `most` bytes.
 pub fn front_of(text: &[u8], most: u32) -> Option<(&[u8], &[u8])>
     ensures found { IfSome result (λ parts. HasFrame most text.now parts.0.now parts.1.now) }
     ensures none { IfNone result ((content rest : Bytes) → ¬ (HasFrame most text.now content rest)) }
@@ -61,7 +61,7 @@ pub fn front_of(text: &[u8], most: u32) -> Option<(&[u8], &[u8])>
     Some(rest.split_at(len))
 }
 
-// The length that the first bytes tell.
+// The length that the first bytes claim.
 fn claimed(text: &[u8]) -> Option<usize>
     ensures { result ≡ claimed text.now }
 {

@@ -1,4 +1,4 @@
-//! Why nothing was encoded.
+//! Why a message was not encoded.
 use std::alloc::AllocError;
 use thiserror::Error;
 

@@ -12,14 +12,14 @@ use std::alloc::Global;
 /// How many bytes one read takes at most.
 const PIECE_BYTES: usize = 4096;
 
-/// What was received of a frame.
+/// The bytes received of a frame.
 #[derive(Drop)]
 pub struct Frame {
     pub bytes: Vec<u8>,
 }
 
 impl Frame {
-    /// Nothing was received yet.
+    /// No byte was received yet.
     pub fn new(alloc: Global) -> Self
         ensures { result.bytes.items ≡ [] }
     {
@@ -28,8 +28,8 @@ impl Frame {
         }
     }
 
-    /// Reads on until enough has come of a frame whose content has at most so many bytes, or the stream
-    /// ends, and no further; or until a read fails, as one does that would wait, or there is no memory.
+    /// Reads on until enough has come of a frame whose content has at most `most` bytes, or the stream ends,
+    /// and no further. It also stops if a read fails, as one does that would wait, or if there is no memory.
     /// Memory is taken as bytes come, and not as much as the first bytes claim.
     pub fn read_on<R: Source>(&mut self, reader: &mut R, most: u32) -> ReadStatus
         ensures given { AppendsRead (R.unread reader.old) (R.unread reader.new) self.old.bytes.items self.new.bytes.items }

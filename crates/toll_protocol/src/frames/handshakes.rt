@@ -1,4 +1,4 @@
-//! What a server says first.
+//! The first message of a server.
 ghost use Rattle.std.specs.Prelude.{◌≡◌, ◌<◌, ◌↔◌, IfOk, IsTrue, Err, codes, length};
 ghost use Rattle.toll_protocol.specs.PlantMessages.{handshake_text};
 ghost use Rattle.toll_protocol.specs.Frames.{IsFrameOf, frame};
@@ -11,11 +11,10 @@ use std::alloc::{AllocError, Global};
 /// How many bytes a handshake may have.
 pub const MOST_HANDSHAKE_BYTES: u32 = 64;
 
-/// Before the version.
+/// The text before the version.
 const NAME: &[u8] = b"toll ";
 
-/// The handshake of a server of this build, as a frame. It is unfit where it is longer than a handshake may
-/// be.
+/// The handshake of a server of this build, as a frame. It is unfit if it is longer than a handshake may be.
 pub fn handshake(alloc: Global, version: &str) -> Result<Vec<u8>, EncodeFault>
     ensures whole { IfOk result (λ bytes. bytes.items ≡ frame (handshake_text version.now)) }
     ensures unfit { (result ≡ Err EncodeFault.Unfit) → (MOST_HANDSHAKE_BYTES < length (handshake_text version.now)) }

@@ -1,4 +1,4 @@
-//! What the plant is told by the server of a file.
+//! The response of the server of a file to the plant.
 ghost use Rattle.std.specs.Prelude.{◌≡◌, ◌<◌, ◌≤◌, ◌∷◌, ◌++◌, IfNone, IfOk, IfSome, Err, length};
 ghost use Rattle.toll_protocol.specs.PlantMessages.{IsNoResponse, IsReadResponse, text_of_response};
 ghost use Rattle.toll_protocol.specs.Frames.{frame};
@@ -11,7 +11,7 @@ use std::alloc::{AllocError, Global};
 /// How many bytes a message to the plant may have: as many as a frame can.
 pub const MOST_RESPONSE_BYTES: u32 = u32::MAX;
 
-/// An exit status, and what goes to standard output and to standard error.
+/// An exit status, and the texts for standard output and for standard error.
 #[derive(Clone, Copy, Debug, PartialEq, Eq)]
 pub struct Response<'a> {
     pub status: u8,
@@ -20,7 +20,7 @@ pub struct Response<'a> {
 }
 
 impl<'a> Response<'a> {
-    /// What is told, as a frame. It is unfit where it is longer than a frame can be.
+    /// The response as a frame. It is unfit if it is longer than a frame can be.
     pub fn encode(&self, alloc: Global) -> Result<Vec<u8>, EncodeFault>
         ensures whole { IfOk result (λ bytes. bytes.items ≡ frame (text_of_response self.now)) }
         ensures fit { IfOk result (λ _. length (text_of_response self.now) ≤ MOST_RESPONSE_BYTES) }
@@ -42,7 +42,8 @@ impl<'a> Response<'a> {
         Ok(content)
     }
 
-    /// What a frame tells; `None` just where the text is a frame of no response: one that is damaged or cut.
+    /// The response in a frame. `None` only if the text is not the frame of a response: one that is damaged
+    /// or cut.
     pub fn read(text: &'a [u8]) -> Option<Response<'a>>
         ensures found { IfSome result (IsReadResponse text.now) }
         ensures none { IfNone result (IsNoResponse text.now) }

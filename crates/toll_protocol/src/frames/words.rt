@@ -29,7 +29,7 @@ pub fn text_of(alloc: Global, words: &[&str]) -> Result<Vec<u8>, AllocError>
     Ok(text)
 }
 
-/// The words that a text is; `None` where it isn't words.
+/// The words that a text is; `None` if it isn't words.
 pub fn words_of(alloc: Global, text: &[u8]) -> Result<Option<Vec<&str>>, AllocError>
     ensures found { IfOk result (λ found. IfSome found (λ words. AreWordsOf (map (λ word. word.now) words.items) text.now)) }
     ensures none { IfOk result (λ found. IfNone found ((words : List Bytes) → AreWords words → text.now ≡ words_text words → ⊥)) }
@@ -47,7 +47,7 @@ pub fn words_of(alloc: Global, text: &[u8]) -> Result<Option<Vec<&str>>, AllocEr
     }
 }
 
-// The first word, and what stands behind its zero.
+// The first word, and the text behind its zero.
 fn first_word(text: &[u8]) -> Option<(&str, &[u8])>
     ensures found { IfSome result (λ parts. IsWord parts.0.now × (text.now ≡ parts.0.now ++ 0 ∷ parts.1.now)) }
     ensures none { IfNone result ((word rest : Bytes) → IsWord word → text.now ≡ word ++ 0 ∷ rest → ⊥) }
@@ -61,7 +61,7 @@ fn first_word(text: &[u8]) -> Option<(&str, &[u8])>
     }
 }
 
-// Where the first zero stands.
+// The place of the first zero.
 fn first_zero(text: &[u8]) -> Option<usize>
     ensures found { IfSome result (λ n. IsFirstZero text.now n) }
     ensures none { IfNone result (HasNoZero text.now) }

@@ -1,4 +1,4 @@
-//! Why a request gets no answer of the desk.
+//! Why a request is answered without a command.
 ghost use Rattle.std.specs.Prelude.{◌≡◌, option_map};
 ghost use Rattle.toll_protocol.specs.Failures.{allowed_after, status_of_failure, word_of_failure};
 
@@ -12,13 +12,13 @@ pub enum Failure {
     BadRequest,
     /// No owner that was added has this name and key.
     Forbidden,
-    /// The target leads nowhere.
+    /// The target has no route.
     NoRoute,
-    /// The target is served with the other method alone, which this names.
+    /// The target is served only with the other method, which is given here.
     MethodNotAllowed(Verb),
-    /// The body is larger than any that is read.
+    /// The body is larger than the server reads.
     TooLarge,
-    /// A transfer coding, or a method that is served nowhere.
+    /// A transfer coding, or a method that no target is served with.
     NotImplemented,
 }
 
@@ -37,7 +37,7 @@ impl Failure {
         }
     }
 
-    /// The word of the body; `None` where there is no body.
+    /// The word of the body; `None` if there is no body.
     pub fn word(&self) -> Option<&'static str>
         ensures { option_map (λ word. word.now) result ≡ word_of_failure self.now }
     {
@@ -51,7 +51,7 @@ impl Failure {
         }
     }
 
-    /// The method that is allowed in place of the one that isn't.
+    /// The method that is allowed in place of the request's.
     pub fn allowed(&self) -> Option<Verb>
         ensures { result ≡ allowed_after self.now }
     {

@@ -35,9 +35,9 @@ impl<'b> FieldMatch<'b> {
         }
     }
 
-    /// The length that a `content-length` field claims (RFC 9112, section 6.2), 0 where there is none.
-    /// Nothing where it isn't digits alone, or stands there more than once. A length above the limit of
-    /// bodies is told as one above it.
+    /// The length that a `content-length` field claims (RFC 9112, section 6.2), 0 if there is none. `None` if
+    /// it isn't digits alone, or if there is more than one such field. For a length above the limit of
+    /// bodies, the result is one above that limit.
     pub fn length_claimed(self) -> Option<u64>
         ensures { result ≡ capped (length_claimed (seen self.entry)) }
     {
@@ -73,7 +73,7 @@ fn has_name(text: &[u8], field: &HeaderSpan, name: &[u8]) -> bool
     field.name.of(text).eq_ignore_ascii_case(name)
 }
 
-// The number that the digits write, or one above the limit of bodies where it is larger.
+// The number that the digits write, or one above the limit of bodies if it is larger.
 fn length_of(digits: &[u8]) -> Option<u64>
     ensures { result ≡ capped (length_of digits.now) }
 {

@@ -1,4 +1,4 @@
-//! The head of a request: where it ends, and what it says.
+//! The head of a request: its end, and its content.
 ghost use Rattle.std.specs.Prelude.{◌≡◌, ◌≤◌, ℕ, length, take, map, IfSome, IfNone, MatchOption};
 ghost use Rattle.httparse.specs.Grammar.{RequestHead};
 ghost use Rattle.httparse.specs.Spans.{IsRequestAt, IsRequestWithin, header_bytes};
@@ -48,8 +48,8 @@ pub fn head_len(text: &[u8], searched: usize) -> Option<usize>
     None
 }
 
-/// The head of a request, which is all of the shortest front that ends with an empty line
-/// (RFC 9112, sections 2.1, 3 and 5); `None` where there is none that is read.
+/// The head of a request, which is all of the shortest front that ends with an empty line (RFC 9112, sections
+/// 2.1, 3 and 5); `None` if there is no head, or one that can't be read.
 pub fn head_of(text: &[u8]) -> Option<Head>
     ensures head { IfSome result (λ r. (h : RequestHead) × IsHeadOf text.now r.line.len h
         × IsRequestAt (take r.line.len text.now) r.fields r.line h) }
@@ -63,7 +63,7 @@ pub fn head_of(text: &[u8]) -> Option<Head>
     }
 }
 
-/// The head that is the first `len` bytes, if it is read.
+/// The head that is the first `len` bytes, if it can be read.
 pub fn head_at(text: &[u8], len: usize) -> Option<Head>
     requires shortest { IsHeadLen text.now len }
     requires short { len ≤ HEAD_LIMIT }

@@ -70,7 +70,7 @@ fn check<'b>(front: &'b [u8], rest: &'b [u8], head: &Head) -> Result<HttpRequest
     })
 }
 
-// More than one host, or none in HTTP/1.1 (RFC 9112, section 3.2).
+// Whether there is more than one host, or none in HTTP/1.1 (RFC 9112, section 3.2).
 fn host_fails(minor: u8, host: FieldMatch<'_>) -> bool
     ensures { result ≡ host_fails minor (seen host.entry) }
 {

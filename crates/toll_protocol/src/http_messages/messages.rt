@@ -6,8 +6,8 @@ use crate::http_messages::verb::Verb;
 use http::StatusCode;
 use std::alloc::{AllocError, Global};
 
-/// A whole reply: the status, the method that is allowed in place of one that isn't, and the body, which
-/// is JSON where it is not empty.
+/// A whole reply: the status, the method that is allowed in place of the request's, and the body, which is
+/// JSON if it is not empty.
 pub fn message(
     alloc: Global,
     status: StatusCode,

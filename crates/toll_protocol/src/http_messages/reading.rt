@@ -35,10 +35,10 @@ impl fmt::Display for ReadFault {
     }
 }
 
-/// The request at the front of a stream: all that was read of it, at most 12,288 bytes, which comes to what
-/// the whole stream comes to. It is read until its head and all of the body that its head claims have come,
-/// or 8,192 bytes without the end of a head, or the stream ends, and no further: a client that waits for
-/// the reply need send nothing more, and a later failure doesn't matter.
+/// The request at the front of a stream: all bytes that were read of it, at most 12,288. They give the same
+/// request as the whole stream. Reading goes on until the head and all of the body that the head claims have
+/// come, or 8,192 bytes without the end of a head, or the stream ends, and no further. So a client that waits
+/// for the reply need send nothing more, and a later failure doesn't matter.
 pub fn read_request<R: Source>(alloc: Global, reader: &mut R) -> Result<Vec<u8>, ReadFault>
     ensures given { IfOk result (λ text. Consumes (R.unread reader.old) (R.unread reader.new) text.items) }
     ensures bound { IfOk result (λ text. length text.items ≤ TEXT_LIMIT) }

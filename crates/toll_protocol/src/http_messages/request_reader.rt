@@ -10,7 +10,7 @@ use crate::streams::{ReadStatus, Source, read_behind};
 use std::alloc::{AllocError, Global};
 use std::marker::Model;
 
-/// What was received of a request.
+/// The bytes received of a request.
 #[derive(Drop)]
 pub struct RequestReader {
     text: Vec<u8>,
@@ -31,7 +31,7 @@ impl Model for RequestReader {
 }
 
 impl RequestReader {
-    /// Nothing was received yet.
+    /// No byte was received yet.
     pub fn new(alloc: Global) -> Result<Self, AllocError>
         ensures { IfOk result (λ request. request ≡ []) }
     {
@@ -42,7 +42,7 @@ impl RequestReader {
         })
     }
 
-    /// What has come.
+    /// The bytes that have come.
     pub fn bytes(&self) -> &[u8]
         ensures value { result.now ≡ self.now }
         ensures bound { length self.now ≤ TEXT_LIMIT }
@@ -50,7 +50,7 @@ impl RequestReader {
         &self.text[..self.filled]
     }
 
-    /// What has come, and nothing more will.
+    /// The bytes that have come; no more will.
     pub fn into_bytes(mut self) -> Vec<u8>
         ensures value { result.items ≡ self }
         ensures bound { length self ≤ TEXT_LIMIT }
@@ -59,9 +59,9 @@ impl RequestReader {
         self.text
     }
 
-    /// Reads on until its head and all of the body that its head claims have come, or 8,192 bytes without
-    /// the end of a head, or the stream ends, and no further; or until a read fails, as one does that would
-    /// wait.
+    /// Reads on until the head and all of the body that the head claims have come, or 8,192 bytes without the
+    /// end of a head, or the stream ends, and no further. It also stops if a read fails, as one does that
+    /// would wait.
     pub fn read_on<R: Source>(&mut self, reader: &mut R) -> ReadStatus
         ensures given { AppendsRead (R.unread reader.old) (R.unread reader.new) self.old self.new }
         ensures complete { result ≡ ReadStatus.Complete → IsSettled self.new ⊎ IsAtEnd (R.unread reader.new) }
@@ -80,7 +80,7 @@ impl RequestReader {
     }
 }
 
-// How many bytes were filled, and before which place no head ends.
+// How many bytes were filled, and a place before which no head ends.
 #[derive(Clone, Copy)]
 struct Filled {
     status: ReadStatus,
@@ -88,8 +88,8 @@ struct Filled {
     searched: usize,
 }
 
-// Reads on behind the first bytes, which had come before, until the text is settled, the stream ends, or a
-// read fails.
+// Reads on behind the first bytes, which came before, until the text is settled, the stream ends, or a read
+// fails.
 fn fill_on<R: Source>(reader: &mut R, text: &mut [u8], begun: usize, looked: usize) -> Filled
     requires { IsFilled text.old begun looked }
     ensures filled { IsFilled text.new result.filled result.searched }

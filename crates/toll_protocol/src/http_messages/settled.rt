@@ -11,8 +11,8 @@ use crate::http_messages::http_request::BODY_LIMIT;
 /// How many bytes of a request are read: a head and a body at their largest.
 pub const TEXT_LIMIT: usize = HEAD_LIMIT + BODY_LIMIT as usize;
 
-/// Where to search on for the end of the head, if what comes after the text may still change what it
-/// says; `None` where its head has ended and all of the body that it claims is there, or it has no head
+/// The place from which to search on for the end of the head, if more bytes may still change how the text is
+/// read. `None` if its head has ended and all of the body that it claims is there, or if it has no head
 /// within the limit. No front that is shorter than `searched` ends the head.
 pub fn unsettled(text: &[u8], searched: usize) -> Option<usize>
     requires { IsSearched text.now searched }

@@ -12,7 +12,7 @@ pub enum Verb {
 }
 
 impl Verb {
-    /// The verb that a method names, exactly as it stands; `None` for every other method.
+    /// The verb that a method names, exactly as written; `None` for every other method.
     pub fn of(method: &[u8]) -> Option<Self>
         ensures { result ≡ verb_of method.now }
     {

@@ -9,14 +9,14 @@ use std::io::ErrorKind;
 pub enum ReadStatus {
     /// Enough of it has come, or its stream ended: it is read no further.
     Complete,
-    /// More must come, and hasn't yet.
+    /// More must come, and hasn't come yet.
     Waiting,
     /// A read failed.
     Failed,
 }
 
 impl ReadStatus {
-    /// What a read that failed so comes to: one that would wait is no failure of its stream.
+    /// The status after a read that failed so. A read that would wait is no failure of its stream.
     pub fn after(kind: ErrorKind) -> Self
         ensures incomplete { result ≢ ReadStatus.Complete }
         ensures waits { result ≡ ReadStatus.Waiting ↔ kind ≡ ErrorKind.WouldBlock }

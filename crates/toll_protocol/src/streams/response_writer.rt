@@ -6,7 +6,7 @@ ghost use Rattle.toll_protocol.specs.Streams.{HasFailed, NoneBlocked, OneBlocked
 use crate::streams::sink::Sink;
 use crate::streams::write_status::WriteStatus;
 
-/// A text, of which a front was written.
+/// A text whose first bytes were written.
 #[derive(Drop)]
 pub struct ResponseWriter {
     pub bytes: Vec<u8>,
@@ -23,8 +23,8 @@ impl ResponseWriter {
         ResponseWriter { bytes, written: 0 }
     }
 
-    /// Writes on behind what was written, until all of it is, or a write fails, as one does that would
-    /// wait. It takes no memory.
+    /// Writes on behind the bytes that were written, until all of the text is written, or a write fails, as
+    /// one does that would wait. It takes no memory.
     pub fn write_on<W: Sink>(&mut self, writer: &mut W) -> WriteStatus
         ensures same { self.new.bytes ≡ self.old.bytes }
         ensures more { self.old.written ≤ self.new.written }

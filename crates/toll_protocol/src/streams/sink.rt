@@ -1,4 +1,4 @@
-//! Where bytes are written.
+//! The writers of bytes.
 ghost use Rattle.std.specs.Prelude.{ℕ, Bool, List, Option, None};
 ghost use Rattle.std.specs.Io.{WritesAtMost};
 ghost use Rattle.std.specs.Io.KnownBytes.{WriteAppends};
@@ -7,19 +7,18 @@ ghost use Rattle.toll_protocol.specs.Streams.{CountsBlocked, RecordsFailure, tak
 use std::io;
 use std::io::Write;
 
-/// A writer that may tell its bytes and its failures. Every writer is one, though it tells no
-/// failures.
+/// A writer that may report its bytes and its failures. Every writer is one, though it reports no failures.
 pub trait Sink {
-    // The bytes that it holds, where they are known.
+    // The bytes that it holds, if they are known.
     ghost held: { Self → Option (List ℕ) } = { λ _. None };
 
-    // Whether a write has failed or taken no byte, where that is known.
+    // Whether a write has failed or taken no byte, if that is known.
     ghost has_failed: { Self → Option Bool } = { λ _. None };
 
-    // How many writes have failed with `WouldBlock`, where that is known.
+    // How many writes have failed with `WouldBlock`, if that is known.
     ghost blocked: { Self → Option ℕ } = { λ _. None };
 
-    /// Writes some bytes of the front of these, and tells how many.
+    /// Writes some bytes of the front of these, and returns how many.
     fn write_some(&mut self, bytes: &[u8]) -> io::Result<usize>
         ensures bound { WritesAtMost result bytes.now }
         ensures bytes { WriteAppends (held self.old) (held self.new) result bytes.now }

@@ -1,4 +1,4 @@
-//! Where bytes are read from.
+//! The readers of bytes.
 ghost use Rattle.std.specs.Prelude.{◌≡◌, ◌+◌, ◌<◌, ◌≤◌, ℕ, Bool, List, Option, None, length, take, drop, is_err, IfOk, OnErr};
 ghost use Rattle.std.specs.Io.{ReadsAtMost};
 ghost use Rattle.std.specs.Io.KnownBytes.{Consumes, IsAtEnd, Keeps, ReadConsumes};
@@ -7,26 +7,26 @@ ghost use Rattle.toll_protocol.specs.Streams.{CountsBlocked, OneMoreRead, Record
 use std::io;
 use std::io::Read;
 
-/// A reader that may tell its bytes, its failures and its reads, and what no read changes. Every reader is
-/// one, though it tells its bytes alone.
+/// A reader that may report its bytes, its failures and its reads, and what no read changes. Every reader is
+/// one, though it reports its bytes alone.
 pub trait Source {
-    // The bytes that reads will give from here on, where they are known.
+    // The bytes that reads will give from here on, if they are known.
     ghost unread: { Self → Option (List ℕ) } = { λ _. None };
 
-    // Whether a read has failed, where that is known.
+    // Whether a read has failed, if that is known.
     ghost has_failed: { Self → Option Bool } = { λ _. None };
 
-    // How many reads have failed with `WouldBlock`, where that is known.
+    // How many reads have failed with `WouldBlock`, if that is known.
     ghost blocked: { Self → Option ℕ } = { λ _. None };
 
-    // What each read gave, in order, where that is known.
+    // What each read gave, in order, if that is known.
     ghost reads: { Self → Option (List (List ℕ)) } = { λ _. None };
 
-    // What no read changes, where it takes bytes too: those that it holds, and whether a write has failed.
+    // What no read changes, if it takes bytes too: the bytes that it holds, and whether a write has failed.
     ghost write_side: { Self → WriteSide } = { λ _. (None, None) };
 
-    /// Reads some bytes into the front of the buffer, and tells how many: none at the end alone,
-    /// where there is room.
+    /// Reads some bytes into the front of the buffer, and returns how many. If there is room, that is 0 only
+    /// at the end.
     fn read_some(&mut self, buffer: &mut [u8]) -> io::Result<usize>
         ensures bound { ReadsAtMost result buffer.new }
         ensures bytes { ReadConsumes (unread self.old) (unread self.new) result buffer.new }
@@ -44,7 +44,7 @@ impl<R: Read> Source for R {
     }
 }
 
-/// One read, behind what was filled before.
+/// One read, behind the bytes that were filled before.
 pub fn read_behind<R: Source>(reader: &mut R, buffer: &mut [u8], filled: usize) -> io::Result<usize>
     requires { filled ≤ length buffer.old }
     ensures front { take filled buffer.new ≡ take filled buffer.old }

@@ -1,8 +1,8 @@
 //! Connections.
 use crate::streams::{Sink, Source};
 
-/// A connection. What it takes is apart from what it gives: no read changes the bytes that it holds, nor
-/// whether a write of it has failed.
+/// A connection. The bytes that it takes are apart from those that it gives: no read changes the bytes that
+/// it holds, nor whether a write of it has failed.
 pub trait Stream: Source + Sink + Drop {
     ghost use Rattle.std.specs.Prelude.{◌≡◌};
 

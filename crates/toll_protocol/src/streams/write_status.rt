@@ -1,4 +1,4 @@
-//! How far a text has gone.
+//! How far the writing of a text has come.
 ghost use Rattle.std.specs.Prelude.{◌≡◌, ◌≢◌, ◌↔◌};
 ghost use Rattle.std.specs.declared.io.ErrorKind.{ErrorKind};
 
@@ -16,7 +16,7 @@ pub enum WriteStatus {
 }
 
 impl WriteStatus {
-    /// What a write that failed so comes to: one that would wait is no failure of its stream.
+    /// The status after a write that failed so. A write that would wait is no failure of its stream.
     pub fn after(kind: ErrorKind) -> Self
         ensures unwritten { result ≢ WriteStatus.Written }
         ensures waits { result ≡ WriteStatus.Waiting ↔ kind ≡ ErrorKind.WouldBlock }

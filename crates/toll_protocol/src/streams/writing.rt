@@ -9,7 +9,7 @@ use crate::streams::write_status::WriteStatus;
 use std::fmt;
 use thiserror::Error;
 
-/// A write failed or took no byte. So many bytes of the text went out before, its first ones.
+/// A write failed or took no byte. This number of bytes of the text, its first ones, were written before.
 #[derive(Clone, Copy, Debug, PartialEq, Eq, Drop, Error)]
 pub struct WriteFault {
     pub written: u64,
