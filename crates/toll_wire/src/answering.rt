@@ -14,16 +14,16 @@ use toll_protocol::Failure;
 
 /// Answers the bytes of a request: one step of a run.
 ///
-/// Who has no key that fits is forbidden, and learns nothing else. The text of a reply is made before
-/// anything changes, so where the answer is [`Out::Unavailable`] nothing changed; or, after a fault of
-/// the disk, the change stands whole or not at all. Whatever isn't told 200 changes nothing.
+/// A client without a key that fits is forbidden, and learns nothing else. The text of a reply is made before
+/// anything changes. So if the answer is [`Out::Unavailable`], nothing changed; or, after a fault of the
+/// disk, the change is there whole or not at all. A reply other than 200 or 503 means that nothing changed.
 pub fn answer<K: Keep>(alloc: Global, keep: &mut K, bytes: &[u8]) -> Out
     ensures { IsAnswered K.meaning keep.old keep.new bytes.now result }
 {
     answer_with_router(alloc, &mut OfficeRouter::new(), keep, bytes)
 }
 
-/// The same with a router that serves many requests.
+/// Does the same with a router that serves many requests.
 pub fn answer_with_router<K: Keep>(
     alloc: Global,
     router: &mut OfficeRouter,
@@ -59,7 +59,7 @@ fn serve<K: Keep>(alloc: Global, keep: &mut K, owner: &[u8], key: &[u8], request
     }
 }
 
-// Tells an owner which check the request fails, and everybody else no more than that it is forbidden.
+// Tells an owner which check the request fails, and every other client only that it is forbidden.
 fn refuse<K: Keep>(alloc: Global, keep: &mut K, owner: &[u8], key: &[u8], failure: Failure) -> Out
     ensures { IsServing K.meaning keep.old keep.new (By owner.now (Some key.now) (claimed_request_of (RoutedRequest.Failing failure))) result }
 {

@@ -2,7 +2,7 @@
 use crate::outgoing::Out;
 use toll_desk::{PlantCmd, PlantReply};
 
-/// What comes to the office.
+/// An event of the office.
 #[derive(Drop)]
 pub enum Event {
     /// The bytes of an owner's request.
@@ -11,7 +11,7 @@ pub enum Event {
     Plant(PlantCmd),
 }
 
-/// What an event is answered.
+/// The answer to an event.
 #[derive(Drop)]
 pub enum Answer {
     /// The reply to a request.

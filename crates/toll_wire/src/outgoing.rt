@@ -1,8 +1,8 @@
-//! What is sent back.
+//! The bytes that are sent back.
 
 use toll_keep::KeepFault;
 
-/// What is sent back to a request.
+/// The bytes that are sent back to a request.
 #[derive(Drop)]
 pub enum Out {
     /// A reply.
@@ -29,7 +29,7 @@ impl Out {
         }
     }
 
-    /// The text, where the changes were made that it tells of.
+    /// The text, if the changes that it reports were made.
     pub(crate) fn text_if(text: Vec<u8>, made: Result<(), KeepFault>) -> Self
         ensures { result ≡ text_if text made }
     {

@@ -1,4 +1,4 @@
-//! What the bytes of a request say.
+//! Reading the bytes of a request.
 ghost use Rattle.std.specs.Prelude.{◌≡◌, IfOk};
 ghost use Rattle.toll_wire.specs.ParsedRequests.{Reads};
 ghost use Rattle.toll_wire.specs.ParsedRequests as spec;
@@ -8,12 +8,12 @@ use crate::routes::{OfficeRouter, RoutedRequest, route_request};
 use std::alloc::{AllocError, Global};
 use toll_protocol::{Failure, parse_http};
 
-/// What the bytes of a request come to.
+/// The bytes of a request, as they are read.
 #[derive(Clone, Copy)]
 pub enum ParsedRequest<'b> {
-    /// A check that comes before the key's fails.
+    /// A check that comes before the check of the key fails.
     Refused(Failure),
-    /// Someone claims to be an owner. The owner and the key are those of the only field of each name.
+    /// The client claims to be an owner. The owner and the key are those of the only field of each name.
     Claimed {
         owner: Option<&'b [u8]>,
         key: Option<&'b [u8]>,

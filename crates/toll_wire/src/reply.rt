@@ -16,7 +16,7 @@ use toll_base::Refusal;
 use toll_desk::Reply;
 use toll_protocol::{Failure, Verb, message};
 
-/// What is sent back for a reply of the desk. A fault has no text.
+/// The bytes that are sent back for a reply of the desk. A fault has no text.
 pub fn tell(alloc: Global, reply: &Reply) -> Out
     ensures { IsText result (text_of_reply reply.now) }
 {
@@ -36,14 +36,14 @@ pub fn tell(alloc: Global, reply: &Reply) -> Out
     }
 }
 
-// A reply of what was asked for, if there was memory for its body.
+// A reply with the body that was requested, if there was memory for it.
 fn grant(alloc: Global, body: Result<String, AllocError>) -> Out
     ensures { (bytes : Bytes) → IfOk body (λ body. string_bytes body ≡ bytes) → IsText result (Some (reply_text 200 None bytes)) }
 {
     send(alloc, StatusCode::OK, None, body)
 }
 
-/// What is sent back where a check fails.
+/// The bytes that are sent back if a check fails.
 pub fn fail(alloc: Global, failure: Failure) -> Out
     ensures { IsText result (Some (text_of_failure failure)) }
 {

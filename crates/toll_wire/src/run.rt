@@ -12,10 +12,10 @@ use std::alloc::{AllocError, Global};
 use toll_desk::plant_do;
 use toll_keep::Keep;
 
-/// Answers the events one by one, each over what those before it left: a run, in which each owner's
-/// replies are those that its own events give by themselves. A stop during an event leaves the rows
-/// that all events before it left, or those that it leaves with them. Over a keep that never closes no
-/// answer is a fault but want of memory. An `Err` means that no event acted.
+/// Answers the events one by one, each over the rows that those before it left: a run, in which each owner's
+/// replies are those that its own events give by themselves. After a stop during an event, the rows are those
+/// that all events before it left, or those that it leaves with them. Over a keep that never closes, the only
+/// fault in an answer is that there was no memory. An `Err` means that no event acted.
 pub fn run_events<K: Keep>(
     alloc: Global,
     keep: &mut K,

@@ -8,7 +8,7 @@ use serde_json::{Error, Value};
 use std::alloc::{AllocError, Global};
 use toll_base::{BatchNo, Name};
 
-/// An order that is asked for.
+/// The order in a request.
 #[derive(Clone, Copy)]
 pub struct Placing {
     pub order: Name,
@@ -16,11 +16,12 @@ pub struct Placing {
     pub batches: BatchNo,
 }
 
-/// The order that a body asks for, if it asks for one: a JSON object (RFC 8259) with the members
-/// `order` and `recipe`, which are names, and `batches`, a number of batches from 1 to 99 without
-/// fraction or exponent. Of several members of one name the last counts.
+/// The order that a body asks for, if it asks for one: a JSON object (RFC 8259) with the members `order` and
+/// `recipe`, which are names, and `batches`, a number of batches from 1 to 99 without fraction or exponent.
+/// Of several members of one name the last counts.
 ///
-/// Memory is wanted for what may be JSON: for no bytes, and for bytes that are no text, there is an answer.
+/// Memory is needed only for a body that may be JSON: a body of no bytes, or of bytes that are no text,
+/// always has an answer.
 pub fn order_asked(alloc: Global, body: &[u8]) -> Result<Option<Placing>, AllocError>
     ensures order { IfOk result (AsksOrder body.now) }
     ensures memory { OnErr result (IsUtf8 body.now × (0 < length body.now)) }
@@ -34,7 +35,7 @@ pub fn order_asked(alloc: Global, body: &[u8]) -> Result<Option<Placing>, AllocE
     }
 }
 
-// No order, unless it was for want of memory that nothing was read.
+// No order, unless the body was not read because there was no memory.
 fn unread(why: Error) -> Result<Option<Placing>, AllocError>
     ensures memory { IsErr result ↔ IsMemory why }
     ensures none { IfOk result (λ order. order ≡ None) }

@@ -1,4 +1,4 @@
-//! The bodies that say why nothing else is told.
+//! The bodies of replies that refuse a request.
 ghost use Rattle.std.specs.Prelude.{◌≡◌, IfOk, refl, string_bytes};
 ghost use Rattle.serde_json.specs.Written.{compact_text};
 ghost use Rattle.toll_wire.specs.ReplyBodies.{error_data, refusal_data};

@@ -1,4 +1,4 @@
-//! From what is told to its text.
+//! From a value to its JSON text.
 ghost use Rattle.std.specs.Prelude.{◌≡◌, IfOk, string_bytes};
 ghost use Rattle.serde_json.specs.Events.{SendsValue};
 ghost use Rattle.serde_json.specs.Written.{compact_text};
@@ -7,7 +7,7 @@ use crate::bodies::json_value::JsonValue;
 use serde::{Described, Serialize, Serializer};
 use std::alloc::{AllocError, Global};
 
-/// What is told, as a value of serde's.
+/// A value to be written, as a value of serde's.
 #[derive(Drop)]
 struct JsonText<'a, T>(&'a T);
 
@@ -21,7 +21,7 @@ impl<T: JsonValue> Serialize for JsonText<'_, T> {
     }
 }
 
-/// The text of what is told, with no space.
+/// The text of a value, with no space.
 pub(crate) fn text_of<T: JsonValue>(alloc: Global, told: &T) -> Result<String, AllocError>
     ensures { IfOk result (λ text. string_bytes text ≡ compact_text (T.said told.now)) }
 {

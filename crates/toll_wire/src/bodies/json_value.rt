@@ -1,4 +1,4 @@
-//! What a body tells.
+//! The values in bodies.
 ghost use Rattle.std.specs.Prelude.{◌≡◌, false, OnOk};
 ghost use Rattle.serde_json.specs.Data.{Data};
 ghost use Rattle.serde_json.specs.Events.{SendsValue};
@@ -7,7 +7,7 @@ ghost use Rattle.toll_wire.specs.Sending.{SendsMember};
 
 use serde::Serializer;
 
-/// What a body tells as one JSON value, which holds no fraction.
+/// A value in a body as one JSON value, which holds no fraction.
 pub(crate) trait JsonValue {
     ghost said: { Self → Data };
 

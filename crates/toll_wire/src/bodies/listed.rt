@@ -1,4 +1,4 @@
-//! Lists under a name: orders, what is in stock, and the lots of a trace.
+//! Lists under a name: orders, stock, and the lots of a trace.
 ghost use Rattle.std.specs.Prelude.{◌≡◌, IfOk, refl, string_bytes};
 ghost use Rattle.serde_json.specs.Written.{compact_text};
 ghost use Rattle.toll_wire.specs.Exact.{listed_exact};

@@ -40,7 +40,7 @@ fn origin_word(alloc: Global, origin: &Origin) -> Result<String, AllocError>
     }
 }
 
-/// A lot, with the word of where it comes from.
+/// A lot, with the word of its source.
 #[derive(Drop)]
 struct LotBody<'a> {
     view: &'a LotView,

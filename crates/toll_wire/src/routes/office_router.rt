@@ -7,7 +7,7 @@ use matchit::{InsertError, Router};
 use std::alloc::{AllocError, Global};
 use std::marker::Model;
 
-/// The router of the office, by which many requests are routed: the first of them builds it.
+/// The router of the office, which routes many requests: the first of them builds it.
 #[derive(Drop)]
 pub struct OfficeRouter {
     built: Option<Router<Route>>,
@@ -22,7 +22,7 @@ impl Model for OfficeRouter {
 }
 
 impl OfficeRouter {
-    /// One that isn't built yet. It takes no memory.
+    /// A router that isn't built yet. It takes no memory.
     pub fn new() -> Self {
         OfficeRouter { built: None }
     }

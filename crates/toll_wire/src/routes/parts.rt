@@ -8,10 +8,10 @@ use crate::routes::values::Values;
 use matchit::ParamsIter;
 use toll_base::{BatchNo, Name, number};
 
-/// Which parts stand in the paths of a route.
+/// The parts in the paths of a route.
 #[derive(Clone, Copy)]
 pub enum Parts {
-    /// None: the paths are one.
+    /// None: the route has only one path.
     Nothing,
     /// The name of an order or of a lot.
     Name,
@@ -20,7 +20,7 @@ pub enum Parts {
 }
 
 impl Parts {
-    /// The values that these texts write in these parts; `None` where they write none.
+    /// The values that these texts write in these parts; `None` if they write none.
     pub fn read(self, mut texts: ParamsIter<'_, '_, '_>) -> Option<Values>
         requires count { length texts ≡ count self }
         requires text { AllByRecursion (λ p. IsUtf8 p.1) texts }
@@ -43,7 +43,7 @@ impl Parts {
     }
 }
 
-// The number of a batch whose decimal text this is: no zero stands in front.
+// The number of the batch with this decimal text, which has no leading zero.
 fn batch_number(text: &[u8]) -> Option<BatchNo>
     ensures { IsNumberRead text.now result }
 {

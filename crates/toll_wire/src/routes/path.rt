@@ -1,4 +1,4 @@
-//! What a path leads to.
+//! The route of a path.
 ghost use Rattle.std.specs.Prelude.{◌≡◌, ◌==◌, position};
 ghost use Rattle.toll_wire.specs.Places.{path_of};
 ghost use Rattle.toll_wire.specs.Routers.{IsOffice, LeadsBy};
@@ -24,8 +24,8 @@ fn query_start(target: &[u8]) -> Option<usize>
     target.iter().position(|b| *b == b'?')
 }
 
-/// The route of a path by the router of the office, with the values that the path has there; `None`
-/// where the path is of no route.
+/// The route of a path by the router of the office, with the values that the path has there; `None` if the
+/// path has no route.
 pub fn route_of<'r>(router: &'r Router<Route>, path: &[u8]) -> Option<(&'r Route, Values)>
     requires { IsOffice router.now }
     ensures { LeadsBy path.now result }

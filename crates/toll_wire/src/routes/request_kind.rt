@@ -1,16 +1,16 @@
-//! What is asked for at a route.
+//! The kinds of requests of a route.
 ghost use Rattle.std.specs.Prelude.{◌≡◌};
 ghost use Rattle.toll_wire.specs.Routing.{request_from};
 
 use crate::routes::values::Values;
 use toll_desk::Request;
 
-/// What a method asks for at a route: which of the owners' requests.
+/// The kind of owners' requests that a method asks for at a route.
 #[derive(Clone, Copy)]
 pub enum RequestKind {
     Orders,
     Order,
-    /// An order is to be placed: the body says which.
+    /// An order is to be placed: the body has it.
     Place,
     Cancel,
     Batch,
@@ -23,8 +23,8 @@ pub enum RequestKind {
     HouseForward,
 }
 
-/// The request with these values: `None` where they are not its values, and for [`RequestKind::Place`],
-/// whose values stand in the body.
+/// The request with these values: `None` if they are not its values, and for [`RequestKind::Place`], whose
+/// values are in the body.
 pub fn request_from(ask: RequestKind, values: Values) -> Option<Request>
     ensures { result ≡ request_from ask values }
 {

@@ -6,8 +6,8 @@ use crate::routes::parts::Parts;
 use crate::routes::request_kind::RequestKind;
 use toll_protocol::Verb;
 
-/// A route: the pattern of its paths, which parts stand in them, and what each method asks for there,
-/// where it is served.
+/// A route: the pattern of its paths, the parts in them, and the kind of request that each method asks for
+/// there, if it is served.
 #[derive(Clone, Copy)]
 pub struct Route {
     pub pattern: &'static str,
@@ -17,7 +17,7 @@ pub struct Route {
 }
 
 impl Route {
-    /// What this method asks for at the route, where it is served.
+    /// The kind of request that this method asks for at the route, if it is served.
     pub fn ask(&self, verb: Verb) -> Option<RequestKind>
         ensures { result ≡ ask_of verb self.now }
     {

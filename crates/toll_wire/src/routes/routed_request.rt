@@ -1,4 +1,4 @@
-//! What a request asks for.
+//! The request behind a method, a target and a body.
 ghost use Rattle.std.specs.Prelude.{◌≡◌, IfOk};
 ghost use Rattle.toll_wire.specs.Routing.{AsksBy, AsksOf, IsAsking, IsPlacing, Fits, other_of};
 
@@ -11,19 +11,19 @@ use std::alloc::{AllocError, Global};
 use toll_desk::Request;
 use toll_protocol::{Failure, Verb};
 
-/// What is asked for, once the key is right.
+/// What a request asks for, if its key is right.
 #[derive(Clone, Copy)]
 pub enum RoutedRequest {
-    /// Nothing that is served: a check that comes after the key's fails.
+    /// Nothing that is served: a check that comes after the check of the key fails.
     Failing(Failure),
     /// A request of the owner.
     For(Request),
 }
 
-/// What a request with this method, target and body asks for: [`Failure::NoRoute`] where the
-/// target's path is of no route or a part of it is no value, [`Failure::MethodNotAllowed`] where the
-/// route is served with the other method alone, and [`Failure::BadRequest`] where an order is to be
-/// placed and the body asks for none. All other bodies are ignored.
+/// What a request with this method, target and body asks for: [`Failure::NoRoute`] if the target's path has
+/// no route or a part of it is no value, [`Failure::MethodNotAllowed`] if the route is served with the other
+/// method alone, and [`Failure::BadRequest`] if an order is to be placed and the body asks for none. All
+/// other bodies are ignored.
 pub fn route_request(
     alloc: Global,
     router: &mut OfficeRouter,
@@ -43,7 +43,7 @@ pub fn route_request(
     }
 }
 
-// The method of the two that this isn't.
+// The method, of the two, that this isn't.
 fn other_of(verb: Verb) -> Verb
     ensures { result ≡ other_of verb }
 {
@@ -53,7 +53,7 @@ fn other_of(verb: Verb) -> Verb
     }
 }
 
-// What is asked for with values that make a request of this kind, as those of each route do.
+// The request of this kind with values that make one, as those of each route do.
 fn asks_by(
     alloc: Global,
     ask: RequestKind,
@@ -69,7 +69,7 @@ fn asks_by(
     }
 }
 
-// What a body asks for, where an order is to be placed.
+// What a body asks for, if an order is to be placed.
 fn placing(alloc: Global, body: &[u8]) -> Result<RoutedRequest, AllocError>
     ensures { IfOk result (IsPlacing body.now) }
 {
