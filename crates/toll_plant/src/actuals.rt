@@ -28,8 +28,8 @@ const HEADER: [&'static [u8]; 12] = [
     b"day",
 ];
 
-/// The commands of the records under the header of a file: `None` for a record that hasn't as many
-/// fields as an actual has values.
+/// The commands of the records under the header of a file: `None` for a record whose number of fields isn't
+/// the number of values of an actual.
 pub fn actuals(alloc: Global, file: &[u8]) -> Result<Vec<Option<PlantCmd>>, ImportFault>
     ensures commands { IfOk result (λ commands. AreCommandsOf file.now commands.items) }
     ensures fault { IfErr result (IsNoActualsOf file.now) }
@@ -41,8 +41,8 @@ pub fn actuals(alloc: Global, file: &[u8]) -> Result<Vec<Option<PlantCmd>>, Impo
     }
 }
 
-// What stands under the header, where that is the first of these records. It takes no memory: where it is
-// refused, the file has no header.
+// The records under the header, if the first of these records is the header. It takes no memory: if it fails,
+// the file has no header.
 fn under_header(records: &[ByteRecord]) -> Result<&[ByteRecord], ImportFault>
     ensures under { IfOk result (λ rest. map fields_of records.now ≡ header ∷ map fields_of rest.now) }
     ensures fault { IfErr result (λ fault. fault ≡ ImportFault.BadHeader) }

@@ -1,4 +1,4 @@
-//! What is added to the plant. Each is `None` where the values aren't those of its command.
+//! Additions to the plant. Each is `None` if the values aren't those of its command.
 ghost use Rattle.std.specs.Prelude.{◌≡◌};
 ghost use Rattle.toll_plant.specs.Commands.{command_from, limits_of, test_add};
 ghost use Rattle.toll_plant.specs.declared.command.CommandName.TheVariants as called;
@@ -28,7 +28,7 @@ pub fn material_add(values: &[ArgumentValue]) -> Option<PlantCmd>
     from_values!(values => MaterialAdd { owner: Name, material: Name, measure: Measure })
 }
 
-/// A test of a material: [`PlantCmd::Unread`] where the low limit is above the high one.
+/// A test of a material: [`PlantCmd::Unread`] if the low limit is above the high one.
 pub fn test_add(values: &[ArgumentValue]) -> Option<PlantCmd>
     ensures { result ≡ command_from called.TestAdd values.now }
 {
@@ -38,7 +38,7 @@ pub fn test_add(values: &[ArgumentValue]) -> Option<PlantCmd>
     )
 }
 
-// The test with these limits, or why they are none.
+// The test with these limits, or why they can't be limits.
 fn test_within(owner: Name, material: Name, test: Name, low: Value, high: Value) -> PlantCmd
     ensures { result ≡ test_add owner material test (limits_of low high) }
 {

@@ -10,7 +10,7 @@ use toll_base::{
 };
 use toll_trace::Way;
 
-/// A value of a command: what it is called, and how it is read.
+/// A value of a command: its name, and how it is read.
 #[derive(Clone, Copy)]
 pub struct Argument<'a> {
     pub name: &'a str,
@@ -49,7 +49,7 @@ pub enum ArgumentValue {
     Value(Value),
 }
 
-// What these values make: `None` where they aren't values of these kinds, in this order.
+// The result of these values: `None` if they aren't values of these kinds, in this order.
 macro_rules! from_values {
     ($values:expr, [$($value:ident: $kind:ident),*] => $made:expr) => {
         match *$values {
@@ -68,9 +68,8 @@ pub(crate) use from_values;
 const MOST_SIZE: u64 = 1_000_000_000;
 
 impl ArgumentKind {
-    /// The value that these bytes write: [`Refusal::BadName`] for bytes that are no name, key,
-    /// measure or word of their kind, [`Refusal::BadAmount`] for bytes that are no number or one out
-    /// of its bounds.
+    /// The value that these bytes write: [`Refusal::BadName`] for bytes that are no name, key, measure or
+    /// word of their kind, [`Refusal::BadAmount`] for bytes that are no number or a number out of its bounds.
     pub fn read(self, word: &[u8]) -> Result<ArgumentValue, Refusal>
         ensures { result ≡ read_as self word.now }
     {
@@ -100,7 +99,7 @@ impl ArgumentKind {
     }
 }
 
-// What is done with a material.
+// The role of a material: it is used or made.
 fn role_of(word: &[u8]) -> Option<Role>
     ensures { result ≡ role_of word.now }
 {
@@ -113,7 +112,7 @@ fn role_of(word: &[u8]) -> Option<Role>
     }
 }
 
-// Which way a trace goes.
+// The direction of a trace.
 fn way_of(word: &[u8]) -> Option<Way>
     ensures { result ≡ way_of word.now }
 {

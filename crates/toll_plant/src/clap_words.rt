@@ -13,7 +13,7 @@ use std::alloc::{AllocError, Global};
 // The id of the one argument that `clap` is given, which has all values of a command.
 const VALUES: &str = "VALUES";
 
-/// The values of the words, which fit the line: those behind the first word.
+/// The values of the words, which fit the line: the words behind the first one.
 pub fn values_of<'a>(
     alloc: Global,
     line: &Line<'a>,
@@ -37,7 +37,7 @@ pub fn values_of<'a>(
     }
 }
 
-// The line's command: behind its name come as many values as the line has.
+// The line's command: its name, and behind it as many values as the line has.
 fn command<'a>(alloc: Global, line: &Line<'a>) -> Result<Command<'a>, AllocError>
     ensures { IfOk result (λ c. app_of c ≡ values_app line.now.name.now (length line.now.values.now)) }
 {

@@ -40,7 +40,7 @@ pub enum CommandName {
     Recall,
 }
 
-/// The command with these values: `None` where a value is missing, of another kind or too much.
+/// The command with these values: `None` if a value is missing, of another kind or too much.
 pub fn command_from(name: CommandName, values: &[ArgumentValue]) -> Option<PlantCmd>
     ensures { result ≡ command_from name values.now }
 {

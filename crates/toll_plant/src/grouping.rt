@@ -11,21 +11,22 @@ use toll_base::{Change, Row};
 use toll_desk::{PlantCmd, commit, plant_stage};
 use toll_keep::{Keep, KeepFault, PendingChanges};
 
-/// How many records of a file are done with one change of the keep, at most. A disk is waited for once for
-/// so many, and what is held back until then takes little memory.
+/// How many records of a file act with one change of the keep, at most. There is one wait for the disk for so
+/// many records, and the changes that are held back until then take little memory.
 pub const GROUP_RECORDS: usize = 500;
 
-/// Does a group of records of a file of actuals, one after another, and writes what came of them to `outcomes`,
-/// which is emptied first. What they change is held back, and made in the keep at the end by one call: all of
-/// it, or none.
+/// Does a group of records of a file of actuals, one after another, and writes their outcomes to `outcomes`,
+/// which is emptied first. Their changes are held back, and made in the keep at the end by one call: all of
+/// them, or none.
 ///
-/// After the first fault, whose outcome is the last one and which is returned, no record acts. Where there was
-/// no memory to decide a record, those before it stand. Where rows couldn't be read, or the keep did not make
-/// the changes, none of the group stands: then the first record that would have changed something is told as
-/// the one that met the fault, and those before it, which changed nothing, as they were.
+/// After the first fault, whose outcome is the last one and which is returned, no record acts. If there was
+/// no memory to decide a record, the changes of those before it are kept. If rows couldn't be read, or the
+/// keep did not make the changes, none of the group's changes are kept: the outcome of the first record that
+/// would have changed something is then the fault, and the records before it, which changed nothing, keep
+/// their outcomes.
 ///
-/// After [`KeepFault::Disk`] the keep is closed, and its store has, when it is opened again, the rows from
-/// before the group or those after all of it.
+/// After [`KeepFault::Disk`] the keep is closed. When its store is opened again, it has the rows from before
+/// the group or those after all of it.
 pub fn import_group<K: Keep>(
     alloc: Global,
     keep: &mut K,
@@ -45,22 +46,22 @@ pub fn import_group<K: Keep>(
     }
 }
 
-// What records have changed, which the keep does not have yet.
+// The changes of records, which the keep does not have yet.
 struct Held {
     changes: Vec<Change>,
-    // There was no memory for the last of them.
+    // The fault if there was no memory for the last of them.
     end: Result<(), KeepFault>,
 }
 
-/// By hand, since what is derived is written out at every exit of every function that owns one.
+/// By hand, since derived code is written out at every exit of every function that owns one.
 impl Drop for Held {
     fn drop(self) {
         let Held { changes: _, end: _ } = self;
     }
 }
 
-// Does the records over what the keep has, one after another, and holds back what they change. An `Err` is a
-// fault of reading rows, behind the outcomes that are told.
+// Does the records over the rows of the keep, one after another, and holds back their changes. An `Err` is a
+// fault of reading rows, after the outcomes that were written.
 fn hold_all<K: Keep>(
     alloc: Global,
     keep: &mut K,
@@ -97,7 +98,7 @@ fn hold_all<K: Keep>(
     })
 }
 
-// What comes of a record with this command.
+// The outcome of a record with this command.
 fn act<K: Keep>(
     alloc: Global,
     keep: &mut K,
@@ -134,7 +135,7 @@ fn make<K: Keep>(
     }
 }
 
-// Tells that nothing of the group was made, for this fault.
+// Records that nothing of the group was made, because of this fault.
 fn refuse(outcomes: &mut Vec<Outcome>, fault: KeepFault) -> Result<(), KeepFault>
     requires { length (before_accepted outcomes.old.items) < vec_capacity outcomes.old }
     ensures told { outcomes.new.items ≡ refused_at fault outcomes.old.items }

@@ -15,18 +15,18 @@ use std::marker::Model;
 use toll_desk::PlantCmd;
 use toll_keep::Keep;
 
-/// An import of a file of actuals, group by group. Between two groups the keep may serve others.
+/// An import of a file of actuals, group by group. Between two groups the keep may serve other clients.
 #[derive(Drop)]
 pub struct Import {
     commands: Vec<Option<PlantCmd>>,
-    // Where the next group begins. Behind a fault that is the end.
+    // The place of the next group's first record. After a fault that is the end.
     next: usize,
     lines: Vec<ImportLine>,
-    // Room for what comes of a group.
+    // Room for the outcomes of a group.
     outcomes: Vec<Outcome>,
 }
 
-/// The commands of the records that are left, and the lines of those that were come to.
+/// The commands of the records that are left, and the lines of those that were reached.
 impl Model for Import {
     ghost use Rattle.std.specs.Prelude.{drop};
     ghost use Rattle.toll_plant.specs.ImportStates.{ImportState, IsUnderWay};
@@ -40,7 +40,7 @@ impl Model for Import {
 
 impl Import {
     /// Reads all records of a file, as `csv` reads it: the header, and under it a record for each actual.
-    /// None has acted yet. All memory is taken that the lines of the records need.
+    /// None has acted yet. It takes all memory that the lines of the records need.
     ///
     /// A file of more than 1,048,576 bytes is [`ImportFault::TooLong`]. Any other whose first record isn't
     /// the header, or that has no record, is [`ImportFault::BadHeader`], if there is the memory to read it.
@@ -69,8 +69,8 @@ impl Import {
         self.next == self.commands.len()
     }
 
-    /// The next [`GROUP_RECORDS`] records act, or all that are left, as [`import_group`] says. Behind a fault
-    /// none is left. Where none is left, nothing is done.
+    /// The next [`GROUP_RECORDS`] records act, or all that are left, as [`import_group`] says. After a fault
+    /// none is left. If none is left, nothing is done.
     pub fn resume<K: Keep>(&mut self, alloc: Global, keep: &mut K)
         ensures { IsResumed K.meaning keep.old keep.new self.old self.new }
     {
@@ -88,7 +88,8 @@ impl Import {
         }
     }
 
-    /// The lines of the records that were come to: where the import is over, of all up to the first fault.
+    /// The lines of the records that were reached. If the import is over, these are all up to the first
+    /// fault.
     pub fn into_report(self) -> ImportReport
         ensures lines { result.lines.items ≡ self.lines }
         ensures numbered { AreNumbered 1 result.lines.items }

@@ -1,4 +1,4 @@
-//! Files of actuals are imported.
+//! Importing files of actuals.
 ghost use Rattle.std.specs.Prelude.{◌≡◌, IfOk, OnErr};
 ghost use Rattle.toll_keep.specs.Meaning.{NeverCloses};
 ghost use Rattle.toll_desk.specs.Reads.{Over};
@@ -17,20 +17,20 @@ pub const MOST_FILE_BYTES: usize = 1_048_576;
 /// Imports a file of actuals, as `csv` reads it: the header, and under it a record for each actual.
 ///
 /// All records are read before the first acts. Then each does the plant's command for an actual with its
-/// fields as values, one after another; a record that hasn't twelve fields gives no command, and asks
-/// nothing of the keep. After the first fault, whose line is the last one, no record acts.
+/// fields as values, one after another. A record that hasn't twelve fields gives no command, and doesn't use
+/// the keep. After the first fault, whose line is the last one, no record acts.
 ///
 /// The records act in groups of [`GROUP_RECORDS`](crate::GROUP_RECORDS), as
-/// [`import_group`](crate::import_group) says: what those of a group change is made in the keep by one call.
-/// Where that is refused, the first record of the group that would have changed something is the one with the
-/// fault, and what stands are the groups before.
+/// [`import_group`](crate::import_group) says: one call makes all changes of a group in the keep. If that is
+/// refused, the first record of the group that would have changed something has the fault, and only the
+/// changes of the groups before are kept.
 ///
-/// A key that is known acts no more: a file whose records were all accepted or repeated changes nothing
-/// when it is imported again.
+/// A record whose key is known doesn't act again. So a file whose records were all accepted or repeated
+/// changes nothing when it is imported again.
 ///
-/// A file of more than 1,048,576 bytes is [`ImportFault::TooLong`]. Any other whose first record isn't
-/// the header, or that has no record, is [`ImportFault::BadHeader`], if there is the memory to read it.
-/// After an `Err` nothing acted.
+/// A file of more than 1,048,576 bytes is [`ImportFault::TooLong`]. Any other whose first record isn't the
+/// header, or that has no record, is [`ImportFault::BadHeader`], if there is the memory to read it. After an
+/// `Err` nothing acted.
 pub fn import_actuals<K: Keep>(
     alloc: Global,
     keep: &mut K,

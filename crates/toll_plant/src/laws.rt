@@ -17,20 +17,20 @@ pub fn a_file_has_one_list_of_records()
     ensures { (file : Bytes) (records others : List Fields) → Reads file records → Reads file others → records ≡ others }
 {}
 
-/// Whatever files are imported, in whatever number, and whatever else is accepted between them: of an
-/// owner and a key at most one record is ever accepted, and none where a movement has the key before.
+/// Take any number of files that are imported, and any other commands that are accepted between them. Of an
+/// owner and a key at most one record is ever accepted, and none if a movement has the key before.
 pub fn a_key_is_imported_once()
     ensures { (old new : History) (imports : List Imported) (o key : Bytes) → IsLawful new → AreImports old imports new → ActsOnce o key old imports }
 {}
 
-/// Where each record of a file is an actual that is there, equal in all and not voided, each is repeated,
-/// up to a fault, and nothing changes.
+/// If each record of a file is an actual that is recorded, equal in all and not voided, each is repeated, up
+/// to a fault, and nothing changes.
 pub fn what_stands_is_repeated()
     ensures { (old : History) (records : List Fields) → IsLawful old → AllStand old records → AreRepeated old records }
 {}
 
-/// Where each record of a file was accepted or repeated, each is there afterwards: so it is repeated
-/// when the file is imported again.
+/// If each record of a file was accepted or repeated, each is recorded afterwards. So each is repeated when
+/// the file is imported again.
 pub fn what_was_imported_stands()
     ensures { (old new : History) (records : List Fields) → IsLawful new → StandOnceImported old new records }
 {}

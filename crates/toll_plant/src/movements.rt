@@ -1,4 +1,4 @@
-//! Movements of material. Each is `None` where the values aren't those of its command.
+//! Movements of material. Each is `None` if the values aren't those of its command.
 ghost use Rattle.std.specs.Prelude.{◌≡◌};
 ghost use Rattle.toll_plant.specs.Commands.{command_from};
 ghost use Rattle.toll_plant.specs.declared.command.CommandName.TheVariants as called;

@@ -1,4 +1,4 @@
-//! What comes of a record.
+//! The outcome of a record.
 ghost use Rattle.std.specs.Prelude.{◌≡◌};
 ghost use Rattle.toll_desk.specs.Translations.{plant_told};
 ghost use Rattle.toll_plant.specs.Outcomes.{is_accepted, is_fault, outcome_of};
@@ -8,7 +8,7 @@ use toll_base::Refusal;
 use toll_desk::PlantReply;
 use toll_keep::KeepFault;
 
-/// What comes of a record of a file of actuals.
+/// The outcome of a record of a file of actuals.
 #[derive(Clone, Copy, PartialEq, Eq)]
 pub enum Outcome {
     Accepted,
@@ -21,8 +21,8 @@ pub enum Outcome {
 }
 
 impl Outcome {
-    /// What comes of an actual that is answered so. None is answered with a text: were one, the rows
-    /// could not be trusted.
+    /// The outcome of an actual with this answer. No actual is answered with a text: such an answer would
+    /// mean that the rows can't be trusted.
     pub(crate) fn of(reply: PlantReply) -> Self
         ensures { result ≡ outcome_of (plant_told reply) }
     {

@@ -1,4 +1,4 @@
-//! What is shown of an import.
+//! Printing an import.
 ghost use Rattle.std.specs.Prelude.{◌≡◌, ◌++◌, IfOk, OnOk};
 ghost use Rattle.toll_plant.specs.ImportTexts as spec;
 

@@ -1,4 +1,4 @@
-//! Questions of the plant. Each is `None` where the values aren't those of its command.
+//! Questions of the plant. Each is `None` if the values aren't those of its command.
 ghost use Rattle.std.specs.Prelude.{◌≡◌};
 ghost use Rattle.toll_plant.specs.Commands.{command_from};
 ghost use Rattle.toll_plant.specs.declared.command.CommandName.TheVariants as called;
@@ -14,7 +14,7 @@ pub fn orders(values: &[ArgumentValue]) -> Option<PlantCmd>
     from_values!(values => Orders { owner: Name })
 }
 
-/// What an owner has in stock.
+/// The stock of an owner.
 pub fn stock(values: &[ArgumentValue]) -> Option<PlantCmd>
     ensures { result ≡ command_from called.Stock values.now }
 {

@@ -8,8 +8,8 @@ ghost use Rattle.toll_plant.specs.ImportFaults.{IsOfReader};
 use csv::{ByteRecord, Error, ErrorKind, ReaderBuilder};
 use std::alloc::{AllocError, Global};
 
-/// Every record of the file, however many fields each has: `csv` refuses none. The reader of bytes in
-/// memory fails for want of memory alone.
+/// Every record of the file, with any number of fields: `csv` refuses none. The reader of bytes in memory
+/// fails only if there is no memory.
 pub fn records(alloc: Global, file: &[u8]) -> Result<Vec<ByteRecord>, AllocError>
     ensures { IfOk result (λ records. Reads file.now (map fields_of records.items)) }
 {

@@ -1,13 +1,13 @@
-//! What came of a file of actuals.
+//! The outcomes of a file of actuals.
 use crate::outcome::Outcome;
 
-/// What came of each record of a file, in order, up to the first fault.
+/// The outcome of each record of a file, in order, up to the first fault.
 #[derive(Drop)]
 pub struct ImportReport {
     pub lines: Vec<ImportLine>,
 }
 
-/// What came of a record.
+/// The outcome of a record.
 #[derive(Clone, Copy)]
 pub struct ImportLine {
     /// The record's number: from 1 for the first one under the header.

@@ -1,4 +1,4 @@
-//! How many records came to what.
+//! How many records have which outcome.
 ghost use Rattle.std.specs.Prelude.{◌≡◌, count_by};
 ghost use Rattle.toll_plant.specs.ImportTexts.{is_bad, is_refused, is_repeated};
 ghost use Rattle.toll_plant.specs.Outcomes.{is_accepted, is_fault};
@@ -7,7 +7,7 @@ use crate::outcome::Outcome;
 use crate::report::ImportLine;
 use std::fmt;
 
-// How many of the lines tell such an outcome.
+// How many of the lines have such an outcome.
 macro_rules! count {
     ($lines:expr, $outcome:pat) => {
         $lines
@@ -17,7 +17,7 @@ macro_rules! count {
     };
 }
 
-/// How many of some lines tell each outcome.
+/// How many of some lines have each outcome.
 #[derive(Clone, Copy)]
 pub struct Sums {
     pub accepted: usize,

@@ -1,11 +1,11 @@
-//! What was used or made.
+//! Material that was used or made.
 ghost use Rattle.std.specs.Prelude.{◌≡◌};
 ghost use Rattle.toll_plant.specs.Commands.{taken_from};
 
 use crate::argument::{ArgumentValue, from_values};
 use toll_base::{Amount, Day, LotId, Name, Role};
 
-/// What was used or made in a segment of a batch, and when.
+/// Material that was used or made in a segment of a batch, and when.
 #[derive(Clone, Copy)]
 pub struct Taken {
     pub role: Role,
@@ -17,7 +17,7 @@ pub struct Taken {
 }
 
 impl Taken {
-    /// What these values say: `None` where one is missing, of another kind or too much.
+    /// The use or making that these values say: `None` if one is missing, of another kind or too much.
     pub fn from_values(values: &[ArgumentValue]) -> Option<Self>
         ensures { result ≡ taken_from values.now }
     {

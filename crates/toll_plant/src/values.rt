@@ -17,7 +17,7 @@ use toll_desk::PlantCmd;
 pub enum Unread {
     /// There was no memory.
     Memory,
-    /// The first value that can't be read is refused so.
+    /// The first value that can't be read has this refusal.
     Refused(Refusal),
 }
 

@@ -16,14 +16,13 @@ use crate::values::read;
 use std::alloc::{AllocError, Global};
 use toll_desk::PlantCmd;
 
-/// The command that these words ask for: [`PlantCmd::Unread`] with the refusal of the first value,
-/// from left to right, that can't be read. Where all were read and the low limit of a test is above
-/// the high one, it is [`PlantCmd::Unread`] with [`Refusal::BadAmount`](toll_base::Refusal).
+/// The command that these words ask for: [`PlantCmd::Unread`] with the refusal of the first value, from left
+/// to right, that can't be read. If all were read and the low limit of a test is above the high one, it is
+/// [`PlantCmd::Unread`] with [`Refusal::BadAmount`](toll_base::Refusal).
 ///
-/// Words that are a command's name and as many words as it has values are never
-/// [`WordsFault::Usage`], if none of these is empty, begins with `-` or is `help`. All other words
-/// give no command. The text of Usage tells how the command is written that the first word names, or, where
-/// it names none, how all are.
+/// Words that are a command's name and as many words as it has values are never [`WordsFault::Usage`], if
+/// none of these is empty, begins with `-` or is `help`. All other words give no command. The text of Usage
+/// shows how the command is written that the first word names, or, if it names none, how all are written.
 pub fn command_of(alloc: Global, words: &[&str]) -> Result<PlantCmd, WordsFault>
     ensures command { IfOk result (λ command. command_of_words (map (λ w. w.now) words.entry.now) ≡ Some command) }
     ensures usage { IfErr result (IsUsageOnlyOf (map (λ w. w.now) words.entry.now)) }
@@ -39,7 +38,7 @@ pub fn command_of(alloc: Global, words: &[&str]) -> Result<PlantCmd, WordsFault>
     }
 }
 
-// How the command is written that the first word names, or how all are.
+// How the command is written that the first word names, or how all are written.
 fn usage_of(alloc: Global, lines: &[Line<'_>], words: &[&str]) -> WordsFault
     ensures { IsUsageOf (map shown lines.now) (map (λ w. w.now) words.now) result }
 {
