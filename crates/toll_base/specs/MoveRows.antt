@@ -5,6 +5,7 @@ use Rattle.std.specs.Option.{option_map_or}
 use Rattle.std.specs.declared.cmp.Ordering.{Ordering}
 use Rattle.std.specs.declared.cmp.Ordering.TheVariants.{Less}
 use Rattle.toll_base.specs.Bytes.{Bytes, bytes_cmp}
+use Rattle.toll_base.specs.Places.{HasKeyAt, IsPlaceFor}
 use Rattle.toll_base.specs.Table.{IsInKeyOrder}
 use Rattle.toll_base.specs.declared.movement.MoveRow.{MoveRow}
 
@@ -21,6 +22,14 @@ pub record ArePlacesOf (rows : List MoveRow) (places : List ℕ) : Type 0 where
   pub have : HaveRows rows places
   pub all : length places ≡ length rows
   pub ordered : IsInKeyOrder bytes_cmp (λ row. row.key) (rows_at rows places)
+
+-- the row at this one of the places has the key
+abbrev pub HasPlacedKey : List MoveRow → List ℕ → Bytes → ℕ → Type 0
+HasPlacedKey rows places key = HasKeyAt bytes_cmp (λ row. row.key) (rows_at rows places) key
+
+-- the key would go here among the places
+abbrev pub IsPlaceAmong : List MoveRow → List ℕ → Bytes → ℕ → Type 0
+IsPlaceAmong rows places key = IsPlaceFor bytes_cmp (λ row. row.key) (rows_at rows places) key
 
 -- how the key of the row at a place compares with this one
 abbrev pub place_cmp : List MoveRow → Bytes → ℕ → Ordering

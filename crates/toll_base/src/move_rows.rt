@@ -3,8 +3,7 @@ ghost use Rattle.std.specs.Prelude.{◌≡◌, ◌<◌, ◌≤◌, length, slice
 ghost use Rattle.std.specs.List.Sorted.{IsSearchInRange};
 ghost use Rattle.std.specs.Map.Iter.{ShowsInOrder, deref};
 ghost use Rattle.toll_base.specs.Bytes.{bytes_cmp};
-ghost use Rattle.toll_base.specs.MoveRows.{ArePlacesOf, rows_at, place_cmp};
-ghost use Rattle.toll_base.specs.Places.{HasKeyAt, IsPlaceFor};
+ghost use Rattle.toll_base.specs.MoveRows.{ArePlacesOf, HasPlacedKey, IsPlaceAmong, place_cmp};
 ghost use Rattle.toll_base.specs.Table.{row_at, put_row, has_room, IsInKeyOrder};
 ghost use Rattle.toll_base.specs.declared.movement.MoveRow.{MoveRow as Moved};
 
@@ -132,7 +131,7 @@ impl MoveRows {
 fn search(rows: &[MoveRow], places: &[u32], key: &Name) -> Result<usize, usize>
     requires { ArePlacesOf rows.now places.now }
     ensures bound { IsSearchInRange result (length places.now) }
-    ensures place { MatchResult result (HasKeyAt bytes_cmp (λ row. row.key) (rows_at rows.now places.now) key.now) (IsPlaceFor bytes_cmp (λ row. row.key) (rows_at rows.now places.now) key.now) }
+    ensures place { MatchResult result (HasPlacedKey rows.now places.now key.now) (IsPlaceAmong rows.now places.now key.now) }
 {
     if let Some(last) = places.last() {
         if compare_at(rows, key, *last).is_lt() {

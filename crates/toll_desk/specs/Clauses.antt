@@ -12,10 +12,12 @@ use Rattle.toll_history.specs.Work.{order_of}
 use Rattle.toll_desk.specs.Translations.{is_accepted, may_change, plant_told, told_of}
 use Rattle.toll_desk.specs.Outcome.{IsDone}
 use Rattle.toll_desk.specs.Plans.{Disposes, IsOwnDecision, IsPlan, IsPlanFor, IsPlanOver, IsPlantDecision, LeadsTo}
-use Rattle.toll_desk.specs.Questions.{AreSlicesFor, is_known_lot}
+use Rattle.toll_desk.specs.Forms.{asked_to_trace}
+use Rattle.toll_desk.specs.Questions.{AreSlicesFor, is_known_lot, may_trace}
 use Rattle.toll_desk.specs.Reads.{Over}
 use Rattle.toll_desk.specs.Subjects.{IsCommandSuchThat}
 use Rattle.toll_desk.specs.declared.plant_cmd.PlantPlan.{PlantPlan}
+use Rattle.toll_desk.specs.declared.form.TraceRequest.{TraceRequest}
 use Rattle.toll_desk.specs.declared.request.Planned.{Planned}
 use Rattle.toll_desk.specs.declared.request.Reply.{Reply}
 
@@ -155,3 +157,7 @@ IsFoundBy c o key result = (H : History) → StandsFor c H → IfOk result (λ f
 -- where it is told, it is the answer to the owner
 abbrev pub IsToldAs : History → (o : Bytes) → OwnerRequest → Result OwnerReply KeepFault → Type 0
 IsToldAs H o q told = IfOk told (IsAnswer o H q)
+
+-- where the owner may ask for this trace, it is told
+abbrev pub IsTraceTold : History → (o : Bytes) → TraceRequest → Result OwnerReply KeepFault → Type 0
+IsTraceTold H o tracing told = may_trace H o tracing ≡ true → IsToldAs H o (asked_to_trace tracing) told

@@ -4,7 +4,7 @@ ghost use Rattle.toll_history.specs.History.{History};
 ghost use Rattle.toll_history.specs.Tables.{IsRowsOf};
 ghost use Rattle.toll_history.specs.Verdict.{IsLawful};
 ghost use Rattle.toll_keep.specs.Goes.{IsReading};
-ghost use Rattle.toll_desk.specs.Clauses.{IsToldAs, OverKnown, OverOwner};
+ghost use Rattle.toll_desk.specs.Clauses.{IsToldAs, IsTraceTold, OverKnown, OverOwner};
 ghost use Rattle.toll_desk.specs.Forms.{asked_to_trace, traced_from, traced_way};
 ghost use Rattle.toll_desk.specs.Translations.{told_of};
 ghost use Rattle.toll_desk.specs.Questions.{may_trace};
@@ -43,7 +43,7 @@ pub fn trace_own<K: Keep>(
 // The same for a lot that the owner may trace.
 fn trace_known<K: Keep>(alloc: Global, keep: &mut K, owner: &Name, tracing: &TraceRequest) -> Reply
     ensures reads { IsReading K.meaning keep.old keep.new (told_of result) }
-    ensures over { OverKnown K.meaning keep.old keep.new owner.now (λ c H. may_trace H owner.now tracing.now ≡ true → IsToldAs H owner.now (asked_to_trace tracing.now) (told_of result)) }
+    ensures over { OverKnown K.meaning keep.old keep.new owner.now (λ c H. IsTraceTold H owner.now tracing.now (told_of result)) }
 {
     let lot = traced_from(owner, tracing);
     match keep.trace(alloc, &[*owner], &lot, traced_way(tracing)) {

@@ -1,11 +1,12 @@
 -- Graphs of owners that are remembered, and which changes leave them as they are.
-use Rattle.std.specs.Prelude.{◌≡◌, Bool, true, false, not, ◌&&◌, ◌||◌, is_some, List, Contains}
+use Rattle.std.specs.Prelude.{◌≡◌, Bool, true, false, not, ◌&&◌, ◌||◌, is_some, List, Contains, filter, map}
 use Rattle.toll_keep.specs.Common.{list_any, Bytes, same_bytes, Slice, Change, Put, IsEdge}
 use Rattle.toll_base.specs.Slice.{move_at}
 use Rattle.toll_base.specs.declared.movement.Move.{Move}
 use Rattle.toll_base.specs.declared.movement.Move.TheVariants.{Actual}
 use Rattle.toll_base.specs.declared.rows.Row.TheVariants as row
 use Rattle.toll_trace.specs.Graph.{IsGraph}
+use Rattle.toll_trace.specs.declared.graph.Graph.{Graph}
 use Rattle.toll_keep.specs.Content.{Content}
 use Rattle.toll_keep.specs.Slices.{is_of}
 use Rattle.toll_keep.specs.declared.known_graph.KnownGraph.{KnownGraph}
@@ -21,6 +22,14 @@ AreGraphsOf c graphs = (known : KnownGraph) → Contains graphs known → IsKnow
 -- one of the graphs is the owner's
 abbrev pub HasGraph : List KnownGraph → Bytes → Type 0
 HasGraph graphs o = (known : KnownGraph) × Contains graphs known × (known.owner ≡ o)
+
+-- each of these owners has one of the graphs
+abbrev pub HaveGraphs : List KnownGraph → List Bytes → Type 0
+HaveGraphs graphs owners = (o : Bytes) → Contains owners o → HasGraph graphs o
+
+-- those of the graphs that are of these owners
+abbrev pub graphs_among : List KnownGraph → List Bytes → List Graph
+graphs_among graphs owners = map (λ known. known.graph) (filter (λ known. list_any (same_bytes known.owner) owners) graphs)
 
 -- ---- changes
 

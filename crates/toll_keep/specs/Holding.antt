@@ -1,12 +1,14 @@
 -- The batch that holds a unit, and the edges of all owners, as a content has them.
-use Rattle.std.specs.Prelude.{◌≡◌, ◌⊎◌, ℕ, Bool, true, not, ◌&&◌, Option, Some, None, List, Contains, All, Any, Result, Vec, IfOk}
+use Rattle.std.specs.Prelude.{◌≡◌, ◌↔◌, ◌⊎◌, ℕ, Bool, true, not, ◌&&◌, Option, Some, None, List, Contains, All, Any, Result, Vec, IfOk}
 use Rattle.toll_keep.specs.Common.{Global, Bytes, same_bytes, Slice, batch_at, AreEdges, IsEdge}
 use Rattle.toll_base.specs.Words.{is_some_where, none_or}
 use Rattle.toll_base.specs.declared.lot.Edge.{Edge}
 use Rattle.toll_base.specs.declared.lot.LotId.{LotId}
 use Rattle.toll_base.specs.declared.rows.BatchRow.{BatchRow}
 use Rattle.toll_trace.specs.Chain.{edge_of}
+use Rattle.toll_trace.specs.Recorded.{Draws}
 use Rattle.toll_trace.specs.Trace.{IsTrace}
+use Rattle.toll_trace.specs.declared.recorded.Recorded.{Recorded}
 use Rattle.toll_trace.specs.declared.step.Step.{Step}
 use Rattle.toll_trace.specs.declared.way.Way.{Way}
 use Rattle.toll_keep.specs.Content.{Content}
@@ -60,6 +62,14 @@ pub record IsEdgeOfOne (c : Content) (owners : List Bytes) (e : Edge) : Type 0 w
   pub owner : Bytes
   pub named : Contains owners owner
   pub edge : IsEdge (c.rows owner) e
+
+-- what is recorded draws the edges of these owners and no others
+abbrev pub DrawsFor : Content → List Bytes → Recorded → Type 0
+DrawsFor c owners recorded = (e : Edge) → Draws recorded e ↔ IsEdgeOfOne c owners e
+
+-- where rows are told, they are the owner's
+abbrev pub TellsRows : {E : Type 0} → Content → Bytes → Result Slice E → Type 0
+TellsRows c o told = IfOk told (λ slice. slice ≡ c.rows o)
 
 -- where steps are told, they are the trace from the lot over the edges of these owners
 abbrev pub TellsTrace : {E : Type 0} → Content → List Bytes → LotId → Way → Result (Vec Step Global) E → Type 0

@@ -3,7 +3,7 @@ ghost use Rattle.std.specs.Prelude.{◌≡◌, ◌↔◌, ◌⊎◌, [], ◌∷�
 ghost use Rattle.toll_keep.specs.Common.{AreEdges, IsEdge};
 ghost use Rattle.toll_keep.specs.Content.{nothing, knows, slice_of, after};
 ghost use Rattle.toll_keep.specs.Goes.{IsAmong};
-ghost use Rattle.toll_keep.specs.Holding.{IsEdgeOfOne, IsEdgeOfSome, TellsTrace};
+ghost use Rattle.toll_keep.specs.Holding.{DrawsFor, IsEdgeOfSome, TellsTrace};
 ghost use Rattle.toll_base.specs.declared.lot.Edge.{Edge};
 ghost use Rattle.toll_trace.specs.Recorded.{Draws};
 ghost use Rattle.toll_keep.specs.Slices.{content_of, rows_in};
@@ -93,7 +93,7 @@ impl MemKeep {
     }
 
     fn recorded_by(&self, alloc: Global, owners: &[Name]) -> Result<Recorded, AllocError>
-        ensures { IfOk result (λ all. (e : Edge) → Draws all e ↔ IsEdgeOfOne (content_of self.now) owners.now e) }
+        ensures { IfOk result (DrawsFor (content_of self.now) owners.now) }
     {
         let mut recorded = Recorded::new(alloc);
         for owner in owners {

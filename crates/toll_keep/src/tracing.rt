@@ -1,10 +1,10 @@
 //! Traces over remembered graphs, or over graphs of slices that are read.
-ghost use Rattle.std.specs.Prelude.{◌≡◌, [], ◌∷◌, ◌++◌, map, filter, IfOk, OnErr, OnOk, Contains};
+ghost use Rattle.std.specs.Prelude.{◌≡◌, [], ◌∷◌, ◌++◌, map, IfOk, OnErr, OnOk};
 ghost use Rattle.std.specs.List.{list_any};
 ghost use Rattle.toll_base.specs.Bytes.{Bytes, same_bytes};
 ghost use Rattle.toll_keep.specs.Content.{Content};
 ghost use Rattle.toll_keep.specs.Goes.{IsReading};
-ghost use Rattle.toll_keep.specs.Graphs.{AreGraphsOf, HasGraph, IsKnownGraph};
+ghost use Rattle.toll_keep.specs.Graphs.{AreGraphsOf, HasGraph, HaveGraphs, IsKnownGraph, graphs_among};
 ghost use Rattle.toll_keep.specs.Holding.{TellsTrace};
 ghost use Rattle.toll_keep.specs.Meaning.{OverHeld};
 ghost use Rattle.toll_keep.specs.Reads.{HaveRead, IsKept};
@@ -82,7 +82,7 @@ fn trace_known(
     from: &LotId,
     way: Way,
 ) -> Result<Vec<Step>, AllocError>
-    ensures { (c : Content) → AreGraphsOf c graphs.now → ((o : Bytes) → Contains owners.now o → HasGraph graphs.now o) → TellsTrace c owners.now from.now way result }
+    ensures { (c : Content) → AreGraphsOf c graphs.now → HaveGraphs graphs.now owners.now → TellsTrace c owners.now from.now way result }
 {
     let chosen = chosen(alloc, graphs, owners)?;
     trace_among(alloc, &chosen, from, way)
@@ -94,7 +94,7 @@ fn chosen<'a>(
     graphs: &'a [KnownGraph],
     owners: &[Name],
 ) -> Result<Vec<&'a Graph>, AllocError>
-    ensures { IfOk result (λ chosen. map (λ graph. graph.now) chosen.items ≡ map (λ known. known.graph) (filter (λ known. list_any (same_bytes known.owner) owners.now) graphs.now)) }
+    ensures { IfOk result (λ chosen. map (λ graph. graph.now) chosen.items ≡ graphs_among graphs.now owners.now) }
 {
     let mut chosen = Vec::new(alloc);
     for known in graphs {
@@ -124,7 +124,7 @@ fn learn_all<K: Keep>(
     ensures reads { (first : K) → HaveRead K.meaning first keep.old → IsReading K.meaning first keep.new result }
     ensures kept { IsKept K.meaning keep.old keep.new }
     ensures own { OverHeld K.meaning keep.old keep.new (λ c. IfOf c slices.now (AreGraphsOf c graphs.old.items → AreGraphsOf c graphs.new.items)) }
-    ensures there { OnOk result ((o : Bytes) → Contains owners.now o → HasGraph graphs.new.items o) }
+    ensures there { OnOk result (HaveGraphs graphs.new.items owners.now) }
 {
     for owner in owners {
         learn(alloc, keep, slices, graphs, owner)?;

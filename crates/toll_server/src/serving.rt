@@ -39,7 +39,8 @@ pub fn serve<W: Network, O: Service>(
 ) -> ServingEnd
     ensures run { IsWholeRun O.answers O.resumes service.old service.new (result ≡ ServingEnd.All) }
     ensures in_turn { IsServedInTurn O.Party.eq O.is_by O.answers O.resumes service.old service.new }
-    ensures rounds { Tallies (IsServedInRounds O.Party.eq O.is_by O.answers O.resumes W.Stream.Source.unread service.old service.new) (W.tally network.old) (W.tally network.new) }
+    ensures rounds { Tallies (IsServedInRounds O.Party.eq O.is_by O.answers O.resumes W.Stream.Source.unread service.old service.new)
+        (W.tally network.old) (W.tally network.new) }
     ensures end { Tallies (EndsSo result count) (W.tally network.old) (W.tally network.new) }
 {
     let mut connections = Connections::new(alloc, count);
@@ -66,7 +67,8 @@ fn wait_and_advance<W: Network, O: Service>(
     connections: &mut Connections<W::Stream, O::Task, O::Party>,
 ) -> Result<u64, NetworkFault>
     requires { connections.old.moment + MOST_READY < 2 ^ 128 }
-    ensures waited { IfOk result (λ now. HasWaited O.Party.eq O.is_by W.Stream.Source W.Stream.Sink now connections.old connections.new (W.tally network.old) (W.tally network.new)) }
+    ensures waited { IfOk result (λ now. HasWaited O.Party.eq O.is_by W.Stream.Source W.Stream.Sink now connections.old connections.new
+        (W.tally network.old) (W.tally network.new)) }
     ensures fails { OnErr result (Tallies BreaksDown (W.tally network.old) (W.tally network.new)) }
     ensures tasks { KeepsTasks connections.old.slots connections.new.slots }
     ensures moment { connections.new.moment ≤ connections.old.moment + MOST_READY }

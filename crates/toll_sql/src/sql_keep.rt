@@ -1,15 +1,13 @@
 //! The keep over SQLite.
-ghost use Rattle.std.specs.Prelude.{◌≡◌, ◌≢◌, ◌↔◌, Err, true, false, None, List, IfOk, IsTrue, OnOk};
+ghost use Rattle.std.specs.Prelude.{◌≡◌, ◌≢◌, Err, true, false, None, List, IfOk, IsTrue, OnOk};
 ghost use Rattle.sqlite.specs.Held.{state};
 ghost use Rattle.sqlite.specs.State.{HasCleanDisk};
 ghost use Rattle.toll_base.specs.Bytes.{Bytes};
-ghost use Rattle.toll_base.specs.declared.lot.Edge.{Edge};
-ghost use Rattle.toll_trace.specs.Recorded.{Draws};
 ghost use Rattle.toll_keep.specs.Content.{Content};
 ghost use Rattle.toll_keep.specs.Goes.{closes, IsReading};
-ghost use Rattle.toll_keep.specs.Holding.{IsEdgeOfOne, TellsTrace};
+ghost use Rattle.toll_keep.specs.Holding.{DrawsFor, TellsRows, TellsTrace};
 ghost use Rattle.toll_keep.specs.Meaning.{OverHeld};
-ghost use Rattle.toll_keep.specs.Reads.{HaveRead, IsKept};
+ghost use Rattle.toll_keep.specs.Reads.{IsKept, ReadsOn};
 ghost use Rattle.toll_sql.specs.Asking.{IsAskedBehind};
 ghost use Rattle.toll_sql.specs.Meant.{means};
 
@@ -95,7 +93,7 @@ impl<S: Alter> SqlKeep<S> {
     // All rows of the owner, whether it is known or not.
     fn rows_of(&mut self, alloc: Global, owner: &Name) -> Result<Slice, KeepFault>
         ensures reading { IsReading (means (λ k. state S.Store k.conn) (λ k. k.closed) (λ k. k.unsure)) self.old self.new result }
-        ensures reads { OverHeld (means (λ k. state S.Store k.conn) (λ k. k.closed) (λ k. k.unsure)) self.old self.new (λ c. IfOk result (λ slice. slice ≡ c.rows owner.now)) }
+        ensures reads { OverHeld (means (λ k. state S.Store k.conn) (λ k. k.closed) (λ k. k.unsure)) self.old self.new (λ c. TellsRows c owner.now result) }
     {
         match self.begin() {
             Ok(()) => {
@@ -108,9 +106,9 @@ impl<S: Alter> SqlKeep<S> {
 
     // The lots that the batches of these owners consumed and produced.
     fn recorded(&mut self, alloc: Global, owners: &[Name]) -> Result<Recorded, KeepFault>
-        ensures reads { (first : _) → HaveRead (means (λ k. state S.Store k.conn) (λ k. k.closed) (λ k. k.unsure)) first self.old → IsReading (means (λ k. state S.Store k.conn) (λ k. k.closed) (λ k. k.unsure)) first self.new result }
+        ensures reads { ReadsOn (means (λ k. state S.Store k.conn) (λ k. k.closed) (λ k. k.unsure)) self.old self.new result }
         ensures kept { IsKept (means (λ k. state S.Store k.conn) (λ k. k.closed) (λ k. k.unsure)) self.old self.new }
-        ensures told { OverHeld (means (λ k. state S.Store k.conn) (λ k. k.closed) (λ k. k.unsure)) self.old self.new (λ c. IfOk result (λ all. (e : Edge) → Draws all e ↔ IsEdgeOfOne c owners.now e)) }
+        ensures told { OverHeld (means (λ k. state S.Store k.conn) (λ k. k.closed) (λ k. k.unsure)) self.old self.new (λ c. IfOk result (DrawsFor c owners.now)) }
     {
         let mut recorded = Recorded::new(alloc);
         for owner in owners {
@@ -128,7 +126,7 @@ fn trace_recorded(
     from: &LotId,
     way: Way,
 ) -> Result<Vec<Step>, AllocError>
-    ensures { (c : Content) (owners : List Bytes) → ((e : Edge) → Draws recorded e ↔ IsEdgeOfOne c owners e) → TellsTrace c owners from.now way result }
+    ensures { (c : Content) (owners : List Bytes) → DrawsFor c owners recorded → TellsTrace c owners from.now way result }
 {
     Graph::of_recorded(alloc, recorded)?.trace(alloc, from, way)
 }
