@@ -73,6 +73,10 @@ moment_after Answered moment = moment
 moment_after Failed moment = moment
 
 module _ {S T P : Type 0} where
+  -- what it asked, or the task that was left, was handed over
+  abbrev pub handed_over : Connection S T P → Connection S T P
+  handed_over old = record { stream = old.stream; request = old.request; state = Reading; deadline = old.deadline }
+
   -- it waits for a turn of the service, with what it asked
   abbrev pub waiting_of : Connection S T P → Option (Waiting P)
   waiting_of connection = option_map (waiting_with connection.request) (ticket_of connection.state)

@@ -2,7 +2,7 @@
 ghost use Rattle.std.specs.Prelude.{◌≡◌, ◌≢◌, [], None, Some, IfNone, IfOk, IfSome, IsSome};
 ghost use Rattle.toll_server.specs.RequestBuffers.{bytes_received, listener_of};
 ghost use Rattle.toll_server.specs.ConnectionStates.{last_poll, reply_of, task_of, ticket_after, ticket_of};
-ghost use Rattle.toll_server.specs.Steps.{Advances, Asks, JoinsAs, Writes, deadline_after, deadline_from};
+ghost use Rattle.toll_server.specs.Steps.{Advances, Asks, JoinsAs, Writes, deadline_after, deadline_from, handed_over};
 ghost use Rattle.toll_server.specs.declared.connection_state.ConnectionState.{ConnectionState};
 ghost use Rattle.toll_server.specs.declared.step_result.StepResult.{StepResult};
 
@@ -86,7 +86,7 @@ impl<S: Stream, T: Drop, P: Drop> Connection<S, T, P> {
     ) -> Option<Outcome<T, P>>
         ensures asks { IfSome result (λ o. Asks O.answers O.resumes self.old.state self.old.request o.poll service.old service.new) }
         ensures ticket { IfSome result (λ o. ticket_of self.old.state ≡ Some o.ticket) }
-        ensures taken { IfSome result (λ o. self.new ≡ record { stream = self.old.stream; request = self.old.request; state = ConnectionState.Reading; deadline = self.old.deadline }) }
+        ensures taken { IfSome result (λ o. self.new ≡ handed_over self.old) }
         ensures none { IfNone result ((ticket_of self.old.state ≡ None) × (self.new ≡ self.old) × (service.new ≡ service.old)) }
     {
         match mem::replace(&mut self.state, ConnectionState::Reading) {
