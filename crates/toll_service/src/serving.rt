@@ -2,6 +2,7 @@
 ghost use Rattle.std.specs.Prelude.{◌≡◌, IfOk, OnErr};
 ghost use Rattle.toll_server.specs.Networks.{EndsSo, Tallies};
 ghost use Rattle.toll_server.specs.Queues.{IsServedInTurn};
+ghost use Rattle.toll_server.specs.Rounds.{IsServedInRounds};
 ghost use Rattle.toll_service.specs.Parties.{IsBy};
 ghost use Rattle.toll_service.specs.Serving.{AnswersOver, HasServed, ResumesOver};
 
@@ -26,6 +27,9 @@ pub fn serve_keep<W: Network, K: Keep>(
 ) -> ServingEnd
     ensures in_turn { IsServedInTurn ⟦<Party as PartialEq>⟧.eq IsBy
         (AnswersOver K.meaning (λ service. service.keep)) (ResumesOver K.meaning (λ service. service.keep)) service.old service.new }
+    ensures rounds { Tallies (IsServedInRounds ⟦<Party as PartialEq>⟧.eq IsBy
+        (AnswersOver K.meaning (λ service. service.keep)) (ResumesOver K.meaning (λ service. service.keep))
+        W.Stream.Source.unread service.old service.new) (W.tally world.old) (W.tally world.new) }
     ensures served { HasServed K.meaning service.old.keep service.new.keep (result ≡ ServingEnd.All) }
     ensures end { Tallies (EndsSo result count) (W.tally world.old) (W.tally world.new) }
 {
