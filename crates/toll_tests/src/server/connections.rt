@@ -439,3 +439,18 @@ fn parties_have_turns_in_every_order_of_arrival(rt: HostRuntime) {
     }
     assert_eq!(rt; orders, 560);
 }
+
+// The clients of the first party have gone: it has its turns, and nothing is written to it.
+#[test]
+fn a_party_that_goes_while_it_waits_holds_up_no_other(rt: HostRuntime) {
+    let gone = Plan {
+        takes: Takes::Broken,
+        ..asked_by(0)
+    };
+    let coming = [gone, asked_by(1), gone, asked_by(2)];
+    let log = Log::new();
+    let outcome = outcome_of_crowd(rt.alloc(), 4, &coming, &[4], &log);
+    assert_eq!(rt; outcome, all_with(4, 6, 0));
+    assert_eq!(rt; log.turns.get(), 1231);
+    assert!(rt; !log.wrong.get());
+}
