@@ -1,6 +1,6 @@
 //! A command's connection to the server of a file.
 use crate::plant_listener::socket_path;
-use std::io::{Read, Write};
+use std::io::{ErrorKind, Read, Write};
 use std::os::unix::fs::{FileTypeExt, MetadataExt};
 use std::os::unix::net::UnixStream;
 use std::time::Duration;
@@ -66,8 +66,20 @@ fn connect(rt: &HostRuntime, office: &str) -> Option<UnixStream> {
 // Whether there is a socket file that belongs to the owner of the office's file. Without this check, any user
 // that may put files beside the office's file could receive the commands.
 fn is_of_its_owner(rt: &HostRuntime, office: &str, path: &str) -> bool {
-    match (fs::metadata(rt, office), fs::symlink_metadata(rt, path)) {
-        (Ok(file), Ok(socket)) => { socket.file_type().is_socket() && socket.uid() == file.uid() }
+    match (owner_of(rt, office), fs::symlink_metadata(rt, path)) {
+        (Ok(owner), Ok(socket)) => socket.file_type().is_socket() && socket.uid() == owner,
         _ => false,
+    }
+}
+
+// The user that owns the office's file. If there is no file, that is this process's user, who would make it.
+fn owner_of(rt: &HostRuntime, office: &str) -> io::Result<u32> {
+    match fs::metadata(rt, office) {
+        Ok(file) => Ok(file.uid()),
+        Err(fault) if fault.kind() == ErrorKind::NotFound => Ok(fs::metadata(
+            rt,
+            "/proc/self",
+        )?.uid()),
+        Err(fault) => Err(fault),
     }
 }
