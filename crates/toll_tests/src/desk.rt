@@ -3,6 +3,7 @@
 
 mod batches;
 mod genealogy;
+mod graphs;
 mod limits;
 pub(crate) mod lines;
 mod lots;

@@ -7,8 +7,9 @@ use crate::refusing::{Refused, Refusing};
 use crate::stories::check;
 use std::alloc::Global;
 use std::test::Fail;
-use toll_base::{Change, Disposition, LotRow, Name, Origin, Role, Row};
+use toll_base::{Change, Disposition, LotRow, Name, Origin, Role, Row, VoidRow};
 use toll_keep::{CachedKeep, Keep, KeepFault, MemKeep};
+use toll_trace::Way;
 
 fn filled(alloc: Global) -> Result<MemKeep, Fail> {
     let mut keep = MemKeep::new(alloc);
@@ -130,6 +131,37 @@ fn edges_come_from_a_remembered_slice(rt: HostRuntime) -> Result<(), Fail> {
         is_edge && remembered.as_slice() == told.as_slice(),
         "other edges are told",
     )
+}
+
+// Fails where the trace from IN over ACME's batches has not so many lots.
+fn check_traced<K: Keep>(alloc: Global, keep: &mut K, lots: usize) -> Result<(), Fail> {
+    let owners = [acme()?.owner];
+    let steps = keep.trace(alloc, &owners, &edge()?.from, Way::Forward)?;
+    check(steps.len() == lots, "another trace")
+}
+
+#[test]
+fn a_graph_is_remembered(rt: HostRuntime) -> Result<(), Fail> {
+    let alloc = rt.alloc();
+    let mut keep = CachedKeep::new(alloc, Counting::new(filled(alloc)?));
+    check_traced(alloc, &mut keep, 2)?;
+    check_traced(alloc, &mut keep, 2)?;
+    check(
+        keep.inside().read() == 2,
+        "not the owners and a slice, once",
+    )
+}
+
+#[test]
+fn a_graph_is_made_again_behind_a_void(rt: HostRuntime) -> Result<(), Fail> {
+    let alloc = rt.alloc();
+    let mut keep = CachedKeep::new(alloc, Counting::new(filled(alloc)?));
+    check_traced(alloc, &mut keep, 2)?;
+    let key = Name::parse(b"K1")?;
+    let void = Change::Put(acme()?.owner, Row::Void(VoidRow { key }));
+    keep.apply(alloc, &[void])?;
+    check_traced(alloc, &mut keep, 1)?;
+    check(keep.inside().read() == 3, "the slice is not read again")
 }
 
 #[test]
