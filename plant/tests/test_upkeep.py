@@ -120,6 +120,9 @@ def test_restore_stops_on_a_server(at_work):
         os.unlink(f"{at_work.db}.sock")
         assert server.ask("ACME", "GET", "/stock")[0] == 200
         done = at_work.run("restore", made)
+        assert done.status == 3 and "a server serves" in done.err
+        os.unlink(f"{at_work.db}.sock")
+        done = at_work.run("restore", made)
         assert done.status == 3 and "is open in process" in done.err
     assert at_work.content() == before
 
