@@ -9,6 +9,8 @@ PLACE = "/var/lib/toll/acme"
 OFFICE = f"{PLACE}/office.db"
 PORT = re.search(r"proxy_pass http://127\.0\.0\.1:(\d+)", (tree.PACKAGING / "nginx.conf").read_text())[1]
 AS_TOLL = "setpriv --reuid toll --regid toll --clear-groups"
+# The unit may listen at a port below 1024, and nothing else that its user may not.
+AS_UNIT = f"{AS_TOLL} --inh-caps +net_bind_service --ambient-caps +net_bind_service"
 TOLL = f"{AS_TOLL} toll --db {OFFICE}"
 
 COMPLETION = """
@@ -127,7 +129,7 @@ cp /usr/share/doc/toll/examples/nginx.conf /etc/nginx/sites-available/toll.conf
 ln -s ../sites-available/toll.conf /etc/nginx/sites-enabled/
 nginx -t
 nginx
-{TOLL} serve {PORT} 1000000 > /dev/null &
+{AS_UNIT} toll --db {OFFICE} serve {PORT} 1000000 > /dev/null &
 sleep 1
 resolved='--resolve toll.example.com:443:127.0.0.1'
 ask() {{ curl -sk $resolved -w ' %{{http_code}} %{{content_type}}\\n' "$@"; }}
