@@ -126,15 +126,26 @@ export class Genealogy {
     const { back, forward } = this.#traces;
     const shown = shownOf(back, forward, this.#shown);
     const hidden = hiddenOf(back, forward, this.#shown);
-    const focused = document.activeElement?.dataset?.key;
     await this.#page.fill(this.#sign, async () => {
       await this.#readNeighbours(shown, hidden, drawing.signal);
       if (drawing.signal.aborted) return;
+      const focused = this.#focused();
       this.#place.replaceChildren(this.#picture(shown, hidden));
       this.#drawTools(hidden);
       this.#showAsked();
-      if (focused) (this.element.querySelector(`[data-key="${CSS.escape(focused)}"]`) ?? this.#place).focus({ preventScroll: true });
+      if (focused && !focused.isConnected) this.#sameAs(focused).focus({ preventScroll: true });
     });
+  }
+
+  /** What has the focus in this part of the view. What has it elsewhere keeps it, whatever is drawn here. */
+  #focused() {
+    const { activeElement } = document;
+    return this.element.contains(activeElement) ? activeElement : null;
+  }
+
+  /** What does now what this did before the picture was drawn anew; the picture's place, where nothing does. */
+  #sameAs({ dataset: { key = "" } }) {
+    return this.element.querySelector(`[data-key="${CSS.escape(key)}"]`) ?? this.#place;
   }
 
   /** Brings the asked lot into sight, with those that it is joined to, where the picture is larger than its place. */

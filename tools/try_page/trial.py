@@ -1,4 +1,5 @@
 """What all situations share: the browser, the office that is served, and what was wrong."""
+import contextlib
 import csv
 import io
 import os
@@ -83,6 +84,20 @@ class Trial:
     def pictured(self):
         """The picture of a genealogy, as soon as it is drawn: its boxes and edges, and the marked lot."""
         return until(lambda: self.looks("pictured()"), "the genealogy is drawn")
+
+    @contextlib.contextmanager
+    def slow_traces(self, milliseconds=1500):
+        """Meanwhile the page asks for a trace so much later, and a picture is drawn after the rest of its view."""
+        self.browser.js("""const [rest, soon] = [arguments[0], window.fetch];
+            window.withoutRest = soon;
+            window.fetch = async (path, ...given) => {
+                if (path.startsWith("/trace/")) await new Promise(go => setTimeout(go, rest));
+                return soon(path, ...given);
+            };""", milliseconds)
+        try:
+            yield
+        finally:
+            self.browser.js("window.fetch = window.withoutRest ?? window.fetch")
 
     def check_sight(self, lot, *wanted):
         """Looks whether these boxes of the picture are in sight, without moving it."""
