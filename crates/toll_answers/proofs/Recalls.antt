@@ -3,7 +3,7 @@ use Rattle.std.proofs.Common.{◌≡◌, ℕ, zero, suc, ◌+◌, List, refl, sy
 use Rattle.std.specs.Prelude.{Contains}
 use Rattle.toll_answers.proofs.Common.{Bytes, house_name, History, acts, IsLawful, LotId, Way, Forward, Step, IsChain, IsTrace, Contains-from_map}
 use Rattle.toll_answers.specs.Edges.{IsOwnJoined, IsPlantJoined}
-use Rattle.toll_answers.specs.Joints.{IsJoint, AreJoints}
+use Rattle.toll_answers.specs.FromHouse.{IsChainFromHouse, AreChainedFromHouse}
 use Rattle.toll_answers.proofs.OwnEdges.{edge_end, edge_start, chain_append, own_is_plants, chain_within}
 
 -- ---- traces over two relations that agree at some lots
@@ -37,10 +37,10 @@ module _ (H : History) (lawful : IsLawful H) where
   -- ---- chains from a lot of HOUSE
 
   -- such a chain goes over HOUSE's edges, and then over those of its end's owner
-  pub joint : (a : LotId) (n : ℕ) (b : LotId) → a.owner ≡ house_name → IsChain (IsPlantJoined H Forward) a n b → IsJoint (acts house_name H) (acts b.owner H) a n b
-  joint a zero b at_house chain = record { in_house = 0; in_own = 0; through = a; steps = refl; first = refl; then_own = chain }
-  joint a (suc n) b at_house chain =
-      let before = joint a n chain.0 at_house chain.1 in
+  pub chain_from_house : (a : LotId) (n : ℕ) (b : LotId) → a.owner ≡ house_name → IsChain (IsPlantJoined H Forward) a n b → IsChainFromHouse (acts house_name H) (acts b.owner H) a n b
+  chain_from_house a zero b at_house chain = record { in_house = 0; in_own = 0; through = a; steps = refl; first = refl; then_own = chain }
+  chain_from_house a (suc n) b at_house chain =
+      let before = chain_from_house a n chain.0 at_house chain.1 in
       let edge = chain.2 in
       let by_end : edge.0 ≡ b.owner = sym (edge_end H edge.0 chain.0 b lawful edge.1) in
       let own_edge : IsOwnJoined (acts b.owner H) Forward chain.0 b = subst (λ w. IsOwnJoined (acts w H) Forward chain.0 b) by_end edge.1 in
@@ -63,20 +63,20 @@ module _ (H : History) (lawful : IsLawful H) where
         }
       ]
 
-  pub joint_is_chain : (o : Bytes) (a : LotId) (n : ℕ) (b : LotId) → IsJoint (acts house_name H) (acts o H) a n b → IsChain (IsPlantJoined H Forward) a n b
-  joint_is_chain o a n b j =
+  pub from_house_is_chain : (o : Bytes) (a : LotId) (n : ℕ) (b : LotId) → IsChainFromHouse (acts house_name H) (acts o H) a n b → IsChain (IsPlantJoined H Forward) a n b
+  from_house_is_chain o a n b j =
       subst (λ k. IsChain (IsPlantJoined H Forward) a k b) j.steps
       (chain_append (IsPlantJoined H Forward) a j.in_house j.through j.in_own b (own_is_plants H house_name Forward a j.in_house j.through j.first) (own_is_plants H o Forward j.through j.in_own b j.then_own))
 
   -- a forward trace from a lot of HOUSE, cut to an owner's lots
-  pub traces_are_joints : (o : Bytes) (a : LotId) → a.owner ≡ house_name → (trace : List Step) → IsTrace (IsPlantJoined H Forward) a trace → AreJoints (acts house_name H) (acts o H) o a trace
-  traces_are_joints o a at_house trace t = record {
-    only = λ s is end. subst (λ w. IsJoint (acts house_name H) (acts w H) a s.steps s.lot) end (joint a s.steps s.lot at_house (t.only s is));
-    fewest = λ s is end n j. t.fewest s is n (joint_is_chain o a n s.lot j);
-    every = λ b n end j. t.every b n (joint_is_chain o a n b j);
+  pub traces_from_house : (o : Bytes) (a : LotId) → a.owner ≡ house_name → (trace : List Step) → IsTrace (IsPlantJoined H Forward) a trace → AreChainedFromHouse (acts house_name H) (acts o H) o a trace
+  traces_from_house o a at_house trace t = record {
+    only = λ s is end. subst (λ w. IsChainFromHouse (acts house_name H) (acts w H) a s.steps s.lot) end (chain_from_house a s.steps s.lot at_house (t.only s is));
+    fewest = λ s is end n j. t.fewest s is n (from_house_is_chain o a n s.lot j);
+    every = λ b n end j. t.every b n (from_house_is_chain o a n b j);
   }
 
 -- where HOUSE did the same, and the owner too, the same chains lead from a lot of HOUSE to one of the owner's
 pub chains_agree : (G H : History) → IsLawful G → IsLawful H → (o : Bytes) → acts o G ≡ acts o H → acts house_name G ≡ acts house_name H → (a : LotId) (n : ℕ) (b : LotId) → a.owner ≡ house_name → b.owner ≡ o → IsChain (IsPlantJoined G Forward) a n b → IsChain (IsPlantJoined H Forward) a n b
 chains_agree G H lawful lawful' o own house a n b at_house end chain =
-    joint_is_chain H lawful' o a n b (subst (λ in_house. IsJoint in_house (acts o H) a n b) house (subst (λ in_own. IsJoint (acts house_name G) in_own a n b) own (subst (λ w. IsJoint (acts house_name G) (acts w G) a n b) end (joint G lawful a n b at_house chain))))
+    from_house_is_chain H lawful' o a n b (subst (λ in_house. IsChainFromHouse in_house (acts o H) a n b) house (subst (λ in_own. IsChainFromHouse (acts house_name G) in_own a n b) own (subst (λ w. IsChainFromHouse (acts house_name G) (acts w G) a n b) end (chain_from_house G lawful a n b at_house chain))))

@@ -2,7 +2,7 @@
 use Rattle.std.specs.Prelude.{◌≡◌, ◌↔◌, ◌⊎◌, true, is_some, List, map, Contains}
 use Rattle.toll_answers.specs.Common.{Bytes, house_name, Edge, LotId, History, acts, part, lot_row, IsTrace, Step, Way}
 use Rattle.toll_answers.specs.Edges.{IsOwnJoined, IsPlantJoined}
-use Rattle.toll_answers.specs.Joints.{AreJoints}
+use Rattle.toll_answers.specs.FromHouse.{AreChainedFromHouse}
 use Rattle.toll_answers.specs.Recall.{IsRecall}
 use Rattle.toll_answers.specs.declared.genealogy.recall.RecallLine.{RecallLine}
 
@@ -28,8 +28,8 @@ TracesAgree H o way from =
     (s : Step) → s.lot.owner ≡ o → Contains plants s ↔ Contains own s
 
 -- the recall has, of the owner's lots, those that HOUSE's edges and then the owner's reach
-abbrev pub IsRecallOfJoints : History → (o : Bytes) → LotId → Type 0
-IsRecallOfJoints H o lot = (lines : List RecallLine) → IsRecall H lot lines → AreJoints (acts house_name H) (acts o H) o lot (map (λ line. line.step) lines)
+abbrev pub IsRecallFromHouse : History → (o : Bytes) → LotId → Type 0
+IsRecallFromHouse H o lot = (lines : List RecallLine) → IsRecall H lot lines → AreChainedFromHouse (acts house_name H) (acts o H) o lot (map (λ line. line.step) lines)
 
 -- this is so if the owner's part and HOUSE's are the same in both
 abbrev pub IfPartsAgree : (G H : History) → (o : Bytes) → Type 0 → Type 0

@@ -1,7 +1,7 @@
 pub mod Common
 pub mod Agreement
 pub mod Edges
-pub mod Joints
+pub mod FromHouse
 pub mod Recall
 pub mod Worked
 pub mod InSlice

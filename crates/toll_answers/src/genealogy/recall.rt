@@ -1,7 +1,7 @@
 //! Recalls.
 ghost use Rattle.std.specs.Prelude.{◌≡◌, false};
 ghost use Rattle.toll_answers.specs.Common.{Bytes, same_bytes, house_name, LotId, History, IsLawful};
-ghost use Rattle.toll_answers.specs.Agreement.{IfPartsAgree, IsRecallOfJoints, RecallsAgree};
+ghost use Rattle.toll_answers.specs.Agreement.{IfPartsAgree, IsRecallFromHouse, RecallsAgree};
 ghost use Rattle.toll_answers.specs.declared.genealogy.recall.RecallLine.{RecallLine};
 
 use toll_base::Disposition;
@@ -20,7 +20,7 @@ pub struct RecallLine {
 /// The recall of a lot of HOUSE has, of an owner's lots, exactly those on the owner's forward traces from
 /// the lots of HOUSE that HOUSE's own edges reach, each with the least sum of steps.
 pub fn recalls_within_an_owner_are_the_owners()
-    ensures { (H : History) (o : Bytes) (lot : LotId) → IsLawful H → lot.owner ≡ house_name → IsRecallOfJoints H o lot }
+    ensures { (H : History) (o : Bytes) (lot : LotId) → IsLawful H → lot.owner ≡ house_name → IsRecallFromHouse H o lot }
 {}
 
 /// Two lawful histories in which the commands of HOUSE and of an owner are the same give the recalls
