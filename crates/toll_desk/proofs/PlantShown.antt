@@ -1,12 +1,12 @@
 -- What the plant is shown, over rows and edges that a keep has.
 use Rattle.std.specs.Prelude.{ℕ, is_none}
-use Rattle.toll_desk.proofs.Common.{option_map, false≢true, list_any, Bytes, bytes_cmp, Slice, IsInKeyOrder, Edge, LotId, UnknownOwner, UnknownLot, UnknownOrder, UnknownBatch, BatchRow, OrderRow, Record, History, acts, owner_known, IsRowsOf, lot_row, tables_given, Checks, Refused, first_of, known_batch_checks, IsLawful, order_of, batch_of, unit_of, state_of, is_closed, AreEdges, Contains-none, IsOwnEdge, IsPlantEdge, WasDone, lots_owned, IsViewOver, BatchView, orders_text, batch_text, recall_text, IsRecall, RecallLine, PlantRequest, PlantAnswer, AsksOrders, AsksStock, AsksBatch, Judged, Shows, AreOrdersShown, IsBatchShownOr, IsCheckedOr, AsksRecall, IsPlantAnswer, owner_checks, lot_checks, Content, slice_of, StandsFor}
+use Rattle.toll_desk.proofs.Common.{option_map, false≢true, Bytes, bytes_cmp, Slice, IsInKeyOrder, Edge, LotId, UnknownOwner, UnknownLot, UnknownOrder, UnknownBatch, BatchRow, OrderRow, Record, History, acts, owner_known, IsRowsOf, lot_row, tables_given, Checks, Refused, first_of, known_batch_checks, IsLawful, order_of, batch_of, unit_of, state_of, is_closed, Contains-none, IsOwnEdge, WasDone, lots_owned, IsViewOver, BatchView, orders_text, batch_text, recall_text, IsRecall, RecallLine, PlantRequest, PlantAnswer, AsksOrders, AsksStock, AsksBatch, Judged, Shows, AreOrdersShown, IsBatchShownOr, IsCheckedOr, AsksRecall, IsPlantAnswer, owner_checks, lot_checks, Content, slice_of, StandsFor}
 use Rattle.toll_desk.proofs.Unknown.{acts_of_unknown}
 use Rattle.std.proofs.Common.{◌≡◌, ◌⊎◌, true, false, Option, Some, None, is_some, List, [], ◌∷◌, Result, Ok, Err, IfOk, IfErr, refl, sym, ap, subst, inl, inr, ◌∙◌, ◌&&◌}
 use Rattle.toll_desk.specs.Questions.{is_known_lot}
 use Rattle.toll_desk.specs.Subjects.{AsksRows, asked_of_rows, concerned}
 use Rattle.toll_desk.proofs.DeedPlans.{house_known}
-use Rattle.toll_desk.proofs.OwnTraces.{touches, joined_edge, joined_known, rows_read}
+use Rattle.toll_desk.proofs.OwnTraces.{rows_read}
 use Rattle.toll_desk.proofs.OwnerPlans.{some_read}
 use Rattle.toll_history.specs.OverRows.{OverOwnRows}
 use Rattle.toll_base.proofs.Bools.{both}
