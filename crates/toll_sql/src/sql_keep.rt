@@ -207,10 +207,10 @@ impl<S: Alter> Keep for SqlKeep<S> {
     }
 
     // All or none: one transaction.
-    fn apply(&mut self, _alloc: Global, changes: &[Change]) -> Result<(), KeepFault> {
+    fn apply(&mut self, alloc: Global, changes: &[Change]) -> Result<(), KeepFault> {
         match self.begin() {
             Ok(()) => {
-                let made = make_changes(&mut self.conn, changes);
+                let made = make_changes(&mut self.conn, alloc, changes);
                 self.pass_on(made)
             }
             Err(fault) => Err(fault),

@@ -1,5 +1,5 @@
 -- Traces over several graphs.
-use Rattle.std.proofs.Common.{◌≡◌, ℕ, ◌+◌, ◌<◌, Bool, List, [], ◌∷◌, ◌++◌, map, length, get_or, take, refl, sym, ap, ◌∙◌, subst, inl, inr}
+use Rattle.std.proofs.Common.{◌≡◌, List, [], ◌∷◌, ◌++◌, map, refl, sym, ap, ap₂, ◌∙◌, subst, inl, inr}
 use Rattle.std.specs.Prelude.{Contains}
 use Rattle.toll_trace.proofs.Common.{Contains-append_cases, LotId}
 use Rattle.toll_trace.specs.declared.graph.Graph.{Graph}
@@ -8,46 +8,55 @@ use Rattle.toll_trace.specs.declared.search.Part.{Part}
 use Rattle.toll_trace.specs.declared.step.Step.{Step}
 use Rattle.toll_trace.specs.declared.way.Way.{Way}
 use Rattle.toll_trace.specs.Graph.{Leads, LeadAmong, joints_of}
-use Rattle.toll_trace.specs.Joints.{LeadsThrough}
+use Rattle.toll_trace.specs.Leads.{LeadsBy}
+use Rattle.toll_trace.specs.Search.{is_found}
 use Rattle.toll_trace.specs.Trace.{IsTrace}
-use Rattle.toll_trace.specs.Walk.{IsWalked, LeadThrough, all_joints}
+use Rattle.toll_trace.specs.Walk.{IsWalked, LeadThrough, all_steps}
 use Rattle.toll_trace.proofs.Members.{Contains-none, Contains-here, Contains-cases, Contains-map, Contains-from_map}
 use Rattle.toll_trace.proofs.Unique.{trace_same}
 
--- the parts are those of the graphs that way, none of their joints walked
-pub record ArePartsOf (way : Way) (graphs : List Graph) (parts : List Part) : Type 0 where
-  pub joints : all_joints parts ≡ map (joints_of way) graphs
-  pub walked : (part : Part) → Contains parts part → (is_old : LotId → Bool) → IsWalked is_old [] part
+-- the lots and the joints of the graph that way
+abbrev pub steps_of : Way → Graph → List LotId × Joints
+steps_of way graph = (graph.lots.items, joints_of way graph)
 
-pub no_parts : (way : Way) → ArePartsOf way [] []
-no_parts way = record { joints = refl; walked = λ part i. absurd (Contains-none part i) }
+-- the parts are those of the graphs that way, none of their joints walked and nothing found
+pub record ArePartsOf (way : Way) (from : LotId) (graphs : List Graph) (parts : List Part) : Type 0 where
+  pub all : all_steps parts ≡ map (steps_of way) graphs
+  pub walked : (part : Part) → Contains parts part → IsWalked (is_found []) (from ∷ []) part
+
+pub no_parts : (way : Way) (from : LotId) → ArePartsOf way from [] []
+no_parts way from = record { all = refl; walked = λ part i. absurd (Contains-none part i) }
 
 pub map_push : {X Y : Type 0} (f : X → Y) (xs : List X) (x : X) → map f (xs ++ x ∷ []) ≡ map f xs ++ f x ∷ []
 map_push f [] x = refl
 map_push f (y ∷ xs) x = ap (λ ys. f y ∷ ys) (map_push f xs x)
 
-pub one_part_more : (way : Way) (graphs : List Graph) (parts : List Part) (graph : Graph) (part : Part) → ArePartsOf way graphs parts → part.joints.now ≡ joints_of way graph → ((is_old : LotId → Bool) → IsWalked is_old [] part) → ArePartsOf way (graphs ++ graph ∷ []) (parts ++ part ∷ [])
-one_part_more way graphs parts graph part old joints walked = record {
-  joints = map_push (λ (p : Part). p.joints.now) parts part ∙ ap (λ js. js ++ part.joints.now ∷ []) old.joints ∙ ap (λ j. map (joints_of way) graphs ++ j ∷ []) joints ∙ sym (map_push (joints_of way) graphs graph);
+pub one_part_more : (way : Way) (from : LotId) (graphs : List Graph) (parts : List Part) (graph : Graph) (part : Part) → ArePartsOf way from graphs parts → part.lots.now ≡ graph.lots.items → part.joints.now ≡ joints_of way graph → IsWalked (is_found []) (from ∷ []) part → ArePartsOf way from (graphs ++ graph ∷ []) (parts ++ part ∷ [])
+one_part_more way from graphs parts graph part old lots joints walked = record {
+  all =
+      map_push (λ (p : Part). (p.lots.now, p.joints.now)) parts part
+      ∙ ap (λ all. all ++ (part.lots.now, part.joints.now) ∷ []) old.all
+      ∙ ap (λ one. map (steps_of way) graphs ++ one ∷ []) (ap₂ {C = List LotId × Joints} (λ l j. (l, j)) lots joints)
+      ∙ sym (map_push (steps_of way) graphs graph);
   walked = λ p i. elim (Contains-append_cases parts (part ∷ []) p i) [
     | inl i ↦ old.walked p i
     | inr i ↦ elim (Contains-cases part [] p i) [
-      | inl same ↦ subst (λ p. (is_old : LotId → Bool) → IsWalked is_old [] p) same walked
+      | inl same ↦ subst (λ p. IsWalked (is_found []) (from ∷ []) p) same walked
       | inr none ↦ absurd (Contains-none p none)
     ]
   ];
 }
 
-pub among_trace : (way : Way) (graphs : List Graph) (parts : List Part) (from : LotId) (trace : List Step) → all_joints parts ≡ map (joints_of way) graphs → IsTrace (LeadThrough (all_joints parts)) from trace → IsTrace (LeadAmong graphs way) from trace
-among_trace way graphs parts from trace same traced = trace_same (LeadThrough (all_joints parts)) (LeadAmong graphs way) to back from trace traced
+pub among_trace : (way : Way) (graphs : List Graph) (parts : List Part) (from : LotId) (trace : List Step) → all_steps parts ≡ map (steps_of way) graphs → IsTrace (LeadThrough (all_steps parts)) from trace → IsTrace (LeadAmong graphs way) from trace
+among_trace way graphs parts from trace same traced = trace_same (LeadThrough (all_steps parts)) (LeadAmong graphs way) to back from trace traced
   where
-    to : (a b : LotId) → LeadThrough (all_joints parts) a b → LeadAmong graphs way a b
+    to : (a b : LotId) → LeadThrough (all_steps parts) a b → LeadAmong graphs way a b
     to a b leads =
-        let g = Contains-from_map (joints_of way) graphs leads.0 (subst (λ js. Contains js leads.0) same leads.1) in
-        (g.0, g.1, subst (λ (js : Joints). LeadsThrough js.entries js.exits.items a b) (sym g.2) leads.2)
+        let g = Contains-from_map (steps_of way) graphs leads.0 (subst (λ all. Contains all leads.0) same leads.1) in
+        (g.0, g.1, subst (λ (one : List LotId × Joints). LeadsBy one.0 one.1 a b) (sym g.2) leads.2)
 
-    back : (a b : LotId) → LeadAmong graphs way a b → LeadThrough (all_joints parts) a b
-    back a b leads = (joints_of way leads.0, subst (λ js. Contains js (joints_of way leads.0)) (sym same) (Contains-map (joints_of way) graphs leads.0 leads.1), leads.2)
+    back : (a b : LotId) → LeadAmong graphs way a b → LeadThrough (all_steps parts) a b
+    back a b leads = (steps_of way leads.0, subst (λ all. Contains all (steps_of way leads.0)) (sym same) (Contains-map (steps_of way) graphs leads.0 leads.1), leads.2)
 
 -- of one graph
 pub alone_trace : (way : Way) (graph : Graph) (from : LotId) (trace : List Step) → IsTrace (LeadAmong (graph ∷ []) way) from trace → IsTrace (Leads graph way) from trace

@@ -1,8 +1,8 @@
 -- A joint for each edge.
 use Rattle.std.proofs.Common.{◌≡◌, ◌↔◌, ℕ, ◌+◌, ◌<◌, ◌≤◌, List, [], ◌∷◌, ◌++◌, length, get_or, take, refl, sym, ap, ap₂, ◌∙◌, subst, inl, inr, arith}
 use Rattle.std.specs.Prelude.{Contains}
-use Rattle.std.proofs.lemmas.List.{get_or_append_left, get_or_push, length_push}
-use Rattle.toll_trace.proofs.Common.{IsPermutation, Contains-permutation, IsPermutation-sym, take_all, Contains-append_left, Contains-append_right, Contains-append_cases, LotId, Edge}
+use Rattle.std.proofs.lemmas.List.{get_or_append_left, get_or_default, get_or_push, length_push}
+use Rattle.toll_trace.proofs.Common.{IsPermutation, Contains-permutation, IsPermutation-sym, take_all, Contains-append_left, Contains-append_right, Contains-append_cases, IsStrictlySortedBy, LotId, lot_cmp, Edge}
 use Rattle.toll_trace.specs.declared.graph.Graph.{Graph}
 use Rattle.toll_trace.specs.declared.joints.Span.{Span}
 use Rattle.toll_trace.specs.declared.step.Step.{Step}
@@ -10,10 +10,14 @@ use Rattle.toll_trace.specs.declared.way.Way.{Way}
 use Rattle.toll_trace.specs.declared.way.Way.TheVariants.{Back, Forward}
 use Rattle.toll_trace.specs.Chain.{ends, edge_of, IsJoined}
 use Rattle.toll_trace.specs.Graph.{IsGraphOf, Leads}
+use Rattle.toll_trace.specs.InOrder.{IsInOrder}
 use Rattle.toll_trace.specs.Joints.{leaving, AreWithin, LeadsThrough}
+use Rattle.toll_trace.specs.Numbers.{AreBelow, IsNumber}
 use Rattle.toll_trace.specs.Trace.{IsTrace}
 use Rattle.toll_trace.proofs.Ends.{ends_of, edge_of_ends}
-use Rattle.toll_trace.proofs.Members.{Contains-none, Contains-here, Contains-cases}
+use Rattle.toll_trace.proofs.Members.{Contains-none, Contains-here, Contains-cases, kept_in_order}
+use Rattle.toll_trace.proofs.Numbering.{one_lot}
+use Rattle.toll_trace.proofs.Orders.{lots_exact}
 use Rattle.toll_trace.proofs.Unique.{trace_same}
 use Rattle.toll_trace.proofs.Walks.{at_from_range, range_from_at, with_item}
 
@@ -21,75 +25,124 @@ use Rattle.toll_trace.proofs.Walks.{at_from_range, range_from_at, with_item}
 abbrev pub joint : ℕ → Span
 joint k = record { start = k; end = k + 1 }
 
--- the entries and exits are those of the first n edges, a joint for each
-pub record AreOfEdges (edges : List Edge) (way : Way) (n : ℕ) (entries : List (LotId × Span)) (exits : List LotId) : Type 0 where
-  pub counted : length exits ≡ n
-  pub only : (entry : LotId × Span) → Contains entries entry → (k : ℕ) × (k < length exits) × ((e : Edge) × Contains edges e × (entry ≡ ((ends way e).0, joint k)) × ((d : LotId) → get_or exits k d ≡ (ends way e).1))
-  pub every : (e : Edge) → Contains (take n edges) e → (k : ℕ) × (k < length exits) × Contains entries ((ends way e).0, joint k) × ((d : LotId) → get_or exits k d ≡ (ends way e).1)
+-- these lots have both ends of each edge
+pub record HasEnds (edges : List Edge) (lots : List LotId) : Type 0 where
+  pub from : (e : Edge) → Contains edges e → Contains lots e.from
+  pub to : (e : Edge) → Contains edges e → Contains lots e.to
 
-pub edges_none : (edges : List Edge) (way : Way) → AreOfEdges edges way 0 [] []
-edges_none edges way = record {
-  counted = refl;
-  only = λ entry i. absurd (Contains-none entry i);
-  every = λ e i. absurd (Contains-none e i);
-}
+pub ends_none : HasEnds [] []
+ends_none = record { from = λ e i. absurd (Contains-none e i); to = λ e i. absurd (Contains-none e i) }
 
-pub edges_more : (edges : List Edge) (way : Way) (n : ℕ) (e : Edge) (entries : List (LotId × Span)) (exits : List LotId) → n < length edges → e ≡ get_or edges n e → AreOfEdges edges way n entries exits → AreOfEdges edges way (n + 1) (entries ++ ((ends way e).0, joint n) ∷ []) (exits ++ (ends way e).1 ∷ [])
-edges_more edges way n e entries exits lt is old = record {
-  counted = length_push exits (ends way e).1 ∙ ap (λ m. m + 1) old.counted;
-  only = λ entry i. elim (Contains-append_cases entries (((ends way e).0, joint n) ∷ []) entry i) [
-    | inl i ↦ let r = old.only entry i in (r.0, room r.0 r.1, (r.2.0, r.2.1, r.2.2, λ d. get_or_append_left exits ((ends way e).1 ∷ []) d r.0 r.1 ∙ r.2.3 d))
-    | inr i ↦ elim (Contains-cases ((ends way e).0, joint n) [] entry i) [
-      | inl same ↦ (n, this, (e, (n, lt, sym is), sym same, λ d. get_or_push exits (ends way e).1 d n old.counted))
-      | inr none ↦ absurd (Contains-none entry none)
+pub ends_more : (edges : List Edge) (lots : List LotId) (e : Edge) → HasEnds edges lots → HasEnds (edges ++ e ∷ []) ((lots ++ e.from ∷ []) ++ e.to ∷ [])
+ends_more edges lots e has = record {
+  from = λ f i. elim (Contains-append_cases edges (e ∷ []) f i) [
+    | inl i ↦ Contains-append_left (lots ++ e.from ∷ []) (e.to ∷ []) f.from (Contains-append_left lots (e.from ∷ []) f.from (has.from f i))
+    | inr i ↦ elim (Contains-cases e [] f i) [
+      | inl same ↦ Contains-append_left (lots ++ e.from ∷ []) (e.to ∷ []) f.from (Contains-append_right lots (e.from ∷ []) f.from (subst (λ (g : Edge). Contains (e.from ∷ []) g.from) same (Contains-here e.from [])))
+      | inr none ↦ absurd (Contains-none f none)
     ]
   ];
-  every = λ f i. elim (Contains-append_cases (take n edges) (e ∷ []) f (subst (λ es. Contains es f) (with_item edges n e lt is) i)) [
-    | inl i ↦ let r = old.every f i in (r.0, room r.0 r.1, Contains-append_left entries (((ends way e).0, joint n) ∷ []) ((ends way f).0, joint r.0) r.2, λ d. get_or_append_left exits ((ends way e).1 ∷ []) d r.0 r.1 ∙ r.3 d)
+  to = λ f i. elim (Contains-append_cases edges (e ∷ []) f i) [
+    | inl i ↦ Contains-append_left (lots ++ e.from ∷ []) (e.to ∷ []) f.to (Contains-append_left lots (e.from ∷ []) f.to (has.to f i))
     | inr i ↦ elim (Contains-cases e [] f i) [
-      | inl same ↦ subst (λ g. (k : ℕ) × (k < length (exits ++ (ends way e).1 ∷ [])) × Contains (entries ++ ((ends way e).0, joint n) ∷ []) ((ends way g).0, joint k) × ((d : LotId) → get_or (exits ++ (ends way e).1 ∷ []) k d ≡ (ends way g).1)) same
-          (n, this, Contains-append_right entries (((ends way e).0, joint n) ∷ []) ((ends way e).0, joint n) (Contains-here ((ends way e).0, joint n) []), λ d. get_or_push exits (ends way e).1 d n old.counted)
+      | inl same ↦ Contains-append_right (lots ++ e.from ∷ []) (e.to ∷ []) f.to (subst (λ (g : Edge). Contains (e.to ∷ []) g.to) same (Contains-here e.to []))
       | inr none ↦ absurd (Contains-none f none)
     ]
   ];
 }
-  where
-    room : (k : ℕ) → k < length exits → k < length (exits ++ (ends way e).1 ∷ [])
-    room k lt = let l = length_push exits (ends way e).1 in omega arith
 
-    this : n < length (exits ++ (ends way e).1 ∷ [])
-    this = let l = length_push exits (ends way e).1 in let c = old.counted in omega arith
+pub ends_in_order : (edges : List Edge) (lots sorted : List LotId) → HasEnds edges lots → IsInOrder lot_cmp lots sorted → (e : Edge) → Contains edges e → Contains sorted e.from × Contains sorted e.to
+ends_in_order edges lots sorted has order e i = (kept_in_order lot_cmp lots_exact lots sorted order e.from (has.from e i), kept_in_order lot_cmp lots_exact lots sorted order e.to (has.to e i))
 
-module _ (edges : List Edge) (way : Way) (n : ℕ) (entries index : List (LotId × Span)) (exits : List LotId) (all : length edges ≤ n) (old : AreOfEdges edges way n entries exits) (moved : IsPermutation entries index) where
-  listed : (entry : LotId × Span) → Contains index entry → Contains entries entry
+-- the lots at the ends of a step along the edge are in the list
+ends_listed : (way : Way) (lots : List LotId) (e : Edge) → Contains lots e.from × Contains lots e.to → Contains lots (ends way e).0 × Contains lots (ends way e).1
+ends_listed Back lots e has = (has.1, has.0)
+ends_listed Forward lots e has = has
+
+-- the entries and exits are those of the first n edges, a joint for each
+pub record AreOfEdges (lots : List LotId) (edges : List Edge) (way : Way) (n : ℕ) (entries : List (ℕ × Span)) (exits : List ℕ) : Type 0 where
+  pub below : AreBelow (length lots) exits
+  pub only : (entry : ℕ × Span) → Contains entries entry → (k : ℕ) × (k < length exits) × (entry.1 ≡ joint k) × ((e : Edge) × Contains edges e × IsNumber lots entry.0 (ends way e).0 × IsNumber lots (get_or exits k 0) (ends way e).1)
+  pub every : (e : Edge) → Contains (take n edges) e → (k : ℕ) × (from : ℕ) × (k < length exits) × Contains entries (from, joint k) × IsNumber lots from (ends way e).0 × IsNumber lots (get_or exits k 0) (ends way e).1
+
+pub edges_none : (lots : List LotId) (edges : List Edge) (way : Way) → AreOfEdges lots edges way 0 [] []
+edges_none lots edges way = record {
+  below = λ n i. absurd (Contains-none n i);
+  only = λ entry i. absurd (Contains-none entry i);
+  every = λ e i. absurd (Contains-none e i);
+}
+
+module _ (lots : List LotId) (edges : List Edge) (way : Way) (n : ℕ) (e : Edge) (entries : List (ℕ × Span)) (exits : List ℕ) (lt : n < length edges) (is : e ≡ get_or edges n e) (old : AreOfEdges lots edges way n entries exits) (from to : ℕ) (at_from : IsNumber lots from (ends way e).0) (at_to : IsNumber lots to (ends way e).1) where
+  room : (k : ℕ) → k < length exits → k < length (exits ++ to ∷ [])
+  room k lt = let l = length_push exits to in omega arith
+
+  last : length exits < length (exits ++ to ∷ [])
+  last = let l = length_push exits to in omega arith
+
+  its_exit : IsNumber lots (get_or (exits ++ to ∷ []) (length exits) 0) (ends way e).1
+  its_exit = subst (λ m. IsNumber lots m (ends way e).1) (sym (get_or_push exits to 0 (length exits) refl)) at_to
+
+  still : (k : ℕ) (lot : LotId) → k < length exits → IsNumber lots (get_or exits k 0) lot → IsNumber lots (get_or (exits ++ to ∷ []) k 0) lot
+  still k lot in_exits at = subst (λ m. IsNumber lots m lot) (sym (get_or_append_left exits (to ∷ []) 0 k in_exits)) at
+
+  pub edges_more : AreOfEdges lots edges way (n + 1) (entries ++ (from, joint (length exits)) ∷ []) (exits ++ to ∷ [])
+  edges_more = record {
+    below = λ m i. elim (Contains-append_cases exits (to ∷ []) m i) [
+      | inl i ↦ old.below m i
+      | inr i ↦ elim (Contains-cases to [] m i) [ inl same ↦ subst (λ k. k < length lots) same at_to.0 | inr none ↦ absurd (Contains-none m none) ]
+    ];
+    only = λ entry i. elim (Contains-append_cases entries ((from, joint (length exits)) ∷ []) entry i) [
+      | inl i ↦ let r = old.only entry i in (r.0, room r.0 r.1, r.2, (r.3.0, r.3.1, r.3.2, still r.0 (ends way r.3.0).1 r.1 r.3.3))
+      | inr i ↦ elim (Contains-cases (from, joint (length exits)) [] entry i) [
+        | inl same ↦ (length exits, last, sym (ap (λ (p : ℕ × Span). p.1) same), (e, (n, lt, sym is), subst (λ (p : ℕ × Span). IsNumber lots p.0 (ends way e).0) same at_from, its_exit))
+        | inr none ↦ absurd (Contains-none entry none)
+      ]
+    ];
+    every = λ f i. elim (Contains-append_cases (take n edges) (e ∷ []) f (subst (λ es. Contains es f) (with_item edges n e lt is) i)) [
+      | inl i ↦ let r = old.every f i in (r.0, r.1, room r.0 r.2, Contains-append_left entries ((from, joint (length exits)) ∷ []) (r.1, joint r.0) r.3, r.4, still r.0 (ends way f).1 r.2 r.5)
+      | inr i ↦ elim (Contains-cases e [] f i) [
+        | inl same ↦ subst (λ g. (k : ℕ) × (m : ℕ) × (k < length (exits ++ to ∷ [])) × Contains (entries ++ (from, joint (length exits)) ∷ []) (m, joint k) × IsNumber lots m (ends way g).0 × IsNumber lots (get_or (exits ++ to ∷ []) k 0) (ends way g).1) same
+            (length exits, from, last, Contains-append_right entries ((from, joint (length exits)) ∷ []) (from, joint (length exits)) (Contains-here (from, joint (length exits)) []), at_from, its_exit)
+        | inr none ↦ absurd (Contains-none f none)
+      ]
+    ];
+  }
+
+module _ (lots : List LotId) (sorted : IsStrictlySortedBy lot_cmp lots) (edges : List Edge) (way : Way) (n : ℕ) (entries index : List (ℕ × Span)) (exits : List ℕ) (all : length edges ≤ n) (old : AreOfEdges lots edges way n entries exits) (moved : IsPermutation entries index) where
+  listed : (entry : ℕ × Span) → Contains index entry → Contains entries entry
   listed entry i = Contains-permutation index entries entry (IsPermutation-sym entries index moved) i
 
   pub edges_within : AreWithin exits index
-  edges_within entry i = let r = old.only entry (listed entry i) in subst (λ (e : LotId × Span). e.1.end ≤ length exits) (sym r.2.2) (let lt = r.1 in omega arith)
+  edges_within entry i = let r = old.only entry (listed entry i) in subst (λ (s : Span). s.end ≤ length exits) (sym r.2) (let lt = r.1 in omega arith)
 
-  pub edges_joined : (a b : LotId) → LeadsThrough index exits a b ↔ IsJoined edges way a b
+  pub edges_joined : (a b : LotId) → ((m : ℕ) × (o : ℕ) × IsNumber lots m a × IsNumber lots o b × LeadsThrough index exits m o) ↔ IsJoined edges way a b
   edges_joined a b = (to, from)
     where
-      to : LeadsThrough index exits a b → IsJoined edges way a b
-      to leads =
-          let r = old.only (a, leads.0) (listed (a, leads.0) leads.1) in
-          let e = r.2.0 in
-          let left = ap (λ (p : LotId × Span). p.0) r.2.2 in
-          let span = ap (λ (p : LotId × Span). p.1) r.2.2 in
-          let (k, ge, lt, in_exits, at) = at_from_range exits r.0 (r.0 + 1) b (subst (λ (s : Span). Contains (leaving exits s) b) span leads.2) in
+      to : (m : ℕ) × (o : ℕ) × IsNumber lots m a × IsNumber lots o b × LeadsThrough index exits m o → IsJoined edges way a b
+      to (m, o, at_m, at_o, leads) =
+          let r = old.only (m, leads.0) (listed (m, leads.0) leads.1) in
+          let e = r.3.0 in
+          let (k, ge, lt, in_exits, at) = at_from_range exits r.0 (r.0 + 1) o (subst (λ (s : Span). Contains (leaving exits s) o) r.2 leads.2) in
           let same : k ≡ r.0 = omega arith in
-          let right : (ends way e).1 ≡ b = sym (r.2.3 b) ∙ ap (λ p. get_or exits p b) (sym same) ∙ at in
-          let is : e ≡ edge_of way a b = sym (edge_of_ends way e) ∙ ap₂ (edge_of way) (sym left) right in
-          subst (Contains edges) is r.2.1
+          let its : get_or exits r.0 0 ≡ o = get_or_default exits r.0 0 o r.1 ∙ ap (λ p. get_or exits p o) (sym same) ∙ at in
+          let left : (ends way e).0 ≡ a = one_lot lots m (ends way e).0 a r.3.2 at_m in
+          let right : (ends way e).1 ≡ b = one_lot lots o (ends way e).1 b (subst (λ q. IsNumber lots q (ends way e).1) its r.3.3) at_o in
+          let is : e ≡ edge_of way a b = sym (edge_of_ends way e) ∙ ap₂ (edge_of way) left right in
+          subst (Contains edges) is r.3.1
 
-      from : IsJoined edges way a b → LeadsThrough index exits a b
+      from : IsJoined edges way a b → (m : ℕ) × (o : ℕ) × IsNumber lots m a × IsNumber lots o b × LeadsThrough index exits m o
       from i =
           let r = old.every (edge_of way a b) (subst (λ es. Contains es (edge_of way a b)) (sym (take_all n edges all)) i) in
           let two = ends_of way a b in
           let left : (ends way (edge_of way a b)).0 ≡ a = ap (λ (p : LotId × LotId). p.0) two in
           let right : (ends way (edge_of way a b)).1 ≡ b = ap (λ (p : LotId × LotId). p.1) two in
-          let entry : Contains index (a, joint r.0) = Contains-permutation entries index (a, joint r.0) moved (subst (λ l. Contains entries (l, joint r.0)) left r.2) in
-          (joint r.0, entry, range_from_at exits r.0 (r.0 + 1) r.0 b (omega arith) (omega arith) r.1 (r.3 b ∙ right))
+          let entry : Contains index (r.1, joint r.0) = Contains-permutation entries index (r.1, joint r.0) moved r.3 in
+          let out : Contains (leaving exits (joint r.0)) (get_or exits r.0 0) = range_from_at exits r.0 (r.0 + 1) r.0 (get_or exits r.0 0) (omega arith) (omega arith) r.2 (get_or_default exits r.0 (get_or exits r.0 0) 0 r.2) in
+          (r.1, get_or exits r.0 0, subst (IsNumber lots r.1) left r.4, subst (IsNumber lots (get_or exits r.0 0)) right r.5, (joint r.0, entry, out))
+
+-- an edge of the list has both its numbers
+pub has_both : (lots : List LotId) (edges : List Edge) (way : Way) (e : Edge) → ((e : Edge) → Contains edges e → Contains lots e.from × Contains lots e.to) → Contains edges e → Contains lots (ends way e).0 × Contains lots (ends way e).1
+has_both lots edges way e has i = ends_listed way lots e (has e i)
 
 -- ==== what a graph of edges joins
 

@@ -9,7 +9,9 @@ pub mod Extremes
 pub mod Drawn
 pub mod Unique
 pub mod DrawnRows
+pub mod Numbering
 pub mod Walks
+pub mod Marks
 pub mod Parts
 pub mod Among
 pub mod EdgeJoints

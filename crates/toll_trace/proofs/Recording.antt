@@ -1,20 +1,27 @@
 -- What is recorded of several slices draws the edges of each.
 use Rattle.std.proofs.Common.{◌≡◌, ◌↔◌, ◌⊎◌, ℕ, ◌+◌, ◌<◌, List, [], ◌++◌, map, length, refl, sym, ap, ◌∙◌, subst, inl, inr, arith}
 use Rattle.std.specs.Prelude.{Contains}
-use Rattle.toll_trace.proofs.Common.{length-append, length-map, Contains-append_left, Contains-append_right, Contains-append_cases, IsPermutation, Contains-permutation, IsPermutation-sym, bytes_cmp, LotId, Edge, Consumed, Produced}
+use Rattle.toll_trace.proofs.Common.{length-append, length-map, Contains-append_left, Contains-append_right, Contains-append_cases, IsPermutation, Contains-permutation, IsPermutation-sym, bytes_cmp, lot_cmp, LotId, Edge, Consumed, Produced}
 use Rattle.toll_base.specs.Slice.{Slice}
 use Rattle.toll_base.specs.Table.{IsInKeyOrder}
 use Rattle.toll_trace.specs.declared.edges.Use.{Use}
 use Rattle.toll_trace.specs.declared.graph.Graph.{Graph}
+use Rattle.toll_trace.specs.declared.joints.Joints.{Joints}
 use Rattle.toll_trace.specs.declared.way.Way.{Way}
 use Rattle.toll_trace.specs.declared.way.Way.TheVariants.{Back, Forward}
 use Rattle.toll_trace.specs.Chain.{edge_of}
 use Rattle.toll_trace.specs.Edges.{IsActual, IsEdge}
 use Rattle.toll_trace.specs.Graph.{IsGraph, Leads}
+use Rattle.toll_trace.specs.InOrder.{IsInOrder}
+use Rattle.toll_trace.specs.Joints.{LeadsThrough}
+use Rattle.toll_trace.specs.Leads.{LeadsBy}
+use Rattle.toll_trace.specs.Numbers.{AreBelow, HaveNumbers, IsNumber}
 use Rattle.toll_trace.specs.Places.{Chain, Place, placed, Passes, AreNumbered}
 use Rattle.toll_trace.specs.Uses.{Batch, uses}
 use Rattle.toll_trace.proofs.Drawn.{use_recorded, use_listed}
-use Rattle.toll_trace.proofs.Members.{Contains-none, Contains-map, Contains-from_map}
+use Rattle.toll_trace.proofs.Members.{Contains-none, Contains-map, Contains-from_map, kept_in_order}
+use Rattle.toll_trace.proofs.Numbering.{has_number, one_lot}
+use Rattle.toll_trace.proofs.Orders.{lots_exact}
 
 -- what consumptions and productions draw
 abbrev pub AreDrawn : List (Place × LotId) → List (Place × LotId) → Edge → Type 0
@@ -125,7 +132,7 @@ passes_back consumptions productions a b (u, v, i, j, left, right, same, above) 
 passes_forward : (consumptions productions : List (Place × LotId)) (a b : LotId) → Passes Forward consumptions productions b a → Passes Back productions consumptions a b
 passes_forward consumptions productions a b (u, v, i, j, left, right, same, above) = (v, u, j, i, right, left, sym same, above)
 
-passes_moved : (way : Way) (entering moved leaving : List (Place × LotId)) → IsPermutation entering moved → (a b : LotId) → Passes way moved leaving a b ↔ Passes way entering leaving a b
+passes_moved : {X : Type 0} (way : Way) (entering moved leaving : List (Place × X)) → IsPermutation entering moved → (a b : X) → Passes way moved leaving a b ↔ Passes way entering leaving a b
 passes_moved way entering moved leaving p a b = (to, from)
   where
     to : Passes way moved leaving a b → Passes way entering leaving a b
@@ -134,16 +141,50 @@ passes_moved way entering moved leaving p a b = (to, from)
     from : Passes way entering leaving a b → Passes way moved leaving a b
     from d = (d.0, d.1, Contains-permutation entering moved d.0 p d.2, d.3, d.4, d.5, d.6, d.7)
 
-pub graph_drawn : (consumptions productions moved : List (Place × LotId)) (graph : Graph) → IsPermutation productions moved → ((a b : LotId) → Leads graph Forward a b ↔ Passes Forward consumptions productions a b) → ((a b : LotId) → Leads graph Back a b ↔ Passes Back moved consumptions a b) → IsGraph (AreDrawn consumptions productions) graph
-graph_drawn consumptions productions moved graph p forward back = record { only = only; every = every }
+pub leads_passes : (way : Way) (lots : List LotId) (joints : Joints) (entering leaving : List (Place × LotId)) (in_numbers out_numbers : List (Place × ℕ)) → HaveNumbers lots entering in_numbers → HaveNumbers lots leaving out_numbers → ((u : Place × LotId) → Contains entering u → Contains lots u.1) → ((v : Place × LotId) → Contains leaving v → Contains lots v.1) → ((m n : ℕ) → LeadsThrough joints.entries joints.exits.items m n ↔ Passes way in_numbers out_numbers m n) → (a b : LotId) → LeadsBy lots joints a b ↔ Passes way entering leaving a b
+leads_passes way lots joints entering leaving in_numbers out_numbers ins outs ins_listed outs_listed joined a b = (to, from)
+  where
+    to : LeadsBy lots joints a b → Passes way entering leaving a b
+    to (m, n, at_m, at_n, through) =
+        let (u, v, i, j, left, right, same, above) = (joined m n).0 through in
+        let x = ins.only u i in
+        let y = outs.only v j in
+        ((u.0, x.0), (v.0, y.0), x.2, y.2, one_lot lots m x.0 a (subst (λ k. IsNumber lots k x.0) left x.1) at_m, one_lot lots n y.0 b (subst (λ k. IsNumber lots k y.0) right y.1) at_n, same, above)
+
+    from : Passes way entering leaving a b → LeadsBy lots joints a b
+    from (u, v, i, j, left, right, same, above) =
+        let m = has_number lots u.1 (ins_listed u i) in
+        let n = has_number lots v.1 (outs_listed v j) in
+        (m.0, n.0, subst (λ l. IsNumber lots m.0 l) left m.1, subst (λ l. IsNumber lots n.0 l) right n.1, (joined m.0 n.0).1 ((u.0, m.0), (v.0, n.0), ins.every u m.0 i m.1, outs.every v n.0 j n.1, refl, refl, same, above))
+
+pub graph_drawn : (consumptions productions : List (Place × LotId)) (graph : Graph) → ((a b : LotId) → Leads graph Forward a b ↔ Passes Forward consumptions productions a b) → ((a b : LotId) → Leads graph Back a b ↔ Passes Back productions consumptions a b) → IsGraph (AreDrawn consumptions productions) graph
+graph_drawn consumptions productions graph forward back = record { only = only; every = every }
   where
     only : (way : Way) (a b : LotId) → Leads graph way a b → AreDrawn consumptions productions (edge_of way a b)
-    only Back a b l = passes_back consumptions productions a b ((passes_moved Back productions moved consumptions p a b).0 ((back a b).0 l))
+    only Back a b l = passes_back consumptions productions a b ((back a b).0 l)
     only Forward a b l = (forward a b).0 l
 
     every : (way : Way) (a b : LotId) → AreDrawn consumptions productions (edge_of way a b) → Leads graph way a b
-    every Back a b d = (back a b).1 ((passes_moved Back productions moved consumptions p a b).1 (passes_forward consumptions productions a b d))
+    every Back a b d = (back a b).1 (passes_forward consumptions productions a b d)
     every Forward a b d = (forward a b).1 d
+
+-- the joints after the uses were moved
+pub joined_moved : (way : Way) (joints : Joints) (entering moved leaving : List (Place × ℕ)) → IsPermutation entering moved → ((m n : ℕ) → LeadsThrough joints.entries joints.exits.items m n ↔ Passes way moved leaving m n) → (m n : ℕ) → LeadsThrough joints.entries joints.exits.items m n ↔ Passes way entering leaving m n
+joined_moved way joints entering moved leaving p joined m n = ((λ l. (passes_moved way entering moved leaving p m n).0 ((joined m n).0 l)), (λ d. (joined m n).1 ((passes_moved way entering moved leaving p m n).1 d)))
+
+-- each exit is the number of a lot that leaves
+pub exits_below : (lots : List LotId) (leaving : List (Place × LotId)) (out_numbers : List (Place × ℕ)) (exits : List ℕ) → HaveNumbers lots leaving out_numbers → ((n : ℕ) → Contains exits n → (v : Place × ℕ) × Contains out_numbers v × (v.1 ≡ n)) → AreBelow (length lots) exits
+exits_below lots leaving out_numbers exits outs of_uses n i = let r = of_uses n i in let y = outs.only r.0 r.1 in subst (λ k. k < length lots) r.2 y.1.0
+
+-- the lots in order have each lot used
+pub used_in_order : (consumptions productions : List (Place × LotId)) (sorted : List LotId) → IsInOrder lot_cmp (map (λ u. u.1) consumptions ++ map (λ u. u.1) productions) sorted → record { consumed : (u : Place × LotId) → Contains consumptions u → Contains sorted u.1; produced : (u : Place × LotId) → Contains productions u → Contains sorted u.1 }
+used_in_order consumptions productions sorted order =
+    let left = map (λ (u : Place × LotId). u.1) consumptions in
+    let right = map (λ (u : Place × LotId). u.1) productions in
+    record {
+      consumed = λ u i. kept_in_order lot_cmp lots_exact (left ++ right) sorted order u.1 (Contains-append_left left right u.1 (Contains-map (λ (u : Place × LotId). u.1) consumptions u i));
+      produced = λ u i. kept_in_order lot_cmp lots_exact (left ++ right) sorted order u.1 (Contains-append_right left right u.1 (Contains-map (λ (u : Place × LotId). u.1) productions u i));
+    }
 
 -- a graph of these edges is one of those that are the same
 pub graph_same : (P Q : Edge → Type 0) → ((e : Edge) → P e → Q e) → ((e : Edge) → Q e → P e) → (graph : Graph) → IsGraph P graph → IsGraph Q graph

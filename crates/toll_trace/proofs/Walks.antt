@@ -1,18 +1,19 @@
 -- What is known while joints are walked.
 use Rattle.std.proofs.Common.{◌≡◌, ◌≢◌, ◌⊎◌, ℕ, ◌+◌, ◌-◌, ◌<◌, ◌≤◌, Bool, true, false, not, List, [], ◌∷◌, ◌++◌, map, length, get_or, take, drop, set, refl, sym, ap, ◌∙◌, subst, inl, inr, arith}
 use Rattle.std.specs.Prelude.{Contains, filter, slice_range}
-use Rattle.std.proofs.lemmas.List.{length-take, length-drop, get_or-take, get_or-drop, get_or-set_same, get_or-set_other, get_or_past}
-use Rattle.toll_trace.proofs.Common.{flat_map, flat_map_more, is_eq, take_more, cases_eq, cases_lt, not-true, not_from_false, tied_itself, tells_apart, Contains-append_left, Contains-append_right, Contains-append_cases, LotId, lot_cmp}
+use Rattle.std.proofs.lemmas.List.{length-take, length-drop, get_or-take, get_or-drop, get_or-set_same, get_or-set_other, get_or_default, get_or_past}
+use Rattle.toll_trace.proofs.Common.{flat_map, flat_map_more, is_eq, take_more, cases_eq, cases_lt, not-true, not_from_false, tied_itself, tells_apart, nat_cmp, nat_cmp_total, exact_unsigned, Contains-append_left, Contains-append_right, Contains-append_cases, LotId}
 use Rattle.toll_trace.specs.declared.joints.Span.{Span}
 use Rattle.toll_trace.specs.declared.step.Step.{Step}
 use Rattle.toll_trace.specs.Joints.{leaving, LeadsThrough}
 use Rattle.toll_trace.specs.Search.{step_at, is_found, IsLevel}
 use Rattle.toll_trace.specs.Trace.{lots_of}
 use Rattle.toll_trace.specs.declared.search.Part.{Part}
-use Rattle.toll_trace.specs.Walk.{AreWalked, AreEntered, AreLedOn, AreLedTo, IsWalked, LeadThrough, all_joints}
-use Rattle.toll_trace.proofs.Levels.{lot_is_found, found_lot, not_found_lot, lots_more}
-use Rattle.toll_trace.proofs.Members.{Contains-none, Contains-here, Contains-cases, Contains-filter, Contains-from_filter, Contains-flat_map, Contains-from_flat_map}
-use Rattle.toll_trace.proofs.Orders.{lots_total, lots_exact}
+use Rattle.toll_trace.specs.InOrder.{IsInOrder}
+use Rattle.toll_trace.specs.Numbers.{AreBelow}
+use Rattle.toll_trace.specs.Walk.{AreWalked, AreEntered, AreLedOn, AreLedTo, LeadThrough, all_steps}
+use Rattle.toll_trace.proofs.Levels.{found_lot, not_found_lot, lots_more}
+use Rattle.toll_trace.proofs.Members.{Contains-none, Contains-here, Contains-cases, Contains-filter, Contains-from_filter, Contains-flat_map, Contains-from_flat_map, kept_in_order}
 
 -- ==== what stands between two places
 
@@ -45,6 +46,13 @@ item_of xs i x lt is = (i, lt, sym is)
 
 pub with_item : {X : Type 0} (xs : List X) (i : ℕ) (x : X) → i < length xs → x ≡ get_or xs i x → take (i + 1) xs ≡ take i xs ++ x ∷ []
 with_item xs i x lt is = take_more xs i x lt ∙ ap (λ y. take i xs ++ y ∷ []) (sym is)
+
+-- the same, of what is read at the place
+pub with_read : {X : Type 0} (xs : List X) (i : ℕ) (d : X) → i < length xs → take (i + 1) xs ≡ take i xs ++ get_or xs i d ∷ []
+with_read xs i d lt = with_item xs i (get_or xs i d) lt (sym (get_or_default xs i (get_or xs i d) d lt))
+
+pub range_below : (count : ℕ) (exits : List ℕ) (i j : ℕ) → AreBelow count exits → AreBelow count (slice_range exits i j)
+range_below count exits i j below n c = let (k, ge, lt, in_exits, e) = at_from_range exits i j n c in below n (k, in_exits, e)
 
 module _ {K X : Type 0} (exits : List X) (is_old : X → Bool) where
   pub entered_none : (lows : List ℕ) (lots : List X) → AreWalked exits is_old lows lots → AreEntered {K = K} exits is_old [] lows lots lots
@@ -158,37 +166,39 @@ module _ {K X : Type 0} (exits : List X) (is_old : X → Bool) where
     ];
   }
 
--- ==== the entries of lots
+-- ==== the entries of lots, by their numbers
 
--- the entries of these lots
-abbrev pub entries_of : List (LotId × Span) → List LotId → List (LotId × Span)
-entries_of entries lots = flat_map (λ lot. filter (λ entry. is_eq (lot_cmp entry.0 lot)) entries) lots
+-- the entries of these
+abbrev pub entries_of : List (ℕ × Span) → List ℕ → List (ℕ × Span)
+entries_of entries numbers = flat_map (λ n. filter (λ entry. is_eq (nat_cmp entry.0 n)) entries) numbers
 
--- those of a lot more
-pub entries_more : (entries run : List (LotId × Span)) (lots : List LotId) (i : ℕ) (lot : LotId) → i < length lots → lot ≡ get_or lots i lot → run ≡ filter (λ entry. is_eq (lot_cmp entry.0 lot)) entries → entries_of entries (take (i + 1) lots) ≡ entries_of entries (take i lots) ++ run
-entries_more entries run lots i lot lt is of_lot =
-    let at = λ (lot : LotId). filter (λ entry. is_eq (lot_cmp entry.0 lot)) entries in
-    ap (flat_map at) (with_item lots i lot lt is) ∙ sym (flat_map_more at [] (take i lots) lot) ∙ ap (λ r. flat_map at (take i lots) ++ r) (sym of_lot)
+-- those of one more
+pub entries_more : (entries run : List (ℕ × Span)) (numbers : List ℕ) (i n : ℕ) → i < length numbers → n ≡ get_or numbers i n → run ≡ filter (λ entry. is_eq (nat_cmp entry.0 n)) entries → entries_of entries (take (i + 1) numbers) ≡ entries_of entries (take i numbers) ++ run
+entries_more entries run numbers i n lt is of_number =
+    let at = λ (n : ℕ). filter (λ entry. is_eq (nat_cmp entry.0 n)) entries in
+    ap (flat_map at) (with_item numbers i n lt is) ∙ sym (flat_map_more at [] (take i numbers) n) ∙ ap (λ r. flat_map at (take i numbers) ++ r) (sym of_number)
 
-entry_of : (entries : List (LotId × Span)) (lots : List LotId) (entry : LotId × Span) → Contains (entries_of entries lots) entry → Contains entries entry × Contains lots entry.0
-entry_of entries lots entry i =
-    let a = Contains-from_flat_map (λ lot. filter (λ entry. is_eq (lot_cmp entry.0 lot)) entries) lots entry i in
-    let e = Contains-from_filter (λ (entry : LotId × Span). is_eq (lot_cmp entry.0 a.0)) entries entry a.2 in
-    (e.0, subst (λ l. Contains lots l) (sym (tells_apart lots_exact entry.0 a.0 e.1)) a.1)
+entry_of : (entries : List (ℕ × Span)) (numbers : List ℕ) (entry : ℕ × Span) → Contains (entries_of entries numbers) entry → Contains entries entry × Contains numbers entry.0
+entry_of entries numbers entry i =
+    let a = Contains-from_flat_map (λ n. filter (λ entry. is_eq (nat_cmp entry.0 n)) entries) numbers entry i in
+    let e = Contains-from_filter (λ (entry : ℕ × Span). is_eq (nat_cmp entry.0 a.0)) entries entry a.2 in
+    (e.0, subst (λ n. Contains numbers n) (sym (tells_apart exact_unsigned entry.0 a.0 e.1)) a.1)
 
-listed_entry : (entries : List (LotId × Span)) (lots : List LotId) (a : LotId) (span : Span) → Contains lots a → Contains entries (a, span) → Contains (entries_of entries lots) (a, span)
-listed_entry entries lots a span i j = Contains-flat_map (λ lot. filter (λ entry. is_eq (lot_cmp entry.0 lot)) entries) lots a (a, span) i (Contains-filter (λ (entry : LotId × Span). is_eq (lot_cmp entry.0 a)) entries (a, span) j (ap is_eq (tied_itself lots_total a)))
+listed_entry : (entries : List (ℕ × Span)) (numbers : List ℕ) (n : ℕ) (span : Span) → Contains numbers n → Contains entries (n, span) → Contains (entries_of entries numbers) (n, span)
+listed_entry entries numbers n span i j = Contains-flat_map (λ n. filter (λ entry. is_eq (nat_cmp entry.0 n)) entries) numbers n (n, span) i (Contains-filter (λ (entry : ℕ × Span). is_eq (nat_cmp entry.0 n)) entries (n, span) j (ap is_eq (tied_itself nat_cmp_total n)))
 
 -- what leaves the spans of the front's entries is what a step through the joints leads to
-pub led_on : (is_old : LotId → Bool) (front : List LotId) (part : Part) (before lots : List LotId) → length part.lows.items ≡ length part.joints.now.exits.items + 1 → AreEntered part.joints.now.exits.items is_old (entries_of part.joints.now.entries front) part.lows.items before lots → AreLedOn is_old front part before lots
-led_on is_old front part before lots sized entered = record {
-  walked = record { sized = sized; walked = entered.walked };
-  kept = entered.kept;
-  only = λ b i. elim (entered.only b i) [
-    | inl old ↦ inl old
-    | inr r ↦ let e = entry_of part.joints.now.entries front r.1.0 r.1.1 in inr (r.0, (r.1.0.0, e.1, (r.1.0.1, e.0, r.1.2)))
+pub led_in_order : (is_old : ℕ → Bool) (front : List ℕ) (entries : List (ℕ × Span)) (exits lows numbers sorted : List ℕ) → AreEntered exits is_old (entries_of entries front) lows [] numbers → IsInOrder nat_cmp numbers sorted → AreLedOn is_old front entries exits lows sorted
+led_in_order is_old front entries exits lows numbers sorted entered order = record {
+  walked = record {
+    low = entered.walked.low;
+    known = λ end x le i. elim (entered.walked.known end x le i) [ inl h ↦ inl h | inr j ↦ inr (kept_in_order nat_cmp exact_unsigned numbers sorted order x j) ];
+  };
+  only = λ n i. elim (entered.only n (order.none_new n i)) [
+    | inl none ↦ absurd (Contains-none n none)
+    | inr r ↦ let e = entry_of entries front r.1.0 r.1.1 in (r.0, (r.1.0.0, e.1, (r.1.0.1, e.0, r.1.2)))
   ];
-  every = λ a b i leads. entered.every (a, leads.0) b (listed_entry part.joints.now.entries front a leads.0 i leads.1) leads.2;
+  every = λ m n i leads. elim (entered.every (m, leads.0) n (listed_entry entries front m leads.0 i leads.1) leads.2) [ inl h ↦ inl h | inr j ↦ inr (kept_in_order nat_cmp exact_unsigned numbers sorted order n j) ];
 }
 
 -- ==== levels
@@ -201,7 +211,7 @@ more_lots : (found : List Step) (front : List LotId) (k : ℕ) (b : LotId) → C
 more_lots found front k b h = subst (λ l. Contains l b) (sym (lots_more found k front)) (elim h [ inl h ↦ Contains-append_left (lots_of found) front b h | inr h ↦ Contains-append_right (lots_of found) front b h ])
 
 -- the lots that the first front leads to, and those that a later one leads to
-pub level_first : (parts : List Part) (from : LotId) (lots : List LotId) → AreLedTo (is_found (step_at 0 from ∷ [])) (from ∷ []) parts lots → IsLevel (LeadThrough (all_joints parts)) (step_at 0 from ∷ []) lots
+pub level_first : (parts : List Part) (from : LotId) (lots : List LotId) → AreLedTo (is_found (step_at 0 from ∷ [])) (from ∷ []) parts lots → IsLevel (LeadThrough (all_steps parts)) (step_at 0 from ∷ []) lots
 level_first parts from lots led = record {
   led_to = λ b i. (led.only b i).1;
   not_found = λ b i. not_found_lot (step_at 0 from ∷ []) b (led.only b i).0;
@@ -209,7 +219,7 @@ level_first parts from lots led = record {
   ordered = led.ordered;
 }
 
-pub level_next : (parts : List Part) (found : List Step) (front : List LotId) (k : ℕ) (lots : List LotId) → IsLevel (LeadThrough (all_joints parts)) found front → AreLedTo (is_found (found ++ map (step_at k) front)) front parts lots → IsLevel (LeadThrough (all_joints parts)) (found ++ map (step_at k) front) lots
+pub level_next : (parts : List Part) (found : List Step) (front : List LotId) (k : ℕ) (lots : List LotId) → IsLevel (LeadThrough (all_steps parts)) found front → AreLedTo (is_found (found ++ map (step_at k) front)) front parts lots → IsLevel (LeadThrough (all_steps parts)) (found ++ map (step_at k) front) lots
 level_next parts found front k lots level led = record {
   led_to = λ b i. let r = (led.only b i).1 in (r.0, more_lots found front k r.0 (inr r.1), r.2);
   not_found = λ b i. not_found_lot (found ++ map (step_at k) front) b (led.only b i).0;
@@ -220,19 +230,9 @@ level_next parts found front k lots level led = record {
   ordered = led.ordered;
 }
 
--- when the lots walked to are found, nothing is left among them
-pub walked_found : (part : Part) (found : List Step) (k : ℕ) (lots : List LotId) → IsWalked (is_found found) lots part → IsWalked (is_found (found ++ map (step_at k) lots)) [] part
-walked_found part found k lots old = record {
-  sized = old.sized;
-  walked = record {
-    low = old.walked.low;
-    known = λ end x le i. inl (lot_is_found (found ++ map (step_at k) lots) x (more_lots found lots k x (elim (old.walked.known end x le i) [ inl h ↦ inl (found_lot found x h) | inr h ↦ inr h ])));
-  };
-}
-
 -- where nothing was walked
-pub walked_nothing : {X : Type 0} (exits : List X) (is_old : X → Bool) (lows : List ℕ) → length lows ≡ length exits + 1 → ((end : ℕ) → end < length exits + 1 → get_or lows end 0 ≡ end) → AreWalked exits is_old lows []
-walked_nothing exits is_old lows sized at = record { low = low; known = λ end x le i. absurd (none end x le i) }
+pub walked_nothing : {X : Type 0} (exits : List X) (is_old : X → Bool) (lows : List ℕ) (new : List X) → length lows ≡ length exits + 1 → ((end : ℕ) → end < length exits + 1 → get_or lows end 0 ≡ end) → AreWalked exits is_old lows new
+walked_nothing exits is_old lows new sized at = record { low = low; known = λ end x le i. absurd (none end x le i) }
   where
     low : (end : ℕ) → get_or lows end 0 ≤ end
     low end = elim (cases_lt end (length exits + 1)) [
@@ -246,3 +246,7 @@ walked_nothing exits is_old lows sized at = record { low = low; known = λ end x
 -- what a step leads to leaves at a joint
 pub leads_out : {K X : Type 0} (entries : List (K × Span)) (exits : List X) (a : K) (b : X) → LeadsThrough entries exits a b → Contains exits b
 leads_out entries exits a b leads = let (k, ge, lt, in_exits, e) = at_from_range exits leads.0.start leads.0.end b leads.2 in (k, in_exits, e)
+
+-- what is led to is below what all exits are below
+pub led_below : (is_old : ℕ → Bool) (front : List ℕ) (entries : List (ℕ × Span)) (exits lows numbers : List ℕ) (count : ℕ) → AreBelow count exits → AreLedOn is_old front entries exits lows numbers → AreBelow count numbers
+led_below is_old front entries exits lows numbers count below led n i = let r = (led.only n i).1 in below n (leads_out entries exits r.0 n r.2)

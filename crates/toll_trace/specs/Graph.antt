@@ -6,7 +6,7 @@ use Rattle.toll_trace.specs.declared.joints.Joints.{Joints}
 use Rattle.toll_trace.specs.declared.way.Way.{Way}
 use Rattle.toll_trace.specs.declared.way.Way.TheVariants.{Back, Forward}
 use Rattle.toll_trace.specs.Chain.{edge_of}
-use Rattle.toll_trace.specs.Joints.{LeadsThrough}
+use Rattle.toll_trace.specs.Leads.{LeadsBy}
 
 -- the graph's joints for that way
 abbrev pub joints_of : Way → Graph → Joints
@@ -15,7 +15,7 @@ joints_of Forward graph = graph.forward
 
 -- in the graph a step that way comes from `a` to `b`
 abbrev pub Leads : Graph → Way → LotId → LotId → Type 0
-Leads graph way a b = LeadsThrough (joints_of way graph).entries (joints_of way graph).exits.items a b
+Leads graph way a b = LeadsBy graph.lots.items (joints_of way graph) a b
 
 -- in the graph a step comes along just these edges, both ways
 pub record IsGraph (is_edge : Edge → Type 0) (graph : Graph) : Type 0 where

@@ -9,6 +9,8 @@ pub mod Uses
 pub mod Places
 pub mod Recorded
 pub mod Joints
+pub mod Numbers
+pub mod Leads
 pub mod Walk
 pub mod Graph
 pub mod Laws

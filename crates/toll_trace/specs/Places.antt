@@ -38,21 +38,21 @@ abbrev pub placed : ℕ → Batch × Use → Place × LotId
 placed number used = (((number, used.0), used.1.segment), used.1.lot)
 
 -- in one chain `a` enters, and `b` leaves ahead of it
-abbrev pub Passes : Way → List (Place × LotId) → List (Place × LotId) → LotId → LotId → Type 0
-Passes way entering leaving a b =
-    (u : Place × LotId) × (v : Place × LotId) × Contains entering u × Contains leaving v × (u.1 ≡ a) × (v.1 ≡ b) × (u.0.0 ≡ v.0.0) × IsAhead way u.0.1 v.0.1
+abbrev pub Passes : {X : Type 0} → Way → List (Place × X) → List (Place × X) → X → X → Type 0
+Passes {X} way entering leaving a b =
+    (u : Place × X) × (v : Place × X) × Contains entering u × Contains leaving v × (u.1 ≡ a) × (v.1 ≡ b) × (u.0.0 ≡ v.0.0) × IsAhead way u.0.1 v.0.1
 
 -- in the span stand the uses that are ahead of the place, in its chain
-pub record IsAheadOf (way : Way) (uses : List (Place × LotId)) (place : Place) (span : Span) : Type 0 where
+pub record IsAheadOf (way : Way) (uses : List (Place × ℕ)) (place : Place) (span : Span) : Type 0 where
   pub within : span.end ≤ length uses
-  pub only : (v : Place × LotId) → Contains (slice_range uses span.start span.end) v → Contains uses v × (place.0 ≡ v.0.0) × IsAhead way place.1 v.0.1
-  pub every : (v : Place × LotId) → Contains uses v → place.0 ≡ v.0.0 → IsAhead way place.1 v.0.1 → Contains (slice_range uses span.start span.end) v
+  pub only : (v : Place × ℕ) → Contains (slice_range uses span.start span.end) v → Contains uses v × (place.0 ≡ v.0.0) × IsAhead way place.1 v.0.1
+  pub every : (v : Place × ℕ) → Contains uses v → place.0 ≡ v.0.0 → IsAhead way place.1 v.0.1 → Contains (slice_range uses span.start span.end) v
 
 -- the numbers of the slices are below the number of uses
 abbrev pub AreNumbered : List (Place × LotId) → List (Place × LotId) → Type 0
 AreNumbered consumptions productions = (u : Place × LotId) → Contains consumptions u ⊎ Contains productions u → u.0.0.0 < length consumptions + length productions
 
 -- for each use at which a lot enters, the lot with the span of the uses ahead of it
-pub record AreAhead (way : Way) (entering leaving : List (Place × LotId)) (entries : List (LotId × Span)) : Type 0 where
-  pub only : (entry : LotId × Span) → Contains entries entry → (u : Place × LotId) × Contains entering u × (u.1 ≡ entry.0) × IsAheadOf way leaving u.0 entry.1
-  pub every : (u : Place × LotId) → Contains entering u → (span : Span) × Contains entries (u.1, span) × IsAheadOf way leaving u.0 span
+pub record AreAhead (way : Way) (entering leaving : List (Place × ℕ)) (entries : List (ℕ × Span)) : Type 0 where
+  pub only : (entry : ℕ × Span) → Contains entries entry → (u : Place × ℕ) × Contains entering u × (u.1 ≡ entry.0) × IsAheadOf way leaving u.0 entry.1
+  pub every : (u : Place × ℕ) → Contains entering u → (span : Span) × Contains entries (u.1, span) × IsAheadOf way leaving u.0 span

@@ -1,22 +1,34 @@
 //! Traces over joints.
-ghost use Rattle.std.specs.Prelude.{◌≡◌, map, IfOk};
+ghost use Rattle.std.specs.Prelude.{◌≡◌, ◌++◌, length, map, Contains, IfOk, OnOk};
+ghost use Rattle.std.specs.List.Sorted.{IsStrictlySortedBy-prop};
+ghost use Rattle.toll_base.specs.Lots.{lot_cmp};
 ghost use Rattle.toll_trace.specs.Chain.{IsJoined};
-ghost use Rattle.toll_trace.specs.Graph.{LeadAmong};
+ghost use Rattle.toll_trace.specs.Common.{IsStrictlySortedBy};
+ghost use Rattle.toll_trace.specs.Numbers.{AreBelow};
 ghost use Rattle.toll_trace.specs.Trace.{IsTrace};
 
+use crate::in_order::put_in_order;
 use crate::joints::Joints;
+use crate::numbers::numbered;
+use crate::places::Place;
 use crate::recorded::Recorded;
-use crate::search::{Part, search};
+use crate::several::trace_among;
 use crate::step::Step;
 use crate::way::Way;
 use std::alloc::{AllocError, Global};
 use toll_base::{Edge, LotId, Slice};
 
-/// Joints for both ways along edges, for traces over many edges.
+/// Joints for both ways along edges, for traces over many edges. Lots are numbers there: their places
+/// in the list of the graph's lots.
 #[derive(Drop)]
 pub struct Graph {
+    /// In order, each once.
+    pub(crate) lots: Vec<LotId>,
     forward: Joints,
     back: Joints,
+    ghost sorted: { IsStrictlySortedBy lot_cmp lots.items } by { IsStrictlySortedBy-prop lot_cmp lots.items },
+    ghost forward_within: { AreBelow (length lots.items) forward.exits.items },
+    ghost back_within: { AreBelow (length lots.items) back.exits.items },
 }
 
 impl Graph {
@@ -30,9 +42,14 @@ impl Graph {
     pub fn build(alloc: Global, edges: &[Edge]) -> Result<Self, AllocError>
         ensures { IfOk result (IsGraphOf edges.now) }
     {
-        let forward = Joints::of_edges(alloc, edges, Way::Forward)?;
-        let back = Joints::of_edges(alloc, edges, Way::Back)?;
-        Ok(Graph { forward, back })
+        let lots = lots_joined(alloc, edges)?;
+        let forward = Joints::of_edges(alloc, &lots, edges, Way::Forward)?;
+        let back = Joints::of_edges(alloc, &lots, edges, Way::Back)?;
+        Ok(Graph {
+            lots,
+            forward,
+            back,
+        })
     }
 
     /// A graph of the edges that standing actuals of the slice draw.
@@ -46,13 +63,16 @@ impl Graph {
     pub fn of_recorded(alloc: Global, recorded: Recorded) -> Result<Self, AllocError>
         ensures { IfOk result (IsGraph (Draws recorded)) }
     {
-        let Recorded {
-            mut consumptions,
-            mut productions,
-        } = recorded;
+        let lots = lots_used(alloc, &recorded.consumptions, &recorded.productions)?;
+        let mut consumptions = numbered(alloc, &lots, &recorded.consumptions)?;
+        let mut productions = numbered(alloc, &lots, &recorded.productions)?;
         let forward = Joints::of_uses(alloc, &consumptions, &mut productions, Way::Forward)?;
         let back = Joints::of_uses(alloc, &productions, &mut consumptions, Way::Back)?;
-        Ok(Graph { forward, back })
+        Ok(Graph {
+            lots,
+            forward,
+            back,
+        })
     }
 
     /// Every lot that ends a chain of the graph's edges from the lot: the same steps as those of
@@ -65,8 +85,10 @@ impl Graph {
     }
 
     /// The joints for that way.
-    fn joints(&self, way: Way) -> &Joints
-        ensures { result.now ≡ joints_of way self.now }
+    pub(crate) fn joints(&self, way: Way) -> &Joints
+        ensures joints { result.now ≡ joints_of way self.now }
+        ensures within { AreBelow (length self.now.lots.items) result.now.exits.items }
+        ensures sorted { IsStrictlySortedBy lot_cmp self.now.lots.items }
     {
         match way {
             Way::Back => &self.back,
@@ -75,18 +97,43 @@ impl Graph {
     }
 }
 
-/// Every lot that ends a chain of the edges of these graphs from the lot. It walks each joint once at most.
-pub fn trace_among(
-    alloc: Global,
-    graphs: &[&Graph],
-    from: &LotId,
-    way: Way,
-) -> Result<Vec<Step>, AllocError>
-    ensures { IfOk result (λ trace. IsTrace (LeadAmong (map (λ graph. graph.now) graphs.now) way) from.now trace.items) }
+/// The lots that the edges join, in order, each once.
+fn lots_joined(alloc: Global, edges: &[Edge]) -> Result<Vec<LotId>, AllocError>
+    ensures sorted { IfOk result (λ lots. IsStrictlySortedBy lot_cmp lots.items) }
+    ensures every { IfOk result (λ lots. (e : _) → Contains edges.now e → Contains lots.items e.from × Contains lots.items e.to) }
 {
-    let mut parts = Vec::new(alloc);
-    for graph in graphs {
-        parts.push(Part::of(alloc, graph.joints(way))?)?;
+    let mut lots = Vec::new(alloc);
+    for edge in edges {
+        lots.push(edge.from)?;
+        lots.push(edge.to)?;
     }
-    search(alloc, &mut parts, from)
+    put_in_order(&mut lots);
+    Ok(lots)
+}
+
+/// The lots that are consumed or produced, in order, each once.
+fn lots_used(
+    alloc: Global,
+    consumptions: &[(Place, LotId)],
+    productions: &[(Place, LotId)],
+) -> Result<Vec<LotId>, AllocError>
+    ensures sorted { IfOk result (λ lots. IsStrictlySortedBy lot_cmp lots.items) }
+    ensures consumed { IfOk result (λ lots. (u : _) → Contains consumptions.now u → Contains lots.items u.1) }
+    ensures produced { IfOk result (λ lots. (u : _) → Contains productions.now u → Contains lots.items u.1) }
+{
+    let mut lots = Vec::new(alloc);
+    add_used(&mut lots, consumptions)?;
+    add_used(&mut lots, productions)?;
+    put_in_order(&mut lots);
+    Ok(lots)
+}
+
+/// Adds the lots of these uses.
+fn add_used(lots: &mut Vec<LotId>, uses: &[(Place, LotId)]) -> Result<(), AllocError>
+    ensures { OnOk result (lots.new.items ≡ lots.old.items ++ map (λ used. used.1) uses.now) }
+{
+    for (_, lot) in uses {
+        lots.push(*lot)?;
+    }
+    Ok(())
 }

@@ -6,6 +6,7 @@ ghost use Rattle.toll_trace.specs.Joints.{AreWithin};
 ghost use Rattle.toll_trace.specs.Places.{along, place_cmp, AreAhead};
 
 use crate::index::Index;
+use crate::numbers::number_in;
 use crate::places::{Place, ahead_of, put_in_order_along};
 use crate::way::Way;
 use std::alloc::{AllocError, Global};
@@ -19,39 +20,47 @@ pub(crate) struct Span {
 }
 
 /// Lots enter spans of joints, and at each joint a lot leaves. A lot that enters a span leads to all
-/// lots that leave it.
+/// lots that leave it. A lot is a number: its place in the graph's list of lots.
 #[derive(Drop)]
 pub(crate) struct Joints {
-    pub(crate) entries: Index<LotId, Span>,
-    pub(crate) exits: Vec<LotId>,
+    pub(crate) entries: Index<usize, Span>,
+    pub(crate) exits: Vec<usize>,
     ghost within: { AreWithin exits.items entries },
 }
 
 impl Joints {
-    ghost use Rattle.std.specs.Prelude.{◌↔◌};
+    ghost use Rattle.std.specs.Prelude.{◌↔◌, ℕ, Contains};
     ghost use Rattle.toll_base.specs.declared.lot.LotId.{LotId};
+    ghost use Rattle.toll_base.specs.Lots.{lot_cmp};
     ghost use Rattle.toll_trace.specs.Chain.{IsJoined};
+    ghost use Rattle.toll_trace.specs.Common.{IsStrictlySortedBy};
     ghost use Rattle.toll_trace.specs.Joints.{LeadsThrough};
+    ghost use Rattle.toll_trace.specs.Leads.{LeadsBy};
+    ghost use Rattle.toll_trace.specs.Numbers.{AreBelow};
     ghost use Rattle.std.specs.List.Sorted.{IsPermutation};
     ghost use Rattle.toll_trace.specs.Places.{Passes};
 
-    /// A joint for each edge. For a step that way along the edge, the lot at its start enters the
-    /// joint, and the lot at its end leaves it.
-    pub(crate) fn of_edges(alloc: Global, edges: &[Edge], way: Way) -> Result<Self, AllocError>
-        ensures { IfOk result (λ joints. (a b : LotId) → LeadsThrough joints.entries joints.exits.items a b ↔ IsJoined edges.now way a b) }
+    /// A joint for each edge between lots of the list. For a step that way along the edge, the lot at
+    /// its start enters the joint, and the lot at its end leaves it.
+    pub(crate) fn of_edges(
+        alloc: Global,
+        lots: &[LotId],
+        edges: &[Edge],
+        way: Way,
+    ) -> Result<Self, AllocError>
+        requires sorted { IsStrictlySortedBy lot_cmp lots.now }
+        requires listed { (e : _) → Contains edges.now e → Contains lots.now e.from × Contains lots.now e.to }
+        ensures joined { IfOk result (λ joints. (a b : LotId) → LeadsBy lots.now joints a b ↔ IsJoined edges.now way a b) }
+        ensures within { IfOk result (λ joints. AreBelow (length lots.now) joints.exits.items) }
     {
         let mut entries = Vec::new(alloc);
         let mut exits = Vec::new(alloc);
-        for (joint, edge) in edges.iter().enumerate() {
+        for edge in edges {
             let (from, to) = way.ends(edge);
-            entries.push((
-                from,
-                Span {
-                    start: joint,
-                    end: joint + 1,
-                },
-            ))?;
-            exits.push(to)?;
+            let start = exits.len();
+            let end = start + 1;
+            entries.push((number_in(lots, &from), Span { start, end }))?;
+            exits.push(number_in(lots, &to))?;
         }
         Ok(Joints {
             entries: Index::new(entries),
@@ -63,15 +72,16 @@ impl Joints {
     /// lots that leave the chain ahead. Puts the leaving uses in the order of that way.
     pub(crate) fn of_uses(
         alloc: Global,
-        entering: &[(Place, LotId)],
-        leaving: &mut [(Place, LotId)],
+        entering: &[(Place, usize)],
+        leaving: &mut [(Place, usize)],
         way: Way,
     ) -> Result<Self, AllocError>
         ensures moved { IsPermutation leaving.old leaving.new }
-        ensures joined { IfOk result (λ joints. (a b : LotId) → LeadsThrough joints.entries joints.exits.items a b ↔ Passes way entering.now leaving.old a b) }
+        ensures joined { IfOk result (λ joints. (m n : ℕ) → LeadsThrough joints.entries joints.exits.items m n ↔ Passes way entering.now leaving.old m n) }
+        ensures exits { IfOk result (λ joints. (n : ℕ) → Contains joints.exits.items n → (v : _) × Contains leaving.old v × (v.1 ≡ n)) }
     {
         put_in_order_along(leaving, way);
-        let exits = lots_used(alloc, leaving)?;
+        let exits = numbers_used(alloc, leaving)?;
         let entries = entries_ahead(alloc, entering, leaving, way)?;
         Ok(Joints {
             entries: Index::new(entries),
@@ -83,10 +93,10 @@ impl Joints {
 /// For each use at which a lot enters, the lot with the span of the uses ahead of it.
 fn entries_ahead(
     alloc: Global,
-    entering: &[(Place, LotId)],
-    leaving: &[(Place, LotId)],
+    entering: &[(Place, usize)],
+    leaving: &[(Place, usize)],
     way: Way,
-) -> Result<Vec<(LotId, Span)>, AllocError>
+) -> Result<Vec<(usize, Span)>, AllocError>
     requires { IsSortedBy (λ u v. is_lt (along way place_cmp u.0 v.0)) leaving.now }
     ensures { IfOk result (λ entries. AreAhead way entering.now leaving.now entries.items) }
 {
@@ -97,13 +107,13 @@ fn entries_ahead(
     Ok(entries)
 }
 
-/// The lots of these uses.
-fn lots_used(alloc: Global, uses: &[(Place, LotId)]) -> Result<Vec<LotId>, AllocError>
-    ensures { IfOk result (λ lots. lots.items ≡ map (λ used. used.1) uses.now) }
+/// The numbers of the lots of these uses.
+fn numbers_used(alloc: Global, uses: &[(Place, usize)]) -> Result<Vec<usize>, AllocError>
+    ensures { IfOk result (λ numbers. numbers.items ≡ map (λ used. used.1) uses.now) }
 {
-    let mut lots = Vec::new(alloc);
-    for (_, lot) in uses {
-        lots.push(*lot)?;
+    let mut numbers = Vec::new(alloc);
+    for (_, number) in uses {
+        numbers.push(*number)?;
     }
-    Ok(lots)
+    Ok(numbers)
 }

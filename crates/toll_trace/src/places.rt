@@ -8,7 +8,7 @@ use crate::edges::Batch;
 use crate::joints::Span;
 use crate::way::Way;
 use std::cmp::Ordering;
-use toll_base::{LotId, Segment};
+use toll_base::Segment;
 
 /// A batch of one of several slices: the number of the slice, and the batch. It is a chain of segments.
 pub(crate) type Chain = (usize, Batch);
@@ -18,7 +18,7 @@ pub(crate) type Place = (Chain, Segment);
 
 /// The span of the uses that lie ahead of the place in its chain, those at the place included. The
 /// uses are in the order of that way.
-pub(crate) fn ahead_of(uses: &[(Place, LotId)], way: Way, place: &Place) -> Span
+pub(crate) fn ahead_of(uses: &[(Place, usize)], way: Way, place: &Place) -> Span
     requires { IsSortedBy (λ u v. is_lt (along way place_cmp u.0 v.0)) uses.now }
     ensures { IsAheadOf way uses.now place.now result }
 {
@@ -28,7 +28,7 @@ pub(crate) fn ahead_of(uses: &[(Place, LotId)], way: Way, place: &Place) -> Span
 }
 
 /// Puts uses in the order of that way.
-pub(crate) fn put_in_order_along(uses: &mut [(Place, LotId)], way: Way)
+pub(crate) fn put_in_order_along(uses: &mut [(Place, usize)], way: Way)
     ensures moved { IsPermutation uses.old uses.new }
     ensures sorted { IsSortedBy (λ u v. is_lt (along way place_cmp u.0 v.0)) uses.new }
 {

@@ -1,4 +1,4 @@
-use Rattle.std.proofs.Common.{◌≡◌, ◌+◌, map, take, rules}
+use Rattle.std.proofs.Common.{rules}
 use Rattle.toll_sql.specs.Cells.{columns_from}
 use Rattle.toll_sql.specs.EdgeRows.{ShowsEdge, edge_cells}
 use Rattle.toll_sql.proofs.ListLemmas.{more_shown}

@@ -1,9 +1,7 @@
 use Rattle.std.proofs.Common.{◌↔◌, take}
 use Rattle.sqlite.specs.Held.{state}
-use Rattle.sqlite.specs.State.{HasCleanDisk}
 use Rattle.toll_base.specs.declared.lot.Edge.{Edge}
 use Rattle.toll_trace.specs.Recorded.{Draws}
-use Rattle.toll_keep.specs.Content.{Content}
 use Rattle.toll_keep.specs.Holding.{IsEdgeOfOne}
 use Rattle.toll_keep.specs.Meaning.{OverHeld}
 use Rattle.toll_keep.specs.Reads.{HaveRead, IsKept}

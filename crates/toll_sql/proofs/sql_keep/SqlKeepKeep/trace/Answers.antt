@@ -1,14 +1,8 @@
-use Rattle.std.proofs.Common.{◌≡◌, ◌↔◌, rules, take, Err, sym, subst, ◌∙◌}
-use Rattle.std.proofs.lemmas.List.{take_all}
+use Rattle.std.proofs.Common.{◌≡◌, rules, Err, sym, subst}
 use Rattle.sqlite.specs.Held.{state}
-use Rattle.toll_base.specs.declared.lot.Edge.{Edge}
-use Rattle.toll_trace.specs.Recorded.{Draws}
-use Rattle.toll_trace.specs.Edges.{IsEdge}
 use Rattle.toll_keep.specs.Goes.{IsReading}
-use Rattle.toll_keep.specs.Holding.{IsEdgeOfOne, TellsTrace}
 use Rattle.toll_keep.specs.declared.fault.KeepFault.TheVariants.{Memory}
-use Rattle.toll_keep.proofs.Calls.{reads_then, read_ok, read_fault, read_memory}
-use Rattle.toll_keep.proofs.Learning.{drawn_none, drawn_more}
+use Rattle.toll_keep.proofs.Calls.{read_ok, read_fault, read_memory}
 use Rattle.toll_sql.specs.Meant.{means}
 use Rattle.toll_sql.proofs.sql_keep.SqlKeepKeep.trace.Goals as goal
 

@@ -1,16 +1,30 @@
-use Rattle.toll_trace.proofs.EdgeJoints.{edges_none, edges_more, edges_within, edges_joined}
+use Rattle.std.proofs.Common.{◌≡◌, length, subst, arith}
+use Rattle.toll_trace.proofs.Common.{LotId}
+use Rattle.toll_trace.specs.Numbers.{IsNumber}
+use Rattle.toll_trace.proofs.EdgeJoints.{edges_none, edges_more, edges_within, edges_joined, has_both}
+use Rattle.toll_trace.proofs.Walks.{item_of}
 use Rattle.toll_trace.proofs.joints.Joints.of_edges.Goals as goal
 
-pub loop-joint-init : goal.loop-joint-init
-loop-joint-init c = rw (c.new-entries.ensures.items, c.new-exits.ensures.items) (edges_none c.args.edges.now c.args.way)
+pub loop-edge-init : goal.loop-edge-init
+loop-edge-init c = rw (c.new-entries.ensures.items, c.new-exits.ensures.items) (edges_none c.args.lots.now c.args.edges.now c.args.way)
 
-pub loop-joint-preserved : goal.loop-joint-preserved
-loop-joint-preserved c =
-    rw (c.in_ok-push.ensures.items, c.in_ok-push-2.ensures.items, c.ends-from.ensures)
-    (edges_more c.args.edges.now c.args.way c.loop-joint.joint c.index-edges-joint.result c.loop-joint.entries.items c.loop-joint.exits.items c.loop-joint-test.true c.index-edges-joint.is c.loop-joint.invariant)
+pub number_in-requires-clause-listed : goal.number_in-requires-clause-listed
+number_in-requires-clause-listed c = rw c.ends-from.ensures (has_both c.args.lots.now c.args.edges.now c.args.way c.edge-item.result c.requires.listed (item_of _ _ _ c.loop-edge-test.true c.edge-item.is)).0
+
+pub number_in-requires-in-loop-edge-clause-listed : goal.number_in-requires-in-loop-edge-clause-listed
+number_in-requires-in-loop-edge-clause-listed c = rw c.ends-from.ensures (has_both c.args.lots.now c.args.edges.now c.args.way c.edge-item.result c.requires.listed (item_of _ _ _ c.loop-edge-test.true c.edge-item.is)).1
+
+pub loop-edge-preserved : goal.loop-edge-preserved
+loop-edge-preserved c =
+    let e = c.edge-item.result in
+    let from = subst (λ (p : LotId × LotId). IsNumber c.args.lots.now c.number_in.result p.0) c.ends-from.ensures c.number_in.ensures in
+    let to = subst (λ (p : LotId × LotId). IsNumber c.args.lots.now c.number_in-in-loop-edge.result p.1) c.ends-from.ensures c.number_in-in-loop-edge.ensures in
+    let start : c.len-start.result ≡ length c.loop-edge.exits.items = (let l = c.len-start.ensures in let k = c.loop-edge.exits.ok in omega arith) in
+    rw (c.in_ok-push.ensures.items, c.in_ok-push-2.ensures.items, start)
+    (edges_more c.args.lots.now c.args.edges.now c.args.way c.loop-edge.edge-index e c.loop-edge.entries.items c.loop-edge.exits.items c.loop-edge-test.true c.edge-item.is c.loop-edge.invariant c.number_in.result c.number_in-in-loop-edge.result from to)
 
 pub invariant_of-result : goal.invariant_of-result
-invariant_of-result c = record { within = edges_within c.args.edges.now c.args.way c.loop-joint.joint c.loop-joint.entries.items c.new.result c.loop-joint.exits.items c.loop-joint-test.false c.loop-joint.invariant c.new.ensures }
+invariant_of-result c = record { within = edges_within c.args.lots.now c.requires.sorted c.args.edges.now c.args.way c.loop-edge.edge-index c.loop-edge.entries.items c.new.result c.loop-edge.exits.items c.loop-edge-test.false c.loop-edge.invariant c.new.ensures }
 
-pub returns : goal.returns
-returns c = edges_joined c.args.edges.now c.args.way c.loop-joint.joint c.loop-joint.entries.items c.new.result c.loop-joint.exits.items c.loop-joint-test.false c.loop-joint.invariant c.new.ensures
+pub returns-clause-joined : goal.returns-clause-joined
+returns-clause-joined c = edges_joined c.args.lots.now c.requires.sorted c.args.edges.now c.args.way c.loop-edge.edge-index c.loop-edge.entries.items c.new.result c.loop-edge.exits.items c.loop-edge-test.false c.loop-edge.invariant c.new.ensures
