@@ -1,5 +1,5 @@
 -- Tables that are ours already, and the version that is read.
-use Rattle.std.proofs.Common.{◌≡◌, ◌≢◌, ◌⊎◌, inl, inr, ℕ, true, false, List, ◌++◌, slice_get, None, Some, Ok, Result, Option, IfOk, IfSome, OnOk, IsTrue, sym, ap, subst, ◌∙◌}
+use Rattle.std.proofs.Common.{◌≡◌, ◌≢◌, ◌⊎◌, inl, inr, ℕ, false, List, ◌++◌, slice_get, None, Some, Ok, Result, Option, IfOk, IfSome, OnOk, IsTrue, sym, ap, subst, ◌∙◌}
 use Rattle.toll_sql.proofs.Common.{survives_weaker, Database, Schema, Table, State, HasCleanDisk, Survives, Trees, Error, Content}
 use Rattle.toll_sql.specs.Asking.{IsQuerying}
 use Rattle.toll_sql.specs.First.{AreFirst, HasVersion, Tells, first_version, meta_rows}

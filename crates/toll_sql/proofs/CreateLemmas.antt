@@ -1,6 +1,6 @@
 -- What CREATE TABLE makes of a database.
-use Rattle.std.proofs.Common.{◌≡◌, ℕ, false, List, [], slice_get, None, Some, Ok, sym, ap, subst, ◌∙◌}
-use Rattle.toll_sql.proofs.Common.{IsPlain, command_of, statement_of, runs_as, CreateTable, CreateIndex, table_defined_by, Tally, Does, OnTable, AtPlace, Defines, MakesIndex, lacks_sequence, Database, understood, Schema, State, Writes, Executes, mode_of, Table, indexed, index_defined_by, Index}
+use Rattle.std.proofs.Common.{◌≡◌, ℕ, false, List, [], None, Ok, sym, ap, subst, ◌∙◌}
+use Rattle.toll_sql.proofs.Common.{IsPlain, command_of, statement_of, runs_as, CreateTable, table_defined_by, Tally, lacks_sequence, Database, understood, Schema, State, Writes, Executes, Table}
 use Rattle.sqlite.specs.Change.{created, next_tree, KeepsRows}
 use Rattle.toll_sql.proofs.UpsertLemmas.{went, same_value}
 

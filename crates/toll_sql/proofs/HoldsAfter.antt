@@ -36,7 +36,7 @@ tree_number : (k : TableKind) → tree_of k ≡ number_of k + number_of k
 tree_number Meta = refl
 tree_number _ = refl
 
-apart : (j k : TableKind) → (number_of j ≡ number_of k → ⊥) → tree_of j ≢ tree_of k
+pub apart : (j k : TableKind) → (number_of j ≡ number_of k → ⊥) → tree_of j ≢ tree_of k
 apart j k other same = other (omega (arith, tree_number j, tree_number k, same))
 
 first_equal : (k : TableKind) (a b : Row) → is_eq (key_order k a b) ≡ true → is_eq (value_cmp (column a 0) (column b 0)) ≡ true

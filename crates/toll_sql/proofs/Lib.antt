@@ -32,6 +32,9 @@ pub mod Keyed
 pub mod Parts
 pub mod Rowwise
 pub mod HoldsAfter
+pub mod CellPuts
+pub mod TreePuts
+pub mod PutAgain
 pub mod Fresh
 pub mod Whole
 pub mod Applied

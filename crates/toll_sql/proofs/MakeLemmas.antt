@@ -1,6 +1,6 @@
 -- What is made of the tables by making one more, and the row of the version.
-use Rattle.std.proofs.Common.{◌≡◌, ◌&&◌, ◌==◌, inl, ℕ, suc, ◌+◌, ◌<◌, false, List, [], ◌∷◌, ◌++◌, take, get_or, arith, Ok, Result, IsTrue, ap, subst, ◌∙◌, sym, refl}
-use Rattle.toll_sql.proofs.Common.{AllByRecursion, State, ExecutesInside, Survives, HasCleanDisk, Schema, Table, Trees, Error, IsShaped}
+use Rattle.std.proofs.Common.{◌≡◌, inl, ℕ, suc, ◌+◌, ◌<◌, false, List, [], ◌∷◌, take, get_or, arith, Ok, Result, IsTrue, ap, subst, ◌∙◌, sym, refl}
+use Rattle.toll_sql.proofs.Common.{AllByRecursion, State, ExecutesInside, Survives, HasCleanDisk, Table, Trees, Error, IsShaped}
 use Rattle.sqlite_catalog.specs.Change.{KeepsRows, next_tree}
 use Rattle.sqlite_trees.specs.declared.store.Shape.TheVariants as shape
 use Rattle.toll_sql.specs.Create.{AreEmpty, IsStep, IsMaking, MakesTable, IsShapedAs, WritesVersion}
@@ -9,7 +9,7 @@ use Rattle.toll_sql.specs.Holds.{version}
 use Rattle.toll_sql.specs.Others.{HasOurs}
 use Rattle.toll_sql.specs.Stores.{IsReady, MakesRow}
 use Rattle.toll_sql.specs.Plain.{no_schema}
-use Rattle.toll_sql.specs.Tables.{every_table, with_tables, made_before, made_all, table_of, create_text}
+use Rattle.toll_sql.specs.Tables.{every_table, with_tables, made_before, made_all, create_text}
 use Rattle.toll_sql.specs.declared.table_kind.TableKind.{TableKind}
 use Rattle.toll_sql.specs.declared.table_kind.TableKind.TheVariants.{Meta}
 use Rattle.toll_sql.proofs.CreateLemmas.{adds}

@@ -1,9 +1,8 @@
 -- Version 1 found and brought to this version.
-use Rattle.std.proofs.Common.{◌≡◌, ◌≢◌, ◌⊎◌, inl, inr, ℕ, None, Some, Ok, Err, Result, Option, IfOk, IfSome, IsTrue, OnOk, false, arith, refl, sym, ap, subst, ◌∙◌}
+use Rattle.std.proofs.Common.{◌≡◌, ◌≢◌, ◌⊎◌, inl, inr, ℕ, None, Some, Ok, Err, Result, Option, IfOk, IfSome, IsTrue, OnOk, false, arith, refl, sym, subst, ◌∙◌}
 use Rattle.toll_sql.proofs.Common.{on_ok_weaker, on_err_weaker, survives_then, survives_weaker, Database, State, HasCleanDisk, IsUnchanged, Survives, Trees, Error, SqliteFailure, Content}
 use Rattle.sqlite.specs.declared.error.ErrorCode.TheVariants as code
 use Rattle.toll_sql.specs.Asked.{IsUnreadBy, meta_text}
-use Rattle.toll_sql.specs.Asking.{IsQuerying}
 use Rattle.toll_sql.specs.Causes.{Reason, is_disk_fault}
 use Rattle.toll_sql.specs.Create.{IsShapedAs, IsWhole, LeavesMade, begin}
 use Rattle.toll_sql.specs.First.{AreFirst, HasVersion, IsFirst, Raised, Tells, first_ours, first_version, meta_rows}

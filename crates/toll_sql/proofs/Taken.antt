@@ -1,5 +1,5 @@
 -- Stored rows that fit into a slice, one after another.
-use Rattle.std.proofs.Common.{◌≡◌, ◌<◌, ◌≤◌, ◌+◌, ◌∙◌, ℕ, zero, suc, inl, inr, List, [], ◌∷◌, ◌++◌, length, take, get_or, refl, sym, ap, subst, arith}
+use Rattle.std.proofs.Common.{◌≡◌, ◌<◌, ◌≤◌, ◌+◌, ◌∙◌, ℕ, zero, suc, inl, inr, List, [], ◌∷◌, ◌++◌, length, take, get_or, sym, ap, subst, arith}
 use Rattle.std.proofs.Common.{Result, Ok, Err, OnOk}
 use Rattle.toll_sql.proofs.Common.{Row, Bytes, Slice, with_row, KeepsRules, Trees, KeepFault, Memory}
 use Rattle.toll_base.specs.declared.rows.Row.{Row as OfficeRow}

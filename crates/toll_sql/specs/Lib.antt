@@ -21,6 +21,7 @@ pub mod Asked
 pub mod AskedTexts
 pub mod Asking
 pub mod Stores
+pub mod LastPuts
 pub mod Meant
 pub mod Reading
 pub mod Laws

@@ -11,6 +11,7 @@ mod encode;
 mod fault;
 mod ghosts;
 mod holding;
+mod last_puts;
 mod listing;
 mod move_cells;
 mod move_parts;

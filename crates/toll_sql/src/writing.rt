@@ -9,19 +9,21 @@ ghost use Rattle.toll_sql.specs.Create.{IsWhole};
 ghost use Rattle.toll_sql.specs.Stores.{Applies, IsApplied, IsReady, IsWriting, LeavesPut, MakesAll, MakesPut, StaysOnErr, WritesRow};
 
 use crate::encode::{
-    batch_values, lot_values, material_values, move_values, order_values, owner_values,
+    MOST, batch_values, lot_values, material_values, move_values, order_values, owner_values,
     recipe_values, requirement_values, result_values, sublot_values, test_values, unit_values,
     void_values,
 };
 use crate::fault::fault_of;
+use crate::last_puts::last_puts;
 use crate::table_kind::TableKind;
 use sqlite::types::ValueRef;
 use sqlite::{Alter, Connection, Error, Transaction};
+use std::alloc::Global;
 use toll_base::{Change, Name, Row};
 use toll_keep::KeepFault;
 
-/// The greatest whole number that a column can have.
-const MOST: u64 = 9_223_372_036_854_775_807;
+/// The number of changes from which on sublots that are put again are looked for. One command makes fewer.
+const MANY: usize = 8;
 
 /// The column of a sublot's amount.
 const AMOUNT: usize = 3;
@@ -30,7 +32,11 @@ const AMOUNT: usize = 3;
 const NUMBER: usize = 3;
 
 /// Makes all of these changes, in order, or none, in one transaction.
-pub fn make_changes<S: Alter>(conn: &mut Connection<S>, changes: &[Change]) -> Result<(), KeepFault>
+pub fn make_changes<S: Alter>(
+    conn: &mut Connection<S>,
+    alloc: Global,
+    changes: &[Change],
+) -> Result<(), KeepFault>
     requires { conn.old.in_transaction ≡ false }
     ensures ended { conn.new.in_transaction ≡ false }
     ensures limit { conn.new.step_limit ≡ conn.old.step_limit }
@@ -43,26 +49,46 @@ pub fn make_changes<S: Alter>(conn: &mut Connection<S>, changes: &[Change]) -> R
     ensures shown { HasCleanDisk (state S.Store conn.new) → OnOk result (IsTrue (state S.Store conn.new).is_open) }
     ensures crash { Survives (state S.Store conn.old) (state S.Store conn.new) (LeavesPut changes.now (state S.Store conn.old)) }
 {
-    match put_or_none(conn, changes) {
+    match put_or_none(conn, alloc, changes) {
         Ok(()) => Ok(()),
         Err(error) => Err(fault_of(error)),
     }
 }
 
 // Puts the rows of all changes, in order, or none.
-fn put_or_none<S: Alter>(conn: &mut Connection<S>, changes: &[Change]) -> Result<(), Error>
+fn put_or_none<S: Alter>(
+    conn: &mut Connection<S>,
+    alloc: Global,
+    changes: &[Change],
+) -> Result<(), Error>
     requires { conn.old.in_transaction ≡ false }
     ensures whole { IsWhole IsReady (IsApplied changes.now (state S.Store conn.old).now) (state S.Store conn.old) (state S.Store conn.new) result }
 {
     // This question is for the proof alone: outside a transaction nothing is pending.
     let _autocommit = conn.is_autocommit();
     let mut tx = conn.transaction();
-    put_all(&mut tx, changes)?;
+    put_all(&mut tx, alloc, changes)?;
     tx.commit()
 }
 
+// Makes all changes, in order. Of several that put one sublot it makes the last, which leaves the same rows.
+fn put_all<S: Alter>(
+    tx: &mut Transaction<'_, S>,
+    alloc: Global,
+    changes: &[Change],
+) -> Result<(), Error>
+    ensures same_reference { tx.new.conn.ghost_name ≡ tx.old.conn.ghost_name }
+    ensures writes { IsWriting (MakesAll changes.now) (state S.Store tx.old.conn.now) (state S.Store tx.new.conn.now) result }
+{
+    if changes.len() < MANY {
+        return put_each(tx, changes);
+    }
+    let last = last_puts(alloc, changes)?;
+    put_each(tx, &last)
+}
+
 // Makes each change, in order.
-fn put_all<S: Alter>(tx: &mut Transaction<'_, S>, changes: &[Change]) -> Result<(), Error>
+fn put_each<S: Alter>(tx: &mut Transaction<'_, S>, changes: &[Change]) -> Result<(), Error>
     ensures same_reference { tx.new.conn.ghost_name ≡ tx.old.conn.ghost_name }
     ensures writes { IsWriting (MakesAll changes.now) (state S.Store tx.old.conn.now) (state S.Store tx.new.conn.now) result }
 {

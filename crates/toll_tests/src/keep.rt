@@ -1,5 +1,6 @@
 //! Tests of keeps: that ample memory meets no refusal, and what is told of rows that were put.
 
+mod again;
 mod counting;
 mod first_version;
 mod holders;

@@ -2,7 +2,7 @@ use Rattle.std.proofs.Common.{◌≡◌, drop, IsTrue}
 use Rattle.toll_sql.proofs.Common.{state, HasCleanDisk, KeepsCommit, Survives}
 use Rattle.toll_sql.specs.Stores.{IsReady}
 use Rattle.toll_sql.proofs.Going.{GoesOn}
-use Rattle.toll_sql.proofs.writing.put_all.Given as goal
+use Rattle.toll_sql.proofs.writing.put_each.Given as goal
 
 abbrev pub invariant-loop-change : goal.invariant-loop-change
 invariant-loop-change g l = record {
