@@ -1,5 +1,5 @@
-/* Preloaded by tools/try-disk: numbers the program's calls over the files of one folder, and those that wait for a peer,
-   and has one of them fail, come short or be the last one. Which one stands in a file that the tool and the program share. */
+/* Preloaded by tools/try-disk: numbers the program's calls over the files of one folder, and has one of them fail, come short
+   or be the last one. Which one stands in a file that the tool and the program share. */
 #define _GNU_SOURCE
 #include <errno.h>
 #include <fcntl.h>
@@ -8,7 +8,6 @@
 #include <stdlib.h>
 #include <string.h>
 #include <sys/mman.h>
-#include <sys/socket.h>
 #include <sys/stat.h>
 #include <sys/syscall.h>
 #include <unistd.h>
@@ -146,8 +145,4 @@ int fcntl(int file, int what, ...) {
 int statx(int at, const char *path, int flags, unsigned mask, struct statx *found) {
     if (!is_of_folder(path) && !(*path == 0 && is_file_of_folder(at))) return syscall(SYS_statx, at, path, flags, mask, found);
     WHOLE('i', syscall(SYS_statx, at, path, flags, mask, found));
-}
-
-int accept4(int socket, struct sockaddr *peer, socklen_t *length, int flags) {
-    WHOLE('a', syscall(SYS_accept4, socket, peer, length, flags));
 }
