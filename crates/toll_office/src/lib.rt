@@ -3,6 +3,7 @@
 //! sockets. For owners it stays open between requests while no other program changes it.
 #![tactic(auto)]
 
+mod descriptors;
 mod doing;
 mod file_server;
 mod office;
@@ -15,6 +16,7 @@ mod socket_stream;
 mod sockets;
 mod timed;
 
+pub use descriptors::connections_within;
 pub use doing::do_script;
 pub use office::{SqlOpener, office_at};
 pub use programs::run;

@@ -28,6 +28,8 @@ pub enum ListenerFault {
     Taken(Instant),
     /// The socket file can't be made, or there is no memory.
     Socket,
+    /// The server has closed its listeners.
+    Closed,
 }
 
 /// After how many seconds it is retried if something else is in the place of the socket file.
@@ -43,7 +45,7 @@ impl<'a> PlantListener<'a> {
             Err(ListenerFault::Taken(since)) => {
                 matches!(since.elapsed(rt), Ok(gone) if gone.as_secs() >= PAUSE_SECONDS)
             }
-            Err(ListenerFault::Socket) => false,
+            Err(ListenerFault::Socket | ListenerFault::Closed) => false,
         }
     }
 

@@ -1,4 +1,5 @@
 //! The sockets of the system.
+use crate::descriptors::most_connections;
 use crate::plant_listener::{ListenerFault, PlantListener};
 use crate::socket_stream::SocketStream;
 use mio::net::TcpListener;
@@ -7,15 +8,11 @@ use std::io;
 use std::io::ErrorKind;
 use std::net::{Ipv4Addr, SocketAddr, SocketAddrV4};
 use std::time::{Duration, Instant};
-use toll_server::{Accepted, Listener, Network, NetworkFault};
+use toll_server::{Accepted, Listener, MOST_CONNECTIONS, Network, NetworkFault};
 use toll_service::{FaultLog, ServingFault};
 
 /// How many events one wait gives.
 const MOST_EVENTS: usize = 256;
-
-/// How many connections in a row may have closed before they are accepted. That is more than can wait at a
-/// listener.
-const MOST_ABORTED: usize = 65_536;
 
 /// The listeners' tokens. A connection's token is its key behind them.
 const OWNERS: usize = 0;
@@ -29,10 +26,11 @@ const FIRST_CONNECTION: usize = 2;
 pub struct Sockets<'a> {
     rt: &'a HostRuntime,
     office: &'a str,
+    most_open: usize,
     poll: Poll,
     events: Events,
     delivered: usize,
-    owners: TcpListener,
+    owners: Option<TcpListener>,
     plant: Result<PlantListener<'a>, ListenerFault>,
     listener: FaultLog,
     resources: FaultLog,
@@ -42,7 +40,8 @@ pub struct Sockets<'a> {
 impl<'a> Sockets<'a> {
     /// Listens at this port of this machine alone, or at a free port if it is 0. Listens also for the plant
     /// at the socket file beside the office's file, if one can be made. If another program has the office's
-    /// lock or listens there, or the socket file is gone later, that is retried after each wait.
+    /// lock or listens there, or the socket file is gone later, that is retried after each wait until the
+    /// listeners are closed.
     pub fn listen(rt: &'a HostRuntime, port: u16, office: &'a str) -> io::Result<Self> {
         let address = SocketAddr::V4(SocketAddrV4::new(Ipv4Addr::LOCALHOST, port));
         let mut owners = TcpListener::bind(rt, address)?;
@@ -52,10 +51,11 @@ impl<'a> Sockets<'a> {
         let mut sockets = Sockets {
             rt,
             office,
+            most_open: most_connections(rt),
             poll,
             events: Events::with_capacity(rt.alloc(), MOST_EVENTS)?,
             delivered: 0,
-            owners,
+            owners: Some(owners),
             plant: Err(ListenerFault::Locked),
             listener: FaultLog::new(),
             resources: FaultLog::new(),
@@ -65,9 +65,12 @@ impl<'a> Sockets<'a> {
         Ok(sockets)
     }
 
-    /// The port of the owners' listener.
+    /// The port of the owners' listener. An `Err` if it is closed.
     pub fn port(&self) -> io::Result<u16> {
-        Ok(self.owners.local_addr()?.port())
+        match &self.owners {
+            Some(owners) => Ok(owners.local_addr()?.port()),
+            None => Err(ErrorKind::NotConnected.into()),
+        }
     }
 
     // Opens the plant's listener, unless it is open or can't be made.
@@ -100,7 +103,10 @@ impl<'a> Sockets<'a> {
                 Err(fault) => return Err(fault),
             }
         }
-        let (stream, _) = self.owners.accept()?;
+        let Some(owners) = &self.owners else {
+            return Err(ErrorKind::WouldBlock.into());
+        };
+        let (stream, _) = owners.accept()?;
         Ok((Listener::Owners, SocketStream::Owner(stream)))
     }
 
@@ -115,6 +121,10 @@ impl<'a> Sockets<'a> {
 
 impl Network for Sockets<'_> {
     type Stream = SocketStream;
+
+    fn most_connections(&self) -> usize {
+        self.most_open.clamp(1, MOST_CONNECTIONS)
+    }
 
     fn wait(&mut self, most: Option<u64>) -> Result<u64, NetworkFault> {
         self.delivered = 0;
@@ -140,24 +150,27 @@ impl Network for Sockets<'_> {
         None
     }
 
-    // A connection that closed before it was accepted is skipped, because those behind it are not reported
-    // again.
     fn accept_next(&mut self, key: usize) -> Result<Accepted<SocketStream>, NetworkFault> {
-        for _ in 0..MOST_ABORTED {
-            match self.take(key) {
-                Ok((listener, stream)) => {
-                    self.resources.update(self.rt, None);
-                    return Ok(Accepted::Connected(listener, stream));
-                }
-                Err(fault) => match fault.kind() {
-                    ErrorKind::WouldBlock => return Ok(Accepted::NoneWaiting),
-                    ErrorKind::ConnectionAborted | ErrorKind::Interrupted => {}
-                    _ => break,
-                },
+        match self.take(key) {
+            Ok((listener, stream)) => {
+                self.resources.update(self.rt, None);
+                Ok(Accepted::Connected(listener, stream))
             }
+            Err(fault) => match fault.kind() {
+                ErrorKind::WouldBlock => Ok(Accepted::NoneWaiting),
+                ErrorKind::ConnectionAborted | ErrorKind::Interrupted => Ok(Accepted::Aborted),
+                _ => {
+                    self.resources.update(self.rt, Some(ServingFault::Room));
+                    Ok(Accepted::NoResources)
+                }
+            },
         }
-        self.resources.update(self.rt, Some(ServingFault::Room));
-        Ok(Accepted::NoResources)
+    }
+
+    // The socket file of the plant is removed with its listener.
+    fn close_listeners(&mut self) {
+        self.owners = None;
+        self.plant = Err(ListenerFault::Closed);
     }
 
     fn now(&mut self) -> u64 {

@@ -6,4 +6,5 @@ pub mod TallyLemmas
 pub mod TurnTimes
 pub mod StandLemmas
 pub mod AcceptLemmas
+pub mod ListenLemmas
 pub mod RoundLemmas

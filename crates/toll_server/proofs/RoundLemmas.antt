@@ -1,5 +1,5 @@
 -- Rounds, one after another.
-use Rattle.std.proofs.Common.{◌≡◌, ◌∙◌, ◌+◌, ◌≤◌, ◌==◌, ℕ, arith, inl, inr, List, [], ◌∷◌, ◌++◌, length, map, Bool, Option, None, Some, ap, refl, subst, sym, append-nil, append_assoc, length-append}
+use Rattle.std.proofs.Common.{◌≡◌, ◌∙◌, ◌+◌, ◌≤◌, ◌==◌, ℕ, arith, inl, inr, List, [], ◌∷◌, ◌++◌, length, map, Bool, false, Option, None, Some, ap, refl, subst, sym, append-nil, append_assoc, length-append}
 use Rattle.std.specs.Prelude.{◌⊎◌, All, IfSome, Ok, option_and_then, option_map, if◌then◌else◌}
 use Rattle.std.specs.Cmp.{IsEquivalence}
 use Rattle.std.specs.List.{Contains}
@@ -12,7 +12,7 @@ use Rattle.toll_server.proofs.ConnectionLemmas.{expired_closed, expired_queue}
 use Rattle.toll_server.proofs.QueueLemmas.{IsHistoryIn, none_twice, own_of, same_history}
 use Rattle.toll_server.proofs.RunLemmas.{run_kept, run_more}
 use Rattle.toll_server.proofs.StandLemmas.{asked_at, closed_new, each_some, heard_more, stands_fewer, stands_heard, stands_kept}
-use Rattle.toll_server.proofs.TallyLemmas.{tallies_begin, tallies_then, tallies_weaker}
+use Rattle.toll_server.proofs.TallyLemmas.{OnlyClock, tallies_begin, tallies_then, tallies_weaker}
 use Rattle.toll_server.specs.Accepting.{StandsStill}
 use Rattle.toll_server.specs.Connections.{ClosesExpired, Hears, HearsAll, IsDueAt, IsDueTo, IsInTime, JoinsAt, KeepsQueue, KeepsRequests, KeepsTasks, NoneNew, StandsByKey, TakesNext, TakesTurn, queue_in, tasks_in}
 use Rattle.toll_server.specs.ConnectionStates.{pending_task}
@@ -34,6 +34,16 @@ none_left (x ∷ xs) le = absurd (omega (arith, le))
 pub turns_joined : {T P : Type 0} (joined : List (Joining P)) (h : List (Happening T P)) → turns_of (with_joined joined h) ≡ turns_of h
 turns_joined [] h = refl
 turns_joined (j ∷ joined) h = turns_joined joined h
+
+-- what a network had given, and whether it listened
+module _ {S : Type 0} where
+  abbrev owners_in : Option (Tally S) → ℕ
+  owners_in None = 0
+  owners_in (Some t) = t.owners
+
+  abbrev listening_in : Option (Tally S) → Bool
+  listening_in None = false
+  listening_in (Some t) = t.is_listening
 
 module _ {S T P : Type 0} (same : P → P → Bool) (is_by : Listener → List ℕ → P → Type 0) (from : source.Ghosts S) (to : sink.Ghosts S) where
   pub not_grown : (h : List (Happening T P)) (moment : ℕ) (slots : Slab (Connection S T P)) → IsHistoryIn same is_by h moment slots → HasGrown same is_by from to h [] slots moment slots
@@ -145,7 +155,7 @@ module _ {S T P : Type 0} (same : P → P → Bool) (is_by : Listener → List �
       → IsInTime limit began old.slots → IfSome limit (λ most. IsDueAt old.accept_state began most ⊎ IsDueTo old.slots began most)
       → HasHeard same is_by from to old middle c d → ClosesExpired now middle.slots new.slots → new.moment ≡ middle.moment → HasWaited same is_by from to now old new a d
   waited_so now limit began old middle new a b c d shows waits in_time due p closed moment = record {
-    wake = record { limit = limit; at = now; ready = p.keys };
+    wake = record { limit = limit; at = now; ready = p.keys; owners = owners_in a; is_listening = listening_in a };
     at = refl;
     began = began;
     in_time = in_time;
@@ -155,7 +165,8 @@ module _ {S T P : Type 0} (same : P → P → Bool) (is_by : Listener → List �
     closed = closed;
     grown = λ h is. grown_kept h p.keys middle.moment new.moment old.slots middle.slots new.slots (p.grown h is) moment (expired_queue now middle.slots new.slots closed)
         (expired_closed now middle.slots new.slots closed) (closed_new now middle.slots new.slots closed);
-    known = tallies_then Begun After Known a c d (tallies_then (Shows began) (Waits {E = NetworkFault} limit (Ok now)) Begun a b c shows waits begun) p.all known;
+    door = door a d all;
+    known = named a d all;
   } where
     After : Tally S → Tally S → Type 0
     After t u = length t.unheard ≤ MOST_READY → (p.keys ≡ t.unheard) × (u ≡ record t { unheard = [] })
@@ -163,7 +174,7 @@ module _ {S T P : Type 0} (same : P → P → Bool) (is_by : Listener → List �
     Begun : Tally S → Tally S → Type 0
     Begun t u = (t.clock ≤ began) × (began ≤ now) × ((ready : List ℕ) × (length ready ≤ MOST_READY) × (u ≡ record t {
       waits = t.waits + 1;
-      wakes = record { limit = limit; at = now; ready = ready } ∷ t.wakes;
+      wakes = record { limit = limit; at = now; ready = ready; owners = t.owners; is_listening = t.is_listening } ∷ t.wakes;
       unheard = ready;
       missed = t.missed + length t.unheard;
       clock = now;
@@ -172,7 +183,7 @@ module _ {S T P : Type 0} (same : P → P → Bool) (is_by : Listener → List �
     Known : Tally S → Tally S → Type 0
     Known t u = (t.clock ≤ began) × (began ≤ now) × (u ≡ record t {
       waits = t.waits + 1;
-      wakes = record { limit = limit; at = now; ready = p.keys } ∷ t.wakes;
+      wakes = record { limit = limit; at = now; ready = p.keys; owners = t.owners; is_listening = t.is_listening } ∷ t.wakes;
       unheard = [];
       missed = t.missed + length t.unheard;
       clock = now;
@@ -187,7 +198,7 @@ module _ {S T P : Type 0} (same : P → P → Bool) (is_by : Listener → List �
         r.1.1,
         r.1.2 ∙ ap (λ (x : Tally S). record x {
           waits = x.waits + 1;
-          wakes = record { limit = limit; at = now; ready = r.1.0 } ∷ x.wakes;
+          wakes = record { limit = limit; at = now; ready = r.1.0; owners = x.owners; is_listening = x.is_listening } ∷ x.wakes;
           unheard = r.1.0;
           missed = x.missed + length x.unheard;
           clock = now;
@@ -199,7 +210,26 @@ module _ {S T P : Type 0} (same : P → P → Bool) (is_by : Listener → List �
     known t u v q r = let (clock, order, more) = q in let (ready, most, is) = more in
         let (keys, next) = r (subst (λ (x : Tally S). length x.unheard ≤ MOST_READY) (sym is) most) in
         let all : ready ≡ p.keys = sym (keys ∙ ap (λ (x : Tally S). x.unheard) is) in
-        (clock, order, next ∙ (ap (λ (x : Tally S). record x { unheard = [] }) is ∙ ap (λ (l : List ℕ). record t { waits = t.waits + 1; wakes = record { limit = limit; at = now; ready = l } ∷ t.wakes; unheard = []; missed = t.missed + length t.unheard; clock = now }) all))
+        (clock, order, next ∙ (ap (λ (x : Tally S). record x { unheard = [] }) is ∙ ap (λ (l : List ℕ). record t { waits = t.waits + 1; wakes = record { limit = limit; at = now; ready = l; owners = t.owners; is_listening = t.is_listening } ∷ t.wakes; unheard = []; missed = t.missed + length t.unheard; clock = now }) all))
+
+    all : Tallies Known a d
+    all = tallies_then Begun After Known a c d (tallies_then (Shows began) (Waits {E = NetworkFault} limit (Ok now)) Begun a b c shows waits begun) p.all known
+
+    door : (a d : Option (Tally S)) → Tallies Known a d → Tallies (λ t u. (owners_in a ≡ t.owners) × (listening_in a ≡ t.is_listening)) a d
+    door None d q = tt
+    door (Some t) None q = absurd q
+    door (Some t) (Some u) q = (refl, refl)
+
+    named : (a d : Option (Tally S)) → Tallies Known a d → Tallies (λ t u. (t.clock ≤ began) × (began ≤ now) × (u ≡ record t {
+      waits = t.waits + 1;
+      wakes = record { limit = limit; at = now; ready = p.keys; owners = owners_in a; is_listening = listening_in a } ∷ t.wakes;
+      unheard = [];
+      missed = t.missed + length t.unheard;
+      clock = now;
+    })) a d
+    named None d q = tt
+    named (Some t) None q = absurd q
+    named (Some t) (Some u) q = q
 
 -- the network did what these rounds tell: its waits are theirs, who asked came, nobody was passed over, and each stands by its key
 pub record IsNet {S T P : Type 0} (unread : S → Option (List ℕ)) (rounds : List (Round T P)) (slots : Slab (Connection S T P)) (t u : Tally S) : Type 0 where
@@ -363,6 +393,18 @@ module _ {S T P O : Type 0} (same : P → P → Bool) (is_by : Listener → List
             subst (λ o. IsWhatWaits (queue_of same h turn.whose) o turn.input) (tasks turn.whose)
             (subst (λ o. IsWhatWaits o (tasks_in heard.slots turn.whose) turn.input) (agree turn.whose) what)
 
+  pub clocked_so : (old new : O) (moment : ℕ) (connections : Slab (Connection S T P)) (was told is : Option (Tally S)) → Tallies OnlyClock told is
+      → SoFar old new moment connections was told → SoFar old new moment connections was is
+  clocked_so old new moment connections was told is clock p = record {
+    rounds = p.rounds;
+    history = p.history;
+    run = p.run;
+    its = p.its;
+    regular = p.regular;
+    net = tallies_then (IsNet from.unread p.rounds connections) OnlyClock (IsNet from.unread p.rounds connections) was told is p.net clock
+        (λ t u v q r. subst (IsNet from.unread p.rounds connections t) (sym r) (record { waited = q.waited; asked = q.asked; passed_over = q.passed_over; stands = q.stands }));
+  }
+
   pub in_turn : IsEquivalence same → (old new : O) (moment : ℕ) (connections : Slab (Connection S T P)) (was is : Option (Tally S)) → SoFar old new moment connections was is
       → IsServedInTurn same is_by answers resumes old new
   in_turn laws old new moment connections was is p = record {
@@ -393,7 +435,7 @@ module _ {S T P O : Type 0} (same : P → P → Bool) (is_by : Listener → List
   pub broken_rounds : (old new : O) (was told is : Option (Tally S)) → Tallies BreaksDown told is → Tallies (IsServedInRounds same is_by answers resumes from.unread old new) was told
       → Tallies (IsServedInRounds same is_by answers resumes from.unread old new) was is
   broken_rounds old new was told is breaks p = tallies_then (IsServedInRounds same is_by answers resumes from.unread old new) BreaksDown (IsServedInRounds same is_by answers resumes from.unread old new)
-      was told is p breaks (λ t u v q r. let (failed, arrivals, wakes, missed) = r in record {
+      was told is p breaks (λ t u v q r. let (failed, arrivals, wakes, missed, owners, listening) = r in record {
         rounds = q.rounds;
         left = q.left;
         run = q.run;

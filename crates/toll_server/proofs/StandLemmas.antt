@@ -160,9 +160,9 @@ module _ {S T P : Type 0} (unread : S → Option (List ℕ)) where
       let (came, among, at, its) = the_some (get old key) _ connection was (p key) in
       (came, among, at, kept_of came connection later request same its))
 
-  pub stands_added : (now : ℕ) (arrivals : List (Arrival S)) (came : Arrival S) (old new : Slab (Connection S T P)) → Adds now came old new → StandsByKey unread arrivals old
+  pub stands_added : (most now : ℕ) (arrivals : List (Arrival S)) (came : Arrival S) (old new : Slab (Connection S T P)) → Adds most now came old new → StandsByKey unread arrivals old
       → StandsByKey unread (came ∷ arrivals) new
-  stands_added now arrivals came old new adds p = elim adds.shed [
+  stands_added most now arrivals came old new adds p = elim adds.shed [
     | inl as_is ↦ subst (StandsByKey unread (came ∷ arrivals)) (sym as_is.1) with_it
     | inr evicts ↦ stands_fewer (came ∷ arrivals) adds.«with» new (evicted_new adds.«with» new evicts.1) with_it
   ] where

@@ -1,9 +1,9 @@
 -- What a network has done, step by step; and who stays meanwhile.
-use Rattle.std.proofs.Common.{◌≡◌, ◌≢◌, ◌||◌, ℕ, Bool, true, false, Option, None, Some, refl, sym, subst}
+use Rattle.std.proofs.Common.{◌≡◌, ◌∙◌, ◌≢◌, ◌||◌, ℕ, inl, inr, ap, Bool, true, false, Option, None, Some, refl, sym, subst}
 use Rattle.std.specs.Prelude.{Err, IfSome, Ok, OnErr, OnOk, Result, is_err, option_map}
 use Rattle.slab.specs.Slab.{Slab, get}
-use Rattle.toll_server.specs.Connections.{KeepsSubmitted}
-use Rattle.toll_server.specs.Networks.{Tallies, Tally}
+use Rattle.toll_server.specs.Connections.{KeepsSubmitted, TimesReply}
+use Rattle.toll_server.specs.Networks.{Shows, Tallies, Tally}
 use Rattle.toll_server.specs.declared.connection.Connection.{Connection}
 use Rattle.toll_server.specs.declared.connection_state.ConnectionState.TheVariants.{Reading}
 
@@ -35,6 +35,15 @@ pub tallies_both : {S : Type 0} (P Q : Tally S → Tally S → Type 0) (a b : Op
 tallies_both P Q None b p q = tt
 tallies_both P Q (Some t) None p q = absurd p
 tallies_both P Q (Some t) (Some u) p q = (p, q)
+
+-- the clock may have gone on, and nothing else was done
+abbrev pub OnlyClock : {S : Type 0} → Tally S → Tally S → Type 0
+OnlyClock t u = u ≡ record t { clock = u.clock }
+
+pub clock_went_on : {S T P : Type 0} (old new : Slab (Connection S T P)) (a b : Option (Tally S)) → TimesReply old new a b → Tallies OnlyClock a b
+clock_went_on old new a b (now, inl none, times) = tallies_begin OnlyClock a b none.1 (λ t. refl)
+clock_went_on old new a b (now, inr shows, times) =
+    tallies_weaker (Shows now) OnlyClock a b shows (λ t u p. p.1 ∙ ap (λ n. record t { clock = n }) (sym (ap (λ x. x.clock) p.1)))
 
 pub on_err : {A E X : Type 0} (r : Result A E) → is_err r ≡ true → OnErr r X → X
 on_err (Ok x) is p = absurd (cc)

@@ -6,7 +6,7 @@ use Rattle.std.specs.Io.KnownBytes.{Consumes}
 use Rattle.toll_protocol.specs.declared.streams.sink.Sink as sink
 use Rattle.toll_protocol.specs.declared.streams.source.Source as source
 use Rattle.toll_server.specs.RequestBuffers.{bytes_received, listener_of}
-use Rattle.toll_server.specs.Networks.{Arrival}
+use Rattle.toll_server.specs.Networks.{Arrival, Shows, Tallies, Tally}
 use Rattle.toll_server.specs.Queues.{IsNext, IsWhatWaits, Queue, Waiting, newly, queue_after, queue_with}
 use Rattle.toll_server.specs.Runs.{Tasks, Turn, Yields, after_turn}
 use Rattle.toll_server.specs.ConnectionStates.{last_poll, reply_of, state_behind, task_of, ticket_of}
@@ -16,7 +16,7 @@ use Rattle.toll_server.specs.declared.filter.Filter.TheVariants.{Reading, Queued
 use Rattle.toll_server.specs.declared.listener.Listener.{Listener}
 use Rattle.toll_server.specs.declared.listener.Listener.TheVariants.{Owners as ForOwners}
 use Rattle.toll_server.specs.declared.connections.AcceptState.{AcceptState}
-use Rattle.toll_server.specs.declared.connections.TheConstants.{MOST_CONNECTIONS, PAUSE_MILLISECONDS}
+use Rattle.toll_server.specs.declared.connections.TheConstants.{PAUSE_MILLISECONDS}
 use Rattle.toll_server.specs.declared.connections.AcceptState.TheVariants.{Open, Backlogged, Paused}
 use Rattle.toll_server.specs.declared.connection.Connection.{Connection}
 use Rattle.toll_server.specs.declared.expiry.Earliest.{Earliest}
@@ -125,24 +125,24 @@ module _ {S T P : Type 0} where
   IsNewcomer listener stream now connection =
       (connection.stream ≡ stream) × (bytes_received connection.request ≡ []) × (listener_of connection.request ≡ listener) × (connection.state ≡ ReadingState) × (connection.deadline ≡ deadline_from now)
 
-  -- who came has a place by its key, which nobody had; and where it is one too many, the one is closed that has been reading longest
-  pub record Adds (now : ℕ) (came : Arrival S) (old new : Slab (Connection S T P)) : Type 0 where
+  -- who came has a place by its key, which nobody had; and where it is one more than may be open, the one is closed that has been reading longest
+  pub record Adds (most now : ℕ) (came : Arrival S) (old new : Slab (Connection S T P)) : Type 0 where
     pub connection : Connection S T P
     pub newcomer : IsNewcomer came.listener came.stream now connection
     pub vacant : get old came.key ≡ None
     pub «with» : Slab (Connection S T P)
     pub added : Updates old «with» came.key (Some connection)
     pub one_more : slab_len «with» ≡ slab_len old + 1
-    pub shed : ((slab_len «with» ≤ MOST_CONNECTIONS) × (new ≡ «with»)) ⊎ ((MOST_CONNECTIONS < slab_len «with») × EvictsOldest «with» new)
+    pub shed : ((slab_len «with» ≤ most) × (new ≡ «with»)) ⊎ ((most < slab_len «with») × EvictsOldest «with» new)
 
   -- so it is with this one, by the slab's next key
-  abbrev pub AddsNext : ℕ → Listener → S → Slab (Connection S T P) → Slab (Connection S T P) → Type 0
-  AddsNext now listener stream old new = Adds now (record { key = old.vacant_key; listener = listener; stream = stream }) old new
+  abbrev pub AddsNext : ℕ → ℕ → Listener → S → Slab (Connection S T P) → Slab (Connection S T P) → Type 0
+  AddsNext most now listener stream old new = Adds most now (record { key = old.vacant_key; listener = listener; stream = stream }) old new
 
   -- so it is with each of these, one after another, the newest first
-  abbrev pub AddsAll : ℕ → List (Arrival S) → Slab (Connection S T P) → Slab (Connection S T P) → Type 0
-  AddsAll now [] old new = new ≡ old
-  AddsAll now (came ∷ before) old new = (middle : Slab (Connection S T P)) × AddsAll now before old middle × Adds now came middle new
+  abbrev pub AddsAll : ℕ → ℕ → List (Arrival S) → Slab (Connection S T P) → Slab (Connection S T P) → Type 0
+  AddsAll most now [] old new = new ≡ old
+  AddsAll most now (came ∷ before) old new = (middle : Slab (Connection S T P)) × AddsAll most now before old middle × Adds most now came middle new
 
   -- where there was nothing for one more: if some have just come, others may be accepted once those were heard; and else the one is closed that has been reading
   -- longest, and others may be accepted then; where none is reading, nobody is for a while
@@ -230,6 +230,11 @@ module _ {S T P : Type 0} where
   TakesNext answers resumes same moment now_moment connections later old new =
       (NobodyWaits connections × (now_moment ≡ moment) × (later ≡ connections) × (new ≡ old))
       ⊎ ((now_moment ≡ moment + 1) × TakesTurn answers resumes same moment connections later old new)
+
+  -- the time for a reply begins at a millisecond that the clock shows, and no other time changes; where nobody waits, the clock isn't asked
+  abbrev pub TimesReply : Slab (Connection S T P) → Slab (Connection S T P) → Option (Tally S) → Option (Tally S) → Type 0
+  TimesReply old new was is =
+      (now : ℕ) × ((NobodyWaits old × (is ≡ was)) ⊎ Tallies (Shows now) was is) × ((key : ℕ) → IfStays key old new (KeepsTime now))
 
 -- connections may be accepted then
 abbrev pub IsDueAt : AcceptState → ℕ → ℕ → Type 0

@@ -1,9 +1,9 @@
 -- What a network has done.
-use Rattle.std.specs.Prelude.{◌≡◌, ◌≤◌, ◌<◌, ◌+◌, ◌-◌, ◌^◌, ◌||◌, ℕ, Bool, true, is_err, List, [], ◌∷◌, ◌++◌, length, Option, None, Some, Result, Ok, Err, OnErr, ⊤}
+use Rattle.std.specs.Prelude.{◌≡◌, ◌≤◌, ◌<◌, ◌+◌, ◌-◌, ◌^◌, ◌||◌, ℕ, Bool, true, false, is_err, List, [], ◌∷◌, ◌++◌, length, Option, None, Some, Result, Ok, Err, OnErr, ⊤}
 use Rattle.toll_server.specs.declared.listener.Listener.{Listener}
 use Rattle.toll_server.specs.declared.listener.Listener.TheVariants.{Owners, Plant}
 use Rattle.toll_server.specs.declared.network.Accepted.{Accepted}
-use Rattle.toll_server.specs.declared.network.Accepted.TheVariants.{Connected, NoneWaiting, NoResources}
+use Rattle.toll_server.specs.declared.network.Accepted.TheVariants.{Connected, Aborted, NoneWaiting, NoResources}
 use Rattle.toll_server.specs.declared.connections.AcceptState.{AcceptState}
 use Rattle.toll_server.specs.declared.connections.AcceptState.TheVariants.{Open, Backlogged, Paused}
 use Rattle.toll_server.specs.declared.network.TheConstants.{MOST_READY}
@@ -16,11 +16,14 @@ pub record Arrival (S : Type 0) : Type 0 where
   pub listener : Listener
   pub stream : S
 
--- a wait: for how many milliseconds it might be at most, at which one it was over, and who might go on then, by their keys
+-- a wait: for how many milliseconds it might be at most, at which one it was over, and who might go on then, by their keys; how many owners' connections the
+-- network had given by then, and whether it listened meanwhile
 pub record Wake : Type 0 where
   pub limit : Option ℕ
   pub at : ℕ
   pub ready : List ℕ
+  pub owners : ℕ
+  pub is_listening : Bool
 
 -- what is known of those who wait at the listeners, by the latest call
 pub data Backlog : Type 0 where
@@ -30,7 +33,7 @@ pub data Backlog : Type 0 where
 
 -- how many owners' connections it gave, how often it was asked for one and how often waited for, and whether that has failed; all connections that it gave and
 -- all its waits, the newest first; who may go on since the latest wait and was not handed out yet, and how many were not where it was waited for anew; what is
--- known of those who wait at the listeners; and the latest millisecond that its clock showed
+-- known of those who wait at the listeners; whether these are open; and the latest millisecond that its clock showed
 pub record Tally (S : Type 0) : Type 0 where
   pub owners : ℕ
   pub accepts : ℕ
@@ -41,6 +44,7 @@ pub record Tally (S : Type 0) : Type 0 where
   pub unheard : List ℕ
   pub missed : ℕ
   pub backlog : Backlog
+  pub is_listening : Bool
   pub clock : ℕ
 
 module _ {S : Type 0} where
@@ -48,7 +52,7 @@ module _ {S : Type 0} where
   abbrev pub Waits : {E : Type 0} → Option ℕ → Result ℕ E → Tally S → Tally S → Type 0
   Waits limit (Ok now) t u = (t.clock ≤ now) × ((ready : List ℕ) × (length ready ≤ MOST_READY) × (u ≡ record t {
     waits = t.waits + 1;
-    wakes = record { limit = limit; at = now; ready = ready } ∷ t.wakes;
+    wakes = record { limit = limit; at = now; ready = ready; owners = t.owners; is_listening = t.is_listening } ∷ t.wakes;
     unheard = ready;
     missed = t.missed + length t.unheard;
     clock = now;
@@ -66,7 +70,8 @@ module _ {S : Type 0} where
 
 -- it fails, and nobody has come nor been waited for
 abbrev pub BreaksDown : {S : Type 0} → Tally S → Tally S → Type 0
-BreaksDown t u = (u.failed ≡ true) × (u.arrivals ≡ t.arrivals) × (u.wakes ≡ t.wakes) × (u.missed ≡ t.missed)
+BreaksDown t u = (u.failed ≡ true) × (u.arrivals ≡ t.arrivals) × (u.wakes ≡ t.wakes) × (u.missed ≡ t.missed) × (u.owners ≡ t.owners)
+    × (u.is_listening ≡ t.is_listening)
 
 abbrev pub owners_at : Listener → ℕ
 owners_at Owners = 1
@@ -75,6 +80,7 @@ owners_at Plant = 0
 -- how many owners' connections were taken
 abbrev pub owners_accepted : {S E : Type 0} → Result (Accepted S) E → ℕ
 owners_accepted (Ok (Connected listener stream)) = owners_at listener
+owners_accepted (Ok Aborted) = 0
 owners_accepted (Ok NoneWaiting) = 0
 owners_accepted (Ok NoResources) = 0
 owners_accepted (Err e) = 0
@@ -82,12 +88,14 @@ owners_accepted (Err e) = 0
 -- who came, by this key
 abbrev pub arrived : {S E : Type 0} → ℕ → Result (Accepted S) E → List (Arrival S)
 arrived key (Ok (Connected listener stream)) = record { key = key; listener = listener; stream = stream } ∷ []
+arrived key (Ok Aborted) = []
 arrived key (Ok NoneWaiting) = []
 arrived key (Ok NoResources) = []
 arrived key (Err e) = []
 
 abbrev pub backlog_after : {S E : Type 0} → Result (Accepted S) E → Backlog
 backlog_after (Ok (Connected listener stream)) = MayWait
+backlog_after (Ok Aborted) = MayWait
 backlog_after (Ok NoneWaiting) = NoneWaits
 backlog_after (Ok NoResources) = Lacks
 backlog_after (Err e) = MayWait
@@ -101,6 +109,14 @@ after_accept key r t = record t {
   arrivals = arrived key r ++ t.arrivals;
   backlog = backlog_after r;
 }
+
+-- its listeners are closed
+abbrev pub after_close : {S : Type 0} → Tally S → Tally S
+after_close t = record t { is_listening = false }
+
+-- while so many owners are still to come, it listens as it did, and once none is, it does no longer
+abbrev pub ListensFor : ℕ → Bool → Bool → Type 0
+ListensFor left was is = (0 < left → is ≡ was) × (left ≡ 0 → is ≡ false)
 
 -- so many owners came, and there is no more to wait for; or the network failed; or it was waited for as often as can be counted
 abbrev pub EndsSo : {S : Type 0} → ServingEnd → ℕ → Tally S → Tally S → Type 0

@@ -1,12 +1,12 @@
 -- What happens from one wait to the next: who may go on is heard, and the service takes a turn.
-use Rattle.std.specs.Prelude.{◌≡◌, ◌≤◌, ◌+◌, ◌++◌, ℕ, Bool, List, [], ◌∷◌, length, map, ⊤, All, Option, None, Some, IfSome, ◌⊎◌}
+use Rattle.std.specs.Prelude.{◌≡◌, ◌≤◌, ◌+◌, ◌-◌, ◌++◌, ℕ, Bool, List, [], ◌∷◌, length, map, ⊤, All, Option, None, Some, IfSome, ◌⊎◌}
 use Rattle.std.specs.List.{Contains}
 use Rattle.std.specs.Io.KnownBytes.{Consumes}
 use Rattle.slab.specs.Slab.{Slab}
 use Rattle.toll_protocol.specs.declared.streams.sink.Sink as sink
 use Rattle.toll_protocol.specs.declared.streams.source.Source as source
 use Rattle.toll_server.specs.Connections.{ClosesExpired, HearsAll, IsDueAt, IsDueTo, IsInTime, StandsByKey, queue_in, tasks_in}
-use Rattle.toll_server.specs.Networks.{Arrival, Tallies, Tally, Wake}
+use Rattle.toll_server.specs.Networks.{Arrival, ListensFor, Tallies, Tally, Wake}
 use Rattle.toll_server.specs.Queues.{AreInTurn, Happening, IsHistory, Joins, NoneTwice, Takes, queue_of, turns_of}
 use Rattle.toll_server.specs.Runs.{IsRun, Tasks, Turn, no_tasks}
 use Rattle.toll_server.specs.declared.connection.Connection.{Connection}
@@ -14,6 +14,13 @@ use Rattle.toll_server.specs.declared.connections.Connections.{Connections}
 use Rattle.toll_server.specs.declared.listener.Listener.{Listener}
 use Rattle.toll_server.specs.declared.network.TheConstants.{MOST_READY}
 use Rattle.toll_server.specs.declared.poll.Poll.{Poll}
+
+-- at each wait it listened while some of so many owners were still to come, and no longer once none was; and so it is now
+pub record ListensTill {S : Type 0} (count : ℕ) (t u : Tally S) : Type 0 where
+  pub wakes : List Wake
+  pub waited : u.wakes ≡ wakes ++ t.wakes
+  pub meanwhile : All (λ w. ListensFor (t.owners + count - w.owners) t.is_listening w.is_listening) wakes
+  pub now : ListensFor (t.owners + count - u.owners) t.is_listening u.is_listening
 
 -- a request that became whole: who sent it, by its key; the listener at which it came; its bytes, and the party that it is of
 pub record Joining (P : Type 0) : Type 0 where
@@ -106,5 +113,6 @@ module _ {S T P : Type 0} (same : P → P → Bool) (is_by : Listener → List �
     pub heard : HearsAll from to wake.ready old.slots middle
     pub closed : ClosesExpired now middle new.slots
     pub grown : (h : List (Happening T P)) → IsHistory same is_by h old.moment (queue_in old.slots) (tasks_in old.slots) → HasGrown h wake.ready old.slots new.moment new.slots
+    pub door : Tallies (λ t u. (wake.owners ≡ t.owners) × (wake.is_listening ≡ t.is_listening)) was is
     pub known : Tallies (λ t u. (t.clock ≤ began) × (began ≤ now)
         × (u ≡ record t { waits = t.waits + 1; wakes = wake ∷ t.wakes; unheard = []; missed = t.missed + length t.unheard; clock = now })) was is

@@ -1,9 +1,9 @@
 //! The open connections.
-ghost use Rattle.std.specs.Prelude.{◌≡◌, ◌↔◌, ◌≤◌, ◌<◌, ◌+◌, ◌⊎◌, ◌^◌, ℕ, None, IfSome, IsTrue, OnErr, OnOk};
+ghost use Rattle.std.specs.Prelude.{◌≡◌, ◌↔◌, ◌≤◌, ◌<◌, ◌+◌, ◌⊎◌, ◌^◌, None, IfSome, IsTrue, OnErr, OnOk};
 ghost use Rattle.slab.specs.Slab.{HasRoomFor, Updates, get, slab_len};
-ghost use Rattle.toll_server.specs.Connections.{AddsNext, ClosesExpired, Hears, IfStays, IsDueAt, IsDueTo, IsInTime, JoinsAt, KeepsQueue, KeepsRequests, KeepsSubmitted, KeepsTasks, KeepsTime, MakesRoom, NoneNew, TakesNext, WindsDown, stays_after};
+ghost use Rattle.toll_server.specs.Connections.{AddsNext, ClosesExpired, Hears, IsDueAt, IsDueTo, IsInTime, JoinsAt, KeepsQueue, KeepsRequests, KeepsSubmitted, KeepsTasks, MakesRoom, NoneNew, TakesNext, TimesReply, WindsDown, stays_after};
 ghost use Rattle.toll_server.specs.Accepting.{HasAccepted, StandsStill};
-ghost use Rattle.toll_server.specs.Networks.{Accepts, IsPaused, IsPausedAt, Tallies, owners_at};
+ghost use Rattle.toll_server.specs.Networks.{Accepts, IsPaused, IsPausedAt, ListensFor, Tallies, owners_at};
 ghost use Rattle.toll_server.specs.declared.listener.Listener.{Listener};
 
 use crate::connection::Connection;
@@ -17,10 +17,8 @@ use slab::Slab;
 use std::alloc::{AllocError, Global};
 use toll_protocol::Stream;
 
-/// How many connections are open at once.
-pub const MOST_CONNECTIONS: usize = 900;
-
-/// How many connections are accepted between two waits, so that the open ones are served.
+/// How many connections are accepted between two waits at most, those included that closed before they were
+/// accepted, so that the open ones are served.
 const MOST_ACCEPTS: usize = 64;
 
 /// For how many milliseconds no connection is accepted after there were no resources, unless a connection
@@ -37,25 +35,29 @@ pub enum AcceptState {
     Paused(u64),
 }
 
-/// The open connections, how many owners are still to be accepted, and the number of events so far: requests
-/// that became whole, and turns that the service took.
+/// The open connections, how many there may be, how many owners are still to be accepted, and the number of
+/// events so far: requests that became whole, and turns that the service took.
 #[derive(Drop)]
 pub struct Connections<S, T, P> {
     pub slots: Slab<Connection<S, T, P>>,
+    pub most_open: usize,
     pub owners_left: u64,
     pub accept_state: AcceptState,
     pub moment: u128,
 }
 
 impl<S: Stream, T: Drop, P: Eq + Drop> Connections<S, T, P> {
-    /// No connection is open yet, and this number of owners is to be accepted.
-    pub fn new(alloc: Global, owners_left: u64) -> Self
+    /// No connection is open yet, at most `most_open` may be at once, and this number of owners is to be
+    /// accepted.
+    pub fn new(alloc: Global, most_open: usize, owners_left: u64) -> Self
         ensures empty { slab_len result.slots ≡ 0 }
+        ensures most_open { result.most_open ≡ most_open }
         ensures owners_left { result.owners_left ≡ owners_left }
         ensures moment { result.moment ≡ 0 }
     {
         Connections {
             slots: Slab::new(alloc),
+            most_open,
             owners_left,
             accept_state: AcceptState::Open,
             moment: 0,
@@ -92,36 +94,68 @@ impl<S: Stream, T: Drop, P: Eq + Drop> Connections<S, T, P> {
     /// Accepts connections that wait at a listener, while owners are still to be accepted, and times them
     /// from now on. If too many are open then, the connection that has been reading longest is closed. It is
     /// also closed if there are no resources for one more, after the connections that came just now were
-    /// read. If no connection is reading then, none is accepted for a while.
+    /// read. If no connection is reading then, none is accepted for a while. The listeners are closed as soon
+    /// as no owner is to be accepted any more.
     pub fn accept<W: Network<Stream = S>>(
         &mut self,
         alloc: Global,
         network: &mut W,
     ) -> Result<(), NetworkFault>
         ensures tally { Tallies (Accepts result self.old.accept_state self.old.owners_left self.new.owners_left) (W.tally network.old) (W.tally network.new) }
+        ensures left { self.new.owners_left ≤ self.old.owners_left }
+        ensures listens { Tallies (λ t u. ListensFor self.new.owners_left t.is_listening u.is_listening) (W.tally network.old) (W.tally network.new) }
         ensures added { Tallies (HasAccepted result self.old self.new) (W.tally network.old) (W.tally network.new) }
         ensures stands { Tallies (StandsStill S.Source.unread self.old.slots self.new.slots) (W.tally network.old) (W.tally network.new) }
         ensures submitted { KeepsSubmitted self.old.slots self.new.slots }
         ensures tasks { KeepsTasks self.old.slots self.new.slots }
         ensures queue { KeepsQueue self.old.slots self.new.slots }
         ensures moment { self.new.moment ≡ self.old.moment }
-        ensures full { slab_len self.old.slots ≤ MOST_CONNECTIONS → slab_len self.new.slots ≤ MOST_CONNECTIONS }
+        ensures most_open { self.new.most_open ≡ self.old.most_open }
+        ensures full { slab_len self.old.slots ≤ self.old.most_open → slab_len self.new.slots ≤ self.old.most_open }
+    {
+        let accepted = self.accept_waiting(alloc, network);
+        if self.owners_left == 0 {
+            network.close_listeners();
+        }
+        accepted
+    }
+
+    // Accepts connections that wait at a listener, as `accept` does, and leaves the listeners open.
+    fn accept_waiting<W: Network<Stream = S>>(
+        &mut self,
+        alloc: Global,
+        network: &mut W,
+    ) -> Result<(), NetworkFault>
+        ensures tally { Tallies (Accepts result self.old.accept_state self.old.owners_left self.new.owners_left) (W.tally network.old) (W.tally network.new) }
+        ensures left { self.new.owners_left ≤ self.old.owners_left }
+        ensures listens { Tallies (λ t u. u.is_listening ≡ t.is_listening) (W.tally network.old) (W.tally network.new) }
+        ensures added { Tallies (HasAccepted result self.old self.new) (W.tally network.old) (W.tally network.new) }
+        ensures stands { Tallies (StandsStill S.Source.unread self.old.slots self.new.slots) (W.tally network.old) (W.tally network.new) }
+        ensures submitted { KeepsSubmitted self.old.slots self.new.slots }
+        ensures tasks { KeepsTasks self.old.slots self.new.slots }
+        ensures queue { KeepsQueue self.old.slots self.new.slots }
+        ensures moment { self.new.moment ≡ self.old.moment }
+        ensures most_open { self.new.most_open ≡ self.old.most_open }
+        ensures full { slab_len self.old.slots ≤ self.old.most_open → slab_len self.new.slots ≤ self.old.most_open }
     {
         let now = network.now();
         if self.is_paused(now) {
             return Ok(());
         }
         self.accept_state = AcceptState::Open;
-        for came in 0..MOST_ACCEPTS {
+        let mut came = 0;
+        for _ in 0..MOST_ACCEPTS {
             if self.owners_left == 0 {
                 return Ok(());
             }
             match network.accept_next(self.slots.vacant_key()) {
+                Ok(Accepted::Aborted) => continue,
                 Ok(Accepted::Connected(listener, stream)) => {
                     if self.add_connection(alloc, listener, stream, now).is_err() {
                         self.make_room(came, now);
                         return Ok(());
                     }
+                    came += 1;
                 }
                 Ok(Accepted::NoneWaiting) => return Ok(()),
                 Ok(Accepted::NoResources) => {
@@ -156,21 +190,22 @@ impl<S: Stream, T: Drop, P: Eq + Drop> Connections<S, T, P> {
     ) -> Result<(), AllocError>
         requires { 0 < self.old.owners_left }
         ensures owners_left { self.new.owners_left + owners_at listener ≡ self.old.owners_left }
-        ensures added { OnOk result (AddsNext now listener stream self.old.slots self.new.slots) }
+        ensures added { OnOk result (AddsNext self.old.most_open now listener stream self.old.slots self.new.slots) }
         ensures same { OnErr result (self.new.slots.slots ≡ self.old.slots.slots) }
         ensures submitted { KeepsSubmitted self.old.slots self.new.slots }
         ensures tasks { KeepsTasks self.old.slots self.new.slots }
         ensures queue { KeepsQueue self.old.slots self.new.slots }
         ensures moment { self.new.moment ≡ self.old.moment }
+        ensures most_open { self.new.most_open ≡ self.old.most_open }
         ensures accept_state { self.new.accept_state ≡ self.old.accept_state }
-        ensures full { slab_len self.old.slots ≤ MOST_CONNECTIONS → slab_len self.new.slots ≤ MOST_CONNECTIONS }
+        ensures full { slab_len self.old.slots ≤ self.old.most_open → slab_len self.new.slots ≤ self.old.most_open }
     {
         self.count_owner(listener);
         let connection = Connection::new(alloc, listener, stream, now)?;
         let Ok(_key) = self.slots.insert(connection) else {
             return Err(AllocError);
         };
-        if self.slots.len() > MOST_CONNECTIONS {
+        if self.slots.len() > self.most_open {
             evict_oldest(&mut self.slots);
         }
         Ok(())
@@ -182,6 +217,7 @@ impl<S: Stream, T: Drop, P: Eq + Drop> Connections<S, T, P> {
         ensures owners_left { self.new.owners_left + owners_at listener ≡ self.old.owners_left }
         ensures slots { self.new.slots ≡ self.old.slots }
         ensures moment { self.new.moment ≡ self.old.moment }
+        ensures most_open { self.new.most_open ≡ self.old.most_open }
         ensures accept_state { self.new.accept_state ≡ self.old.accept_state }
     {
         if listener == Listener::Owners {
@@ -196,6 +232,7 @@ impl<S: Stream, T: Drop, P: Eq + Drop> Connections<S, T, P> {
         ensures fewer { slab_len self.new.slots ≤ slab_len self.old.slots }
         ensures owners_left { self.new.owners_left ≡ self.old.owners_left }
         ensures moment { self.new.moment ≡ self.old.moment }
+        ensures most_open { self.new.most_open ≡ self.old.most_open }
     {
         if came > 0 || evict_oldest(&mut self.slots) {
             self.accept_state = AcceptState::Backlogged;
@@ -211,6 +248,7 @@ impl<S: Stream, T: Drop, P: Eq + Drop> Connections<S, T, P> {
         requires { self.old.moment + 1 < 2 ^ 128 }
         ensures joins { JoinsAt O.is_by key self.old.moment self.new.moment self.old.slots self.new.slots }
         ensures more { self.new.moment ≤ self.old.moment + 1 }
+        ensures most_open { self.new.most_open ≡ self.old.most_open }
         ensures tasks { KeepsTasks self.old.slots self.new.slots }
         ensures hears { Hears S.Source S.Sink key self.old.slots self.new.slots }
         ensures fewer { slab_len self.new.slots ≤ slab_len self.old.slots }
@@ -225,18 +263,20 @@ impl<S: Stream, T: Drop, P: Eq + Drop> Connections<S, T, P> {
     }
 
     /// Has the service take a turn for the connection that has waited longest, if one waits. A party's wait
-    /// begins with its latest turn, or when a request of it became whole. A connection with a reply is closed
-    /// after the reply is written, or if a write of it failed.
-    pub fn take_turn<O: Service<Task = T, Party = P>>(
+    /// begins with its latest turn, or when a request of it became whole. The time of a reply begins when the
+    /// turn that gave it is over. A connection with a reply is closed after the reply is written, or if a write
+    /// of it failed.
+    pub fn take_turn<W: Network<Stream = S>, O: Service<Task = T, Party = P>>(
         &mut self,
         alloc: Global,
+        network: &mut W,
         service: &mut O,
-        now: u64,
     )
         requires { self.old.moment + 1 < 2 ^ 128 }
         ensures turn { TakesNext O.answers O.resumes P.eq self.old.moment self.new.moment self.old.slots self.new.slots service.old service.new }
         ensures more { self.new.moment ≤ self.old.moment + 1 }
-        ensures deadline { (key : ℕ) → IfStays key self.old.slots self.new.slots (KeepsTime now) }
+        ensures most_open { self.new.most_open ≡ self.old.most_open }
+        ensures deadline { TimesReply self.old.slots self.new.slots (W.tally network.old) (W.tally network.new) }
         ensures requests { KeepsRequests self.old.slots self.new.slots }
         ensures fewer { slab_len self.new.slots ≤ slab_len self.old.slots }
         ensures owners_left { self.new.owners_left ≡ self.old.owners_left }
@@ -251,7 +291,7 @@ impl<S: Stream, T: Drop, P: Eq + Drop> Connections<S, T, P> {
             return;
         };
         put_behind(&mut self.slots, &outcome.ticket.party, self.moment);
-        let step = connection.store_poll(outcome, self.moment, now);
+        let step = connection.store_poll(outcome, self.moment, network.now());
         self.moment += 1;
         self.keep(connection, step);
     }
@@ -265,6 +305,7 @@ impl<S: Stream, T: Drop, P: Eq + Drop> Connections<S, T, P> {
         ensures queue { KeepsQueue self.old.slots self.new.slots }
         ensures owners_left { self.new.owners_left ≡ self.old.owners_left }
         ensures moment { self.new.moment ≡ self.old.moment }
+        ensures most_open { self.new.most_open ≡ self.old.most_open }
     {
         if self.owners_left > 0 || earliest_of(&self.slots, Filter::Owners).is_some() {
             return;
@@ -280,6 +321,7 @@ impl<S: Stream, T: Drop, P: Eq + Drop> Connections<S, T, P> {
         ensures more { slab_len self.new.slots ≤ slab_len self.old.slots + 1 }
         ensures owners_left { self.new.owners_left ≡ self.old.owners_left }
         ensures moment { self.new.moment ≡ self.old.moment }
+        ensures most_open { self.new.most_open ≡ self.old.most_open }
     {
         if matches!(step, StepResult::Waits | StepResult::Joins) {
             let _ = self.slots.insert_reserved(connection);
@@ -293,6 +335,7 @@ impl<S: Stream, T: Drop, P: Eq + Drop> Connections<S, T, P> {
         ensures gone { ClosesExpired now self.old.slots self.new.slots }
         ensures owners_left { self.new.owners_left ≡ self.old.owners_left }
         ensures moment { self.new.moment ≡ self.old.moment }
+        ensures most_open { self.new.most_open ≡ self.old.most_open }
     {
         let before = self.slots.len();
         close_expired(&mut self.slots, now);

@@ -19,7 +19,7 @@ mod ticket;
 pub use connection::{Connection, MOST_MILLISECONDS, Outcome};
 pub use connection_state::ConnectionState;
 pub use listener::Listener;
-pub use network::{Accepted, MOST_READY, Network, NetworkFault};
+pub use network::{Accepted, MOST_CONNECTIONS, MOST_READY, Network, NetworkFault};
 pub use poll::Poll;
 pub use request_buffer::RequestBuffer;
 pub use service::Service;

@@ -13,6 +13,8 @@ pub struct NetworkFault;
 pub enum Accepted<S> {
     /// This connection, at that listener.
     Connected(Listener, S),
+    /// A connection closed before it was accepted. Others may wait behind it.
+    Aborted,
     /// No connection waits at a listener.
     NoneWaiting,
     /// No connection can be accepted now, whether or not one waits: there is no descriptor left, or no
@@ -20,19 +22,28 @@ pub enum Accepted<S> {
     NoResources,
 }
 
+/// How many connections are open at once, at most.
+pub const MOST_CONNECTIONS: usize = 900;
+
 /// How many connections may advance after one wait.
 pub const MOST_READY: usize = 4096;
 
 /// Streams, a clock and the waiting for both. No contract says what happens when.
 pub trait Network {
-    ghost use Rattle.std.specs.Prelude.{◌≡◌, Option, None, option_map};
-    ghost use Rattle.toll_server.specs.Networks.{HandsOut, Shows, Tallies, Tally, Waits, after_accept};
+    ghost use Rattle.std.specs.Prelude.{◌≡◌, ◌≤◌, Option, None, option_map};
+    ghost use Rattle.toll_server.specs.Networks.{HandsOut, Shows, Tallies, Tally, Waits, after_accept, after_close};
 
     /// A connection. A read or a write of it that would wait fails with `WouldBlock`.
     type Stream: Stream;
 
     // What the network has done, if that is known.
     ghost tally: { Self → Option (Tally Self.Stream) } = { λ _. None };
+
+    /// How many connections may be open at once, so that descriptors are left for everything else that the
+    /// program opens. It is asked once, before the first wait.
+    fn most_connections(&self) -> usize
+        ensures least { 1 ≤ result }
+        ensures most { result ≤ MOST_CONNECTIONS };
 
     /// Waits until a connection comes or may advance, or this number of milliseconds is over. Returns the
     /// clock's time then. A connection advances until its reads and writes would wait, and is then reported
@@ -48,6 +59,11 @@ pub trait Network {
     /// Accepts the next connection that waits at a listener. It has this key from then on.
     fn accept_next(&mut self, key: usize) -> Result<Accepted<Self::Stream>, NetworkFault>
         ensures { tally self.new ≡ option_map (after_accept key result) (tally self.old) };
+
+    /// Closes the listeners. Who connects from then on is refused at once, and so is who waits to be accepted.
+    /// Connections that were accepted stay open. It has no effect if the listeners are closed already.
+    fn close_listeners(&mut self)
+        ensures { tally self.new ≡ option_map after_close (tally self.old) };
 
     /// The milliseconds since a fixed moment.
     fn now(&mut self) -> u64

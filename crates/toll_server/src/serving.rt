@@ -1,8 +1,8 @@
 //! Serving connections side by side.
-ghost use Rattle.std.specs.Prelude.{◌≡◌, ◌≤◌, ◌<◌, ◌+◌, ◌^◌, IfOk, OnErr};
+ghost use Rattle.std.specs.Prelude.{◌≡◌, ◌≤◌, ◌<◌, ◌+◌, ◌^◌, ℕ, OnErr, OnOk};
 ghost use Rattle.toll_server.specs.Connections.{KeepsTasks};
 ghost use Rattle.toll_server.specs.Queues.{IsServedInTurn};
-ghost use Rattle.toll_server.specs.Rounds.{HasHeard, HasWaited, IsServedInRounds};
+ghost use Rattle.toll_server.specs.Rounds.{HasHeard, HasWaited, IsServedInRounds, ListensTill};
 ghost use Rattle.toll_server.specs.Runs.{IsWholeRun};
 ghost use Rattle.toll_server.specs.Networks.{BreaksDown, EndsSo, Tallies};
 
@@ -26,8 +26,8 @@ pub enum ServingEnd {
 /// that is whole joins a queue. After each wait, all connections that may advance do so, and then the service
 /// takes one turn for the connection that has waited longest: it answers a request, or resumes the task that
 /// an earlier turn left. A party's wait begins anew with each of its turns, so no party has two turns while
-/// another one waits. The service changes by nothing else. After all owners were served, connections of the
-/// plant whose requests aren't whole are closed.
+/// another one waits. The service changes by nothing else. As soon as the last owner was accepted, the listeners
+/// are closed. After all owners were served, connections of the plant whose requests aren't whole are closed.
 ///
 /// Before its turn a connection costs the reading of at most a whole request, and after it the writing of its
 /// reply, each in no more than [`MOST_MILLISECONDS`](crate::MOST_MILLISECONDS).
@@ -42,8 +42,9 @@ pub fn serve<W: Network, O: Service>(
     ensures rounds { Tallies (IsServedInRounds O.Party.eq O.is_by O.answers O.resumes W.Stream.Source.unread service.old service.new)
         (W.tally network.old) (W.tally network.new) }
     ensures end { Tallies (EndsSo result count) (W.tally network.old) (W.tally network.new) }
+    ensures listens { Tallies (ListensTill count) (W.tally network.old) (W.tally network.new) }
 {
-    let mut connections = Connections::new(alloc, count);
+    let mut connections = Connections::new(alloc, network.most_connections(), count);
     for _ in 0..u64::MAX {
         if connections.accept(alloc, network).is_err() {
             return ServingEnd::Fault;
@@ -53,32 +54,33 @@ pub fn serve<W: Network, O: Service>(
             return ServingEnd::All;
         }
         match wait_and_advance::<W, O>(network, &mut connections) {
-            Ok(now) => connections.take_turn(alloc, service, now),
+            Ok(()) => connections.take_turn(alloc, network, service),
             Err(_) => return ServingEnd::Fault,
         }
     }
     ServingEnd::Spent
 }
 
-// Waits, advances the connections that may advance then, and closes those whose time was over at the end of
-// the wait. Returns the clock's time at that end.
+// Waits, advances the connections that may advance then, and closes those whose time was over when the wait
+// ended.
 fn wait_and_advance<W: Network, O: Service>(
     network: &mut W,
     connections: &mut Connections<W::Stream, O::Task, O::Party>,
-) -> Result<u64, NetworkFault>
+) -> Result<(), NetworkFault>
     requires { connections.old.moment + MOST_READY < 2 ^ 128 }
-    ensures waited { IfOk result (λ now. HasWaited O.Party.eq O.is_by W.Stream.Source W.Stream.Sink now connections.old connections.new
+    ensures waited { OnOk result ((now : ℕ) × HasWaited O.Party.eq O.is_by W.Stream.Source W.Stream.Sink now connections.old connections.new
         (W.tally network.old) (W.tally network.new)) }
     ensures fails { OnErr result (Tallies BreaksDown (W.tally network.old) (W.tally network.new)) }
     ensures tasks { KeepsTasks connections.old.slots connections.new.slots }
     ensures moment { connections.new.moment ≤ connections.old.moment + MOST_READY }
     ensures owners_left { connections.new.owners_left ≡ connections.old.owners_left }
+    ensures most_open { connections.new.most_open ≡ connections.old.most_open }
 {
     let limit = connections.wait_limit(network.now());
     let now = network.wait(limit)?;
     advance_all::<W, O>(network, connections);
     connections.close_expired(now);
-    Ok(now)
+    Ok(())
 }
 
 // Advances the connections that may advance.
@@ -91,6 +93,7 @@ fn advance_all<W: Network, O: Service>(
     ensures tasks { KeepsTasks connections.old.slots connections.new.slots }
     ensures moment { connections.new.moment ≤ connections.old.moment + MOST_READY }
     ensures owners_left { connections.new.owners_left ≡ connections.old.owners_left }
+    ensures most_open { connections.new.most_open ≡ connections.old.most_open }
 {
     for _ in 0..MOST_READY {
         let Some(key) = network.next_ready() else {

@@ -332,6 +332,24 @@ fn time_is_over_for_nobody_who_has_a_task(rt: HostRuntime) {
     assert_eq!(rt; outcome, all_with(1, 3, 40_000));
 }
 
+// A byte of the reply is taken behind the turn, and two as its client goes on, or else its time is over.
+#[test]
+fn the_time_of_a_reply_begins_when_its_turn_is_over(rt: HostRuntime) {
+    let pace = Pace {
+        turns: 2,
+        milliseconds: 11_000,
+    };
+    let slow = Plan {
+        takes: Takes::One,
+        ..SEVENTH
+    };
+    let coming = [Some(slow), Some(WHOLE)];
+    let outcome = outcome_of(rt.alloc(), 1, &coming, &[0, 1, 0, 0], &Log::at(pace));
+    assert_eq!(rt; outcome, all_with(2, 6, 11_000));
+    let outcome = outcome_of(rt.alloc(), 1, &coming, &[0, 1, 0], &Log::at(pace));
+    assert_eq!(rt; outcome, all_with(2, 5, 21_000));
+}
+
 // The others come in fifteen rounds, while the one has its turns; two of them are too many.
 #[test]
 fn nobody_who_has_a_task_is_evicted_from_a_full_server(rt: HostRuntime) {
@@ -367,6 +385,37 @@ fn the_plant_holds_up_no_end_by_sending_nothing(rt: HostRuntime) {
     assert_eq!(rt; outcome, all_with(1, 3, 0));
     let outcome = outcome_of_crowd(rt.alloc(), 2, &[idle, WHOLE, HALF], &[3], &Log::new());
     assert_eq!(rt; outcome, all_with(1, 3, 10_000));
+}
+
+#[test]
+fn who_closes_before_it_is_accepted_holds_nobody_up(rt: HostRuntime) {
+    let log = Log::new();
+    log.aborted.set(1000);
+    let outcome = outcome_of_crowd(rt.alloc(), 1, &[WHOLE], &[1], &log);
+    assert_eq!(rt; outcome, all_with(1, 3, 0));
+    assert_eq!(rt; log.aborted.get(), 0);
+}
+
+#[test]
+fn the_oldest_is_evicted_where_the_network_has_room_for_few(rt: HostRuntime) {
+    let log = Log::new();
+    log.most.set(2);
+    let coming = [Some(SILENT), Some(WHOLE), Some(WHOLE)];
+    let outcome = outcome_of(rt.alloc(), 3, &coming, &[0, 1, 2], &log);
+    assert_eq!(rt; outcome, all_with(2, 6, 0));
+}
+
+// The last one comes once the two before were told that they may go on, who are as many owners as are served.
+#[test]
+fn nobody_is_accepted_behind_the_last_owner(rt: HostRuntime) {
+    let log = Log::new();
+    let outcome = outcome_of_crowd(rt.alloc(), 2, &[WHOLE; 3], &[1, 1, 1], &log);
+    assert_eq!(rt; outcome, all_with(2, 6, 0));
+    assert_eq!(rt; log.closed.get(), Some(2));
+    let open = Log::new();
+    let outcome = outcome_of_crowd(rt.alloc(), 2, &[WHOLE], &[1], &open);
+    assert_eq!(rt; outcome.served, ServingEnd::Fault);
+    assert_eq!(rt; open.closed.get(), None);
 }
 
 #[test]

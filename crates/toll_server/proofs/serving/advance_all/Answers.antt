@@ -8,6 +8,7 @@ loop-init g c = record {
   tasks = λ k. refl;
   moment = omega arith;
   owners_left = refl;
+  most_open = refl;
 }
 
 pub loop-preserved : goal.loop-preserved
@@ -16,6 +17,7 @@ loop-preserved g c = record {
       c.in-Some.ensures c.advance.ensures.joins c.advance.ensures.tasks c.advance.ensures.hears;
   tasks = λ k. c.advance.ensures.tasks k ∙ c.loop.invariant.tasks k;
   moment = omega (arith, c.advance.ensures.more, c.loop.invariant.moment);
+  most_open = c.advance.ensures.most_open ∙ c.loop.invariant.most_open;
   owners_left = c.advance.ensures.owners_left ∙ c.loop.invariant.owners_left;
 }
 

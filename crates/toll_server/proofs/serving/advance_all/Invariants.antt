@@ -9,5 +9,6 @@ invariant-loop g l = record {
   hearing : Hearing g.O.Party.PartialEq.eq g.O.Service.is_by g.W.Stream.Source g.W.Stream.Sink l.initial.connections l.connections l.counter (g.W.Network.tally l.initial.network) (g.W.Network.tally l.network);
   tasks : KeepsTasks l.initial.connections.slots l.connections.slots;
   moment : l.connections.moment ≤ l.initial.connections.moment + l.counter;
+  most_open : l.connections.most_open ≡ l.initial.connections.most_open;
   owners_left : l.connections.owners_left ≡ l.initial.connections.owners_left;
 }

@@ -2,7 +2,7 @@
 //! by which the server knows them.
 use crate::server::connections::wire::{Log, Plan, Wire};
 use std::alloc::Global;
-use toll_server::{Accepted, Network, NetworkFault};
+use toll_server::{Accepted, MOST_CONNECTIONS, Network, NetworkFault};
 
 /// Who comes, one after another, in groups of so many. The next group comes once the one before was told.
 #[derive(Drop)]
@@ -47,6 +47,10 @@ impl<'l> Crowd<'l> {
 impl<'l> Network for Crowd<'l> {
     type Stream = Wire<'l>;
 
+    fn most_connections(&self) -> usize {
+        self.log.most.get().clamp(1, MOST_CONNECTIONS)
+    }
+
     fn wait(&mut self, most: Option<u64>) -> Result<u64, NetworkFault> {
         self.handed = self.told;
         let is_whole = self.came == self.at_door;
@@ -72,6 +76,10 @@ impl<'l> Network for Crowd<'l> {
     }
 
     fn accept_next(&mut self, key: usize) -> Result<Accepted<Wire<'l>>, NetworkFault> {
+        if let Some(rest) = self.log.aborted.get().checked_sub(1) {
+            self.log.aborted.set(rest);
+            return Ok(Accepted::Aborted);
+        }
         if self.came == self.at_door {
             return Ok(Accepted::NoneWaiting);
         }
@@ -83,6 +91,10 @@ impl<'l> Network for Crowd<'l> {
         }
         self.came = self.came.saturating_add(1);
         Ok(Accepted::Connected(plan.listener, Wire::new(*plan, self.log)))
+    }
+
+    fn close_listeners(&mut self) {
+        self.log.close(self.came);
     }
 
     fn now(&mut self) -> u64 {

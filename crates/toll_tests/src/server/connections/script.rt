@@ -1,7 +1,7 @@
 //! A world by a script, and an office that writes down what it is asked.
 use crate::server::connections::wire::{Log, Plan, Wire};
 use std::alloc::Global;
-use toll_server::{Accepted, Listener, Network, NetworkFault, Poll, Service};
+use toll_server::{Accepted, Listener, MOST_CONNECTIONS, Network, NetworkFault, Poll, Service};
 
 /// Who comes, and who goes on, one after another; where nobody does, a wait is as long as it may be. One
 /// that may not wait sees who goes on while the office has a task, and nobody else.
@@ -27,6 +27,10 @@ impl<'l> Script<'l> {
 
 impl<'l> Network for Script<'l> {
     type Stream = Wire<'l>;
+
+    fn most_connections(&self) -> usize {
+        self.log.most.get().clamp(1, MOST_CONNECTIONS)
+    }
 
     fn wait(&mut self, most: Option<u64>) -> Result<u64, NetworkFault> {
         if most == Some(0) && self.log.tasks.get() == 0 {
@@ -59,6 +63,10 @@ impl<'l> Network for Script<'l> {
             }
             None => Ok(Accepted::NoneWaiting),
         }
+    }
+
+    fn close_listeners(&mut self) {
+        self.coming = &[];
     }
 
     fn now(&mut self) -> u64 {

@@ -3,7 +3,7 @@ use std::cell::Cell;
 use std::io;
 use std::io::{ErrorKind, Read, Write};
 use toll_protocol::Stream;
-use toll_server::Listener;
+use toll_server::{Listener, MOST_CONNECTIONS};
 
 /// What stands behind the last piece.
 #[derive(Clone, Copy)]
@@ -54,6 +54,12 @@ pub struct Log {
     pub tasks: Cell<u64>,
     /// The digit of whom each turn was for, one after another.
     pub turns: Cell<u64>,
+    /// How many close before they are accepted, ahead of all others.
+    pub aborted: Cell<u64>,
+    /// How many may be connected at once.
+    pub most: Cell<usize>,
+    /// How many had been accepted when the listeners were closed, if they were.
+    pub closed: Cell<Option<usize>>,
 }
 
 impl Log {
@@ -74,6 +80,16 @@ impl Log {
             clock: Cell::new(0),
             tasks: Cell::new(0),
             turns: Cell::new(0),
+            aborted: Cell::new(0),
+            most: Cell::new(MOST_CONNECTIONS),
+            closed: Cell::new(None),
+        }
+    }
+
+    /// The listeners are closed, after so many were accepted, unless they were before.
+    pub fn close(&self, came: usize) {
+        if self.closed.get().is_none() {
+            self.closed.set(Some(came));
         }
     }
 

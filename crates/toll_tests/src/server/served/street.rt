@@ -4,7 +4,7 @@ use std::cell::Cell;
 use std::io;
 use std::io::{ErrorKind, Read, Write};
 use toll_protocol::Stream;
-use toll_server::{Accepted, Listener, Network, NetworkFault};
+use toll_server::{Accepted, Listener, MOST_CONNECTIONS, Network, NetworkFault};
 
 /// How many clients were told just what they are to be told, and by which door the last of them came.
 #[derive(Drop)]
@@ -47,6 +47,10 @@ impl<'l> Street<'l> {
 impl<'l> Network for Street<'l> {
     type Stream = Guest<'l>;
 
+    fn most_connections(&self) -> usize {
+        MOST_CONNECTIONS
+    }
+
     fn wait(&mut self, most: Option<u64>) -> Result<u64, NetworkFault> {
         if self.ready == 0 || most == Some(0) {
             return Ok(0);
@@ -71,6 +75,10 @@ impl<'l> Network for Street<'l> {
             }
             None => Ok(Accepted::NoneWaiting),
         }
+    }
+
+    fn close_listeners(&mut self) {
+        self.coming = &[];
     }
 
     fn now(&mut self) -> u64 {

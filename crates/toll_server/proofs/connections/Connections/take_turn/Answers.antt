@@ -1,4 +1,4 @@
-use Rattle.std.proofs.Common.{refl, ◌≡◌, ◌∙◌, ap, inr, subst, sym}
+use Rattle.std.proofs.Common.{refl, ◌≡◌, ◌∙◌, ap, inl, inr, subst, sym}
 use Rattle.std.specs.Prelude.{option_map}
 use Rattle.toll_server.proofs.ConnectionLemmas.{turn_taken}
 use Rattle.slab.specs.Slab.{get}
@@ -6,7 +6,7 @@ use Rattle.toll_server.specs.Connections.{connection_behind, stays_after}
 use Rattle.toll_server.specs.ConnectionStates.{last_poll, reply_of}
 use Rattle.toll_server.specs.Steps.{deadline_after}
 use Rattle.toll_server.proofs.StandLemmas.{fewer_requests, same_new, turn_requests}
-use Rattle.toll_server.proofs.TurnTimes.{no_reply, times_kept}
+use Rattle.toll_server.proofs.TurnTimes.{no_reply, same_times, times_kept}
 use Rattle.toll_server.proofs.connections.Connections.take_turn.Goals as goal
 
 pub returns-clause-turn : goal.returns-clause-turn
@@ -32,6 +32,9 @@ returns-clause-turn g c =
           }) c.in-Some.ensures.found,
     )
 
+pub returns-in_default-clause-deadline : goal.returns-in_default-clause-deadline
+returns-in_default-clause-deadline g c = (0, inl (c.in_default.ensures.none, refl), same_times 0 c.args.self.now.slots)
+
 pub returns-clause-deadline : goal.returns-clause-deadline
 returns-clause-deadline g c =
     let out = c.in-Some-try_remove.ensures in
@@ -41,14 +44,17 @@ returns-clause-deadline g c =
     let ticket = c.in-Some-ask.outcome.ticket in
     let party = c.in-Some-ask.outcome.ticket.party in
     let moment = c.args.self.now.moment in
-    let later = c.store_poll-step.new.self in
-    times_kept c.args.now g.P.PartialEq.eq party moment c.args.self.now.slots c.keep.new.self.slots c.in-Some.next.key connection later c.store_poll-step.result
-    (sym out.value)
-    (subst (λ k. get c.keep.new.self.slots k ≡ stays_after c.store_poll-step.result later) at back.changed)
-    (λ other isnt. back.others other (λ same. isnt (same ∙ at))
-    ∙ (c.put_behind.ensures.behind other ∙ ap (option_map (connection_behind g.P.PartialEq.eq party moment)) (out.updates.others other isnt)))
-    (c.store_poll-step.ensures.deadline
-    ∙ (λ i. deadline_after (sym (no_reply connection.state ticket c.in-Some-ask.ensures.ticket) i) (reply_of later.state) (ap (λ p. p.deadline) c.in-Some-ask.ensures.taken i) c.args.now))
+    let later = c.store_poll-step.new.self in (
+      c.now.result,
+      inr c.now.ensures,
+      times_kept c.now.result g.P.PartialEq.eq party moment c.args.self.now.slots c.keep.new.self.slots c.in-Some.next.key connection later c.store_poll-step.result
+          (sym out.value)
+          (subst (λ k. get c.keep.new.self.slots k ≡ stays_after c.store_poll-step.result later) at back.changed)
+          (λ other isnt. back.others other (λ same. isnt (same ∙ at))
+          ∙ (c.put_behind.ensures.behind other ∙ ap (option_map (connection_behind g.P.PartialEq.eq party moment)) (out.updates.others other isnt)))
+          (c.store_poll-step.ensures.deadline
+          ∙ (λ i. deadline_after (sym (no_reply connection.state ticket c.in-Some-ask.ensures.ticket) i) (reply_of later.state) (ap (λ p. p.deadline) c.in-Some-ask.ensures.taken i) c.now.result)),
+    )
 
 pub returns-in_default-clause-requests : goal.returns-in_default-clause-requests
 returns-in_default-clause-requests g c = let slots = c.args.self.now.slots in fewer_requests slots slots (same_new slots slots (λ key. refl))

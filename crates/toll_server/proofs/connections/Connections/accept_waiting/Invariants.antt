@@ -1,0 +1,28 @@
+-- As many came as are no longer to come, and all are there; it listens still; who waits for its turn or has its reply stays, nobody has another task or place in the queue, each
+-- stands by its key, and there are not too many.
+use Rattle.std.proofs.Common.{◌≡◌, ◌≤◌}
+use Rattle.slab.specs.Slab.{slab_len}
+use Rattle.toll_server.specs.Accepting.{StandsStill}
+use Rattle.toll_server.specs.Connections.{KeepsQueue, KeepsSubmitted, KeepsTasks}
+use Rattle.toll_server.specs.Networks.{Tallies}
+use Rattle.toll_server.specs.declared.connections.AcceptState.TheVariants.{Open}
+use Rattle.toll_server.proofs.AcceptLemmas.{Counts, HasCome}
+use Rattle.toll_server.proofs.connections.Connections.accept_waiting.Given as goal
+
+abbrev pub invariant-loop : goal.invariant-loop
+invariant-loop g l = record {
+  tally : Tallies (Counts l.fn.self.owners_left l.self.owners_left l.counter) (g.W.Network.tally l.fn.network) (g.W.Network.tally l.network);
+  come : Tallies (HasCome l.fn.self.most_open l.now l.fn.self.slots l.came l.self.slots) (g.W.Network.tally l.fn.network) (g.W.Network.tally l.network);
+  stands : Tallies (StandsStill g.S.Source.unread l.fn.self.slots l.self.slots) (g.W.Network.tally l.fn.network) (g.W.Network.tally l.network);
+  left : l.self.owners_left ≤ l.fn.self.owners_left;
+  listens : Tallies (λ t u. u.is_listening ≡ t.is_listening) (g.W.Network.tally l.fn.network) (g.W.Network.tally l.network);
+  accepting : l.self.accept_state ≡ Open;
+  first : l.counter ≡ 0 → l.self.owners_left ≡ l.fn.self.owners_left;
+  submitted : KeepsSubmitted l.fn.self.slots l.self.slots;
+  tasks : KeepsTasks l.fn.self.slots l.self.slots;
+  queue : KeepsQueue l.fn.self.slots l.self.slots;
+  fewer : l.came ≤ l.counter;
+  most_open : l.self.most_open ≡ l.fn.self.most_open;
+  moment : l.self.moment ≡ l.fn.self.moment;
+  full : slab_len l.fn.self.slots ≤ l.fn.self.most_open → slab_len l.self.slots ≤ l.fn.self.most_open;
+}
