@@ -1,9 +1,10 @@
 -- What is known to meet damage.
-use Rattle.std.proofs.Common.{◌≡◌, ◌⊎◌, ℕ, Bool, [], true, Contains, sym, ◌∙◌, subst, inl, inr}
+use Rattle.std.proofs.Common.{◌≡◌, ◌⊎◌, ℕ, Bool, List, [], true, Contains, sym, ◌∙◌, ap, subst, inl, inr, arith}
+use Rattle.std.specs.Prelude.{⊤}
 use Rattle.std.specs.List.{list_any}
 use Rattle.std.specs.Global.{Vec}
 use Rattle.toll_service.specs.Common.{Bytes, Meaning, Listener, Owners, Plant, Poll, Ready, ImportState, IsResponse, code_of, Failed}
-use Rattle.toll_service.specs.Damages.{AreCallsMet, AreOwnersFound, HasFoundDamage, IsKnown, IsNoted, KnowsNoMore, is_owner}
+use Rattle.toll_service.specs.Damages.{AreCallsMet, AreOwnersFound, HasFoundDamage, IsKnown, IsNoted, StaysWhere, is_owner}
 use Rattle.toll_service.specs.Faults.{fault_text}
 use Rattle.toll_service.specs.Listeners.{IsReadyWith}
 use Rattle.toll_service.specs.Parties.{IsBy}
@@ -32,6 +33,9 @@ call_met before behind asked poll told text is same response noted = record {
   ];
 }
 
+none_there : {X : Type 0} (xs : List X) (x : X) → xs ≡ [] → Contains xs x → ⊥
+none_there {X} xs x empty there = let (k, less, is) = subst (λ ys. Contains ys x) empty there in absurd (omega (arith, less))
+
 module _ {K : Type 0} (meaning : Meaning K) (is_opened : K → Type 0) where
   -- nobody was found
   pub none_found : (known : Damage) (owner : Bytes) → AreOwnersFound meaning is_opened known known owner
@@ -48,33 +52,57 @@ module _ {K : Type 0} (meaning : Meaning K) (is_opened : K → Type 0) where
     ];
   }
 
-  -- what is known is what was, or less
-  pub noted_none : (before behind : Damage) (listener : Listener) (asked : Bytes) (poll : Poll ImportState) → KnowsNoMore before behind → IsNoted meaning is_opened before behind listener asked poll
-  noted_none before behind listener asked poll less = record { owners = λ owner there. inl (less.0 owner there); calls = λ call there. inl (less.1 call there) }
+  -- what is known is what was, where this is so, or nothing
+  pub noted_none : (IsSo : Type 0) (before behind : Damage) (listener : Listener) (asked : Bytes) (poll : Poll ImportState) → StaysWhere IsSo before behind
+      → IsNoted meaning is_opened IsSo before behind listener asked poll
+  noted_none IsSo before behind listener asked poll (inl (same, so)) = record {
+    owners = λ owner there. inl (subst (λ d. Contains d.owners.items owner) same there, so);
+    calls = λ call there. inl (subst (λ d. Contains d.calls.items call) same there, so);
+  }
+  noted_none IsSo before behind listener asked poll (inr (owners, sound, calls)) = record {
+    owners = λ owner there. absurd (none_there behind.owners.items owner owners there);
+    calls = λ call there. absurd (none_there behind.calls.items call calls there);
+  }
 
   -- the owner of a request was found
   pub noted_owner : (before behind : Damage) (listener : Listener) (asked owner : Bytes) (poll : Poll ImportState) → listener ≡ Owners → IsBy listener asked (Owner owner)
-      → AreOwnersFound meaning is_opened before behind owner → behind.calls ≡ before.calls → IsNoted meaning is_opened before behind listener asked poll
+      → AreOwnersFound meaning is_opened before behind owner → behind.calls ≡ before.calls → IsNoted meaning is_opened ⊤ before behind listener asked poll
   noted_owner before behind listener asked owner poll is by found same = record {
     owners = λ name there. elim (found.found name there) [
-      | inl known ↦ inl known
+      | inl known ↦ inl (known, tt)
       | inr (its, so) ↦ inr (is, subst (λ n. IsBy listener asked (Owner n)) (sym its) by, so)
     ];
-    calls = λ call there. inl (subst (λ calls. Contains calls.items call) same there);
+    calls = λ call there. inl (subst (λ calls. Contains calls.items call) same there, tt);
   }
 
   -- a call met damage
   pub noted_call : (before behind : Damage) (listener : Listener) (asked : Bytes) (poll : Poll ImportState) → listener ≡ Plant
-      → behind.owners ≡ before.owners → AreCallsMet before behind asked poll → IsNoted meaning is_opened before behind listener asked poll
+      → behind.owners ≡ before.owners → AreCallsMet before behind asked poll → IsNoted meaning is_opened ⊤ before behind listener asked poll
   noted_call before behind listener asked poll is same met = record {
-    owners = λ owner there. inl (subst (λ owners. Contains owners.items owner) same there);
-    calls = λ call there. elim (met.met call there) [ inl known ↦ inl known | inr told ↦ inr (is, told.0, told.1) ];
+    owners = λ owner there. inl (subst (λ owners. Contains owners.items owner) same there, tt);
+    calls = λ call there. elim (met.met call there) [ inl known ↦ inl (known, tt) | inr told ↦ inr (is, told.0, told.1) ];
   }
 
-  -- what is noted behind what was forgotten
-  pub noted_behind : (before middle behind : Damage) (listener : Listener) (asked : Bytes) (poll : Poll ImportState) → KnowsNoMore before middle
-      → IsNoted meaning is_opened middle behind listener asked poll → IsNoted meaning is_opened before behind listener asked poll
-  noted_behind before middle behind listener asked poll less noted = record {
-    owners = λ owner there. elim (noted.owners owner there) [ inl known ↦ inl (less.0 owner known) | inr found ↦ inr found ];
-    calls = λ call there. elim (noted.calls call there) [ inl known ↦ inl (less.1 call known) | inr met ↦ inr met ];
+  -- what is noted behind what stayed or was forgotten
+  pub noted_behind : (IsSo : Type 0) (before middle behind : Damage) (listener : Listener) (asked : Bytes) (poll : Poll ImportState) → StaysWhere IsSo before middle
+      → IsNoted meaning is_opened ⊤ middle behind listener asked poll → IsNoted meaning is_opened IsSo before behind listener asked poll
+  noted_behind IsSo before middle behind listener asked poll (inl (same, so)) noted = record {
+    owners = λ owner there. elim (noted.owners owner there) [
+      | inl known ↦ inl (subst (λ d. Contains d.owners.items owner) same known.0, so)
+      | inr found ↦ inr found
+    ];
+    calls = λ call there. elim (noted.calls call there) [
+      | inl known ↦ inl (subst (λ d. Contains d.calls.items call) same known.0, so)
+      | inr met ↦ inr met
+    ];
+  }
+  noted_behind IsSo before middle behind listener asked poll (inr (owners, sound, calls)) noted = record {
+    owners = λ owner there. elim (noted.owners owner there) [
+      | inl known ↦ absurd (none_there middle.owners.items owner owners known.0)
+      | inr found ↦ inr found
+    ];
+    calls = λ call there. elim (noted.calls call there) [
+      | inl known ↦ absurd (none_there middle.calls.items call calls known.0)
+      | inr met ↦ inr met
+    ];
   }

@@ -1,10 +1,14 @@
 -- What came in while one office stood open.
-use Rattle.std.proofs.Common.{◌≡◌, ◌⊎◌, ◌∙◌, ◌≤◌, ap, List, [], ◌∷◌, Option, None, Some, refl, sym, subst, inl, inr, arith}
+use Rattle.std.proofs.Common.{◌≡◌, ◌⊎◌, ◌∙◌, ◌≤◌, ◌+◌, ◌^◌, ◌-◌, Bool, ap, List, [], ◌∷◌, Option, None, Some, Result, refl, sym, subst, inl, inr, arith}
+use Rattle.std.specs.Prelude.{⊤}
 use Rattle.toll_keep.specs.Content.{Content}
 use Rattle.toll_keep.specs.Meaning.{Meaning}
-use Rattle.toll_service.specs.Openings.{IsRefusedAfter, Openings}
-use Rattle.toll_service.specs.declared.damage.Damage.{Damage}
-use Rattle.toll_service.specs.Sessions.{AnswersBy, AreThoseTaken, IsAtHand, IsLeft, IsSessionRun, IsToldFor, IsToldOver, ResumesBy, SessionState}
+use Rattle.toll_service.specs.Openings.{IsOneOpened, IsOneRefused, IsUnasked, Openings}
+use Rattle.toll_service.specs.declared.file_stamps.LeftFiles.{LeftFiles}
+use Rattle.toll_service.specs.declared.office_fault.OfficeFault.{OfficeFault}
+use Rattle.toll_service.specs.declared.office_session.OfficeSession.{OfficeSession}
+use Rattle.toll_service.specs.Sessions.{AnswersBy, AreAsLeft, AreCounted, AreThoseTaken, HasReadAhead, IsAtHand, IsIdle, IsLeft, IsNew, IsOpenedAhead, IsSessionRun, IsTakenOver, IsToldBy, IsUnopened, IsUnserved, IsWithheld, ResumesBy, SessionState, state_of_session}
+use Rattle.toll_service.specs.Listeners.{IsReadyWith}
 use Rattle.toll_server.specs.Runs.{Input, Request, Task, Yields, Runs, Turn}
 use Rattle.toll_server.specs.declared.poll.Poll.{Poll}
 use Rattle.toll_plant.specs.ImportStates.{ImportState}
@@ -12,10 +16,14 @@ use Rattle.toll_service.proofs.EventLemmas.{were_served}
 use Rattle.toll_service.specs.Serving.{AnswersOver, ResumesOver, RunsOver}
 
 module _ {K : Type 0} (meaning : Meaning K) (is_opened : K → Type 0) where
+  -- what was handed over came to this over an office, or no office could be asked, and that was told
+  abbrev IsToldOver : SessionState K → Input ImportState → Poll ImportState → SessionState K → Type 0
+  IsToldOver old input poll new = IsTakenOver meaning is_opened ⊤ old input poll new ⊎ (IsIdle old new × IsReadyWith poll (IsUnserved input))
+
   -- each turn over what those before it left
   abbrev TurnsLead : SessionState K → List (Turn ImportState) → SessionState K → Type 0
   TurnsLead old [] new = new ≡ old
-  TurnsLead old (t ∷ turns) new = (middle : SessionState K) × IsToldOver meaning is_opened old t.input t.poll middle × TurnsLead middle turns new
+  TurnsLead old (t ∷ turns) new = (middle : SessionState K) × IsToldOver old t.input t.poll middle × TurnsLead middle turns new
 
   some_is : {x y : K} → Some x ≡ Some y → x ≡ y
   some_is h = (cc)
@@ -23,8 +31,8 @@ module _ {K : Type 0} (meaning : Meaning K) (is_opened : K → Type 0) where
   no_office : {x : K} {k : Option K} → k ≡ None → k ≡ Some x → ⊥
   no_office none some = absurd (cc (none, some))
 
-  more_or_same : (old middle : SessionState K) (first : K) → IsAtHand is_opened old middle first → old.openings ≤ middle.openings
-  more_or_same old middle first (inl (there, same)) = omega (arith, same)
+  more_or_same : (old middle : SessionState K) (first : K) → IsAtHand is_opened ⊤ old middle first → old.openings ≤ middle.openings
+  more_or_same old middle first (inl (there, same, still)) = omega (arith, same)
   more_or_same old middle first (inr (opened, more)) = omega (arith, more)
 
   -- offices are counted on
@@ -38,14 +46,14 @@ module _ {K : Type 0} (meaning : Meaning K) (is_opened : K → Type 0) where
 
   -- where none is open and none is opened, none is begun with
   not_begun : (old middle new : SessionState K) (first : K) → old.keep ≡ None → middle.openings ≤ new.openings → new.openings ≡ old.openings
-      → IsAtHand is_opened old middle first → ⊥
-  not_begun old middle new first none behind count (inl (there, same)) = no_office none there
+      → IsAtHand is_opened ⊤ old middle first → ⊥
+  not_begun old middle new first none behind count (inl (there, same, still)) = no_office none there
   not_begun old middle new first none behind count (inr (opened, more)) = omega (arith, behind, more, count)
 
   -- where none is opened, it is the one that stood open
   same_office : (old middle new : SessionState K) (first begun : K) → old.keep ≡ Some first → middle.openings ≤ new.openings → new.openings ≡ old.openings
-      → IsAtHand is_opened old middle begun → (begun ≡ first) × (new.openings ≡ middle.openings)
-  same_office old middle new first begun there behind count (inl (is, same)) = (some_is (sym is ∙ there), omega (arith, same, count))
+      → IsAtHand is_opened ⊤ old middle begun → (begun ≡ first) × (new.openings ≡ middle.openings)
+  same_office old middle new first begun there behind count (inl (is, same, still)) = (some_is (sym is ∙ there), omega (arith, same, count))
   same_office old middle new first begun there behind count (inr (opened, more)) = absurd (omega (arith, behind, more, count))
 
   still_none : (old middle : SessionState K) → old.keep ≡ None → (middle.keep ≡ old.keep) ⊎ (middle.keep ≡ None) → middle.keep ≡ None
@@ -96,38 +104,69 @@ module _ {K : Type 0} (meaning : Meaning K) (is_opened : K → Type 0) where
             record { last = first; taken = []; those = inl (turned, all.0); runs = refl; left = inr all.1 }
       ]
 
-  -- what is told by who has an office, as what is told over it
-  told_for : (cause : Type 0) (known : Damage) (old new : SessionState K) (input : Input ImportState) (poll : Poll ImportState)
-      → IsToldFor meaning is_opened cause known old input poll new → IsToldOver meaning is_opened old input poll new
-  told_for cause known old new input poll (inl one) = inl one
-  told_for cause known old new input poll (inr (idle, turned, why)) = inr (idle, turned)
+  -- whatever is so where an office stood open
+  taken_over : (IsSo : Type 0) (old new : SessionState K) (input : Input ImportState) (poll : Poll ImportState)
+      → IsTakenOver meaning is_opened IsSo old input poll new → IsTakenOver meaning is_opened ⊤ old input poll new
+  taken_over IsSo old new input poll one = record {
+    first = one.first;
+    begins = elim (one.begins) [ inl (there, same, still) ↦ inl (there, same, tt) | inr opened ↦ inr opened ];
+    taken = one.taken;
+  }
 
-  told_by : {O : Type 0} (state : O → SessionState K) (tally : O → Option Openings) (known : O → Damage) (old new : O) (input : Input ImportState) (poll : Poll ImportState)
-      → Yields (AnswersBy meaning is_opened state tally known) (ResumesBy meaning is_opened state tally known) old input poll new
-      → IsToldOver meaning is_opened (state old) input poll (state new)
-  told_by state tally known old new (Request listener asked) poll (one, noted) =
-      told_for (IsRefusedAfter (state old).openings (tally old) (tally new)) (known old) (state old) (state new) (Request listener asked) poll one
-  told_by state tally known old new (Task import) poll (one, noted) =
-      told_for (IsRefusedAfter (state old).openings (tally old) (tally new)) (known old) (state old) (state new) (Task import) poll one
+  module _ (is_found : LeftFiles → Result Bool OfficeFault → Type 0) where
+    told_so : (IsSo : Type 0) (old new : OfficeSession K) (before behind : Option Openings) (input : Input ImportState) (poll : Poll ImportState)
+        → IsToldBy meaning is_opened is_found IsSo old before behind input poll new → IsToldOver (state_of_session old) input poll (state_of_session new)
+    told_so IsSo old new before behind input poll (inl (one, so)) =
+        inl (taken_over (AreAsLeft is_found old) (state_of_session old) (state_of_session new) input poll one)
+    told_so IsSo old new before behind input poll (inr away) = inr (away.idle, away.told)
 
-  told_over : {O : Type 0} (state : O → SessionState K) (tally : O → Option Openings) (known : O → Damage) (old new : O) (turns : List (Turn ImportState))
-      → Runs (AnswersBy meaning is_opened state tally known) (ResumesBy meaning is_opened state tally known) old turns new
-      → TurnsLead (state old) turns (state new)
-  told_over state tally known old new [] same = ap state same
-  told_over state tally known old new (t ∷ turns) (middle, one, rest) =
-      (state middle, told_by state tally known old middle t.input t.poll one, told_over state tally known middle new turns rest)
+    told_by : {O : Type 0} (session : O → OfficeSession K) (tally : O → Option Openings) (old new : O) (input : Input ImportState) (poll : Poll ImportState)
+        → Yields (AnswersBy meaning is_opened is_found session tally) (ResumesBy meaning is_opened is_found session tally) old input poll new
+        → IsToldOver (state_of_session (session old)) input poll (state_of_session (session new))
+    told_by session tally old new (Request listener asked) poll one = told_so _ (session old) (session new) (tally old) (tally new) (Request listener asked) poll one
+    told_by session tally old new (Task import) poll one = told_so _ (session old) (session new) (tally old) (tally new) (Task import) poll one
 
-  -- what came in while one office stood open was a run over it
-  pub sitting : {O : Type 0} → ((k : K) (c : Content) → meaning.is_honest k → meaning.is_live k → meaning.holds k c → meaning.leaves k (c ∷ []))
-      → (state : O → SessionState K) (tally : O → Option Openings) (known : O → Damage) (old new : O) (turns : List (Turn ImportState)) (first : K)
-      → Runs (AnswersBy meaning is_opened state tally known) (ResumesBy meaning is_opened state tally known) old turns new
-      → (state old).keep ≡ Some first → (state new).openings ≡ (state old).openings → IsSessionRun meaning first turns (state new)
-  sitting settled state tally known old new turns first told there count =
-      let over = sat (state old) (state new) turns first (told_over state tally known old new turns told) there count in
-      record {
-        last = over.last;
-        taken = over.taken;
-        those = over.those;
-        were = were_served meaning settled (λ keep. keep) first over.last over.taken over.runs;
-        left = over.left;
-      }
+    told_over : {O : Type 0} (session : O → OfficeSession K) (tally : O → Option Openings) (old new : O) (turns : List (Turn ImportState))
+        → Runs (AnswersBy meaning is_opened is_found session tally) (ResumesBy meaning is_opened is_found session tally) old turns new
+        → TurnsLead (state_of_session (session old)) turns (state_of_session (session new))
+    told_over session tally old new [] same = ap (λ o. state_of_session (session o)) same
+    told_over session tally old new (t ∷ turns) (middle, one, rest) =
+        (state_of_session (session middle), told_by session tally old middle t.input t.poll one, told_over session tally middle new turns rest)
+
+    -- what came in while one office stood open was a run over it
+    pub sitting : {O : Type 0} → ((k : K) (c : Content) → meaning.is_honest k → meaning.is_live k → meaning.holds k c → meaning.leaves k (c ∷ []))
+        → (session : O → OfficeSession K) (tally : O → Option Openings) (old new : O) (turns : List (Turn ImportState)) (first : K)
+        → Runs (AnswersBy meaning is_opened is_found session tally) (ResumesBy meaning is_opened is_found session tally) old turns new
+        → (state_of_session (session old)).keep ≡ Some first → (state_of_session (session new)).openings ≡ (state_of_session (session old)).openings
+        → IsSessionRun meaning first turns (state_of_session (session new))
+    sitting settled session tally old new turns first told there count =
+        let over = sat (state_of_session (session old)) (state_of_session (session new)) turns first (told_over session tally old new turns told) there count in
+        record {
+          last = over.last;
+          taken = over.taken;
+          those = over.those;
+          were = were_served meaning settled (λ keep. keep) first over.last over.taken over.runs;
+          left = over.left;
+        }
+
+-- an office that is opened ahead
+module _ {K : Type 0} (meaning : Meaning K) (is_opened : K → Type 0) where
+  -- it was opened now, since none stood open
+  pub opened_ahead : (IsSo : Type 0) (old middle new : SessionState K) (first then : K) (before behind last : Option Openings) → IsUnopened old → IsAtHand is_opened IsSo old middle first
+      → AreCounted old middle before behind → HasReadAhead meaning first then → IsLeft then new → new.openings ≡ middle.openings → last ≡ behind → IsOpenedAhead meaning is_opened before last new
+  opened_ahead IsSo old middle new first then before behind last (none, zero) (inl (there, same, still)) counted read left count tally = absurd (cc (none, there))
+  opened_ahead IsSo old middle new first then before behind last (none, zero) (inr (opened, more)) (inl (same, unasked)) read left count tally = absurd (omega (arith, more, same))
+  opened_ahead IsSo old middle new first then before behind last (none, zero) (inr (opened, more)) (inr (more_too, once)) read left count tally =
+      inr (first, then, opened, read, left, omega (arith, count, more, zero), tally ∙ once)
+
+  -- or one was refused
+  pub refused_ahead : (is_found : LeftFiles → Result Bool OfficeFault → Type 0) (old new : OfficeSession K) (before behind : Option Openings) → IsNew old
+      → IsIdle (state_of_session old) (state_of_session new) → IsWithheld is_found old before behind → IsOpenedAhead meaning is_opened before behind (state_of_session new)
+  refused_ahead is_found old new before behind fresh idle why =
+      let none : (state_of_session new).keep ≡ None = elim (idle.0) [ inl same ↦ same ∙ fresh.unopened.0 | inr closed ↦ closed ] in
+      let zero : (state_of_session new).openings ≡ 0 = idle.1 ∙ fresh.unopened.1 in
+      elim (why) [
+        | inl (inl refused) ↦ inl ((none, zero), inr refused)
+        | inl (inr most) ↦ absurd (omega (arith, most, fresh.unopened.1))
+        | inr (lost, unasked) ↦ inl ((none, zero), inl unasked)
+      ]

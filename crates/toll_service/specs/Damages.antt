@@ -1,7 +1,7 @@
 -- Damage that a server knows of.
 use Rattle.std.specs.Str.{bytes_eq}
 use Rattle.std.specs.List.{list_any}
-use Rattle.std.specs.Prelude.{◌≡◌, ◌⊎◌, ℕ, Bool, true, [], Contains, Option, Err}
+use Rattle.std.specs.Prelude.{◌≡◌, ◌⊎◌, ℕ, Bool, true, [], Contains, Option, Err, ⊤}
 use Rattle.std.specs.Global.{Vec}
 use Rattle.toll_base.specs.Bytes.{same_bytes}
 use Rattle.toll_base.specs.declared.slice.Slice.{Slice}
@@ -28,11 +28,17 @@ abbrev pub IsKnown : Damage → Listener → Bytes → Type 0
 IsKnown known Owners asked = (owner : Bytes) × IsBy Owners asked (Owner owner) × (list_any (is_owner owner) known.owners.items ≡ true)
 IsKnown known Plant asked = list_any (is_call asked) known.calls.items ≡ true
 
--- no damage is known that was not known before
+-- nothing is known: no damage, and no owner whose rows are sound
+abbrev pub KnowsNothing : Damage → Type 0
+KnowsNothing known = (known.owners.items ≡ []) × (known.sound.items ≡ []) × (known.calls.items ≡ [])
+
+-- what is known stays, and this is so; or all of it is forgotten
+abbrev pub StaysWhere : (IsSo : Type 0) → (before behind : Damage) → Type 0
+StaysWhere IsSo before behind = ((behind ≡ before) × IsSo) ⊎ KnowsNothing behind
+
+-- what is known stays, or all of it is forgotten
 abbrev pub KnowsNoMore : (before behind : Damage) → Type 0
-KnowsNoMore before behind =
-    ((owner : Bytes) → Contains behind.owners.items owner → Contains before.owners.items owner)
-    × ((call : Vec ℕ) → Contains behind.calls.items call → Contains before.calls.items call)
+KnowsNoMore = StaysWhere ⊤
 
 -- all calls that are known to have met damage were known before, but for this one, which was told so
 pub record AreCallsMet (before behind : Damage) (asked : Bytes) (poll : Poll ImportState) : Type 0 where
@@ -51,10 +57,10 @@ module _ {K : Type 0} (meaning : Meaning K) (is_opened : K → Type 0) where
   pub record AreOwnersFound (before behind : Damage) (owner : Bytes) : Type 0 where
     pub found : (name : Bytes) → Contains behind.owners.items name → Contains before.owners.items name ⊎ ((name ≡ owner) × HasFoundDamage)
 
-  -- all damage that is known was known before, but for that of the owner whose request this was, which was found; and for this call of the plant, which
-  -- was told that it met damage
-  pub record IsNoted (before behind : Damage) (listener : Listener) (asked : Bytes) (poll : Poll ImportState) : Type 0 where
+  -- all damage that is known was known before, and this is so; but for that of the owner whose request this was, which was found; and for this call of the
+  -- plant, which was told that it met damage
+  pub record IsNoted (IsSo : Type 0) (before behind : Damage) (listener : Listener) (asked : Bytes) (poll : Poll ImportState) : Type 0 where
     pub owners : (owner : Bytes) → Contains behind.owners.items owner
-        → Contains before.owners.items owner ⊎ ((listener ≡ Owners) × IsBy listener asked (Owner owner) × HasFoundDamage)
-    pub calls : (call : Vec ℕ) → Contains behind.calls.items call → Contains before.calls.items call
+        → (Contains before.owners.items owner × IsSo) ⊎ ((listener ≡ Owners) × IsBy listener asked (Owner owner) × HasFoundDamage)
+    pub calls : (call : Vec ℕ) → Contains behind.calls.items call → (Contains before.calls.items call × IsSo)
         ⊎ ((listener ≡ Plant) × (call.items ≡ asked) × IsReadyWith poll (λ told. IsResponse told (code_of Failed) [] (fault_text Damaged)))

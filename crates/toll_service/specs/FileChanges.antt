@@ -1,8 +1,9 @@
 -- What others did to the files of an office.
-use Rattle.std.specs.Prelude.{◌≡◌, ◌⊎◌, ◌<◌, true}
+use Rattle.std.specs.Prelude.{◌≡◌, ◌⊎◌, ◌<◌, Bool, true, Option, None, Some, Result, Ok, Err}
 use Rattle.toll_service.specs.declared.file_stamps.FileStamps.{FileStamps}
 use Rattle.toll_service.specs.declared.file_stamps.LeftFiles.{LeftFiles}
 use Rattle.toll_service.specs.declared.file_stamps.Stamp.{Stamp}
+use Rattle.toll_service.specs.declared.office_fault.OfficeFault.{OfficeFault}
 
 -- it is the same file, as long, and written at the same time
 abbrev pub HasContentOf : Stamp → Stamp → Type 0
@@ -31,3 +32,16 @@ IsLogCut left found = (found.log.bytes < left.stamps.log.bytes) × HasContentOf 
 -- what was committed is gone: the file's rows, or those that the log held
 abbrev pub IsLost : LeftFiles → FileStamps → Type 0
 IsLost left found = IsEmptied left found ⊎ ((left.has_commits ≡ true) × (IsReplaced left found ⊎ IsLogCut left found))
+
+-- there was something that can be gone: the file had bytes, or the log commits
+abbrev pub HadSomething : LeftFiles → Type 0
+HadSomething left = (0 < left.stamps.database.bytes) ⊎ (left.has_commits ≡ true)
+
+-- so files were left, they were looked at, and this was found: whether no other program has changed them, or a fault where committed changes are gone
+abbrev pub AreFound : (LeftFiles → Result Bool OfficeFault → Type 0) → Option LeftFiles → Result Bool OfficeFault → Type 0
+AreFound is_found None found = ⊥
+AreFound is_found (Some left) found = is_found left found
+
+-- committed changes were found to be gone
+abbrev pub AreFoundLost : (LeftFiles → Result Bool OfficeFault → Type 0) → Option LeftFiles → Type 0
+AreFoundLost is_found left = (fault : OfficeFault) × AreFound is_found left (Err fault)

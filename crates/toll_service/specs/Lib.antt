@@ -8,6 +8,7 @@ pub mod Serving
 pub mod Whole
 pub mod Faults
 pub mod Sessions
+pub mod FileServing
 pub mod Openings
 pub mod Doing
 pub mod FileChanges

@@ -1,11 +1,15 @@
 -- What a server tells its clients, over an office that stays open between them.
-use Rattle.std.specs.Prelude.{◌≡◌, ◌⊎◌, ◌↔◌, ◌+◌, ◌-◌, ◌<◌, ◌^◌, ℕ, false, min, List, [], ◌∷◌, Option, None, Some, IsSome, option_map}
+use Rattle.std.specs.Prelude.{◌≡◌, ◌⊎◌, ◌↔◌, ◌+◌, ◌-◌, ◌<◌, ◌^◌, ℕ, Bool, false, true, min, List, [], ◌∷◌, Option, None, Some, IsSome, option_map, Result, Ok}
 use Rattle.toll_base.specs.Bytes.{Bytes}
+use Rattle.toll_keep.specs.Goes.{IsReading}
 use Rattle.toll_keep.specs.Meaning.{Meaning}
-use Rattle.toll_service.specs.Damages.{IsKnown, IsNoted, KnowsNoMore}
+use Rattle.toll_keep.specs.declared.fault.KeepFault.{KeepFault}
+use Rattle.toll_service.specs.Damages.{IsKnown, IsNoted, KnowsNoMore, KnowsNothing, StaysWhere}
 use Rattle.toll_service.specs.Faults.{fault_text}
-use Rattle.toll_service.specs.Openings.{IsRefusedAfter, Openings}
+use Rattle.toll_service.specs.FileChanges.{AreFound, AreFoundLost}
+use Rattle.toll_service.specs.Openings.{IsOneOpened, IsOneRefused, IsRefusedAfter, IsUnasked, Openings}
 use Rattle.toll_service.specs.declared.damage.Damage.{Damage}
+use Rattle.toll_service.specs.declared.file_stamps.LeftFiles.{LeftFiles}
 use Rattle.toll_service.specs.declared.office_fault.OfficeFault.{OfficeFault}
 use Rattle.toll_service.specs.declared.office_session.OfficeSession.{OfficeSession}
 use Rattle.toll_protocol.specs.PlantMessages.{IsResponse}
@@ -46,10 +50,10 @@ abbrev pub IsUnserved : Input ImportState → Bytes → Type 0
 IsUnserved (Request listener asked) told = IsTurnedAway listener told
 IsUnserved (Task import) told = IsGivenUp import told
 
--- this is the cause; or it is known that what was asked meets damage, or nothing was asked at the plant's listener
-abbrev pub IsCaused : (cause : Type 0) → Damage → Input ImportState → Type 0
-IsCaused cause known (Request listener asked) = cause ⊎ IsKnown known listener asked ⊎ ((listener ≡ Plant) × (asked ≡ []))
-IsCaused cause known (Task import) = cause
+-- this is the cause; or it is known that what was asked meets damage, in files that are as they were left; or nothing was asked at the plant's listener
+abbrev pub IsCaused : (cause IsAsLeft : Type 0) → Damage → Input ImportState → Type 0
+IsCaused cause IsAsLeft known (Request listener asked) = cause ⊎ (IsKnown known listener asked × IsAsLeft) ⊎ ((listener ≡ Plant) × (asked ≡ []))
+IsCaused cause IsAsLeft known (Task import) = cause
 
 -- how many imports are under way, if a request begins one; and if one has ended
 abbrev pub begun : Poll ImportState → ℕ → ℕ
@@ -73,10 +77,25 @@ module _ {K : Type 0} where
   abbrev pub IsLeft : K → SessionState K → Type 0
   IsLeft last new = (new.keep ≡ Some last) ⊎ (new.keep ≡ None)
 
-  -- it is the one that stood open, or it was opened now
-  abbrev pub IsAtHand : (K → Type 0) → SessionState K → SessionState K → K → Type 0
-  IsAtHand is_opened old new first =
-      ((old.keep ≡ Some first) × (new.openings ≡ old.openings)) ⊎ (is_opened first × (new.openings ≡ old.openings + 1))
+  -- it is the one that stood open, in files that are as they were left; or it was opened now
+  abbrev pub IsAtHand : (K → Type 0) → (IsAsLeft : Type 0) → SessionState K → SessionState K → K → Type 0
+  IsAtHand is_opened IsAsLeft old new first =
+      ((old.keep ≡ Some first) × (new.openings ≡ old.openings) × IsAsLeft) ⊎ (is_opened first × (new.openings ≡ old.openings + 1))
+
+  -- as many were opened as were counted, and none was refused
+  abbrev pub AreCounted : SessionState K → SessionState K → (before behind : Option Openings) → Type 0
+  AreCounted old new before behind =
+      ((new.openings ≡ old.openings) × IsUnasked before behind) ⊎ ((new.openings ≡ old.openings + 1) × IsOneOpened before behind)
+
+  -- reading calls led from the one to the other, whatever the last of them answered
+  abbrev pub HasReadAhead : Meaning K → K → K → Type 0
+  HasReadAhead meaning first last = (answer : Result (Unit {0}) KeepFault) × IsReading meaning first last answer
+
+  -- none was opened, and at most one was refused; or one was, and after reading calls alone it stays open or was closed
+  abbrev pub IsOpenedAhead : Meaning K → (K → Type 0) → (before behind : Option Openings) → SessionState K → Type 0
+  IsOpenedAhead meaning is_opened before behind s =
+      (IsUnopened s × (IsUnasked before behind ⊎ IsOneRefused before behind))
+      ⊎ ((first last : K) × is_opened first × HasReadAhead meaning first last × IsLeft last s × (s.openings ≡ 1) × IsOneOpened before behind)
 
   -- this office stands open at first, and none was opened since
   abbrev pub IsOneOffice : K → SessionState K → SessionState K → Type 0
@@ -90,6 +109,26 @@ module _ {K : Type 0} where
   abbrev pub IsLockKept : OfficeSession K → Type 0
   IsLockKept s = IsSome s.lock ↔ (0 < s.imports)
 
+  -- a session that was asked nothing yet
+  pub record IsNew (s : OfficeSession K) : Type 0 where
+    pub unopened : IsUnopened (state_of_session s)
+    pub unknown : KnowsNothing s.damage
+    pub left : s.left ≡ None
+    pub imports : s.imports ≡ 0
+    pub lock : IsLockKept s
+
+  -- no other program has changed the files since the session left them: it has kept their lock, or they were looked at, and found so
+  abbrev pub AreAsLeft : (LeftFiles → Result Bool OfficeFault → Type 0) → OfficeSession K → Type 0
+  AreAsLeft is_found s = IsSome s.lock ⊎ AreFound is_found s.left (Ok true)
+
+  -- committed changes were found to be gone from the files that the session left, and no office was opened or refused
+  abbrev pub IsLost : (LeftFiles → Result Bool OfficeFault → Type 0) → OfficeSession K → (before behind : Option Openings) → Type 0
+  IsLost is_found s before behind = AreFoundLost is_found s.left × IsUnasked before behind
+
+  -- why no office is at hand: a lock or an opening was refused, or as many were opened before as can be counted; or committed changes are gone
+  abbrev pub IsWithheld : (LeftFiles → Result Bool OfficeFault → Type 0) → OfficeSession K → (before behind : Option Openings) → Type 0
+  IsWithheld is_found s before behind = IsRefusedAfter s.openings before behind ⊎ IsLost is_found s before behind
+
 module _ {K : Type 0} (meaning : Meaning K) where
   -- what was handed over came to this over this office, which stays open or is closed
   pub record IsTakenFrom (first : K) (input : Input ImportState) (poll : Poll ImportState) (new : SessionState K) : Type 0 where
@@ -99,34 +138,41 @@ module _ {K : Type 0} (meaning : Meaning K) where
 
 module _ {K : Type 0} (meaning : Meaning K) (is_opened : K → Type 0) where
   -- what was handed over came to this over the office that stood open, or over one that was opened for it
-  pub record IsTakenOver (old : SessionState K) (input : Input ImportState) (poll : Poll ImportState) (new : SessionState K) : Type 0 where
+  pub record IsTakenOver (IsAsLeft : Type 0) (old : SessionState K) (input : Input ImportState) (poll : Poll ImportState) (new : SessionState K) : Type 0 where
     pub first : K
-    pub begins : IsAtHand is_opened old new first
+    pub begins : IsAtHand is_opened IsAsLeft old new first
     pub taken : IsTakenFrom meaning first input poll new
 
+module _ {K : Type 0} (meaning : Meaning K) (is_opened : K → Type 0) (is_found : LeftFiles → Result Bool OfficeFault → Type 0) where
   -- so it was by a session
-  abbrev pub Takes : OfficeSession K → Input ImportState → TurnResult → OfficeSession K → Type 0
-  Takes old input reply new = IsTakenOver (state_of_session old) input reply.poll (state_of_session new)
+  abbrev pub Takes : OfficeSession K → Input ImportState → Poll ImportState → OfficeSession K → Type 0
+  Takes old input poll new = IsTakenOver meaning is_opened (AreAsLeft is_found old) (state_of_session old) input poll (state_of_session new)
 
-  -- what was handed over came to this so, or no office could be asked, and that was told
-  abbrev pub IsToldOver : SessionState K → Input ImportState → Poll ImportState → SessionState K → Type 0
-  IsToldOver old input poll new = IsTakenOver old input poll new ⊎ (IsIdle old new × IsReadyWith poll (IsUnserved input))
+  -- no office was asked, which has a cause, and that was told; no more is known of the files and their damage than before
+  pub record IsTurnedAwayFor (old : OfficeSession K) (before behind : Option Openings) (input : Input ImportState) (poll : Poll ImportState) (new : OfficeSession K) : Type 0 where
+    pub idle : IsIdle (state_of_session old) (state_of_session new)
+    pub told : IsReadyWith poll (IsUnserved input)
+    pub cause : IsCaused (IsWithheld is_found old before behind) (AreAsLeft is_found old) old.damage input
+    pub left : new.left ≡ old.left
+    pub known : KnowsNoMore old.damage new.damage
 
-  -- so it was told over an office; or none was asked, and there is this cause, unless what was asked is known to meet damage or is nothing
-  abbrev pub IsToldFor : (cause : Type 0) → Damage → SessionState K → Input ImportState → Poll ImportState → SessionState K → Type 0
-  IsToldFor cause known old input poll new = IsTakenOver old input poll new ⊎ (IsIdle old new × IsReadyWith poll (IsUnserved input) × IsCaused cause known input)
+  -- so what was handed over was taken, and this is so; or turned away
+  abbrev pub IsToldBy : (IsSo : Type 0) → OfficeSession K → (before behind : Option Openings) → Input ImportState → Poll ImportState → OfficeSession K → Type 0
+  IsToldBy IsSo old before behind input poll new = (Takes old input poll new × IsSo) ⊎ IsTurnedAwayFor old before behind input poll new
 
-  -- who has an office answers so, turns away only where it was refused one or knows of damage, and knows of no damage that nobody met
-  abbrev pub AnswersBy : {O : Type 0} → (O → SessionState K) → (O → Option Openings) → (O → Damage) → O → Listener → Bytes → Poll ImportState → O → Type 0
-  AnswersBy state tally known old listener asked poll new =
-      IsToldFor (IsRefusedAfter (state old).openings (tally old) (tally new)) (known old) (state old) (Request listener asked) poll (state new)
-      × IsNoted meaning is_opened (known old) (known new) listener asked poll
+  module _ {O : Type 0} (session : O → OfficeSession K) (tally : O → Option Openings) where
+    -- who has a session answers so; of damage that was known before, nothing is known behind a turn unless no other program has changed the files; and no
+    -- damage is known that nobody met
+    abbrev pub AnswersBy : O → Listener → Bytes → Poll ImportState → O → Type 0
+    AnswersBy old listener asked poll new =
+        IsToldBy (IsNoted meaning is_opened (AreAsLeft is_found (session old)) (session old).damage (session new).damage listener asked poll)
+        (session old) (tally old) (tally new) (Request listener asked) poll (session new)
 
-  -- and goes on so with an import
-  abbrev pub ResumesBy : {O : Type 0} → (O → SessionState K) → (O → Option Openings) → (O → Damage) → O → ImportState → Poll ImportState → O → Type 0
-  ResumesBy state tally known old import poll new =
-      IsToldFor (IsRefusedAfter (state old).openings (tally old) (tally new)) (known old) (state old) (Task import) poll (state new)
-      × KnowsNoMore (known old) (known new)
+    -- and goes on so with an import
+    abbrev pub ResumesBy : O → ImportState → Poll ImportState → O → Type 0
+    ResumesBy old import poll new =
+        IsToldBy (StaysWhere (AreAsLeft is_found (session old)) (session old).damage (session new).damage)
+        (session old) (tally old) (tally new) (Task import) poll (session new)
 
 -- those turns in which an office was asked, in order; in all others none could be, and that was told
 abbrev pub AreThoseTaken : List (Turn ImportState) → List (Turn ImportState) → Type 0
@@ -143,8 +189,9 @@ pub record IsSessionRun {K : Type 0} (meaning : Meaning K) (first : K) (turns : 
   pub were : WereServed meaning first last taken
   pub left : IsLeft last new
 
--- what is told by who has an office, while one office stands open and none is opened, is a run over it
-abbrev pub AreSessionRuns : {K : Type 0} → Meaning K → (K → Type 0) → Type 0 → Type 0
-AreSessionRuns {K} meaning is_opened O =
-    (state : O → SessionState K) (tally : O → Option Openings) (known : O → Damage) (old new : O) (turns : List (Turn ImportState)) (first : K)
-    → Runs (AnswersBy meaning is_opened state tally known) (ResumesBy meaning is_opened state tally known) old turns new → IsOneOffice first (state old) (state new) → IsSessionRun meaning first turns (state new)
+-- what is told by who has a session, while one office stands open and none is opened, is a run over it
+abbrev pub AreSessionRuns : {K : Type 0} → Meaning K → (K → Type 0) → (LeftFiles → Result Bool OfficeFault → Type 0) → Type 0 → Type 0
+AreSessionRuns {K} meaning is_opened is_found O =
+    (session : O → OfficeSession K) (tally : O → Option Openings) (old new : O) (turns : List (Turn ImportState)) (first : K)
+    → Runs (AnswersBy meaning is_opened is_found session tally) (ResumesBy meaning is_opened is_found session tally) old turns new
+    → IsOneOffice first (state_of_session (session old)) (state_of_session (session new)) → IsSessionRun meaning first turns (state_of_session (session new))

@@ -1,9 +1,9 @@
 //! What a server knows of damage in its office's file.
 ghost use Rattle.std.specs.Global.{Vec as Held};
 ghost use Rattle.std.specs.List.{list_any};
-ghost use Rattle.std.specs.Prelude.{◌≡◌, ◌⊎◌, ◌++◌, ℕ, [], ◌∷◌, true, Contains};
+ghost use Rattle.std.specs.Prelude.{◌≡◌, ◌⊎◌, ◌++◌, ◌||◌, ℕ, [], ◌∷◌, false, true, Contains};
 ghost use Rattle.toll_base.specs.Bytes.{Bytes};
-ghost use Rattle.toll_service.specs.Damages.{IsKnown, is_call, is_owner};
+ghost use Rattle.toll_service.specs.Damages.{IsKnown, KnowsNothing, is_call, is_owner};
 
 use crate::party::Party;
 use std::alloc::Global;
@@ -31,8 +31,7 @@ pub struct Damage {
 impl Damage {
     /// Nothing is known, which takes no memory.
     pub fn new(alloc: Global) -> Self
-        ensures owners { result.owners.items ≡ [] }
-        ensures calls { result.calls.items ≡ [] }
+        ensures { KnowsNothing result }
     {
         Damage {
             owners: Vec::new(alloc),
@@ -43,8 +42,7 @@ impl Damage {
 
     /// Forgets all that was known.
     pub fn forget(&mut self)
-        ensures owners { self.new.owners.items ≡ [] }
-        ensures calls { self.new.calls.items ≡ [] }
+        ensures { KnowsNothing self.new }
     {
         self.owners.clear();
         self.sound.clear();
@@ -59,17 +57,11 @@ impl Damage {
         match listener {
             Listener::Owners if self.owners.is_empty() => false,
             Listener::Owners => match Party::of(listener, asked) {
-                Party::Owner(owner) => self.has_owner(&owner),
+                Party::Owner(owner) => has(&self.owners, &owner),
                 Party::Plant | Party::Nobody => false,
             },
             Listener::Plant => self.has_call(asked),
         }
-    }
-
-    fn has_owner(&self, owner: &Name) -> bool
-        ensures { result ≡ list_any (is_owner owner.now) self.now.owners.items }
-    {
-        self.owners.iter().any(|name| *name == *owner)
     }
 
     fn has_call(&self, asked: &[u8]) -> bool
@@ -78,14 +70,17 @@ impl Damage {
         self.calls.iter().any(|call| call.as_slice() == asked)
     }
 
-    /// Whether the owner's rows were read.
-    pub fn was_looked_at(&self, owner: &Name) -> bool {
-        self.has_owner(owner) || self.sound.contains(owner)
+    /// Whether it is known that the owner's rows were read, and are damaged or sound.
+    pub fn was_looked_at(&self, owner: &Name) -> bool
+        ensures { result ≡ (list_any (is_owner owner.now) self.now.owners.items || list_any (is_owner owner.now) self.now.sound.items) }
+    {
+        has(&self.owners, owner) || has(&self.sound, owner)
     }
 
     /// Notes that an owner's rows were read, and whether they are damaged, if there is room.
     pub fn note_owner(&mut self, owner: Name, is_damaged: bool)
         ensures owners { (o : Bytes) → Contains self.new.owners.items o → Contains self.old.owners.items o ⊎ ((o ≡ owner) × (is_damaged ≡ true)) }
+        ensures sound { (o : Bytes) → Contains self.new.sound.items o → Contains self.old.sound.items o ⊎ ((o ≡ owner) × (is_damaged ≡ false)) }
         ensures calls { self.new.calls ≡ self.old.calls }
     {
         if is_damaged {
@@ -98,6 +93,7 @@ impl Damage {
     /// Notes a call that met damage, if it is short and there is room.
     pub fn note_call(&mut self, alloc: Global, asked: &[u8])
         ensures owners { self.new.owners ≡ self.old.owners }
+        ensures sound { self.new.sound ≡ self.old.sound }
         ensures calls { (c : Held ℕ) → Contains self.new.calls.items c → Contains self.old.calls.items c ⊎ (c.items ≡ asked.now) }
     {
         if self.calls.len() >= MOST || asked.len() > MOST_CALL_BYTES {
@@ -107,6 +103,13 @@ impl Damage {
             let _ = self.calls.push(call);
         }
     }
+}
+
+// Whether the owner is one of these.
+fn has(owners: &[Name], owner: &Name) -> bool
+    ensures { result ≡ list_any (is_owner owner.now) owners.now }
+{
+    owners.iter().any(|name| *name == *owner)
 }
 
 // Adds an owner, if there is room.

@@ -1,6 +1,6 @@
 //! How an office's files have changed since a server left them.
-ghost use Rattle.std.specs.Prelude.{◌≡◌, ◌↔◌, true};
-ghost use Rattle.toll_service.specs.FileChanges.{AreUntouched, HasContentOf, IsLost, IsUntouched};
+ghost use Rattle.std.specs.Prelude.{◌≡◌, ◌↔◌, true, IfErr, IfOk, IfSome};
+ghost use Rattle.toll_service.specs.FileChanges.{AreUntouched, HadSomething, HasContentOf, IsLost, IsUntouched};
 
 use crate::office_fault::OfficeFault;
 use std::fs::File;
@@ -104,7 +104,9 @@ pub struct LeftFiles {
 
 impl LeftFiles {
     /// The state of the files now. The log is read only if it has changed since `before`.
-    pub fn of(rt: &HostRuntime, path: &str, before: &Option<LeftFiles>) -> io::Result<Self> {
+    pub fn of(rt: &HostRuntime, path: &str, before: &Option<LeftFiles>) -> io::Result<Self>
+        ensures { IfOk result (λ left. IfSome before.now (λ known. IsUntouched known.stamps.log left.stamps.log → left.has_commits ≡ known.has_commits)) }
+    {
         let stamps = FileStamps::of(rt, path)?;
         let has_commits = match before {
             Some(before) if before.stamps.log.is_same(&stamps.log) => before.has_commits,
@@ -118,7 +120,9 @@ impl LeftFiles {
 
     /// Whether no other program has changed the files of the office at this path since they were left so. If
     /// the files can't be read, they count as changed. NotOurs if committed changes are gone.
-    pub fn is_unchanged(&self, rt: &HostRuntime, path: &str) -> Result<bool, OfficeFault> {
+    pub fn is_unchanged(&self, rt: &HostRuntime, path: &str) -> Result<bool, OfficeFault>
+        ensures { IfErr result (λ fault. (fault ≡ OfficeFault.NotOurs) × HadSomething self.now) }
+    {
         match self.compare(rt, path) {
             FileChange::Same => Ok(true),
             FileChange::ByOthers => Ok(false),
@@ -128,7 +132,9 @@ impl LeftFiles {
 
     /// What other programs did to the files of the office at this path since they were left so. If the files
     /// can't be read, they count as written.
-    pub fn compare(&self, rt: &HostRuntime, path: &str) -> FileChange {
+    pub fn compare(&self, rt: &HostRuntime, path: &str) -> FileChange
+        ensures { result ≡ FileChange.NotOurs → HadSomething self.now }
+    {
         match FileStamps::of(rt, path) {
             Ok(found) => self.change_to(&found),
             Err(_) => FileChange::ByOthers,

@@ -29,5 +29,5 @@ pub fn what_one_asks_is_all_of_its_turns()
 /// office were taken over the one keep that was open, one after another. In all other turns the client was
 /// refused or an import was given up.
 pub fn what_is_served_between_two_openings_is_a_run<K: Keep, O: KeepOpener<K>, D>()
-    ensures { AreSessionRuns K.meaning O.is_opened D }
+    ensures { AreSessionRuns K.meaning O.is_opened O.is_found D }
 {}

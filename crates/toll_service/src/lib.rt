@@ -21,6 +21,7 @@ mod operation;
 mod party;
 mod pending_import;
 mod plant;
+mod reading_ahead;
 mod reserved_reply;
 mod serving;
 mod shared_file;

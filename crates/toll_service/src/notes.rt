@@ -1,4 +1,6 @@
 //! Lines on standard error.
+ghost use Rattle.std.specs.Prelude.{◌≡◌, ◌⊎◌, ◌+◌, ◌-◌, ◌^◌, min};
+
 use mio::unix::SourceFd;
 use mio::{Events, Interest, Poll, Token};
 use std::fmt::Display;
@@ -17,12 +19,16 @@ pub struct Notes {
 
 impl Notes {
     /// None was dropped yet.
-    pub fn new() -> Self {
+    pub fn new() -> Self
+        ensures { result.dropped ≡ 0 }
+    {
         Notes { dropped: 0 }
     }
 
-    /// Writes the line, or drops it.
-    pub fn write(&mut self, rt: &HostRuntime, line: impl Display + Drop) {
+    /// Writes the line, or drops and counts it. No dropped line is left to tell of once one is written.
+    pub fn write(&mut self, rt: &HostRuntime, line: impl Display + Drop)
+        ensures { (self.new.dropped ≡ 0) ⊎ (self.new.dropped ≡ min (self.old.dropped + 1) (2 ^ 64 - 1)) }
+    {
         if !takes_lines(rt) {
             self.dropped = self.dropped.saturating_add(1);
             return;

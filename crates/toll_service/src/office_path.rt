@@ -1,6 +1,8 @@
 //! The place of an office in a file.
-ghost use Rattle.std.specs.Prelude.{◌≡◌, Option, None, option_map, is_ok, IfOk};
+ghost use Rattle.std.specs.Prelude.{◌≡◌, ⊤, Bool, Option, None, Result, option_map, is_ok, IfOk};
 ghost use Rattle.toll_service.specs.Openings.{Openings, after_lock, after_opening};
+ghost use Rattle.toll_service.specs.declared.file_stamps.LeftFiles.{LeftFiles};
+ghost use Rattle.toll_service.specs.declared.office_fault.OfficeFault.{OfficeFault};
 
 use crate::file_stamps::LeftFiles;
 use crate::office_fault::OfficeFault;
@@ -14,19 +16,23 @@ pub trait KeepOpener<K>: Drop {
     // How many keeps it has opened, and how often opening or locking was refused, if that is known.
     ghost openings: { Self → Option Openings } = { λ _. None };
 
+    // Files that had been left so were looked at, and this was found, if that is known.
+    ghost is_found: { LeftFiles → Result Bool OfficeFault → Type 0 } = { λ left found. ⊤ };
+
     /// Takes the lock of the file, as [`take_lock`](crate::take_lock) does.
     fn lock(&mut self, rt: &HostRuntime, path: &str) -> Result<File, OfficeFault>
         ensures { openings self.new ≡ option_map (after_lock (is_ok result)) (openings self.old) };
 
-    /// Whether no other program has changed the files since they were left so, as [`LeftFiles::is_unchanged`]
-    /// says. NotOurs, a refusal, if committed changes are gone.
+    /// Looks whether no other program has changed the files since they were left so, as
+    /// [`LeftFiles::is_unchanged`] says. NotOurs if committed changes are gone.
     fn is_unchanged(
         &mut self,
         rt: &HostRuntime,
         path: &str,
         left: &LeftFiles,
     ) -> Result<bool, OfficeFault>
-        ensures { openings self.new ≡ option_map (after_lock (is_ok result)) (openings self.old) };
+        ensures openings { openings self.new ≡ openings self.old }
+        ensures found { is_found left.now result };
 
     /// Opens the keep in the file.
     fn open(&mut self, rt: &HostRuntime, path: &str) -> Result<K, OfficeFault>

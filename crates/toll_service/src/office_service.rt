@@ -1,7 +1,8 @@
 //! The office in a file, as the clients of a server ask it.
 ghost use Rattle.std.specs.Prelude.{◌≡◌};
 ghost use Rattle.toll_service.specs.Parties.{IsBy};
-ghost use Rattle.toll_service.specs.Sessions.{AnswersBy, IsTurnedAway, IsUnopened, ResumesBy, state_of_session};
+ghost use Rattle.toll_service.specs.FileServing.{Answers, IsFresh, Resumes};
+ghost use Rattle.toll_service.specs.Sessions.{IsNew, IsTurnedAway};
 
 use crate::fault_log::{FaultLog, ServingFault};
 use crate::office_fault::OfficeFault;
@@ -41,7 +42,8 @@ impl<'a, K: Keep + Drop, O: KeepOpener<K>> OfficeService<'a, K, O> {
     /// A service of the office at this path, which is opened for the first request, unless it is opened
     /// ahead.
     pub fn new(office_path: OfficePath<'a, O>) -> Self
-        ensures { IsUnopened (state_of_session result.session) }
+        ensures session { IsNew result.session }
+        ensures office_path { result.office_path ≡ office_path.entry }
     {
         let alloc = office_path.rt.alloc();
         OfficeService {
@@ -51,9 +53,11 @@ impl<'a, K: Keep + Drop, O: KeepOpener<K>> OfficeService<'a, K, O> {
         }
     }
 
-    /// Opens the office before the first request, if its file is there. If that fails, the fault is reported
+    /// Opens the office before the first request and reads its rows, if its file is there. If that fails, the fault is reported
     /// to the operator, and each request tries to open it again.
-    pub fn open_ahead(&mut self) {
+    pub fn open_ahead(&mut self)
+        ensures { IsNew self.old.session → IsFresh K.meaning O.is_opened O.openings (O.openings self.old.office_path.opener) self.new }
+    {
         let OfficePath { rt, path, .. } = self.office_path;
         if fs::metadata(rt, path).is_err() {
             return;
@@ -103,11 +107,9 @@ impl<K: Keep + Drop, O: KeepOpener<K>> Service for OfficeService<'_, K, O> {
 
     ghost is_by = { IsBy };
 
-    ghost answers = { AnswersBy K.meaning O.is_opened (λ service. state_of_session service.session)
-        (λ service. O.openings service.office_path.opener) (λ service. service.session.damage) };
+    ghost answers = { Answers K.meaning O.is_opened O.is_found O.openings };
 
-    ghost resumes = { ResumesBy K.meaning O.is_opened (λ service. state_of_session service.session)
-        (λ service. O.openings service.office_path.opener) (λ service. service.session.damage) };
+    ghost resumes = { Resumes K.meaning O.is_opened O.is_found O.openings };
 
     fn party(listener: Listener, asked: &[u8]) -> Party
         ensures { IsBy listener asked.now result }
@@ -121,8 +123,10 @@ impl<K: Keep + Drop, O: KeepOpener<K>> Service for OfficeService<'_, K, O> {
         if listener == Listener::Plant && asked.is_empty() {
             return Poll::Ready(Vec::new(alloc));
         }
-        let OfficePath { rt, path, .. } = self.office_path;
-        if self.session.is_damaged(rt, path, listener, asked) {
+        if self
+            .session
+            .is_damaged(&mut self.office_path, listener, asked)
+        {
             return Poll::Ready(refusal(alloc, listener, OfficeFault::Damaged));
         }
         match self.session.answer(&mut self.office_path, listener, asked) {

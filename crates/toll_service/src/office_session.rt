@@ -1,11 +1,12 @@
 //! An office that stays open between requests, while other programs may use its file.
-ghost use Rattle.std.specs.Prelude.{◌≡◌, ◌+◌, ◌-◌, ◌<◌, false, true, [], None, Some, IfErr, IfOk, IfSome, IsSome, OnErr, OnOk};
+ghost use Rattle.std.specs.Prelude.{◌≡◌, ◌⊎◌, ◌+◌, ◌-◌, ◌<◌, false, true, [], None, Some, Ok, ⊤, IfErr, IfOk, IfSome, IsSome, OnErr, OnOk};
 ghost use Rattle.toll_server.specs.Runs.{Request, Task};
-ghost use Rattle.toll_service.specs.Damages.{AreCallsMet, AreOwnersFound, HasFoundDamage, IsKnown, IsNoted, KnowsNoMore};
+ghost use Rattle.toll_service.specs.Damages.{AreCallsMet, AreOwnersFound, HasFoundDamage, IsKnown, IsNoted, KnowsNoMore, StaysWhere};
 ghost use Rattle.toll_service.specs.Faults.{fault_text};
+ghost use Rattle.toll_service.specs.FileChanges.{AreFound, AreFoundLost};
 ghost use Rattle.toll_service.specs.Listeners.{IsServedIfRoom};
-ghost use Rattle.toll_service.specs.Openings.{IsOneRefused, IsRefusedAfter, IsUnasked};
-ghost use Rattle.toll_service.specs.Sessions.{IsAtHand, IsIdle, IsLeft, IsLockKept, IsUnopened, Takes, begun, ended, state_of_session};
+ghost use Rattle.toll_service.specs.Openings.{IsOneOpened, IsOneRefused, IsRefusedAfter, IsUnasked};
+ghost use Rattle.toll_service.specs.Sessions.{AreAsLeft, AreCounted, IsAtHand, IsIdle, IsLeft, IsLockKept, IsLost, IsNew, IsOpenedAhead, IsWithheld, Takes, begun, ended, state_of_session};
 ghost use Rattle.toll_programs.specs.Statuses.{code_of};
 ghost use Rattle.toll_programs.specs.declared.status.Status.TheVariants.{Failed};
 ghost use Rattle.toll_protocol.specs.PlantMessages.{IsResponse};
@@ -19,6 +20,7 @@ use crate::office_path::{KeepOpener, OfficePath};
 use crate::open_office::OpenOffice;
 use crate::party::Party;
 use crate::pending_import::PendingImport;
+use crate::reading_ahead::read_ahead;
 use crate::stopped_import::StoppedImport;
 use crate::turn_result::TurnResult;
 use std::alloc::{AllocError, Global};
@@ -65,8 +67,7 @@ impl<K: Drop> Drop for OfficeSession<K> {
 impl<K: Keep + Drop> OfficeSession<K> {
     /// No file is open yet.
     pub fn new(alloc: Global) -> Self
-        ensures unopened { IsUnopened (state_of_session result) }
-        ensures lock { IsLockKept result }
+        ensures { IsNew result }
     {
         OfficeSession {
             opened: None,
@@ -80,19 +81,21 @@ impl<K: Keep + Drop> OfficeSession<K> {
         }
     }
 
-    /// Opens the office before the first request. An `Err` if the lock isn't taken or the file isn't opened.
+    /// Opens the office before the first request, and reads its rows, so that the first requests find them in
+    /// memory. An `Err` if the lock isn't taken or the file isn't opened.
     pub fn open_ahead<O: KeepOpener<K>>(
         &mut self,
         office_path: &mut OfficePath<'_, O>,
     ) -> Result<(), OfficeFault>
-        ensures err { OnErr result (IsIdle (state_of_session self.old) (state_of_session self.new)) }
+        ensures ahead { IsNew self.old → IsOpenedAhead K.meaning O.is_opened (O.openings office_path.old.opener) (O.openings office_path.new.opener) (state_of_session self.new) }
         ensures imports { self.new.imports ≡ self.old.imports }
         ensures damage { KnowsNoMore self.old.damage self.new.damage }
         ensures lock { IsLockKept self.old → IsLockKept self.new }
     {
         match self.take(office_path) {
-            Ok(opened) => {
-                self.leave(office_path, opened, true);
+            Ok(mut opened) => {
+                let read = read_ahead(office_path.rt.alloc(), &mut opened.keep);
+                self.leave(office_path, opened, read.is_ok());
                 Ok(())
             }
             Err(fault) => {
@@ -111,12 +114,13 @@ impl<K: Keep + Drop> OfficeSession<K> {
         listener: Listener,
         asked: &[u8],
     ) -> Result<TurnResult, OfficeFault>
-        ensures ok { IfOk result (λ reply. Takes K.meaning O.is_opened self.old (Request listener asked.now) reply self.new) }
+        ensures ok { IfOk result (λ reply. Takes K.meaning O.is_opened O.is_found self.old (Request listener asked.now) reply.poll self.new) }
         ensures closed { IfOk result (λ reply. reply.keep_usable ≡ false → self.new.opened ≡ None) }
         ensures imports { IfOk result (λ reply. self.new.imports ≡ begun reply.poll self.old.imports) }
         ensures err { OnErr result (IsIdle (state_of_session self.old) (state_of_session self.new) × (self.new.imports ≡ self.old.imports)) }
-        ensures refused { OnErr result (IsRefusedAfter self.old.openings (O.openings office_path.old.opener) (O.openings office_path.new.opener)) }
-        ensures damage { KnowsNoMore self.old.damage self.new.damage }
+        ensures refused { OnErr result (IsWithheld O.is_found self.old (O.openings office_path.old.opener) (O.openings office_path.new.opener)) }
+        ensures damage { OnOk result (StaysWhere (AreAsLeft O.is_found self.old) self.old.damage self.new.damage) }
+        ensures stays { OnErr result ((self.new.left ≡ self.old.left) × KnowsNoMore self.old.damage self.new.damage) }
         ensures lock { IsLockKept self.old → IsLockKept self.new }
     {
         match self.take(office_path) {
@@ -149,12 +153,13 @@ impl<K: Keep + Drop> OfficeSession<K> {
         office_path: &mut OfficePath<'_, O>,
         import: PendingImport,
     ) -> Result<TurnResult, StoppedImport>
-        ensures ok { IfOk result (λ reply. Takes K.meaning O.is_opened self.old (Task import) reply self.new) }
+        ensures ok { IfOk result (λ reply. Takes K.meaning O.is_opened O.is_found self.old (Task import) reply.poll self.new) }
         ensures closed { IfOk result (λ reply. reply.keep_usable ≡ false → self.new.opened ≡ None) }
         ensures imports { IfOk result (λ reply. self.new.imports ≡ ended reply.poll self.old.imports) }
         ensures err { OnErr result (IsIdle (state_of_session self.old) (state_of_session self.new)) }
-        ensures refused { OnErr result (IsRefusedAfter self.old.openings (O.openings office_path.old.opener) (O.openings office_path.new.opener)) }
-        ensures damage { KnowsNoMore self.old.damage self.new.damage }
+        ensures refused { OnErr result (IsWithheld O.is_found self.old (O.openings office_path.old.opener) (O.openings office_path.new.opener)) }
+        ensures damage { OnOk result (StaysWhere (AreAsLeft O.is_found self.old) self.old.damage self.new.damage) }
+        ensures stays { OnErr result ((self.new.left ≡ self.old.left) × KnowsNoMore self.old.damage self.new.damage) }
         ensures stopped { IfErr result (λ stopped. (stopped.import ≡ import) × (self.new.imports ≡ self.old.imports - 1)) }
         ensures lock { IsLockKept self.old → IsLockKept self.new }
     {
@@ -180,11 +185,15 @@ impl<K: Keep + Drop> OfficeSession<K> {
         &mut self,
         office_path: &mut OfficePath<'_, O>,
     ) -> Result<OpenOffice<K>, OfficeFault>
-        ensures ok { IfOk result (λ o. IsAtHand O.is_opened (state_of_session self.old) (state_of_session self.new) o.keep) }
+        ensures ok { IfOk result (λ o. IsAtHand O.is_opened (AreAsLeft O.is_found self.old) (state_of_session self.old) (state_of_session self.new) o.keep) }
+        ensures counted { OnOk result (AreCounted (state_of_session self.old) (state_of_session self.new)
+            (O.openings office_path.old.opener) (O.openings office_path.new.opener)) }
         ensures err { OnErr result (IsIdle (state_of_session self.old) (state_of_session self.new)) }
-        ensures refused { OnErr result (IsRefusedAfter self.old.openings (O.openings office_path.old.opener) (O.openings office_path.new.opener)) }
+        ensures refused { OnErr result (IsWithheld O.is_found self.old (O.openings office_path.old.opener) (O.openings office_path.new.opener)) }
         ensures imports { self.new.imports ≡ self.old.imports }
-        ensures damage { KnowsNoMore self.old.damage self.new.damage }
+        ensures damage { OnOk result (StaysWhere (AreAsLeft O.is_found self.old) self.old.damage self.new.damage) }
+        ensures stays { OnErr result (KnowsNoMore self.old.damage self.new.damage) }
+        ensures files { self.new.left ≡ self.old.left }
         ensures lock { OnOk result (IsSome self.new.lock) }
         ensures kept { IsSome self.old.lock → IsSome self.new.lock }
     {
@@ -201,15 +210,18 @@ impl<K: Keep + Drop> OfficeSession<K> {
         &mut self,
         office_path: &mut OfficePath<'_, O>,
     ) -> Result<Option<OpenOffice<K>>, OfficeFault>
-        ensures left { IfOk result (λ left. IfSome left (λ o. (state_of_session self.old).keep ≡ Some o.keep)) }
+        ensures left { IfOk result (λ left. IfSome left (λ o. ((state_of_session self.old).keep ≡ Some o.keep) × AreAsLeft O.is_found self.old)) }
         ensures ok { OnOk result ((self.new.opened ≡ None) × IsSome self.new.lock) }
         ensures err { OnErr result (IsIdle (state_of_session self.old) (state_of_session self.new)) }
         ensures kept { IsSome self.old.lock → IsSome self.new.lock }
-        ensures refused { OnErr result (IsOneRefused (O.openings office_path.old.opener) (O.openings office_path.new.opener)) }
+        ensures refused { OnErr result (IsOneRefused (O.openings office_path.old.opener) (O.openings office_path.new.opener)
+            ⊎ IsLost O.is_found self.old (O.openings office_path.old.opener) (O.openings office_path.new.opener)) }
         ensures unasked { OnOk result (IsUnasked (O.openings office_path.old.opener) (O.openings office_path.new.opener)) }
         ensures openings { self.new.openings ≡ self.old.openings }
         ensures imports { self.new.imports ≡ self.old.imports }
-        ensures damage { KnowsNoMore self.old.damage self.new.damage }
+        ensures damage { OnOk result (StaysWhere (AreAsLeft O.is_found self.old) self.old.damage self.new.damage) }
+        ensures stays { OnErr result (self.new.damage ≡ self.old.damage) }
+        ensures files { self.new.left ≡ self.old.left }
     {
         if self.lock.is_some() {
             return Ok(self.opened.take());
@@ -232,8 +244,9 @@ impl<K: Keep + Drop> OfficeSession<K> {
         &self,
         office_path: &mut OfficePath<'_, O>,
     ) -> Result<bool, OfficeFault>
-        ensures unasked { OnOk result (IsUnasked (O.openings office_path.old.opener) (O.openings office_path.new.opener)) }
-        ensures refused { OnErr result (IsOneRefused (O.openings office_path.old.opener) (O.openings office_path.new.opener)) }
+        ensures unasked { IsUnasked (O.openings office_path.old.opener) (O.openings office_path.new.opener) }
+        ensures found { result ≡ Ok true → AreFound O.is_found self.now.left (Ok true) }
+        ensures lost { OnErr result (AreFoundLost O.is_found self.now.left) }
     {
         match &self.left {
             Some(left) => {
@@ -251,6 +264,7 @@ impl<K: Keep + Drop> OfficeSession<K> {
         office_path: &mut OfficePath<'_, O>,
     ) -> Result<OpenOffice<K>, OfficeFault>
         ensures opened { IfOk result (λ o. O.is_opened o.keep × (self.new.openings ≡ self.old.openings + 1)) }
+        ensures once { OnOk result (IsOneOpened (O.openings office_path.old.opener) (O.openings office_path.new.opener)) }
         ensures err { OnErr result (self.new.openings ≡ self.old.openings) }
         ensures refused { OnErr result (IsRefusedAfter self.old.openings (O.openings office_path.old.opener) (O.openings office_path.new.opener)) }
         ensures beside { self.new ≡ record self.old { openings = self.new.openings; notes = self.new.notes } }
@@ -281,6 +295,7 @@ impl<K: Keep + Drop> OfficeSession<K> {
     )
         ensures left { IsLeft opened.keep (state_of_session self.new) }
         ensures closed { keep_usable ≡ false → self.new.opened ≡ None }
+        ensures unasked { IsUnasked (O.openings office_path.old.opener) (O.openings office_path.new.opener) }
         ensures openings { self.new.openings ≡ self.old.openings }
         ensures imports { self.new.imports ≡ self.old.imports }
         ensures damage { self.new.damage ≡ self.old.damage }
@@ -344,18 +359,24 @@ impl<K: Keep + Drop> OfficeSession<K> {
 
     /// Whether a request or call at a listener is known to meet damage, and no other program has written the
     /// files since that was found out.
-    pub fn is_damaged(&self, rt: &HostRuntime, path: &str, listener: Listener, asked: &[u8]) -> bool
-        ensures { result ≡ true → IsKnown self.now.damage listener asked.now }
+    pub fn is_damaged<O: KeepOpener<K>>(
+        &self,
+        office_path: &mut OfficePath<'_, O>,
+        listener: Listener,
+        asked: &[u8],
+    ) -> bool
+        ensures known { result ≡ true → IsKnown self.now.damage listener asked.now × AreAsLeft O.is_found self.now }
+        ensures unasked { IsUnasked (O.openings office_path.old.opener) (O.openings office_path.new.opener) }
     {
         self.damage.is_known(listener, asked)
-            && (self.lock.is_some() || self.are_files_as_left(rt, path))
+            && (self.lock.is_some() || self.are_files_as_left(office_path))
     }
 
-    fn are_files_as_left(&self, rt: &HostRuntime, path: &str) -> bool {
-        match &self.left {
-            Some(left) => matches!(left.is_unchanged(rt, path), Ok(true)),
-            None => false,
-        }
+    fn are_files_as_left<O: KeepOpener<K>>(&self, office_path: &mut OfficePath<'_, O>) -> bool
+        ensures found { result ≡ true → AreFound O.is_found self.now.left (Ok true) }
+        ensures unasked { IsUnasked (O.openings office_path.old.opener) (O.openings office_path.new.opener) }
+    {
+        matches!(self.is_as_left(office_path), Ok(true))
     }
 
     /// After a turn that met a fault, finds out whether the fault was damage, and remembers it. For an
@@ -370,7 +391,8 @@ impl<K: Keep + Drop> OfficeSession<K> {
     )
         ensures state { state_of_session self.new ≡ state_of_session self.old }
         ensures imports { self.new.imports ≡ self.old.imports }
-        ensures noted { IsNoted K.meaning O.is_opened self.old.damage self.new.damage listener asked.now poll.now }
+        ensures noted { IsNoted K.meaning O.is_opened ⊤ self.old.damage self.new.damage listener asked.now poll.now }
+        ensures files { (self.new.left ≡ self.old.left) ⊎ AreAsLeft O.is_found self.old }
         ensures lock { IsLockKept self.old → IsLockKept self.new }
     {
         match listener {
@@ -402,6 +424,7 @@ impl<K: Keep + Drop> OfficeSession<K> {
         ensures imports { self.new.imports ≡ self.old.imports }
         ensures owners { AreOwnersFound K.meaning O.is_opened self.old.damage self.new.damage owner }
         ensures calls { self.new.damage.calls ≡ self.old.damage.calls }
+        ensures files { (self.new.left ≡ self.old.left) ⊎ AreAsLeft O.is_found self.old }
         ensures lock { IsLockKept self.old → IsLockKept self.new }
     {
         if self.damage.was_looked_at(&owner) {
@@ -417,6 +440,7 @@ impl<K: Keep + Drop> OfficeSession<K> {
     fn relock<O: KeepOpener<K>>(&mut self, office_path: &mut OfficePath<'_, O>) -> bool
         ensures beside { self.new ≡ record self.old { lock = self.new.lock } }
         ensures kept { IsSome self.old.lock → IsSome self.new.lock }
+        ensures found { result ≡ true → AreAsLeft O.is_found self.old }
     {
         if self.lock.is_some() {
             return true;
@@ -425,7 +449,7 @@ impl<K: Keep + Drop> OfficeSession<K> {
             return false;
         };
         self.lock = Some(lock);
-        self.are_files_as_left(office_path.rt, office_path.path)
+        self.are_files_as_left(office_path)
     }
 
     // Opens the file, only to read an owner's rows, and closes it.
@@ -442,7 +466,10 @@ impl<K: Keep + Drop> OfficeSession<K> {
 
     /// Closes the file, if it is open and the lock is taken. All answered changes are in the file whether or
     /// not it is closed.
-    pub fn close<O: KeepOpener<K>>(mut self, office_path: &mut OfficePath<'_, O>) {
+    pub fn close<O: KeepOpener<K>>(mut self, office_path: &mut OfficePath<'_, O>)
+        ensures { IsUnasked (O.openings office_path.old.opener) (O.openings office_path.new.opener)
+            ⊎ IsOneRefused (O.openings office_path.old.opener) (O.openings office_path.new.opener) }
+    {
         if let Ok(Some(opened)) = self.take_left(office_path) {
             opened.close(&mut office_path.opener);
         }

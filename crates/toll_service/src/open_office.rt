@@ -1,6 +1,6 @@
 //! An office that was opened.
-ghost use Rattle.std.specs.Prelude.{◌≡◌, IfOk, IfSome, OnErr};
-ghost use Rattle.toll_service.specs.Openings.{IsOneRefused};
+ghost use Rattle.std.specs.Prelude.{◌≡◌, IfOk, IfSome, OnErr, OnOk};
+ghost use Rattle.toll_service.specs.Openings.{IsOneOpened, IsOneRefused, IsUnasked};
 
 use crate::office_fault::OfficeFault;
 use crate::office_path::{KeepOpener, OfficePath};
@@ -30,6 +30,7 @@ impl<K: Drop> OpenOffice<K> {
     /// The office at this place.
     pub fn at<O: KeepOpener<K>>(office_path: &mut OfficePath<'_, O>) -> Result<Self, OfficeFault>
         ensures opened { IfOk result (λ opened. O.is_opened opened.keep) }
+        ensures once { OnOk result (IsOneOpened (O.openings office_path.old.opener) (O.openings office_path.new.opener)) }
         ensures refused { OnErr result (IsOneRefused (O.openings office_path.old.opener) (O.openings office_path.new.opener)) }
     {
         let keep = office_path.opener.open(office_path.rt, office_path.path)?;
@@ -41,7 +42,8 @@ impl<K: Drop> OpenOffice<K> {
 
     /// Releases the files to other programs. The office is closed if they can't be released.
     pub fn release<O: KeepOpener<K>>(self, office_path: &mut OfficePath<'_, O>) -> Option<Self>
-        ensures { IfSome result (λ released. released.keep ≡ self.keep) }
+        ensures released { IfSome result (λ released. released.keep ≡ self.keep) }
+        ensures unasked { IsUnasked (O.openings office_path.old.opener) (O.openings office_path.new.opener) }
     {
         let is_released = match &self.files {
             Some(Files { database, log }) => database.unlock().is_ok() && log.unlock().is_ok(),
@@ -63,7 +65,9 @@ impl<K: Drop> OpenOffice<K> {
     }
 
     /// Closes them.
-    pub fn close<O: KeepOpener<K>>(self, opener: &mut O) {
+    pub fn close<O: KeepOpener<K>>(self, opener: &mut O)
+        ensures { IsUnasked (O.openings opener.old) (O.openings opener.new) }
+    {
         let OpenOffice { keep, files: _ } = self;
         opener.close(keep);
     }

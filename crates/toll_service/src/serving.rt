@@ -1,9 +1,10 @@
 //! Serving over a keep, and over an office in a file.
-ghost use Rattle.std.specs.Prelude.{◌≡◌, IfOk, OnErr};
+ghost use Rattle.std.specs.Prelude.{◌≡◌, IfOk, OnErr, OnOk};
 ghost use Rattle.toll_server.specs.Networks.{EndsSo, Tallies};
 ghost use Rattle.toll_server.specs.Queues.{IsServedInTurn};
-ghost use Rattle.toll_server.specs.Rounds.{IsServedInRounds};
+ghost use Rattle.toll_server.specs.Rounds.{IsServedInRounds, ListensTill};
 ghost use Rattle.toll_service.specs.Parties.{IsBy};
+ghost use Rattle.toll_service.specs.FileServing.{IsPlaceServed};
 ghost use Rattle.toll_service.specs.Serving.{AnswersOver, HasServed, ResumesOver};
 
 use crate::keep_service::KeepService;
@@ -32,6 +33,7 @@ pub fn serve_keep<W: Network, K: Keep>(
         W.Stream.Source.unread service.old service.new) (W.tally world.old) (W.tally world.new) }
     ensures served { HasServed K.meaning service.old.keep service.new.keep (result ≡ ServingEnd.All) }
     ensures end { Tallies (EndsSo result count) (W.tally world.old) (W.tally world.new) }
+    ensures listens { Tallies (ListensTill count) (W.tally world.old) (W.tally world.new) }
 {
     serve(alloc, world, service, count)
 }
@@ -45,13 +47,17 @@ pub trait Announcing: Network {
 /// Serves this number of owners side by side over the office at this path, and the plant meanwhile. If its
 /// file is there, the office is opened before the network announces that it listens, and otherwise for the
 /// first request. It stays open between requests while no other program changes it, and is closed in the end.
-/// An `Err` if the network can't announce that it listens: no client was served.
+/// All that clients ask is served by turns of an [`OfficeService`] that had served nobody before, each in turn,
+/// and by nothing else. An `Err` if the network can't announce that it listens: no client was served.
 pub fn serve_place<W: Announcing, K: Keep + Drop, O: KeepOpener<K>>(
     world: &mut W,
     office_path: OfficePath<'_, O>,
     count: u64,
 ) -> io::Result<ServingEnd>
+    ensures served { IfOk result (λ end. IsPlaceServed K.meaning O.is_opened O.is_found O.openings ⟦<Party as PartialEq>⟧.eq W.Stream.Source.unread
+        office_path.entry.opener (W.tally world.old) (W.tally world.new) (end ≡ ServingEnd.All)) }
     ensures end { IfOk result (λ end. Tallies (EndsSo end count) (W.tally world.old) (W.tally world.new)) }
+    ensures listens { OnOk result (Tallies (ListensTill count) (W.tally world.old) (W.tally world.new)) }
     ensures err { OnErr result (world.new ≡ world.old) }
 {
     let rt = office_path.rt;

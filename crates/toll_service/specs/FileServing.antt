@@ -1,0 +1,45 @@
+-- Serving an office in a file.
+use Rattle.std.specs.Prelude.{◌≡◌, ℕ, Bool, List, Option, Result}
+use Rattle.toll_service.specs.Common.{Bytes, Meaning, Listener, Poll, ImportState}
+use Rattle.toll_server.specs.Networks.{Tallies, Tally}
+use Rattle.toll_server.specs.Queues.{IsServedInTurn}
+use Rattle.toll_server.specs.Rounds.{IsServedInRounds}
+use Rattle.toll_server.specs.Runs.{IsWholeRun}
+use Rattle.toll_service.specs.Damages.{KnowsNothing}
+use Rattle.toll_service.specs.Openings.{Openings}
+use Rattle.toll_service.specs.Parties.{IsBy}
+use Rattle.toll_service.specs.Sessions.{AnswersBy, IsLockKept, IsOpenedAhead, ResumesBy, state_of_session}
+use Rattle.toll_service.specs.declared.file_stamps.LeftFiles.{LeftFiles}
+use Rattle.toll_service.specs.declared.office_fault.OfficeFault.{OfficeFault}
+use Rattle.toll_service.specs.declared.office_service.OfficeService.{OfficeService}
+use Rattle.toll_service.specs.declared.party.Party.{Party}
+
+-- the openings that a service's opener has counted
+abbrev pub openings_of : {K O : Type 0} → (O → Option Openings) → OfficeService K O → Option Openings
+openings_of openings service = openings service.office_path.opener
+
+-- nobody was served yet: none was opened, or one ahead, whose rows may have been read, by an opener that had counted so many before; no damage is known, and no import is under way
+pub record IsFresh {K O : Type 0} (meaning : Meaning K) (is_opened : K → Type 0) (openings : O → Option Openings) (before : Option Openings) (service : OfficeService K O) : Type 0 where
+  pub begins : IsOpenedAhead meaning is_opened before (openings_of openings service) (state_of_session service.session)
+  pub unknown : KnowsNothing service.session.damage
+  pub imports : service.session.imports ≡ 0
+  pub lock : IsLockKept service.session
+
+module _ {K O : Type 0} (meaning : Meaning K) (is_opened : K → Type 0) (is_found : LeftFiles → Result Bool OfficeFault → Type 0) (openings : O → Option Openings) where
+  -- the service of an office in a file answers by its session
+  abbrev pub Answers : OfficeService K O → Listener → Bytes → Poll ImportState → OfficeService K O → Type 0
+  Answers = AnswersBy meaning is_opened is_found (λ service. service.session) (openings_of openings)
+
+  -- and goes on with an import by it
+  abbrev pub Resumes : OfficeService K O → ImportState → Poll ImportState → OfficeService K O → Type 0
+  Resumes = ResumesBy meaning is_opened is_found (λ service. service.session) (openings_of openings)
+
+  -- from a service that had served nobody, all was served by turns and by nothing else: in turn, and in rounds over the network; each import was gone on with
+  -- for whom it was left, and where all has ended, none is left
+  pub record IsPlaceServed {S : Type 0} (same : Party → Party → Bool) (unread : S → Option (List ℕ)) (opener : O) (before behind : Option (Tally S)) (IsOver : Type 0) : Type 0 where
+    pub first : OfficeService K O
+    pub last : OfficeService K O
+    pub fresh : IsFresh meaning is_opened openings (openings opener) first
+    pub run : IsWholeRun Answers Resumes first last IsOver
+    pub in_turn : IsServedInTurn same IsBy Answers Resumes first last
+    pub rounds : Tallies (IsServedInRounds same IsBy Answers Resumes unread first last) before behind
