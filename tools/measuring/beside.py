@@ -55,6 +55,9 @@ INSERT INTO owners VALUES ('HOUSE', '');
 DISPOSITIONS = ("quarantined", "released", "rejected")
 PUT_MOVE = "INSERT INTO moves VALUES (?, ?, ?, ?, ?, ?, ?, ?, ?, ?, ?, ?, ?)"
 PUT_LOT = "INSERT OR IGNORE INTO lots VALUES (?, ?, ?, ?, ?, 0)"
+# The office's files have no index for how many movements a batch has; who counts them by SQL makes one.
+COUNT_OF_BATCH = "SELECT count(*) FROM moves WHERE owner = ? AND ord = ? AND number = ?"
+BY_BATCH = "CREATE INDEX IF NOT EXISTS moves_by_batch ON moves (owner, ord, number)"
 PUT_AMOUNT = "INSERT INTO sublots VALUES (?, ?, ?, ?) ON CONFLICT DO UPDATE SET amount = amount + excluded.amount"
 
 
@@ -161,6 +164,7 @@ class Base:
 
     def import_(self, path):
         """The same, and looks first at what the office looks at."""
+        self.base.execute(BY_BATCH)
         self.write(path, self.look)
 
     def look(self, it):
@@ -174,7 +178,7 @@ class Base:
                         owner, found[2], int(it["segment"]), use, it["lot_owner"], it["material"]):
             raise Refused("NotInRecipe")
         (self.look_at_made if use else self.look_at_used)(it, batch)
-        if self.one("SELECT count(*) FROM moves WHERE owner = ? AND ord = ? AND number = ?", *batch)[0] >= 200:
+        if self.one(COUNT_OF_BATCH, *batch)[0] >= 200:
             raise Refused("LimitReached")
 
     def look_at_used(self, it, _):

@@ -14,17 +14,24 @@ LAUNCH = pathlib.Path(__file__).with_name("launch.py")
 
 
 class Figures(NamedTuple):
-    """Seconds of processor and of the clock, the bytes of memory at the peak, what was told, as a hash, and the status."""
-    processor: float
+    """Seconds of processor and of the clock, the bytes of memory at the peak, what was told, as a hash, and the status. A wait has
+    no processor."""
+    processor: Optional[float]
     clock: float
     memory: Optional[int] = None
     told: Optional[str] = None
     status: int = 0
 
+    @property
+    def compared(self):
+        """What is compared: the processor's time, or of a wait the clock's."""
+        return self.clock if self.processor is None else self.processor
+
     def better(self, other):
         """The least of each of two runs."""
+        processor = None if self.processor is None else min(self.processor, other.processor)
         memory = None if self.memory is None else min(self.memory, other.memory)
-        return Figures(min(self.processor, other.processor), min(self.clock, other.clock), memory, self.told)
+        return Figures(processor, min(self.clock, other.clock), memory, self.told)
 
     def then(self, other):
         """Those of this run and of another behind it, which tells what is told."""

@@ -124,13 +124,14 @@ class Genealogy(NamedTuple):
 
 class Dense(NamedTuple):
     """A genealogy with as many edges as its movements can have: a chain of batches, each of which consumes all lots that the one
-    before made, and produces as many; the first one consumes HOUSE's water so often."""
+    before made, and produces as many; the first one consumes HOUSE's water so often. It is as long as an owner may have it of this
+    width, or as was measured first, or one of so many parts of that."""
     across: int
+    parts: int = 1
 
     @property
     def batches(self):
-        """As many as an owner may have of this width, or as were measured first."""
-        return {10: 480, 20: 250, 100: 49}.get(self.across, MOST_LOTS // self.across)
+        return {10: 480, 20: 250, 100: 49}.get(self.across, MOST_LOTS // self.across) // self.parts
 
     @property
     def movements(self):

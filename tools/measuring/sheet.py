@@ -2,6 +2,9 @@
 import math
 
 BESIDE = "Python"
+MOST_GROWTH = 1.1
+# Ends of the names of rows, each with the end of that row that it is compared with.
+COMPARED = {", again": ", first", ", next": ", first"}
 
 
 class Sheet:
@@ -29,21 +32,43 @@ class Sheet:
         self.rows = {}
 
     def print_all(self):
-        """Prints one table of all rows, each at its largest size: the processor's time of each program and of what stands beside,
-        how the first program compares with each, and how its time grew."""
+        """Prints one table of all rows, each at its largest size: the figure of each program and of what stands beside, how the
+        first program compares with each, and how the figures grew. Then what is compared with another row, and what grew too much."""
         first, *others = self.names
-        heads = ["work", "size", *(it for name in self.names for it in ([f"{name} ms"] if name == first else [f"{name} ms", f"{first} of {name}"])),
-                 f"{BESIDE} ms", f"{first} of {BESIDE}", f"{first} growth", f"{BESIDE} growth"]
-        print("\nAll of it at the largest size, milliseconds of processor\n")
+        beside = [it for name in [*others, BESIDE] for it in (f"{name} ms", f"{first} of {name}")]
+        heads = ["work", "size", f"{first} ms", *beside, *(f"{name} growth" for name in self.every)]
+        print("\nAll of it at the largest size: milliseconds of processor, and of waits by the clock\n")
         print_table(heads, [self.line_of_all(row, sizes, others) for row, sizes in self.ended])
+        if pairs := list(self.pairs()):
+            print("\nOne beside the other, at the largest size\n")
+            print_table(["work", "beside", *self.every], pairs)
+        print(f"\nGrowth above {MOST_GROWTH}: {'; '.join(self.grown()) or 'none'}")
+
+    @property
+    def every(self):
+        return [*self.names, BESIDE]
 
     def line_of_all(self, row, sizes, others):
-        *_, before, size = [None, *sorted(sizes)]
-        first = sizes[size].get(self.names[0])
-        cells = [row, f"{size:,}", plain(first)[0]]
+        size, first = max(sizes), sizes[max(sizes)].get(self.names[0])
+        cells = [row, f"{size:,}", compared(first)]
         for name in [*others, BESIDE]:
-            cells += [plain(sizes[size].get(name))[0], ratio(first, sizes[size].get(name))]
-        return cells + [growth(sizes[size].get(it), size, sizes[before].get(it), before) if before else "" for it in (self.names[0], BESIDE)]
+            cells += [compared(sizes[size].get(name)), ratio(first, sizes[size].get(name))]
+        return cells + [grew(sizes, name) for name in self.every]
+
+    def pairs(self):
+        """The ratio of each row that is compared with another of the same work and size."""
+        ended = dict(self.ended)
+        for row, sizes in self.ended:
+            for end, other in COMPARED.items():
+                if row.endswith(end) and (others := ended.get(row.removesuffix(end) + other, {}).get(size := max(sizes))):
+                    yield [row, other.strip(", "), *(ratio(sizes[size].get(name), others.get(name)) for name in self.every)]
+
+    def grown(self):
+        """The rows of programs whose growth is above what it may be."""
+        for row, sizes in self.ended:
+            for name in self.names:
+                if (told := grew(sizes, name)) and float(told) > MOST_GROWTH:
+                    yield f"{row} ({name} {told})"
 
     def lines_of(self, row, sizes):
         """The cells of a row, a line for each size."""
@@ -69,12 +94,18 @@ def plain(figures):
     """Milliseconds of processor and by the clock, and megabytes."""
     if figures is None:
         return ["", "", ""]
-    return [milliseconds(figures.processor), milliseconds(figures.clock), "" if figures.memory is None else f"{figures.memory / 1e6:,.0f}"]
+    processor = "" if figures.processor is None else milliseconds(figures.processor)
+    return [processor, milliseconds(figures.clock), "" if figures.memory is None else f"{figures.memory / 1e6:,.0f}"]
+
+
+def compared(figures):
+    """Milliseconds of processor, or of a wait by the clock."""
+    return "" if figures is None else milliseconds(figures.compared)
 
 
 def ratio(figures, others):
-    """The processor's time beside that of others."""
-    return f"{figures.processor / others.processor:.2f}" if figures and others and others.processor else ""
+    """The processor's time beside that of others, or a wait beside theirs."""
+    return f"{figures.compared / others.compared:.2f}" if figures and others and others.compared else ""
 
 
 def milliseconds(seconds):
@@ -83,7 +114,13 @@ def milliseconds(seconds):
 
 
 def growth(figures, size, before, size_before):
-    """The power of the size by which the processor's time grew since the size before."""
-    if figures is None or before is None or not figures.processor or not before.processor:
+    """The power of the size by which the processor's time, or a wait, grew since the size before."""
+    if figures is None or before is None or not figures.compared or not before.compared:
         return ""
-    return f"{math.log(figures.processor / before.processor) / math.log(size / size_before):.2f}"
+    return f"{math.log(figures.compared / before.compared) / math.log(size / size_before):.2f}"
+
+
+def grew(sizes, name):
+    """The growth to the largest size from the one before, of this program."""
+    *_, before, size = [None, *sorted(sizes)]
+    return growth(sizes[size].get(name), size, sizes[before].get(name), before) if before else ""

@@ -49,7 +49,12 @@ class WordsOfMeasure(trial.Words):
             self.add_argument(f"--{name}", type=number(*bounds) if is_one else numbers(*bounds), default=default,
                               metavar="N" if is_one else "N,..", help=f"{what}; {said}")
 
-    def read(self):
+    def read(self, sizes_of=None):
+        """Reads the words. Where one of these flags is said, sizes that aren't said are those that stand beside the flag."""
         words = self.parse_args()
+        for flag, sizes in (sizes_of or {}).items():
+            if getattr(words, flag):
+                self.set_defaults(**sizes)
+                words = self.parse_args()
         words.program = [trial.built(it) for it in words.program or [None]]
         return words

@@ -1,9 +1,11 @@
 """The workloads: the offices of each, what is measured of a program at one, and what a user would write instead."""
 import contextlib
+import fcntl
 import functools
 import json
 import os
 import pathlib
+import sqlite3
 import statistics
 import sys
 import time
@@ -17,11 +19,11 @@ from .sheet import BESIDE, Sheet
 
 OWNER = owner_name(0)
 GET = f"> {OWNER} {KEY} GET"
-OPENING = ("GET that opens the file", f"> {OWNER} NOTTHEKEY GET /stock", "403 ")
+OPENING = ("the first request, by a wrong key", f"> {OWNER} NOTTHEKEY GET /stock", "403 ")
 IN_A_ROW = {"GET an order": (f"{GET} /orders/X-00001", 1_000), "GET all orders": (f"{GET} /orders", 20),
             "GET stock of 2,000 lots": (f"{GET} /stock", 20)}
 
-
+FIRST_AND_AGAIN = ("first", "again")
 PLACED_IN_A_ROW = 100
 MOST_OF_FILE = 10_000  # actuals that are imported at a time
 
@@ -63,10 +65,10 @@ class Bench:
         print(f"{trial.NAME}: {what}, {os.path.getsize(office.db) / 1e6:,.1f} MB", file=sys.stderr, flush=True)
         return office.db
 
-    def take(self, base, size, session, instead=None, *rest, is_on_disk=False):
+    def take(self, base, size, session, instead=None, *rest, is_on_disk=False, runs=None):
         """Measures all programs by turns, and what is written instead; each begins with the base's file."""
         folder = self.on_disk if is_on_disk else self.in_memory
-        for _ in range(self.runs):
+        for _ in range(runs or self.runs):
             for name, program in self.programs.items():
                 self.turn(base, size, name, Office(program, folder), session, *rest)
             if instead:
@@ -101,7 +103,7 @@ def traces(it):
 
 
 def twice(row, line):
-    return [(f"{row}, {it}", line, "200 ") for it in ("first", "again")]
+    return [(f"{row}, {it}", line, "200 ") for it in FIRST_AND_AGAIN]
 
 
 def line_of_trace(lot, way):
@@ -144,7 +146,7 @@ def genealogy(office, it):
 def traced_instead(base, it):
     """The owner's traces by a query each, whose answer is put into JSON."""
     for row, (lot, way) in traces(it).items():
-        for which in ("first", "again"):
+        for which in FIRST_AND_AGAIN:
             yield f"{row}, {which}", in_process(lambda: json.dumps(base.chain(beside.TRACE, OWNER, lot, way, OWNER)))
 
 
@@ -154,7 +156,7 @@ def genealogy_instead(office, it):
         yield row, office.measure(*words)
     with contextlib.closing(beside.Base(office.db)) as base:
         yield from traced_instead(base, it)
-        for which in ("first", "again"):
+        for which in FIRST_AND_AGAIN:
             yield f"GET stock, {which}", in_process(lambda: json.dumps(base.base.execute(beside.STOCK, (OWNER,)).fetchall()))
     yield "opening, and `scrap`", office.measure(*scrap(it))
 
@@ -186,10 +188,11 @@ def dense_instead(office, it):
 
 
 def measure_dense(bench, words):
+    """Half of the batches first, which tells the growth."""
     for across in words.across:
-        it = Dense(across)
-        base = bench.laid(f"{it.batches} batches that consume {across} lots and produce {across}", offices.with_genealogy, it)
-        bench.take(base, it.movements, dense, dense_instead, it)
+        for it in (Dense(across, 2), Dense(across)):
+            base = bench.laid(f"{it.batches} batches that consume {across} lots and produce {across}", offices.with_genealogy, it)
+            bench.take(base, it.movements, dense, dense_instead, it)
         bench.sheet.print(f"dense, {across} lots", f"A chain of {it.batches} batches that consume and produce {across} lots each", "actuals")
 
 
@@ -222,6 +225,14 @@ def in_a_row(server, lines):
     return Figures((settled(server.it.pid) - before) / len(lines), statistics.median(clocks), status_of(server.it.pid, "VmHWM"))
 
 
+def write_by_another(office):
+    """Another program puts a row into the file, under the lock."""
+    with open(f"{office.db}.lock") as lock, contextlib.closing(sqlite3.connect(office.db)) as base:
+        fcntl.flock(lock, fcntl.LOCK_EX)
+        base.execute("INSERT INTO units VALUES ('U-900')")
+        base.commit()
+
+
 def orders(office):
     yield "opening", office.measure("orders", HOUSE)
     yield "`orders` of the owner", office.measure("orders", OWNER)
@@ -230,8 +241,8 @@ def orders(office):
         for row, (line, count) in IN_A_ROW.items():
             yield f"{row}, {count:,} in a row", in_a_row(server, [line] * count)
         yield "POST an order, in a row", in_a_row(server, [place(it) for it in range(PLACED_IN_A_ROW)])
-        office.plant("unit-add", "U-900")
-        yield "GET an order after a command", request(server, f"{GET} /orders/X-00001")
+        write_by_another(office)
+        yield "GET an order after another program wrote", request(server, f"{GET} /orders/X-00001")
 
 
 def orders_instead(office):
@@ -261,9 +272,14 @@ def start_instead(office, where):
     yield f"a question{where}", office.measure("open")
 
 
-def measure_start(bench, _):
+def places(words):
+    """In memory, and on a disk too but for the table, whose figures have no wait in them."""
+    return [""] if words.table else ["", ", on a disk"]
+
+
+def measure_start(bench, words):
     base = bench.laid("a small file", offices.with_raw_lots, 1)
-    for where in ("", ", on a disk"):
+    for where in places(words):
         bench.take(base, 1, start, start_instead, where, is_on_disk=where != "")
     bench.sheet.print("start", "A file of one lot, the program's start included", "lots")
 
@@ -293,17 +309,19 @@ def written(office, lines):
 def measure_import(bench, words):
     base = bench.laid("running batches", offices.with_raw_lots, 100)
     for count in words.records:
-        for where in ("", ", on a disk"):
+        for where in places(words):
             bench.take(base, count, importing, importing_instead, count, where, is_on_disk=where != "")
     bench.sheet.print("import", "A file of actuals", "records")
 
 
 def importing_in_parts(office, count):
-    """An owner's actuals in files of 10,000 at the most: what all of them take, and the last file by itself."""
+    """An owner's actuals in files of 10,000 at the most: what all of them take, the first into an empty owner, and the last."""
     parts = [(min(MOST_OF_FILE, count - first), first) for first in range(0, count, MOST_OF_FILE)]
     figures = [office.measure("import", written(office, offices.records(*it))) for it in parts]
     yield "`import` of all of them", functools.reduce(Figures.then, figures)
-    yield "the last file of them", figures[-1]
+    if len(parts) > 1:
+        yield "`import` of a file, first", figures[0]
+        yield "`import` of a file, next", figures[-1]
 
 
 def measure_actuals(bench, words):
@@ -336,5 +354,6 @@ def measure_script(bench, words):
     bench.sheet.print("script", "A script of receipts, and as many releases", "receipts")
 
 
+# Those below the limits.
 WORKS = {"start": measure_start, "owner": measure_owner, "chain": measure_chain, "dense": measure_dense, "script": measure_script,
-         "import": measure_import, "actuals": measure_actuals, "orders": measure_orders, "limits": measure_limits}
+         "import": measure_import, "actuals": measure_actuals, "orders": measure_orders}

@@ -2,14 +2,17 @@
 import collections
 import json
 import sqlite3
+import sys
+import types
 
 import pytest
-from conftest import ROOT, tool
-from measuring import beside, offices
+from conftest import ROOT, eventually, serving, tool
+from measuring import beside, offices, recalls
 from measuring.clock import Figures
 from measuring.offices import CONSUMED, HOUSE, MOST_LOTS, MOST_MOVEMENTS, MOST_OF_BATCH, PRODUCED, Dense
 from measuring.peers import Answers, together
 from measuring.sheet import BESIDE, Sheet, growth, ratio
+from measuring.words import WordsOfMeasure
 
 
 # Figures
@@ -55,15 +58,66 @@ def test_the_table_at_the_end_compares_at_the_largest_size(sheet, capsys):
     sheet.print("work", "A title", "things")
     capsys.readouterr()
     sheet.print_all()
-    *_, heads, _, line = capsys.readouterr().out.splitlines()
+    told = capsys.readouterr().out.splitlines()
+    *_, heads, _, line, _, _ = told
     cells = [[it.strip() for it in row.strip("|").split("|")] for row in (heads, line)]
     assert dict(zip(*cells)) == {"work": "work: a row", "size": "20", "A ms": "4,000", "B ms": "4,000", "A of B": "1.00", "Python ms": "8,000",
-                                 "A of Python": "0.50", "A growth": "2.00", "Python growth": "1.00"}
+                                 "A of Python": "0.50", "A growth": "2.00", "B growth": "1.00", "Python growth": "1.00"}
+    assert told[-1] == "Growth above 1.1: work: a row (A 2.00)"
+
+
+def test_what_comes_again_is_compared_with_the_first(capsys):
+    it = Sheet(["A"])
+    for row, processor in (("a trace, first", 4), ("a trace, again", 1), ("a file, first", 2), ("a file, next", 3), ("alone, again", 1)):
+        it.note(row, 10, "A", Figures(processor, 9))
+        it.note(row, 20, "A", Figures(2 * processor if "trace" in row else processor, 9))
+    it.note("a trace, again", 20, BESIDE, Figures(5, 9))
+    it.print("work", "A title", "things")
+    capsys.readouterr()
+    it.print_all()
+    told = capsys.readouterr().out
+    lines = [[cell.strip() for cell in line.strip("|").split("|")] for line in told.splitlines()[-5:-2]]
+    assert lines[1:] == [["work: a trace, again", "first", "0.25", ""], ["work: a file, next", "first", "1.50", ""]]
+    assert told.endswith("Growth above 1.1: none\n")
+
+
+def test_a_wait_is_compared_by_the_clock(capsys):
+    it = Sheet(["A", "B"])
+    for name, clock in (("A", 0.2), ("A", 0.1), ("B", 0.4)):
+        it.note("a wait", 10, name, Figures(None, clock))
+    it.print("work", "A title", "things")
+    assert [cell.strip() for cell in capsys.readouterr().out.splitlines()[-1].split("|")[2:6]] == ["10", "", "100", ""]
+    it.print_all()
+    assert [cell.strip() for cell in capsys.readouterr().out.splitlines()[-3].split("|")[2:6]] == ["10", "100", "400", "0.25"]
 
 
 def test_what_is_told_has_to_be_the_same(sheet):
     sheet.note("a row", 20, "B", Figures(1, 1, 0, "something else"))
     assert sheet.wrong == ["a row, 20: B tells something else"]
+
+
+# An owner that asks beside the plant
+
+def test_who_asks_meanwhile_tells_its_longest_wait():
+    with serving() as stub:
+        with recalls.asking(types.SimpleNamespace(port=stub.server_port)) as client:
+            assert eventually(lambda: len(stub.asked) > 3)
+        wait = recalls.longest(client)
+        assert wait.processor is None and wait.clock == client.result().part(100) and {it[2:] for it in stub.asked} == {("OWNER-01", "/orders")}
+
+
+def test_who_is_not_answered_meanwhile_ends_the_tool(capsys):
+    with serving(503) as stub, recalls.asking(types.SimpleNamespace(port=stub.server_port)) as client:
+        assert eventually(lambda: stub.asked)
+    with pytest.raises(SystemExit):
+        recalls.longest(client)
+    assert "503" in capsys.readouterr().err
+
+
+def test_a_command_that_is_told_a_fault_is_wrong_and_counts():
+    wrong, office = [], types.SimpleNamespace(program="toll")
+    assert recalls.told(wrong, "a row", office, Figures(1, 2)) == Figures(1, 2) and wrong == []
+    assert recalls.told(wrong, "a row", office, Figures(1, 2, status=3)).clock == 2 and wrong == ["a row: toll is told a fault"]
 
 
 # Offices
@@ -84,6 +138,10 @@ def test_a_dense_genealogy_has_all_edges_between_neighbours(across, batches):
     consumed = [{row[3:5] for row in rows if row[2] == CONSUMED and row[8:10] == orders[at]} for at in (0, 1, batches - 1)]
     assert consumed[0] == {(HOUSE, offices.WATER)} and consumed[1] == {("OWNER-01", lot) for lot in made[orders[0]]}
     assert consumed[2] == {("OWNER-01", lot) for lot in made[orders[-2]]} and it.first in made[orders[0]] and it.last in made[orders[-1]]
+
+
+def test_half_of_a_dense_genealogy_is_the_front_of_all():
+    assert list(Dense(20).moves("O"))[:Dense(20, 2).movements] == list(Dense(20, 2).moves("O")) and Dense(20, 2).batches == 125
 
 
 def test_a_second_file_of_actuals_goes_on_behind_the_first():
@@ -124,6 +182,21 @@ def test_an_order_beside_looks_and_writes(base):
         base.base.execute("ROLLBACK")
 
 
+def test_an_import_beside_looks_by_an_index_and_writes(base, tmp_path, capsys):
+    base.base.executescript("CREATE TABLE batches (owner, ord, number, unit, state, closed); INSERT INTO batches VALUES ('ACME', 'O-1', 1, 'U', 1, 0);"
+                            "CREATE TABLE requirements (owner, recipe, segment, role, source, material, amount);"
+                            "INSERT INTO requirements VALUES ('ACME', 'R', 1, 0, 'ACME', 'SALT', 1); INSERT INTO orders VALUES ('ACME', 'O-1', 'R', 1, 0);"
+                            "UPDATE lots SET disposition = 1")
+    heads, line = next(offices.records(1)), "{},ACME,O-1,1,1,consumed,SALT,ACME,S-1,BAY1,10,101\n"
+    (tmp_path / "lines").write_text(heads + line.format("C1") + line.format("C2"))
+    base.import_(tmp_path / "lines")
+    assert capsys.readouterr().out.splitlines()[-1] == "accepted 2 repeated 0 refused 0 bad 0 fault 0" and base.one("SELECT amount FROM sublots") == (980,)
+    assert "moves_by_batch" in base.one(f"EXPLAIN QUERY PLAN {beside.COUNT_OF_BATCH}", "ACME", "O-1", 1)[-1]
+    with pytest.raises(beside.Refused):
+        base.import_(tmp_path / "lines")
+    base.base.execute("ROLLBACK")
+
+
 def test_columns_are_those_of_the_office():
     """beside.py and the offices name tables and columns of the program's own."""
     kinds = (ROOT / "crates" / "toll_sql" / "src" / "table_kind.rt").read_text()
@@ -137,6 +210,15 @@ def test_columns_are_those_of_the_office():
 
 
 # Words
+
+@pytest.mark.parametrize("said, lots, orders", [([], [1, 2], 9), (["--table"], [4], 9), (["--table", "--lots", "5"], [5], 9), (["--orders", "3", "--table"], [4], 3)])
+def test_a_flag_brings_sizes_that_are_not_said(monkeypatch, said, lots, orders):
+    monkeypatch.setattr(sys, "argv", ["bench", "--program", "/bin/true", *said])
+    words = WordsOfMeasure("", {"lots": ("lots", [1, 2], 1, 9), "orders": ("orders", 9, 1, 9)})
+    words.add_argument("--table", action="store_true")
+    read = words.read({"table": {"lots": [4]}})
+    assert (read.lots, read.orders) == (lots, orders)
+
 
 @pytest.mark.parametrize("name", ["bench", "load", "attack"])
 @pytest.mark.parametrize("words", [["--no-such"], ["--program", "/etc/passwd"], ["--seconds", "0"], ["nothing-like-that"]])
