@@ -12,20 +12,22 @@ from typing import NamedTuple
 
 import trial
 from measuring import offices
+from measuring.clock import run
 from measuring.offices import KEY, MOST_MOVEMENTS, Dense, Genealogy, owner_name
 from measuring.peers import Answers, Asking, ask_in_a_row, silent
 from measuring.works import Office
+from try_door import door as by_hand
 
 from .clients import NICENESS, Asked, flood, knock, pool_of
-from .rows import BESIDE_OTHERS, GOAL_OF_OWNER, Row, mean, of_owner, of_plant
+from .rows import BESIDE_OTHERS, GOAL_OF_OWNER, NAMES, Row, mean, of_owner, of_parts, of_plant, of_statuses
 from .ways import HONEST, HOSTILE, way_in
 
-# The owners: who attacks by traces, who is damaged, who is honest, and others; all but the first have the same.
-DENSE, DAMAGED, HONEST_ONE = (owner_name(it) for it in range(3))
+# The owners that have the same: one that is damaged, the honest one, and others. Those with dense genealogies come behind them.
+DAMAGED, HONEST_ONE = (owner_name(it) for it in range(2))
 MANY = Genealogy(MOST_MOVEMENTS - 100, 160)
 ORDERS = 200
 PAUSE = 0.025  # from one honest request to the next: the site admits 50 a second of an address
-FAULT = 3
+FAULT, NO_COMMAND = 3, 2
 DAMAGE = "UPDATE sublots SET amount = -1 WHERE owner = ? AND lot = (SELECT min(lot) FROM sublots WHERE owner = ?)"
 MOST_IN_ALL = 1_000_000
 FEW = "#!/bin/sh\nulimit -n {count}\nexec '{program}' \"$@\"\n"
@@ -59,12 +61,38 @@ class Besieged:
         end = time.monotonic() + (seconds or self.words.seconds)
         return Asking(self.way.port, request(owner, target), MOST_IN_ALL, at_once, end, self.way.of(address), pause, PATIENCE)
 
+    def receipt(self):
+        """The words of a command that the plant hasn't given yet."""
+        self.commands += 1
+        return "receive", "HOUSE", f"N{self.commands}", "WATER", "NEW", "S1", "1", "101"
+
     def command(self):
         """The seconds of a plant's command, and its status."""
-        self.commands += 1
-        receipt = "receive", "HOUSE", f"N{self.commands}", "WATER", "NEW", "S1", "1", "101"
-        figures = self.office.measure(*receipt, allowed=(0, FAULT))
+        figures = self.office.measure(*self.receipt(), allowed=(0, FAULT))
         return figures.clock, figures.status
+
+    def command_by_hand(self):
+        """The seconds from connecting to FILE.sock to the server's greeting, and from there to its answer, without the program."""
+        began = time.perf_counter()
+        with by_hand.knock(f"{self.office.db}.sock") as peer:
+            by_hand.take_parcel(peer)
+            greeted = time.perf_counter()
+            peer.sendall(by_hand.asked(self.receipt()))
+            by_hand.take_parcel(peer)
+        return greeted - began, time.perf_counter() - greeted
+
+    def parts(self):
+        """The seconds of whole commands, and of their parts: the program's start and end with words that are no command, and what a
+        client of FILE.sock waits for without the program; by turns."""
+        end, whole, start, greeting, answer = time.monotonic() + self.words.seconds, [], [], [], []
+        while time.monotonic() < end:
+            whole.append(self.command()[0])
+            start.append(run([self.office.program, "no-such-command"], self.office.folder, allowed=(NO_COMMAND,)).clock)
+            for clocks, clock in zip((greeting, answer), self.command_by_hand()):
+                clocks.append(clock)
+            time.sleep(PAUSE)
+        named = {"all of it": whole, "the program alone": start, "until the server greets": greeting, "from there to the answer": answer}
+        return {what: Answers(clocks, collections.Counter(), self.words.seconds) for what, clocks in named.items()}
 
     def plant(self, end):
         """The answers to the plant's commands until the end, told as those of an owner."""
@@ -84,18 +112,17 @@ class Besieged:
 
 
 class Attacks:
-    """All attacks, over copies of one file."""
+    """All attacks on a program, over copies of one file, which any program has laid."""
 
-    def __init__(self, words, folder):
-        self.words, self.folder = words, folder
-        self.base = Office(words.program[0], folder)
-        offices.with_genealogies(self.base, [Dense(words.across), *[MANY] * words.owners], ORDERS)
+    def __init__(self, words, folder, program, base):
+        self.words, self.folder, self.program, self.base = words, folder, program, base
+        self.dense = {across: owner_name(words.owners + it) for it, across in enumerate(words.across)}
 
     @contextlib.contextmanager
     def besieged(self, program=None, count=MOST_IN_ALL, damaged=False):
         """A server over a copy of the file, which has it open."""
-        office = Office(self.words.program[0], self.folder)
-        trial.put(self.base.db, office.db)
+        office = Office(self.program, self.folder)
+        trial.put(self.base, office.db)
         if damaged:
             damage(office.db)
         server = trial.Server(Served(program or office.program, office.db, office.folder), count=count, errors=subprocess.DEVNULL)
@@ -110,6 +137,13 @@ class Attacks:
         finally:
             server.kill()
             trial.put(None, office.db)
+
+
+def lay(words, folder):
+    """The file of an office with owners of many movements, and one with each dense genealogy."""
+    office = Office(words.program[0], folder)
+    offices.with_genealogies(office, [*[MANY] * words.owners, *map(Dense, words.across)], ORDERS)
+    return office.db
 
 
 def damage(db):
@@ -129,19 +163,39 @@ def nobody(attacks):
 
 def dense(attacks):
     """An owner asks for the trace of a dense genealogy as fast as it may."""
-    target = f"/trace/forward/{Dense(attacks.words.across).first}"
-    for connections in attacks.words.connections:
-        with attacks.besieged() as it:
-            first, alone = (ask_in_a_row(it.asking(DENSE, target, pause=0.1, seconds=PATIENCE, address=HOSTILE)._replace(count=often)) for often in (1, 10))
-            attacker = Asked(it.asking(DENSE, target, connections, address=HOSTILE))
-            owner, plant = it.timed()
-            answers = attacker.answers()
-        name = f"traces on {connections} connections"
-        yield Row(f"{name}: one alone, the first", first.part(100))
-        yield Row(f"{name}: one alone, the longest of ten more", alone.part(100))
-        yield Row(f"{name}: answered a second", answers.statuses[200] / answers.seconds, unit="count")
-        yield from of_owner(name, owner, BESIDE_OTHERS + alone.part(100))
-        yield from of_plant(name, plant)
+    for across in attacks.words.across:
+        for connections in attacks.words.connections:
+            yield from traces(attacks, Dense(across), connections)
+
+
+def traces(attacks, genealogy, connections):
+    owner, target = attacks.dense[genealogy.across], f"/trace/forward/{genealogy.first}"
+    with attacks.besieged() as it:
+        first, alone = (ask_in_a_row(it.asking(owner, target, pause=0.1, seconds=PATIENCE, address=HOSTILE)._replace(count=often)) for often in (1, 10))
+        attacker = Asked(it.asking(owner, target, connections, address=HOSTILE))
+        honest, plant = it.timed()
+        answers = attacker.answers()
+    name = name_of_traces(genealogy, connections)
+    yield Row(f"{name}: one alone: the longest of ten, the first", alone.part(100), then=(first.part(100),))
+    yield Row(f"{name}: answered a second", answers.statuses[200] / answers.seconds, unit="count")
+    yield from of_owner(name, honest, BESIDE_OTHERS + alone.part(100))
+    yield from of_plant(name, plant)
+
+
+def name_of_traces(genealogy, connections):
+    return f"traces of {genealogy.batches} x {genealogy.across} on {connections} connections"
+
+
+def command(attacks):
+    """Where the time of a plant's command goes: alone, and beside an owner who asks for traces."""
+    genealogy, connections = Dense(attacks.words.across[-1]), attacks.words.connections[-1]
+    with attacks.besieged() as it:
+        alone = it.parts()
+        attacker = Asked(it.asking(attacks.dense[genealogy.across], f"/trace/forward/{genealogy.first}", connections, address=HOSTILE))
+        beside = it.parts()
+        attacker.answers()
+    yield from of_parts("a command, nobody attacks", alone)
+    yield from of_parts(f"a command, {name_of_traces(genealogy, connections)}", beside)
 
 
 def damaged(attacks):
@@ -153,7 +207,7 @@ def damaged(attacks):
         answers = attacker.answers()
     name = "a damaged owner"
     yield Row(f"{name}: told 503 a second", answers.statuses[503] / answers.seconds, unit="count")
-    yield Row(f"{name}: told anything else", answers.statuses.total() - answers.statuses[503], unit="count")
+    yield of_statuses(f"{name}: told anything else", answers.statuses, 503)._replace(most=None)
     yield Row(f"{name}: another owner's mean, beside that without it", mean(owner) / mean(without), 1.2, "times")
     yield Row(f"{name}: its 99 of 100, beside that without it", owner.part(99) / without.part(99) if without.clocks else float("inf"), 1.2, "times")
     yield from of_owner(name, owner, GOAL_OF_OWNER)
@@ -174,7 +228,8 @@ def connections(attacks):
         parts = [pool.submit(flood, it.way.port, AT_ONCE // clients, 1, it.words.seconds / 2) for _ in range(clients)]
         owner, plant = it.timed()
         begun = sum(part.result() for part in parts)
-    name = f"{begun:,} connections in a second"
+    name = f"{AT_ONCE:,} connections in a second"
+    yield Row(f"{name}: in all", begun, unit="count")
     yield from of_owner(name, owner, GOAL_OF_OWNER)
     yield from of_plant(name, plant)
 
@@ -182,7 +237,7 @@ def connections(attacks):
 def descriptors(attacks):
     """A server that may have few descriptors, beside more silent peers than that."""
     few = pathlib.Path(attacks.folder) / "few"
-    few.write_text(FEW.format(count=DESCRIPTORS, program=attacks.words.program[0]))
+    few.write_text(FEW.format(count=DESCRIPTORS, program=attacks.program))
     few.chmod(0o700)
     with attacks.besieged(few) as it, silent(it.way.port, 2 * DESCRIPTORS):
         owner, plant = it.timed()
@@ -214,7 +269,7 @@ def stopped(attacks):
         it.server.it.send_signal(signal.SIGCONT)
         owner, plant = it.timed()
     yield Row("a stopped server: a plant's command", clock, GREETING)
-    yield Row("a stopped server: its fault", status == FAULT, 0, "count")
+    yield Row("a stopped server: the command's status", status, 0, "count")
     yield from of_owner("a server that goes on", owner, GOAL_OF_OWNER)
     yield from of_plant("a server that goes on", plant)
 
@@ -230,10 +285,11 @@ def count(attacks):
                 break
         began = time.monotonic()
         is_ended = it.server.is_ended(PATIENCE)
+    status, = told.statuses
     yield Row("the end of COUNT: owners answered", answered, unit="count")
-    yield Row("the end of COUNT: who comes behind the last is told so", told.seconds, GOAL_OF_OWNER)
+    yield Row("the end of COUNT: who comes behind the last is told so", told.seconds, GOAL_OF_OWNER, words=f", told {NAMES.get(status, status)}")
     yield Row("the end of COUNT: the server ends after it", time.monotonic() - began if is_ended else float("inf"))
 
 
-ATTACKS = {"nobody": nobody, "dense": dense, "damaged": damaged, "silent": silent_peers, "connections": connections, "descriptors": descriptors,
-           "door": door, "stopped": stopped, "count": count}
+ATTACKS = {"nobody": nobody, "dense": dense, "command": command, "damaged": damaged, "silent": silent_peers, "connections": connections,
+           "descriptors": descriptors, "door": door, "stopped": stopped, "count": count}
