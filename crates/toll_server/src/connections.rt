@@ -2,9 +2,9 @@
 ghost use Rattle.std.specs.Prelude.{◌≡◌, ◌↔◌, ◌≤◌, ◌<◌, ◌+◌, ◌⊎◌, ◌^◌, None, IfSome, IsTrue, OnErr, OnOk};
 ghost use Rattle.slab.specs.Slab.{HasRoomFor, Updates, get, slab_len};
 ghost use Rattle.toll_server.specs.Connections.{AddsNext, ClosesExpired, Hears, IsDueAt, IsDueTo, IsInTime, JoinsAt, KeepsQueue, KeepsRequests, KeepsSubmitted, KeepsTasks, MakesRoom, NoneNew, TakesNext, TimesReply, WindsDown, stays_after};
-ghost use Rattle.toll_server.specs.Accepting.{HasAccepted, StandsStill};
 ghost use Rattle.toll_server.specs.Networks.{Accepts, IsPaused, IsPausedAt, ListensFor, Tallies, owners_at};
 ghost use Rattle.toll_server.specs.declared.listener.Listener.{Listener};
+ghost use Rattle.toll_server.specs.declared.network.TheConstants.{MOST_CONNECTIONS};
 
 use crate::connection::Connection;
 use crate::expiry::{close_expired, close_readers, earliest_of, evict_oldest, next_of, put_behind};
@@ -36,7 +36,9 @@ pub enum AcceptState {
 }
 
 /// The open connections, how many there may be, how many owners are still to be accepted, and the number of
-/// events so far: requests that became whole, and turns that the service took.
+/// events so far: requests that became whole, and turns that the service took. It never holds more connections
+/// than there may be, and there may be at least one and at most
+/// [`MOST_CONNECTIONS`](crate::MOST_CONNECTIONS).
 #[derive(Drop)]
 pub struct Connections<S, T, P> {
     pub slots: Slab<Connection<S, T, P>>,
@@ -44,20 +46,25 @@ pub struct Connections<S, T, P> {
     pub owners_left: u64,
     pub accept_state: AcceptState,
     pub moment: u128,
+    ghost least: { 1 ≤ most_open },
+    ghost most: { most_open ≤ MOST_CONNECTIONS },
+    ghost within: { slab_len slots ≤ most_open },
 }
 
 impl<S: Stream, T: Drop, P: Eq + Drop> Connections<S, T, P> {
-    /// No connection is open yet, at most `most_open` may be at once, and this number of owners is to be
-    /// accepted.
-    pub fn new(alloc: Global, most_open: usize, owners_left: u64) -> Self
+    ghost use Rattle.toll_server.specs.Accepting.{HasAccepted, StandsStill};
+
+    /// No connection is open yet, as many may be at once as this network admits, and this number of owners is
+    /// to be accepted.
+    pub fn new<W: Network<Stream = S>>(alloc: Global, network: &W, owners_left: u64) -> Self
         ensures empty { slab_len result.slots ≡ 0 }
-        ensures most_open { result.most_open ≡ most_open }
+        ensures most_open { IfSome (W.limit network.now) (λ most. result.most_open ≡ most) }
         ensures owners_left { result.owners_left ≡ owners_left }
         ensures moment { result.moment ≡ 0 }
     {
         Connections {
             slots: Slab::new(alloc),
-            most_open,
+            most_open: network.most_connections(),
             owners_left,
             accept_state: AcceptState::Open,
             moment: 0,
@@ -111,7 +118,6 @@ impl<S: Stream, T: Drop, P: Eq + Drop> Connections<S, T, P> {
         ensures queue { KeepsQueue self.old.slots self.new.slots }
         ensures moment { self.new.moment ≡ self.old.moment }
         ensures most_open { self.new.most_open ≡ self.old.most_open }
-        ensures full { slab_len self.old.slots ≤ self.old.most_open → slab_len self.new.slots ≤ self.old.most_open }
     {
         let accepted = self.accept_waiting(alloc, network);
         if self.owners_left == 0 {
@@ -136,7 +142,6 @@ impl<S: Stream, T: Drop, P: Eq + Drop> Connections<S, T, P> {
         ensures queue { KeepsQueue self.old.slots self.new.slots }
         ensures moment { self.new.moment ≡ self.old.moment }
         ensures most_open { self.new.most_open ≡ self.old.most_open }
-        ensures full { slab_len self.old.slots ≤ self.old.most_open → slab_len self.new.slots ≤ self.old.most_open }
     {
         let now = network.now();
         if self.is_paused(now) {
@@ -198,7 +203,6 @@ impl<S: Stream, T: Drop, P: Eq + Drop> Connections<S, T, P> {
         ensures moment { self.new.moment ≡ self.old.moment }
         ensures most_open { self.new.most_open ≡ self.old.most_open }
         ensures accept_state { self.new.accept_state ≡ self.old.accept_state }
-        ensures full { slab_len self.old.slots ≤ self.old.most_open → slab_len self.new.slots ≤ self.old.most_open }
     {
         self.count_owner(listener);
         let connection = Connection::new(alloc, listener, stream, now)?;
@@ -229,7 +233,6 @@ impl<S: Stream, T: Drop, P: Eq + Drop> Connections<S, T, P> {
     // connections came just now (`came` is above 0) and were not read yet.
     fn make_room(&mut self, came: usize, now: u64)
         ensures room { MakesRoom came now self.old.slots self.new.slots self.new.accept_state }
-        ensures fewer { slab_len self.new.slots ≤ slab_len self.old.slots }
         ensures owners_left { self.new.owners_left ≡ self.old.owners_left }
         ensures moment { self.new.moment ≡ self.old.moment }
         ensures most_open { self.new.most_open ≡ self.old.most_open }
@@ -316,6 +319,7 @@ impl<S: Stream, T: Drop, P: Eq + Drop> Connections<S, T, P> {
     // Puts back a connection that was taken out, if it waits, and closes it otherwise.
     fn keep(&mut self, connection: Connection<S, T, P>, step: StepResult)
         requires room { HasRoomFor self.old.slots 1 }
+        requires fewer { slab_len self.old.slots < self.old.most_open }
         requires out { get self.old.slots self.old.slots.vacant_key ≡ None }
         ensures kept { Updates self.old.slots self.new.slots self.old.slots.vacant_key (stays_after step connection) }
         ensures more { slab_len self.new.slots ≤ slab_len self.old.slots + 1 }

@@ -1,5 +1,5 @@
 //! Searching the open connections.
-ghost use Rattle.std.specs.Prelude.{◌≡◌, ◌↔◌, ◌+◌, ℕ, IfSome, IfNone, IsTrue, option_map};
+ghost use Rattle.std.specs.Prelude.{◌≡◌, ◌↔◌, ◌≤◌, ◌+◌, ℕ, IfSome, IfNone, IsTrue, option_map};
 ghost use Rattle.slab.specs.Slab.{get, slab_len};
 ghost use Rattle.toll_server.specs.Connections.{ClosesExpired, ClosesReaders, EvictsOldest, IsBefore, IsEarliest, IsExpired, IsLonger, NobodyWaits, NoneIncluded, OnlyAt, connection_behind, queue_in, wait_in};
 ghost use Rattle.toll_server.specs.Queues.{IsNext};
@@ -59,7 +59,8 @@ pub fn close_expired<S: Stream, T: Drop, P: Drop>(
     connections: &mut Slab<Connection<S, T, P>>,
     now: u64,
 )
-    ensures { ClosesExpired now connections.old connections.new }
+    ensures gone { ClosesExpired now connections.old connections.new }
+    ensures fewer { slab_len connections.new ≤ slab_len connections.old }
 {
     for key in 0..connections.capacity() {
         if is_expired(connections, key, now) {
@@ -98,7 +99,8 @@ pub fn evict_oldest<S: Stream, T: Drop, P: Drop>(
 
 /// Closes all connections that are reading.
 pub fn close_readers<S: Stream, T: Drop, P: Drop>(connections: &mut Slab<Connection<S, T, P>>)
-    ensures { ClosesReaders connections.old connections.new }
+    ensures closes { ClosesReaders connections.old connections.new }
+    ensures fewer { slab_len connections.new ≤ slab_len connections.old }
 {
     while evict_oldest(connections) {}
 }

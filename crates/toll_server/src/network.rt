@@ -30,7 +30,7 @@ pub const MOST_READY: usize = 4096;
 
 /// Streams, a clock and the waiting for both. No contract says what happens when.
 pub trait Network {
-    ghost use Rattle.std.specs.Prelude.{◌≡◌, ◌≤◌, Option, None, option_map};
+    ghost use Rattle.std.specs.Prelude.{◌≡◌, ◌≤◌, ℕ, Option, None, IfSome, option_map};
     ghost use Rattle.toll_server.specs.Networks.{HandsOut, Shows, Tallies, Tally, Waits, after_accept, after_close};
 
     /// A connection. A read or a write of it that would wait fails with `WouldBlock`.
@@ -39,11 +39,15 @@ pub trait Network {
     // What the network has done, if that is known.
     ghost tally: { Self → Option (Tally Self.Stream) } = { λ _. None };
 
+    // How many connections may be open at once, if that is known.
+    ghost limit: { Self → Option ℕ } = { λ _. None };
+
     /// How many connections may be open at once, so that descriptors are left for everything else that the
     /// program opens. It is asked once, before the first wait.
     fn most_connections(&self) -> usize
         ensures least { 1 ≤ result }
-        ensures most { result ≤ MOST_CONNECTIONS };
+        ensures most { result ≤ MOST_CONNECTIONS }
+        ensures known { IfSome (limit self.now) (λ most. result ≡ most) };
 
     /// Waits until a connection comes or may advance, or this number of milliseconds is over. Returns the
     /// clock's time then. A connection advances until its reads and writes would wait, and is then reported

@@ -44,7 +44,7 @@ pub fn serve<W: Network, O: Service>(
     ensures end { Tallies (EndsSo result count) (W.tally network.old) (W.tally network.new) }
     ensures listens { Tallies (ListensTill count) (W.tally network.old) (W.tally network.new) }
 {
-    let mut connections = Connections::new(alloc, network.most_connections(), count);
+    let mut connections = Connections::new(alloc, network, count);
     for _ in 0..u64::MAX {
         if connections.accept(alloc, network).is_err() {
             return ServingEnd::Fault;

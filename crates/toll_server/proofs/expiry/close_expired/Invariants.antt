@@ -1,6 +1,11 @@
 -- Those with a key that was looked at are closed if they are late, and all others are as they were.
+use Rattle.std.proofs.Common.{◌≤◌}
+use Rattle.slab.specs.Slab.{slab_len}
 use Rattle.toll_server.proofs.ExpiryLemmas.{ClosedBelow}
 use Rattle.toll_server.proofs.expiry.close_expired.Given as goal
 
 abbrev pub invariant-loop-key : goal.invariant-loop-key
-invariant-loop-key g l = ClosedBelow l.now l.initial.connections l.key l.connections
+invariant-loop-key g l = record {
+  closed : ClosedBelow l.now l.initial.connections l.key l.connections;
+  fewer : slab_len l.connections ≤ slab_len l.initial.connections;
+}

@@ -2,7 +2,6 @@ use Rattle.std.proofs.Common.{◌≡◌, ◌∙◌, arith, refl, subst}
 use Rattle.std.specs.Prelude.{Ok}
 use Rattle.toll_server.specs.Connections.{AddsNext}
 use Rattle.toll_server.specs.Networks.{after_accept}
-use Rattle.toll_server.specs.declared.connections.AcceptState.TheVariants.{Backlogged}
 use Rattle.toll_server.specs.declared.network.Accepted.TheVariants.{Aborted, Connected}
 use Rattle.toll_server.specs.declared.network.NetworkFault.{NetworkFault}
 use Rattle.toll_server.proofs.AcceptLemmas.{aborted, aborted_counts, aborted_stands, all_asked, lost, lost_stands, more_come, more_counts, more_stand, told_of, wanted, wanted_stands}
@@ -55,7 +54,6 @@ loop-preserved g c =
       fewer = omega (arith, c.loop.invariant.fewer);
       most_open = c.add_connection.ensures.most_open ∙ c.loop.invariant.most_open;
       moment = c.add_connection.ensures.moment ∙ c.loop.invariant.moment;
-      full = λ le. omega (arith, c.loop.invariant.most_open, c.add_connection.ensures.full (omega (arith, c.loop.invariant.most_open, c.loop.invariant.full le)));
     }
 
 pub loop-preserved-in-Ok-Aborted : goal.loop-preserved-in-Ok-Aborted
@@ -77,10 +75,9 @@ loop-preserved-in-Ok-Aborted g c =
       fewer = omega (arith, c.loop.invariant.fewer);
       most_open = c.loop.invariant.most_open;
       moment = c.loop.invariant.moment;
-      full = c.loop.invariant.full;
     }
 
 pub returns-clause-added : goal.returns-clause-added
 returns-clause-added g c =
-    all_asked c.args.self.now (record c.loop.self { accept_state = Backlogged }) c.args.self.now.owners_left c.loop.self.owners_left c.now-now.result c.loop.counter c.loop.came c.loop.self.slots _ _ (omega arith)
+    all_asked c.args.self.now _ c.args.self.now.owners_left c.loop.self.owners_left c.now-now.result c.loop.counter c.loop.came c.loop.self.slots _ _ (omega arith)
     (λ paused. let yes = c.is_paused.ensures.deadline.1 paused in let no = c.if-is_paused.false in absurd cc) refl refl c.loop.invariant.tally c.loop.invariant.come

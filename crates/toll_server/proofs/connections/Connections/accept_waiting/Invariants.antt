@@ -1,7 +1,6 @@
--- As many came as are no longer to come, and all are there; it listens still; who waits for its turn or has its reply stays, nobody has another task or place in the queue, each
--- stands by its key, and there are not too many.
+-- As many came as are no longer to come, and all are there; it listens still; who waits for its turn or has its reply stays, nobody has another task or place in the queue, and
+-- each stands by its key.
 use Rattle.std.proofs.Common.{◌≡◌, ◌≤◌}
-use Rattle.slab.specs.Slab.{slab_len}
 use Rattle.toll_server.specs.Accepting.{StandsStill}
 use Rattle.toll_server.specs.Connections.{KeepsQueue, KeepsSubmitted, KeepsTasks}
 use Rattle.toll_server.specs.Networks.{Tallies}
@@ -24,5 +23,4 @@ invariant-loop g l = record {
   fewer : l.came ≤ l.counter;
   most_open : l.self.most_open ≡ l.fn.self.most_open;
   moment : l.self.moment ≡ l.fn.self.moment;
-  full : slab_len l.fn.self.slots ≤ l.fn.self.most_open → slab_len l.self.slots ≤ l.fn.self.most_open;
 }
