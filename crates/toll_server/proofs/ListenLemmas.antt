@@ -4,7 +4,7 @@ use Rattle.std.specs.Prelude.{◌-◌, All, Result}
 use Rattle.std.proofs.lemmas.List.Elements.{All-cons, All-nil}
 use Rattle.toll_protocol.specs.declared.streams.sink.Sink as sink
 use Rattle.toll_protocol.specs.declared.streams.source.Source as source
-use Rattle.toll_server.proofs.TallyLemmas.{OnlyClock, tallies_begin, tallies_both, tallies_then, tallies_weaker}
+use Rattle.toll_server.proofs.TallyLemmas.{OnlyClock, OnlyListening, tallies_begin, tallies_both, tallies_then, tallies_weaker}
 use Rattle.toll_server.specs.Networks.{Accepts, BreaksDown, ListensFor, Tallies, Tally, Wake}
 use Rattle.toll_server.specs.Rounds.{HasWaited, ListensTill}
 use Rattle.toll_server.specs.declared.connections.AcceptState.{AcceptState}
@@ -31,20 +31,45 @@ module _ {S : Type 0} where
     closed = λ never. absurd (omega (arith, never));
   })
 
-  -- others were accepted, and the listeners closed where no owner is to come any more
+  -- others were accepted, and the listeners aren't closed yet
   pub accepted_listening : {A E : Type 0} (r : Result A E) (state : AcceptState) (count before left accepts : ℕ) (a b c : Option (Tally S)) → left ≤ before
-      → Tallies (Accepts r state before left) b c → Tallies (λ t u. ListensFor left t.is_listening u.is_listening) b c → Tallies (ListensSoFar count before accepts) a b
-      → Tallies (ListensSoFar count left (accepts + 1)) a c
+      → Tallies (Accepts r state before left) b c → Tallies (λ t u. u.is_listening ≡ t.is_listening) b c → Tallies (ListensSoFar count before accepts) a b
+      → Tallies (ListensSoFar count left 0) a c
   accepted_listening r state count before left accepts a b c fewer accepts_so listens p =
-      tallies_then (ListensSoFar count before accepts) (λ t u. Accepts r state before left t u × ListensFor left t.is_listening u.is_listening) (ListensSoFar count left (accepts + 1)) a b c p
-      (tallies_both (Accepts r state before left) (λ t u. ListensFor left t.is_listening u.is_listening) b c accepts_so listens) (λ t u v q s. record {
+      tallies_then (ListensSoFar count before accepts) (λ t u. Accepts r state before left t u × (u.is_listening ≡ t.is_listening)) (ListensSoFar count left 0) a b c p
+      (tallies_both (Accepts r state before left) (λ t u. u.is_listening ≡ t.is_listening) b c accepts_so listens) (λ t u v q s. record {
         owners = omega (arith, q.owners, s.0.0);
         wakes = q.wakes;
         waited = s.0.2 ∙ q.waited;
         meanwhile = q.meanwhile;
-        opened = λ some. s.1.0 some ∙ q.opened (omega (arith, some, fewer));
-        closed = λ _ none. s.1.1 none;
+        opened = λ some. s.1 ∙ q.opened (omega (arith, some, fewer));
+        closed = λ never. absurd (omega (arith, never));
       })
+
+  -- the listeners were closed, if no owner is to come any more
+  pub stopped_listening : (count left accepts : ℕ) (a b c : Option (Tally S)) → Tallies (λ t u. ListensFor left t.is_listening u.is_listening) b c → Tallies OnlyListening b c
+      → Tallies (ListensSoFar count left 0) a b → Tallies (ListensSoFar count left accepts) a c
+  stopped_listening count left accepts a b c listens rest p =
+      tallies_then (ListensSoFar count left 0) (λ t u. ListensFor left t.is_listening u.is_listening × OnlyListening t u) (ListensSoFar count left accepts) a b c p
+      (tallies_both (λ t u. ListensFor left t.is_listening u.is_listening) OnlyListening b c listens rest) (λ t u v q s. record {
+        owners = omega (arith, q.owners, ap (λ x. x.owners) s.1);
+        wakes = q.wakes;
+        waited = ap (λ x. x.wakes) s.1 ∙ q.waited;
+        meanwhile = q.meanwhile;
+        opened = λ some. s.0.0 some ∙ q.opened some;
+        closed = λ _ none. s.0.1 none;
+      })
+
+  -- accepting failed while owners are still to come, so the listeners stay open
+  pub failed_listening : (count left accepts : ℕ) (a b : Option (Tally S)) → 0 < left → Tallies (ListensSoFar count left 0) a b → Tallies (ListensSoFar count left accepts) a b
+  failed_listening count left accepts a b some p = tallies_weaker (ListensSoFar count left 0) (ListensSoFar count left accepts) a b p (λ t u q. record {
+    owners = q.owners;
+    wakes = q.wakes;
+    waited = q.waited;
+    meanwhile = q.meanwhile;
+    opened = q.opened;
+    closed = λ _ none. absurd (omega (arith, some, none));
+  })
 
   now_of : (count left : ℕ) (t u : Tally S) (owners : ℕ) (is : Bool) → u.owners + left ≡ t.owners + count → owners ≡ u.owners → (0 < left → is ≡ t.is_listening) → (left ≡ 0 → is ≡ false)
       → ListensFor (t.owners + count - owners) t.is_listening is

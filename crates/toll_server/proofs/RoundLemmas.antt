@@ -12,7 +12,7 @@ use Rattle.toll_server.proofs.ConnectionLemmas.{expired_closed, expired_queue}
 use Rattle.toll_server.proofs.QueueLemmas.{IsHistoryIn, none_twice, own_of, same_history}
 use Rattle.toll_server.proofs.RunLemmas.{run_kept, run_more}
 use Rattle.toll_server.proofs.StandLemmas.{asked_at, closed_new, each_some, heard_more, stands_fewer, stands_heard, stands_kept}
-use Rattle.toll_server.proofs.TallyLemmas.{OnlyClock, tallies_begin, tallies_then, tallies_weaker}
+use Rattle.toll_server.proofs.TallyLemmas.{OnlyClock, OnlyListening, tallies_begin, tallies_then, tallies_weaker}
 use Rattle.toll_server.specs.Accepting.{StandsStill}
 use Rattle.toll_server.specs.Connections.{ClosesExpired, Hears, HearsAll, IsDueAt, IsDueTo, IsInTime, JoinsAt, KeepsQueue, KeepsRequests, KeepsTasks, NoneNew, StandsByKey, TakesNext, TakesTurn, queue_in, tasks_in}
 use Rattle.toll_server.specs.ConnectionStates.{pending_task}
@@ -402,6 +402,18 @@ module _ {S T P O : Type 0} (same : P → P → Bool) (is_by : Listener → List
     its = p.its;
     regular = p.regular;
     net = tallies_then (IsNet from.unread p.rounds connections) OnlyClock (IsNet from.unread p.rounds connections) was told is p.net clock
+        (λ t u v q r. subst (IsNet from.unread p.rounds connections t) (sym r) (record { waited = q.waited; asked = q.asked; passed_over = q.passed_over; stands = q.stands }));
+  }
+
+  pub stopped_so : (old new : O) (moment : ℕ) (connections : Slab (Connection S T P)) (was told is : Option (Tally S)) → Tallies OnlyListening told is
+      → SoFar old new moment connections was told → SoFar old new moment connections was is
+  stopped_so old new moment connections was told is stopped p = record {
+    rounds = p.rounds;
+    history = p.history;
+    run = p.run;
+    its = p.its;
+    regular = p.regular;
+    net = tallies_then (IsNet from.unread p.rounds connections) OnlyListening (IsNet from.unread p.rounds connections) was told is p.net stopped
         (λ t u v q r. subst (IsNet from.unread p.rounds connections t) (sym r) (record { waited = q.waited; asked = q.asked; passed_over = q.passed_over; stands = q.stands }));
   }
 

@@ -40,6 +40,10 @@ tallies_both P Q (Some t) (Some u) p q = (p, q)
 abbrev pub OnlyClock : {S : Type 0} → Tally S → Tally S → Type 0
 OnlyClock t u = u ≡ record t { clock = u.clock }
 
+-- its listeners may have been closed, and nothing else was done
+abbrev pub OnlyListening : {S : Type 0} → Tally S → Tally S → Type 0
+OnlyListening t u = u ≡ record t { is_listening = u.is_listening }
+
 pub clock_went_on : {S T P : Type 0} (old new : Slab (Connection S T P)) (a b : Option (Tally S)) → TimesReply old new a b → Tallies OnlyClock a b
 clock_went_on old new a b (now, inl none, times) = tallies_begin OnlyClock a b none.1 (λ t. refl)
 clock_went_on old new a b (now, inr shows, times) =

@@ -101,8 +101,7 @@ impl<S: Stream, T: Drop, P: Eq + Drop> Connections<S, T, P> {
     /// Accepts connections that wait at a listener, while owners are still to be accepted, and times them
     /// from now on. If too many are open then, the connection that has been reading longest is closed. It is
     /// also closed if there are no resources for one more, after the connections that came just now were
-    /// read. If no connection is reading then, none is accepted for a while. The listeners are closed as soon
-    /// as no owner is to be accepted any more.
+    /// read. If no connection is reading then, none is accepted for a while.
     pub fn accept<W: Network<Stream = S>>(
         &mut self,
         alloc: Global,
@@ -110,30 +109,7 @@ impl<S: Stream, T: Drop, P: Eq + Drop> Connections<S, T, P> {
     ) -> Result<(), NetworkFault>
         ensures tally { Tallies (Accepts result self.old.accept_state self.old.owners_left self.new.owners_left) (W.tally network.old) (W.tally network.new) }
         ensures left { self.new.owners_left ≤ self.old.owners_left }
-        ensures listens { Tallies (λ t u. ListensFor self.new.owners_left t.is_listening u.is_listening) (W.tally network.old) (W.tally network.new) }
-        ensures added { Tallies (HasAccepted result self.old self.new) (W.tally network.old) (W.tally network.new) }
-        ensures stands { Tallies (StandsStill S.Source.unread self.old.slots self.new.slots) (W.tally network.old) (W.tally network.new) }
-        ensures submitted { KeepsSubmitted self.old.slots self.new.slots }
-        ensures tasks { KeepsTasks self.old.slots self.new.slots }
-        ensures queue { KeepsQueue self.old.slots self.new.slots }
-        ensures moment { self.new.moment ≡ self.old.moment }
-        ensures most_open { self.new.most_open ≡ self.old.most_open }
-    {
-        let accepted = self.accept_waiting(alloc, network);
-        if self.owners_left == 0 {
-            network.close_listeners();
-        }
-        accepted
-    }
-
-    // Accepts connections that wait at a listener, as `accept` does, and leaves the listeners open.
-    fn accept_waiting<W: Network<Stream = S>>(
-        &mut self,
-        alloc: Global,
-        network: &mut W,
-    ) -> Result<(), NetworkFault>
-        ensures tally { Tallies (Accepts result self.old.accept_state self.old.owners_left self.new.owners_left) (W.tally network.old) (W.tally network.new) }
-        ensures left { self.new.owners_left ≤ self.old.owners_left }
+        ensures fails { OnErr result (0 < self.new.owners_left) }
         ensures listens { Tallies (λ t u. u.is_listening ≡ t.is_listening) (W.tally network.old) (W.tally network.new) }
         ensures added { Tallies (HasAccepted result self.old self.new) (W.tally network.old) (W.tally network.new) }
         ensures stands { Tallies (StandsStill S.Source.unread self.old.slots self.new.slots) (W.tally network.old) (W.tally network.new) }
@@ -172,6 +148,16 @@ impl<S: Stream, T: Drop, P: Eq + Drop> Connections<S, T, P> {
         }
         self.accept_state = AcceptState::Backlogged;
         Ok(())
+    }
+
+    /// Closes the network's listeners, once no owner is to be accepted any more.
+    pub fn stop_listening<W: Network<Stream = S>>(&self, network: &mut W)
+        ensures listens { Tallies (λ t u. ListensFor self.now.owners_left t.is_listening u.is_listening) (W.tally network.old) (W.tally network.new) }
+        ensures rest { Tallies (λ t u. u ≡ record t { is_listening = u.is_listening }) (W.tally network.old) (W.tally network.new) }
+    {
+        if self.owners_left == 0 {
+            network.close_listeners();
+        }
     }
 
     fn is_paused(&self, now: u64) -> bool

@@ -49,6 +49,7 @@ pub fn serve<W: Network, O: Service>(
         if connections.accept(alloc, network).is_err() {
             return ServingEnd::Fault;
         }
+        connections.stop_listening(network);
         connections.wind_down();
         if connections.is_over() {
             return ServingEnd::All;

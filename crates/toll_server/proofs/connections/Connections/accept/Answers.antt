@@ -6,7 +6,7 @@ use Rattle.toll_server.specs.declared.network.Accepted.TheVariants.{Aborted, Con
 use Rattle.toll_server.specs.declared.network.NetworkFault.{NetworkFault}
 use Rattle.toll_server.proofs.AcceptLemmas.{aborted, aborted_counts, aborted_stands, all_asked, lost, lost_stands, more_come, more_counts, more_stand, told_of, wanted, wanted_stands}
 use Rattle.toll_server.proofs.TallyLemmas.{keeps_more, on_err, on_ok, tallies_more}
-use Rattle.toll_server.proofs.connections.Connections.accept_waiting.Goals as goal
+use Rattle.toll_server.proofs.connections.Connections.accept.Goals as goal
 
 pub returns-then-is_err-clause-added : goal.returns-then-is_err-clause-added
 returns-then-is_err-clause-added g c =

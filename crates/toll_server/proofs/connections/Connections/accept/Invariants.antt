@@ -6,7 +6,7 @@ use Rattle.toll_server.specs.Connections.{KeepsQueue, KeepsSubmitted, KeepsTasks
 use Rattle.toll_server.specs.Networks.{Tallies}
 use Rattle.toll_server.specs.declared.connections.AcceptState.TheVariants.{Open}
 use Rattle.toll_server.proofs.AcceptLemmas.{Counts, HasCome}
-use Rattle.toll_server.proofs.connections.Connections.accept_waiting.Given as goal
+use Rattle.toll_server.proofs.connections.Connections.accept.Given as goal
 
 abbrev pub invariant-loop : goal.invariant-loop
 invariant-loop g l = record {
