@@ -1,0 +1,8 @@
+use Rattle.std.proofs.Common.{refl}
+use Rattle.toll_tests.proofs.KnownLemmas.{serves_owner}
+use Rattle.toll_tests.proofs.server.known.serve_known.Goals as goal
+
+pub returns-clause-requests : goal.returns-clause-requests
+returns-clause-requests g c =
+    serves_owner c.serve-end.new.network.owner c.serve-end.new.network.request.now g.O.Party.PartialEq.eq _ _ refl g.O.Service.is_by g.O.Service.answers g.O.Service.resumes
+    c.args.service.now c.serve-end.new.service _ _ refl c.serve-end.ensures.rounds
