@@ -1,9 +1,9 @@
 -- Lots and their numbers in a sorted list.
-use Rattle.std.proofs.Common.{◌≡◌, ℕ, zero, suc, ◌+◌, ◌<◌, false, List, [], ◌∷◌, ◌++◌, length, get_or, sym, ap, ◌∙◌, subst, Err, inl, inr, arith}
+use Rattle.std.proofs.Common.{◌≡◌, ℕ, zero, suc, ◌+◌, ◌-◌, ◌<◌, ◌≤◌, true, false, refl, List, [], ◌∷◌, ◌++◌, length, get_or, sym, ap, ◌∙◌, subst, Err, inl, inr, arith}
 use Rattle.std.specs.Prelude.{Contains}
 use Rattle.std.specs.List.Sorted.{IsBinarySearchResult, IsNonDecreasingBy}
 use Rattle.std.proofs.lemmas.List.{get_or_default}
-use Rattle.toll_trace.proofs.Common.{cases_lt, IsStrictlySortedBy, IsSortedByKey, is_lt, ordering_index, ordering_reverse, Ordering, Less, Equal, Greater, tied_itself, searchable_from_sorted, Contains-append_left, Contains-append_right, Contains-append_cases, LotId, lot_cmp}
+use Rattle.toll_trace.proofs.Common.{false≢true, cases_lt, IsStrictlySortedBy, IsSortedByKey, is_lt, ordering_index, ordering_reverse, Ordering, Less, Equal, Greater, tied_itself, searchable_from_sorted, Contains-append_left, Contains-append_right, Contains-append_cases, LotId, lot_cmp}
 use Rattle.toll_trace.specs.Numbers.{IsNumber, AreAllNumbers, HaveNumbers}
 use Rattle.toll_trace.proofs.Members.{Contains-none, Contains-here, Contains-cases, member_of_all}
 use Rattle.toll_trace.proofs.Orders.{lots_total, lots_exact}
@@ -74,6 +74,56 @@ not_listed lots sorted n lot parted (k, lt, e) =
       | inl before ↦ (let less : lot_cmp (get_or lots k lot) lot ≡ Less = parts.0 k lot (omega arith) before in absurd (cc))
       | inr after ↦ (let greater : lot_cmp (get_or lots k lot) lot ≡ Greater = parts.1 k lot after lt in absurd (cc))
     ]
+
+-- ==== a gap between neighbours
+
+both_less : (a b : LotId) → lot_cmp a b ≡ Less → lot_cmp b a ≡ Less → ⊥
+both_less a b ab ba = let not_less = reversed (lot_cmp b a) (lot_cmp a b) (lots_total.antisymm a b) ba in false≢true (sym not_less ∙ ap is_lt ab)
+
+pub is_less : (o : Ordering) → is_lt o ≡ true → o ≡ Less
+is_less Less is = refl
+is_less Equal is = absurd (false≢true is)
+is_less Greater is = absurd (false≢true is)
+
+-- a lot at a place or behind it isn't less than the lot there
+at_or_behind : (lots : List LotId) → IsStrictlySortedBy lot_cmp lots → (place k : ℕ) (lot : LotId) → place ≤ k → k < length lots → get_or lots k lot ≡ lot
+    → lot_cmp lot (get_or lots place lot) ≡ Less → ⊥
+at_or_behind lots sorted place k lot le lt e less =
+    elim (cases_lt place k) [
+      | inl before ↦ both_less lot (get_or lots place lot) less (subst (λ l. lot_cmp (get_or lots place lot) l ≡ Less) e (below_at lot_cmp lots sorted place k lot before lt))
+      | inr after ↦ (let same : place ≡ k = omega arith in not_below_itself lot (subst (λ l. lot_cmp lot l ≡ Less) (ap (λ i. get_or lots i lot) same ∙ e) less))
+    ]
+
+-- a lot at a place or before it isn't greater than the lot there
+at_or_before : (lots : List LotId) → IsStrictlySortedBy lot_cmp lots → (place k : ℕ) (lot : LotId) → k ≤ place → place < length lots → get_or lots k lot ≡ lot
+    → lot_cmp (get_or lots place lot) lot ≡ Less → ⊥
+at_or_before lots sorted place k lot le lt e less =
+    elim (cases_lt k place) [
+      | inl before ↦ both_less lot (get_or lots place lot) (subst (λ l. lot_cmp l (get_or lots place lot) ≡ Less) e (below_at lot_cmp lots sorted k place lot before lt)) less
+      | inr after ↦ (let same : place ≡ k = omega arith in not_below_itself lot (subst (λ l. lot_cmp l lot ≡ Less) (ap (λ i. get_or lots i lot) same ∙ e) less))
+    ]
+
+-- a lot behind the one before the place, and before the one at the place, is none of the list
+pub not_in_gap : (lots : List LotId) → IsStrictlySortedBy lot_cmp lots → (place : ℕ) (lot : LotId)
+    → ((k : ℕ) → k + 1 ≡ place → (k < length lots) × (lot_cmp (get_or lots k lot) lot ≡ Less))
+    → (place < length lots → lot_cmp lot (get_or lots place lot) ≡ Less)
+    → Contains lots lot → ⊥
+not_in_gap lots sorted zero lot behind ahead (k, lt, e) = at_or_behind lots sorted zero k lot (omega arith) lt e (ahead (omega arith))
+not_in_gap lots sorted (suc last) lot behind ahead (k, lt, e) =
+    elim (cases_lt k (suc last)) [
+      | inl before ↦ (let b = behind last (omega arith) in at_or_before lots sorted last k lot (omega arith) b.0 e b.1)
+      | inr after ↦ at_or_behind lots sorted (suc last) k lot after lt e (ahead (omega arith))
+    ]
+
+-- the lot before a place, where the place has one
+pub behind_it : (lots : List LotId) (place last : ℕ) (lot d : LotId) → 1 ≤ place → last ≡ place - 1 → last < length lots → lot_cmp (get_or lots last d) lot ≡ Less
+    → (k : ℕ) → k + 1 ≡ place → (k < length lots) × (lot_cmp (get_or lots k lot) lot ≡ Less)
+behind_it lots place last lot d one is lt less k at =
+    let same : last ≡ k = omega arith in
+    (omega arith, subst (λ i. lot_cmp (get_or lots i lot) lot ≡ Less) same (subst (λ l. lot_cmp l lot ≡ Less) (get_or_default lots last d lot lt) less))
+
+pub behind_none : (lots : List LotId) (place : ℕ) (lot : LotId) → (1 ≤ place → ⊥) → (k : ℕ) → k + 1 ≡ place → (k < length lots) × (lot_cmp (get_or lots k lot) lot ≡ Less)
+behind_none lots place lot none k at = absurd (none (omega arith))
 
 -- ==== numbers of lots
 

@@ -15,7 +15,7 @@ use Rattle.toll_trace.specs.Graph.{IsGraph, Leads}
 use Rattle.toll_trace.specs.InOrder.{IsInOrder}
 use Rattle.toll_trace.specs.Joints.{LeadsThrough}
 use Rattle.toll_trace.specs.Leads.{LeadsBy}
-use Rattle.toll_trace.specs.Numbers.{AreBelow, HaveNumbers, IsNumber}
+use Rattle.toll_trace.specs.Numbers.{AreBelow, HaveNumbers, IsNumber, HaveUsed}
 use Rattle.toll_trace.specs.Places.{Chain, Place, placed, Passes, AreNumbered}
 use Rattle.toll_trace.specs.Uses.{Batch, uses}
 use Rattle.toll_trace.proofs.Drawn.{use_recorded, use_listed}
@@ -177,7 +177,7 @@ pub exits_below : (lots : List LotId) (leaving : List (Place × LotId)) (out_num
 exits_below lots leaving out_numbers exits outs of_uses n i = let r = of_uses n i in let y = outs.only r.0 r.1 in subst (λ k. k < length lots) r.2 y.1.0
 
 -- the lots in order have each lot used
-pub used_in_order : (consumptions productions : List (Place × LotId)) (sorted : List LotId) → IsInOrder lot_cmp (map (λ u. u.1) consumptions ++ map (λ u. u.1) productions) sorted → record { consumed : (u : Place × LotId) → Contains consumptions u → Contains sorted u.1; produced : (u : Place × LotId) → Contains productions u → Contains sorted u.1 }
+pub used_in_order : (consumptions productions : List (Place × LotId)) (sorted : List LotId) → IsInOrder lot_cmp (map (λ u. u.1) consumptions ++ map (λ u. u.1) productions) sorted → HaveUsed consumptions productions sorted
 used_in_order consumptions productions sorted order =
     let left = map (λ (u : Place × LotId). u.1) consumptions in
     let right = map (λ (u : Place × LotId). u.1) productions in

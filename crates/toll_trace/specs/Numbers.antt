@@ -15,6 +15,11 @@ pub record AreAllNumbers (lots those : List LotId) (numbers : List ℕ) : Type 0
   pub only : (n : ℕ) → Contains numbers n → (lot : LotId) × IsNumber lots n lot × Contains those lot
   pub every : (lot : LotId) (n : ℕ) → Contains those lot → IsNumber lots n lot → Contains numbers n
 
+-- these are the lots of those uses and those, and perhaps others
+pub record HaveUsed {P : Type 0} (consumptions productions : List (P × LotId)) (lots : List LotId) : Type 0 where
+  pub consumed : (u : P × LotId) → Contains consumptions u → Contains lots u.1
+  pub produced : (u : P × LotId) → Contains productions u → Contains lots u.1
+
 -- what is used of lots in the list is used of their numbers, at the same places, and nothing else
 pub record HaveNumbers {P : Type 0} (lots : List LotId) (uses : List (P × LotId)) (numbered : List (P × ℕ)) : Type 0 where
   pub only : (v : P × ℕ) → Contains numbered v → (lot : LotId) × IsNumber lots v.1 lot × Contains uses (v.0, lot)

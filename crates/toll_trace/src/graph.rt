@@ -4,7 +4,7 @@ ghost use Rattle.std.specs.List.Sorted.{IsStrictlySortedBy-prop};
 ghost use Rattle.toll_base.specs.Lots.{lot_cmp};
 ghost use Rattle.toll_trace.specs.Chain.{IsJoined};
 ghost use Rattle.toll_trace.specs.Common.{IsStrictlySortedBy};
-ghost use Rattle.toll_trace.specs.Numbers.{AreBelow};
+ghost use Rattle.toll_trace.specs.Numbers.{AreBelow, HaveUsed};
 ghost use Rattle.toll_trace.specs.Trace.{IsTrace};
 
 use crate::in_order::put_in_order;
@@ -118,8 +118,7 @@ fn lots_used(
     productions: &[(Place, LotId)],
 ) -> Result<Vec<LotId>, AllocError>
     ensures sorted { IfOk result (λ lots. IsStrictlySortedBy lot_cmp lots.items) }
-    ensures consumed { IfOk result (λ lots. (u : _) → Contains consumptions.now u → Contains lots.items u.1) }
-    ensures produced { IfOk result (λ lots. (u : _) → Contains productions.now u → Contains lots.items u.1) }
+    ensures used { IfOk result (λ lots. HaveUsed consumptions.now productions.now lots.items) }
 {
     let mut lots = Vec::new(alloc);
     add_used(&mut lots, consumptions)?;

@@ -1,5 +1,5 @@
 //! Lots by their numbers: their places in a list of lots.
-ghost use Rattle.std.specs.Prelude.{◌≡◌, [], Contains, IfSome, IfOk, OnOk, None};
+ghost use Rattle.std.specs.Prelude.{◌≡◌, true, [], Contains, IfSome, IfOk, OnOk, None};
 ghost use Rattle.toll_base.specs.Lots.{lot_cmp};
 ghost use Rattle.toll_trace.specs.Common.{IsStrictlySortedBy};
 ghost use Rattle.toll_trace.specs.Numbers.{AreAllNumbers, HaveNumbers, IsNumber};
@@ -43,12 +43,34 @@ pub(crate) fn add_numbers(
     requires none { numbers.old.items ≡ [] }
     ensures { OnOk result (AreAllNumbers lots.now those.now numbers.new.items) }
 {
+    let mut gap = 0;
     for lot in those {
-        if let Some(number) = number_of(lots, lot) {
-            numbers.push(number)?;
+        if is_in_gap(lots, gap, lot) {
+            continue;
+        }
+        match lots.binary_search(lot) {
+            Ok(number) => numbers.push(number)?,
+            Err(place) => gap = place,
         }
     }
     Ok(())
+}
+
+/// Whether the lot belongs between the lots before this place and those from there on, and so isn't in
+/// the list. Of neighbours that the list doesn't have, the first is searched and the others are in its gap.
+fn is_in_gap(lots: &[LotId], place: usize, lot: &LotId) -> bool
+    requires { IsStrictlySortedBy lot_cmp lots.now }
+    ensures { result ≡ true → Contains lots.now lot.now → ⊥ }
+{
+    let is_behind = match place.checked_sub(1) {
+        Some(last) => last < lots.len() && lots[last].cmp(lot).is_lt(),
+        None => true,
+    };
+    let is_ahead = match lots.get(place) {
+        Some(next) => lot.cmp(next).is_lt(),
+        None => true,
+    };
+    is_behind && is_ahead
 }
 
 /// The uses of lots of the list, with the lots' numbers.

@@ -4,16 +4,9 @@ use Rattle.toll_trace.specs.InOrder.{IsInOrder}
 use Rattle.toll_trace.proofs.Recording.{used_in_order}
 use Rattle.toll_trace.proofs.graph.lots_used.Goals as goal
 
-pub returns-clause-consumed : goal.returns-clause-consumed
-returns-clause-consumed c =
+pub returns-clause-used : goal.returns-clause-used
+returns-clause-used c =
     let consumed = map (λ used. used.1) c.args.consumptions.now in
     let produced = map (λ used. used.1) c.args.productions.now in
     let are = c.in_ok-add_used-2.ensures ∙ ap (λ lots. lots ++ produced) (c.in_ok-add_used.ensures ∙ ap (λ lots. lots ++ consumed) c.new-lots.ensures.items) in
-    (used_in_order c.args.consumptions.now c.args.productions.now c.put_in_order.new.items.items (subst (λ lots. IsInOrder lot_cmp lots c.put_in_order.new.items.items) are c.put_in_order.ensures)).consumed
-
-pub returns-clause-produced : goal.returns-clause-produced
-returns-clause-produced c =
-    let consumed = map (λ used. used.1) c.args.consumptions.now in
-    let produced = map (λ used. used.1) c.args.productions.now in
-    let are = c.in_ok-add_used-2.ensures ∙ ap (λ lots. lots ++ produced) (c.in_ok-add_used.ensures ∙ ap (λ lots. lots ++ consumed) c.new-lots.ensures.items) in
-    (used_in_order c.args.consumptions.now c.args.productions.now c.put_in_order.new.items.items (subst (λ lots. IsInOrder lot_cmp lots c.put_in_order.new.items.items) are c.put_in_order.ensures)).produced
+    used_in_order c.args.consumptions.now c.args.productions.now c.put_in_order.new.items.items (subst (λ lots. IsInOrder lot_cmp lots c.put_in_order.new.items.items) are c.put_in_order.ensures)

@@ -9,10 +9,10 @@ use Rattle.toll_trace.proofs.Recording.{exits_below, graph_drawn, joined_moved, 
 use Rattle.toll_trace.proofs.graph.Graph.of_recorded.Goals as goal
 
 pub numbered-requires-clause-listed : goal.numbered-requires-clause-listed
-numbered-requires-clause-listed c = λ u i. rw c.deref-3.ensures.value (c.in_ok-lots.ensures.consumed u (rw c.deref.ensures.value (rw c.deref-4.ensures.value at i)))
+numbered-requires-clause-listed c = λ u i. rw c.deref-3.ensures.value (c.in_ok-lots.ensures.used.consumed u (rw c.deref.ensures.value (rw c.deref-4.ensures.value at i)))
 
 pub numbered-requires-2-clause-listed : goal.numbered-requires-2-clause-listed
-numbered-requires-2-clause-listed c = λ u i. rw c.deref-5.ensures.value (c.in_ok-lots.ensures.produced u (rw c.deref-2.ensures.value (rw c.deref-6.ensures.value at i)))
+numbered-requires-2-clause-listed c = λ u i. rw c.deref-5.ensures.value (c.in_ok-lots.ensures.used.produced u (rw c.deref-2.ensures.value (rw c.deref-6.ensures.value at i)))
 
 pub invariant_of-result : goal.invariant_of-result
 invariant_of-result c =
@@ -34,8 +34,8 @@ returns c =
     let produced = c.in_ok-productions.productions.items in
     let ins : HaveNumbers lots consumptions consumed = rw (← c.deref-3.ensures.value, ← c.deref-4.ensures.value) c.in_ok-consumptions.ensures in
     let outs : HaveNumbers lots productions produced = rw (← c.deref-5.ensures.value, ← c.deref-6.ensures.value) c.in_ok-productions.ensures in
-    let ins_listed : (u : Place × LotId) → Contains consumptions u → Contains lots u.1 = rw (← c.deref.ensures.value) c.in_ok-lots.ensures.consumed in
-    let outs_listed : (v : Place × LotId) → Contains productions v → Contains lots v.1 = rw (← c.deref-2.ensures.value) c.in_ok-lots.ensures.produced in
+    let ins_listed : (u : Place × LotId) → Contains consumptions u → Contains lots u.1 = rw (← c.deref.ensures.value) c.in_ok-lots.ensures.used.consumed in
+    let outs_listed : (v : Place × LotId) → Contains productions v → Contains lots v.1 = rw (← c.deref-2.ensures.value) c.in_ok-lots.ensures.used.produced in
     let sorted : c.deref-8.result.now ≡ c.of_uses.new.leaving = c.deref-8.ensures.value ∙ with_items_is c.in_ok-productions.productions c.of_uses.new.leaving (omega arith) in
     let moved : IsPermutation produced c.deref-8.result.now = rw (sorted, ← c.deref_mut.ensures.value) c.in_ok-forward.ensures.moved in
     graph_drawn consumptions productions _
