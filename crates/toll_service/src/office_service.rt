@@ -53,8 +53,8 @@ impl<'a, K: Keep + Drop, O: KeepOpener<K>> OfficeService<'a, K, O> {
         }
     }
 
-    /// Opens the office before the first request and reads its rows, if its file is there. If that fails, the fault is reported
-    /// to the operator, and each request tries to open it again.
+    /// Opens the office before the first request, reads its rows and makes the owners' genealogies, if its file is
+    /// there. If that fails, the fault is reported to the operator, and each request tries to open it again.
     pub fn open_ahead(&mut self)
         ensures { IsNew self.old.session → IsFresh K.meaning O.is_opened O.openings (O.openings self.old.office_path.opener) self.new }
     {

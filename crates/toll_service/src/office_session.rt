@@ -81,8 +81,8 @@ impl<K: Keep + Drop> OfficeSession<K> {
         }
     }
 
-    /// Opens the office before the first request, and reads its rows, so that the first requests find them in
-    /// memory. An `Err` if the lock isn't taken or the file isn't opened.
+    /// Opens the office before the first request, reads its rows and makes the owners' genealogies, so that the first
+    /// requests find them in memory. An `Err` if the lock isn't taken or the file isn't opened.
     pub fn open_ahead<O: KeepOpener<K>>(
         &mut self,
         office_path: &mut OfficePath<'_, O>,

@@ -3,10 +3,12 @@ ghost use Rattle.toll_keep.specs.Goes.{IsReading};
 ghost use Rattle.toll_keep.specs.Reads.{ReadsOn};
 
 use std::alloc::Global;
-use toll_base::{Name, OwnerRow};
+use toll_base::{LotId, Name, OwnerRow};
 use toll_keep::{Keep, KeepFault};
+use toll_trace::Way;
 
-/// Reads the rows of all owners and of HOUSE. A keep that remembers what it read has them in memory then.
+/// Reads the rows of all owners and of HOUSE, and traces once over each one's batches. A keep that remembers
+/// what it read has the rows and the genealogies in memory then.
 pub fn read_ahead<K: Keep>(alloc: Global, keep: &mut K) -> Result<(), KeepFault>
     ensures { IsReading K.meaning keep.old keep.new result }
 {
@@ -16,14 +18,22 @@ pub fn read_ahead<K: Keep>(alloc: Global, keep: &mut K) -> Result<(), KeepFault>
     }
 }
 
-// Reads the rows of these owners and of HOUSE.
+// Reads the rows of these owners and of HOUSE, and traces over their batches.
 fn read_each<K: Keep>(alloc: Global, keep: &mut K, owners: &[OwnerRow]) -> Result<(), KeepFault>
     ensures { ReadsOn K.meaning keep.old keep.new result }
 {
     for row in owners {
-        read_rows(alloc, keep, &row.owner)?;
+        read_owner(alloc, keep, &row.owner)?;
     }
-    read_rows(alloc, keep, &Name::house())
+    read_owner(alloc, keep, &Name::house())
+}
+
+// Reads the rows of an owner, and traces over its batches.
+fn read_owner<K: Keep>(alloc: Global, keep: &mut K, owner: &Name) -> Result<(), KeepFault>
+    ensures { ReadsOn K.meaning keep.old keep.new result }
+{
+    read_rows(alloc, keep, owner)?;
+    trace_once(alloc, keep, owner)
 }
 
 // Reads the rows of an owner.
@@ -32,6 +42,20 @@ fn read_rows<K: Keep>(alloc: Global, keep: &mut K, owner: &Name) -> Result<(), K
 {
     match keep.slice(alloc, owner) {
         Ok(_rows) => Ok(()),
+        Err(fault) => Err(fault),
+    }
+}
+
+// Traces over an owner's batches, from whatever lot.
+fn trace_once<K: Keep>(alloc: Global, keep: &mut K, owner: &Name) -> Result<(), KeepFault>
+    ensures { ReadsOn K.meaning keep.old keep.new result }
+{
+    let anywhere = LotId {
+        owner: *owner,
+        lot: *owner,
+    };
+    match keep.trace(alloc, &[*owner], &anywhere, Way::Back) {
+        Ok(_steps) => Ok(()),
         Err(fault) => Err(fault),
     }
 }
