@@ -1,18 +1,18 @@
 -- Over a network that one owner connects to, the service has turns for that owner alone.
-use Rattle.std.proofs.Common.{◌≡◌, ◌∙◌, ◌==◌, ◌++◌, ℕ, inl, inr, List, [], ◌∷◌, length, Bool, true, false, Option, None, Some, ap, refl, subst, sym}
+use Rattle.std.proofs.Common.{append-nil, arith, ◌+◌, ◌-◌, ◌≡◌, ◌∙◌, ◌==◌, ◌++◌, ℕ, inl, inr, List, [], ◌∷◌, length, Bool, true, false, Option, None, Some, ap, refl, subst, sym}
 use Rattle.std.specs.Prelude.{All, IfSome, ⊤, option_and_then, option_map, if◌then◌else◌}
 use Rattle.std.specs.Io.KnownBytes.{Consumes}
 use Rattle.std.proofs.lemmas.Bool.Decides.{eqb_tells}
 use Rattle.std.proofs.lemmas.List.Elements.{All-cons, All-contains, All-head, All-nil, All-push, All-tail, All-weaker}
-use Rattle.toll_server.specs.Networks.{Arrival, Tally}
+use Rattle.toll_server.specs.Networks.{Arrival, ListensFor, Tallies, Tally, Wake}
 use Rattle.toll_server.specs.Queues.{AreInTurn, Happening, IsWhatWaits, Joins, Takes, Waiting, behind, newly, queue_of, stays, tasks_of, turns_of}
-use Rattle.toll_server.specs.Rounds.{AreAsked, IsAsked, IsServedInRounds, Joining, Round, happenings_of, with_joined, with_turn}
+use Rattle.toll_server.specs.Rounds.{AreAsked, IsAsked, IsServedInRounds, Joining, ListensTill, Round, happenings_of, with_joined, with_turn}
 use Rattle.toll_server.specs.Runs.{Input, Turn}
 use Rattle.toll_server.specs.declared.listener.Listener.{Listener}
 use Rattle.toll_server.specs.declared.listener.Listener.TheVariants.{Owners}
 use Rattle.toll_server.specs.declared.poll.Poll.{Poll}
 use Rattle.toll_server.specs.declared.poll.Poll.TheVariants.{Ready, Pending}
-use Rattle.toll_tests.specs.Known.{IsSentByOwner, IsForOwner, ServesOwner, arrivals_of}
+use Rattle.toll_tests.specs.Known.{IsSentByOwner, IsForOwner, ServesOwner, arrivals_of, new_tally}
 
 module _ (owner : Option ℕ) (bytes : List ℕ) where
   -- if a client waits at this key, its request is the owner's
@@ -112,3 +112,15 @@ module _ (owner : Option ℕ) (bytes : List ℕ) where
         subst (All IsTheirs) (sym p.its)
             (turns_are is_by (happenings_of p.rounds) p.in_turn (all_joined p.rounds (subst (λ (a : List (Arrival S)). AreAsked unread a p.rounds) is p.asked))),
       )
+
+-- at each wait of a new network, it listened while some of this number of owners were to come, and no longer
+pub listened : {S : Type 0} (count : ℕ) (t u : Tally S) → Some t ≡ Some new_tally → ListensTill count t u → All (λ wake. ListensFor (count - wake.owners) true wake.is_listening) u.wakes
+listened {S = S} count t u is p = subst (All (Listens count)) (sym (q.waited ∙ append-nil q.wakes)) (subst (λ n. All (Listens n) q.wakes) none q.meanwhile) where
+  Listens : ℕ → Wake → Type 0
+  Listens n wake = ListensFor (n - wake.owners) true wake.is_listening
+
+  none : 0 + count ≡ count
+  none = omega arith
+
+  q : ListensTill count new_tally u
+  q = subst (λ (o : Option (Tally S)). Tallies (λ v w. ListensTill count v w) o (Some u)) is p

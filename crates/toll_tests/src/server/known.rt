@@ -1,6 +1,7 @@
 //! A network with a known tally. It shows that a network can meet the clauses of `Network` about tallies, and
 //! what the clauses of `serve` about tallies say of it.
-ghost use Rattle.std.specs.Prelude.{◌≡◌, ◌≤◌, ◌+◌, ◌∷◌, IsFalse, IsTrue, Some, length};
+ghost use Rattle.std.specs.Prelude.{◌≡◌, ◌≤◌, ◌+◌, ◌-◌, ◌∷◌, All, IsFalse, IsTrue, Some, length, true};
+ghost use Rattle.toll_server.specs.Networks.{ListensFor};
 ghost use Rattle.toll_tests.specs.Known.{ServesOwner, arrivals_of, backlog_of, keys_of, new_tally, owners_of, wake_of, wakes_of};
 
 use http_server::Log;
@@ -199,6 +200,7 @@ fn serve_known<'l, O: Service>(
     ensures all { result.0 ≡ ServingEnd.All → owners_of result.1.owner ≡ count }
     ensures fault { result.0 ≡ ServingEnd.Fault → IsTrue result.1.has_failed }
     ensures closed { count ≤ owners_of result.1.owner → IsFalse result.1.is_listening }
+    ensures waits { All (λ wake. ListensFor (count - wake.owners) true wake.is_listening) (wakes_of result.1.wakes.items) }
     ensures listens { owners_of result.1.owner + 1 ≤ count → IsTrue result.1.is_listening }
 {
     let mut network = KnownNetwork::new(request, written);
