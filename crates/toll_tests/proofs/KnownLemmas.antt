@@ -1,4 +1,4 @@
--- Over a network that one owner connects to, the service has turns for that owner alone.
+-- What the clauses of serving say of a network that one owner connects to.
 use Rattle.std.proofs.Common.{append-nil, arith, ◌+◌, ◌-◌, ◌≡◌, ◌∙◌, ◌==◌, ◌++◌, ℕ, inl, inr, List, [], ◌∷◌, length, Bool, true, false, Option, None, Some, ap, refl, subst, sym}
 use Rattle.std.specs.Prelude.{All, IfSome, ⊤, option_and_then, option_map, if◌then◌else◌}
 use Rattle.std.specs.Io.KnownBytes.{Consumes}
