@@ -55,8 +55,8 @@ def crowd(t):
 
     def ask():
         while not over.is_set():
-            # many requests on one connection: a process for each would ask less than the site lets through
-            words = ["-6" if has_ipv6() else "-4", "-sk", "-o", os.devnull, "-w", "%{http_code} ", f"https://localhost:{t.proxy.port}/stock?[1-50]"]
+            # many requests of one process, which waits for no refusal: otherwise they would ask less than the site lets through
+            words = ["-m", "0.3", "-6" if has_ipv6() else "-4", "-sk", "-o", os.devnull, "-w", "%{http_code} ", f"https://localhost:{t.proxy.port}/stock?[1-10]"]
             done = subprocess.run(["curl", *words], capture_output=True, text=True)
             statuses.update(done.stdout.split())
 
@@ -75,9 +75,9 @@ def crowd(t):
 
 
 def turned_away(b):
-    """Whether the sign comes up within a second; a request may slip through the crowd."""
+    """Whether the sign comes up within three seconds: the site takes its time to refuse, and a request may slip through the crowd."""
     b.click("#nav a", "Stock" if b.text("h1") == "Orders" else "Orders")
-    for _ in range(20):
+    for _ in range(60):
         time.sleep(0.05)
         if BUSY in b.text("#sign"):
             return True
