@@ -21,6 +21,10 @@ class Failed(Exception):
     """The browser, or what it shows, isn't as it was waited for."""
 
 
+class Stale(Failed):
+    """The page was drawn anew, so an element that was found isn't there any more."""
+
+
 class Browser:
     """A browser with one window at first. Elements are named by CSS, or by `text` within CSS."""
 
@@ -63,7 +67,8 @@ class Browser:
         finally:
             line.close()
         if isinstance(value, dict) and "error" in value:
-            raise Failed(f"{method} {path}: {value['error']}: {value['message'].splitlines()[0]}")
+            kind = Stale if value["error"] == "stale element reference" else Failed
+            raise kind(f"{method} {path}: {value['error']}: {value['message'].splitlines()[0]}")
         return value
 
     def ask(self, method, path, **body):
@@ -121,15 +126,20 @@ class Browser:
         self.ask("POST", "/url", url=address)
 
     def click(self, css, text=None):
-        self.ask("POST", f"/element/{self.find(css, text)}/click")
+        unless_stale(lambda: self.ask("POST", f"/element/{self.find(css, text)}/click"))
 
     def type(self, css, text):
-        element = self.find(css)
+        unless_stale(lambda: self._type(self.find(css), text))
+
+    def _type(self, element, text):
         self.ask("POST", f"/element/{element}/clear")
         self.ask("POST", f"/element/{element}/value", text=text)
 
     def choose(self, css, value):
         """Chooses this option of a select."""
+        unless_stale(lambda: self._choose(css, value))
+
+    def _choose(self, css, value):
         self.find(css)
         option = self.js("return [...document.querySelector(arguments[0]).options].find(it => it.value === arguments[1])", css, value)
         self.ask("POST", f"/element/{option[ELEMENT]}/click")
@@ -208,3 +218,13 @@ def until(holds, what, patience=PATIENCE):
         if time.monotonic() > ends:
             raise Failed(f"waited {patience} s for this: {what() if callable(what) else what}")
         time.sleep(0.03)
+
+
+def unless_stale(act, tries=5):
+    """Finds an element and acts on it; anew, where the page was drawn anew between the two."""
+    for _ in range(tries - 1):
+        try:
+            return act()
+        except Stale:
+            pass
+    return act()
