@@ -11,7 +11,10 @@ const OWN_DESCRIPTORS: usize = 24;
 
 /// How many connections may be open at once, so that the process has descriptors for everything else that it
 /// opens. That is [`MOST_CONNECTIONS`] if the limit of its descriptors can't be read.
-pub fn most_connections(rt: &HostRuntime) -> usize {
+pub fn most_connections(rt: &HostRuntime) -> usize
+    ensures least { 1 ≤ result }
+    ensures most { result ≤ MOST_CONNECTIONS }
+{
     match fs::read_to_string(rt, "/proc/self/limits") {
         Ok(limits) => connections_within(limits.as_str()),
         Err(_) => MOST_CONNECTIONS,

@@ -1,4 +1,7 @@
 //! The sockets of the system.
+ghost use Rattle.std.specs.Prelude.{◌≤◌, Some};
+ghost use Rattle.toll_server.specs.declared.network.TheConstants.{MOST_CONNECTIONS};
+
 use crate::descriptors::most_connections;
 use crate::plant_listener::{ListenerFault, PlantListener};
 use crate::socket_stream::SocketStream;
@@ -8,7 +11,7 @@ use std::io;
 use std::io::ErrorKind;
 use std::net::{Ipv4Addr, SocketAddr, SocketAddrV4};
 use std::time::{Duration, Instant};
-use toll_server::{Accepted, Listener, MOST_CONNECTIONS, Network, NetworkFault};
+use toll_server::{Accepted, Listener, Network, NetworkFault};
 use toll_service::{FaultLog, ServingFault};
 
 /// How many events one wait gives.
@@ -35,6 +38,8 @@ pub struct Sockets<'a> {
     listener: FaultLog,
     resources: FaultLog,
     since: Instant,
+    ghost least: { 1 ≤ most_open },
+    ghost most: { most_open ≤ MOST_CONNECTIONS },
 }
 
 impl<'a> Sockets<'a> {
@@ -122,8 +127,10 @@ impl<'a> Sockets<'a> {
 impl Network for Sockets<'_> {
     type Stream = SocketStream;
 
+    ghost limit = { λ sockets. Some sockets.most_open };
+
     fn most_connections(&self) -> usize {
-        self.most_open.clamp(1, MOST_CONNECTIONS)
+        self.most_open
     }
 
     fn wait(&mut self, most: Option<u64>) -> Result<u64, NetworkFault> {
