@@ -102,6 +102,8 @@ class Clicks:
             return self.says(self.told_of_order(owner, told) if status == 200 else str(told["code"]))
         if first == "orders":
             self.b.click("tbody a", rest[0])
+            # the list has such buttons too, and stands until the order is read
+            self.b.heading(f"Order {rest[0]}")
             return self.press("Cancel", "Cancel the order", f"Order {rest[0]} is cancelled.", status, told)
         if first == "lots":
             self.t.to_lot(rest[0])
