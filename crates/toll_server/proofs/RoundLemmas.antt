@@ -393,29 +393,28 @@ module _ {S T P O : Type 0} (same : P → P → Bool) (is_by : Listener → List
             subst (λ o. IsWhatWaits (queue_of same h turn.whose) o turn.input) (tasks turn.whose)
             (subst (λ o. IsWhatWaits o (tasks_in heard.slots turn.whose) turn.input) (agree turn.whose) what)
 
-  pub clocked_so : (old new : O) (moment : ℕ) (connections : Slab (Connection S T P)) (was told is : Option (Tally S)) → Tallies OnlyClock told is
-      → SoFar old new moment connections was told → SoFar old new moment connections was is
-  clocked_so old new moment connections was told is clock p = record {
+  -- what was told so far is so still, where a call changed nothing of the network that it is about
+  quiet_so : (Quiet : Tally S → Tally S → Type 0) → (old new : O) (moment : ℕ) (connections : Slab (Connection S T P)) (was told is : Option (Tally S))
+      → ((rounds : List (Round T P)) (t u v : Tally S) → IsNet from.unread rounds connections t u → Quiet u v → IsNet from.unread rounds connections t v)
+      → Tallies Quiet told is → SoFar old new moment connections was told → SoFar old new moment connections was is
+  quiet_so Quiet old new moment connections was told is keeps quiet p = record {
     rounds = p.rounds;
     history = p.history;
     run = p.run;
     its = p.its;
     regular = p.regular;
-    net = tallies_then (IsNet from.unread p.rounds connections) OnlyClock (IsNet from.unread p.rounds connections) was told is p.net clock
-        (λ t u v q r. subst (IsNet from.unread p.rounds connections t) (sym r) (record { waited = q.waited; asked = q.asked; passed_over = q.passed_over; stands = q.stands }));
+    net = tallies_then (IsNet from.unread p.rounds connections) Quiet (IsNet from.unread p.rounds connections) was told is p.net quiet (keeps p.rounds);
   }
+
+  pub clocked_so : (old new : O) (moment : ℕ) (connections : Slab (Connection S T P)) (was told is : Option (Tally S)) → Tallies OnlyClock told is
+      → SoFar old new moment connections was told → SoFar old new moment connections was is
+  clocked_so old new moment connections was told is = quiet_so OnlyClock old new moment connections was told is
+      (λ rounds t u v q r. subst (IsNet from.unread rounds connections t) (sym r) (record { waited = q.waited; asked = q.asked; passed_over = q.passed_over; stands = q.stands }))
 
   pub stopped_so : (old new : O) (moment : ℕ) (connections : Slab (Connection S T P)) (was told is : Option (Tally S)) → Tallies OnlyListening told is
       → SoFar old new moment connections was told → SoFar old new moment connections was is
-  stopped_so old new moment connections was told is stopped p = record {
-    rounds = p.rounds;
-    history = p.history;
-    run = p.run;
-    its = p.its;
-    regular = p.regular;
-    net = tallies_then (IsNet from.unread p.rounds connections) OnlyListening (IsNet from.unread p.rounds connections) was told is p.net stopped
-        (λ t u v q r. subst (IsNet from.unread p.rounds connections t) (sym r) (record { waited = q.waited; asked = q.asked; passed_over = q.passed_over; stands = q.stands }));
-  }
+  stopped_so old new moment connections was told is = quiet_so OnlyListening old new moment connections was told is
+      (λ rounds t u v q r. subst (IsNet from.unread rounds connections t) (sym r) (record { waited = q.waited; asked = q.asked; passed_over = q.passed_over; stands = q.stands }))
 
   pub in_turn : IsEquivalence same → (old new : O) (moment : ℕ) (connections : Slab (Connection S T P)) (was is : Option (Tally S)) → SoFar old new moment connections was is
       → IsServedInTurn same is_by answers resumes old new
