@@ -1,6 +1,6 @@
 -- Who has come while others are accepted.
 use Rattle.std.proofs.Common.{◌≡◌, ◌∙◌, ◌+◌, ◌≤◌, ◌⊎◌, ℕ, inl, inr, List, [], ◌∷◌, ◌++◌, length, ap, refl, sym, subst, arith}
-use Rattle.std.specs.Prelude.{Err, None, Ok, OnOk, Option, Result, option_map, slice_index_or}
+use Rattle.std.specs.Prelude.{None, Ok, OnOk, Option, Result, option_map, slice_index_or}
 use Rattle.slab.specs.Slab.{Slab}
 use Rattle.toll_server.specs.Accepting.{HasAccepted, StandsStill}
 use Rattle.toll_server.specs.Connections.{Adds, AddsAll, AddsNext, MakesRoom}

@@ -71,8 +71,8 @@ AreAsked unread arrivals [] = ⊤
 AreAsked unread arrivals (r ∷ before) = All (IsAsked unread arrivals) r.joined × AreAsked unread arrivals before
 
 -- the service became this one by turns, one behind each wait. The waits are all those of the network. Each request was sent by somebody who came and who
--- might go on at the wait before, and nobody who might go on was passed over; so all who were there and had sent theirs wait before a turn is taken, and that
--- is of who has waited longest
+-- might go on at the wait before, and the network handed out everybody who might go on before it was waited for anew. A turn is of who has waited longest
+-- of those who wait for one
 pub record IsServedInRounds {S T P O : Type 0} (same : P → P → Bool) (is_by : Listener → List ℕ → P → Type 0) (answers : O → Listener → List ℕ → Poll T → O → Type 0)
     (resumes : O → T → Poll T → O → Type 0) (unread : S → Option (List ℕ)) (old new : O) (t u : Tally S) : Type 0 where
   pub rounds : List (Round T P)
